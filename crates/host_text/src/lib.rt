@@ -1,0 +1,13 @@
+//! Texts of the host: owned text, keywords, labels, names of fields, and numbers in decimal.
+//!
+//! It stands on std and itoa. Its one contract: a text is read exactly where it has the form, and what
+//! was read is seen as its bytes or its number.
+#![tactic(auto)]
+
+pub mod keyword;
+pub mod label;
+pub mod number;
+#[cfg(test)]
+mod tests;
+pub mod text;
+pub mod word;
