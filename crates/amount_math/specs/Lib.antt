@@ -1,0 +1,9 @@
+pub mod Sparse
+pub mod Content
+pub mod Totals
+pub mod Counted
+pub mod Worth
+pub mod Amount
+pub mod Shapes
+pub mod NatLaws
+pub mod Brands

@@ -1,0 +1,136 @@
+-- A value as its kind and its content, and which contents are values of a kind.
+use Rattle.std.specs.Prelude.{◌≡◌, ◌≢◌, ℕ, zero, suc, ◌-◌, ◌^◌, ◌<◌, ◌≤◌, List, length, ◌⊎◌, ℤ, pos, refl}
+use Rattle.std.proofs.Common.{arith}
+use Rattle.std.specs.declared.cmp.Ordering.TheVariants.{Less}
+use Rattle.std.specs.Coded.{Coded, code_by, coded×, coded_ℕ}
+use Rattle.std.specs.FinMap as fin
+use Rattle.amount_math.specs.declared.Kind.{Kind}
+use Rattle.amount_math.specs.declared.Kind.TheVariants.{Nat, Set, Bag}
+use Rattle.amount_math.specs.declared.TooMuch.{TooMuch}
+use Rattle.amount_math.specs.declared.PutFault.{PutFault}
+use Rattle.amount_math.specs.declared.PutFault.TheVariants as put_fault
+use Rattle.amount_math.specs.declared.TakeFault.{TakeFault}
+use Rattle.amount_math.specs.declared.TakeFault.TheVariants as take_fault
+use Rattle.amount_math.specs.Content.{Content, Contains, coded_content, key_cmp, count, of_nat, unit}
+
+pub record Worth : Type 0 where
+  pub kind : Kind
+  pub content : Content
+
+-- the highest number of a nat value
+abbrev pub nat_bound : ℕ
+nat_bound = 2 ^ 63 - 1
+
+-- the highest count of a key of a bag
+abbrev pub bag_bound : ℕ
+bag_bound = 2 ^ 63 - 1
+
+-- how many of an element there may be
+abbrev pub bound : Kind → ℕ
+bound Nat = nat_bound
+bound Set = 1
+bound Bag = bag_bound
+
+-- no count passes the kind's bound
+pub record Fits (kind : Kind) (c : Content) : Type 0 where
+  pub each : (k : List ℕ) → count c k ≤ bound kind
+
+-- the sum that is shown is the first count, in byte order of the elements, that passes the kind's bound, which is shown with it
+pub record PassesBound (kind : Kind) (c : Content) (over : TooMuch) : Type 0 where
+  pub element : List ℕ
+  pub counted : over.sum ≡ count c element
+  pub bounded : over.bound ≡ bound kind
+  pub passes : bound kind < count c element
+  pub first : (k : List ℕ) → bound kind < count c k → key_cmp k element ≢ Less
+
+-- when a value isn't added: memory is wanted, or the sum passes the bound
+abbrev pub IsPutRefusal : Kind → Content → PutFault → Type 0
+IsPutRefusal kind c (put_fault.TooMuch over) = PassesBound kind c over
+IsPutRefusal kind c put_fault.NoMemory = Unit {0}
+
+-- when a part isn't taken: memory is wanted, or less is held
+abbrev pub IsTakeRefusal : Content → Content → TakeFault → Type 0
+IsTakeRefusal held part take_fault.NotEnough = ¬ Contains held part
+IsTakeRefusal held part take_fault.NoMemory = Unit {0}
+
+-- the keys of a set or a bag: each of 1 to 64 bytes, and at most 4,096 of them
+pub record IsKeyed (c : Content) : Type 0 where
+  pub filled : count c unit ≡ 0
+  pub short : (k : List ℕ) → count c k ≢ 0 → length k ≤ 64
+  pub few : fin.len c.held ≤ 4096
+
+-- a number of units, within the bound
+pub record IsNat (c : Content) : Type 0 where
+  pub only_units : c ≡ of_nat (count c unit)
+  pub fits : Fits Nat c
+
+pub record IsSet (c : Content) : Type 0 where
+  pub keyed : IsKeyed c
+  pub fits : Fits Set c
+
+pub record IsBag (c : Content) : Type 0 where
+  pub keyed : IsKeyed c
+  pub fits : Fits Bag c
+
+-- which contents are values of a kind
+abbrev pub IsValue : Kind → Content → Type 0
+IsValue Nat = IsNat
+IsValue Set = IsSet
+IsValue Bag = IsBag
+
+-- a whole number, as the content that it stands for
+pub record IsNumber (z : ℤ) (c : Content) : Type 0 where
+  pub number : ℕ
+  pub whole : z ≡ pos number
+  pub units : c ≡ of_nat number
+
+-- one of the two that is contained in both
+pub record IsLeast (a b least : Worth) : Type 0 where
+  pub one_of : (least ≡ a) ⊎ (least ≡ b)
+  pub in_left : Contains a.content least.content
+  pub in_right : Contains b.content least.content
+
+-- one of the two that contains both
+pub record IsGreatest (a b greatest : Worth) : Type 0 where
+  pub one_of : (greatest ≡ a) ⊎ (greatest ≡ b)
+  pub has_left : Contains greatest.content a.content
+  pub has_right : Contains greatest.content b.content
+
+-- neither contains the other
+pub record IsIncomparable (a b : Content) : Type 0 where
+  pub left : ¬ Contains a b
+  pub right : ¬ Contains b a
+
+pub fits_from_value : (kind : Kind) (c : Content) → IsValue kind c → Fits kind c
+fits_from_value Nat c value = value.fits
+fits_from_value Set c value = value.fits
+fits_from_value Bag c value = value.fits
+
+-- what passes the bound doesn't fit
+pub passes_not_fits : (kind : Kind) (c : Content) (over : TooMuch) → PassesBound kind c over → ¬ Fits kind c
+passes_not_fits kind c over past fits = omega (arith, past.passes, fits.each past.element)
+
+-- what is contained in what fits does fit
+pub fits_within : (kind : Kind) (a b : Content) → Contains a b → Fits kind a → Fits kind b
+fits_within kind a b has fits = record { each = λ k. omega (arith, has.each k, fits.each k) }
+
+-- the same kind with another content
+abbrev pub with_content : Worth → Content → Worth
+with_content w c = record { kind = w.kind; content = c }
+
+abbrev pub kind_number : Kind → ℕ
+kind_number Nat = 0
+kind_number Set = 1
+kind_number Bag = 2
+
+abbrev pub kind_of : ℕ → Kind
+kind_of zero = Nat
+kind_of (suc zero) = Set
+kind_of (suc (suc n)) = Bag
+
+pub kind_back : (w : Worth) → record { kind = kind_of (kind_number w.kind); content = w.content } ≡ w
+kind_back w = elim w.kind as (λ k. record { kind = kind_of (kind_number k); content = w.content } ≡ record { kind = k; content = w.content }) [ Nat ↦ refl | Set ↦ refl | Bag ↦ refl ]
+
+-- the numbers that stand for a value, which a model needs
+abbrev pub coded_worth : Coded Worth
+coded_worth = code_by (ℕ × Content) (coded× coded_ℕ coded_content) (λ w. (kind_number w.kind, w.content)) (λ p. record { kind = kind_of p.0; content = p.1 }) kind_back

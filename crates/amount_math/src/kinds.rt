@@ -1,0 +1,218 @@
+//! The kinds of value: which contents are values of each, and the laws of their operations.
+
+ghost use Rattle.std.specs.Prelude.{◌≡◌, ◌≢◌, ◌↔◌, IsTrue, IsOk, IsErr, IfOk, IfErr, OnOk, OnErr};
+ghost use Rattle.amount_math.specs.Content.{Content, Contains, difference, nothing, sum};
+ghost use Rattle.amount_math.specs.Worth.{IsGreatest, IsIncomparable, IsLeast};
+ghost use Rattle.amount_math.specs.declared.Kind.{Kind};
+
+use crate::{Kind, NAT_BOUND, TooMuch, Value};
+
+/// The data isn't a value of the kind.
+#[derive(Clone, Copy, Debug, PartialEq, Eq)]
+pub struct BadValue;
+
+/// A kind of value (ERTP's AmountMath, a kind at a time).
+pub trait AmountKind {
+    /// What a value is made from.
+    type Data;
+
+    /// Why an add is refused.
+    type Fault;
+
+    /// The kind's name.
+    ghost own_kind: { Kind };
+
+    /// The contents that are values of the kind.
+    ghost is_value: { Content → Type 0 };
+
+    /// The content that data stands for.
+    ghost stands_for: { Self.Data → Content → Type 0 };
+
+    /// That a fault is the one that an add with this sum is refused for.
+    ghost is_refusal: { Content → Self.Fault → Type 0 };
+
+    /// The value that the data stands for, or `BadValue` where it stands for none.
+    fn make(from: Self::Data) -> Result<Value, BadValue>
+        ensures ok { IfOk result (λ value. (value.kind ≡ own_kind) × stands_for from value.content) }
+        ensures value { IfOk result (λ value. is_value value.content) }
+        ensures bad_value { IsErr result → (c : Content) → is_value c → ¬ stands_for from c };
+
+    /// The value as one of the kind, or handed back where it is none (`BadValue`).
+    fn coerce(value: Value) -> Result<Value, Value>
+        ensures ok { IfOk result (λ own. own ≡ value) }
+        ensures value { IsOk result → (value.kind ≡ own_kind) × is_value value.content }
+        ensures back { IfErr result (λ back. back ≡ value) }
+        ensures bad_value { IsErr result → value.kind ≢ own_kind };
+
+    /// The sum, or both handed back.
+    fn add(left: Value, right: Value) -> Result<Value, (Value, Value, Self::Fault)>
+        requires left { left.kind ≡ own_kind }
+        requires right { right.kind ≡ own_kind }
+        ensures ok { IfOk result (λ both. both ≡ record left { content = sum left.content right.content }) }
+        ensures value { IsOk result → is_value (sum left.content right.content) }
+        ensures back { IfErr result (λ (back, other, _). (back ≡ left) × (other ≡ right)) }
+        ensures refused { IfErr result (λ (_, _, fault). is_refusal (sum left.content right.content) fault) };
+
+    /// The left less the right, or the left handed back where it has less (`NotEnough`).
+    fn subtract(left: Value, right: &Value) -> Result<Value, Value>
+        requires left { left.kind ≡ own_kind }
+        requires right { right.now.kind ≡ own_kind }
+        ensures ok { IfOk result (λ rest. rest ≡ record left { content = difference left.content right.now.content }) }
+        ensures enough { IsOk result → Contains left.content right.now.content }
+        ensures back { IfErr result (λ back. back ≡ left) }
+        ensures not_enough { IsErr result → ¬ Contains left.content right.now.content }
+    {
+        left.subtract(right)
+    }
+
+    /// Whether the left has at least what the right has, of each element.
+    fn is_gte(left: &Value, right: &Value) -> bool
+        requires left { left.now.kind ≡ own_kind }
+        requires right { right.now.kind ≡ own_kind }
+        ensures { IsTrue result ↔ Contains left.now.content right.now.content }
+    {
+        left.is_gte(right)
+    }
+
+    /// Whether the two are one value.
+    fn is_equal(left: &Value, right: &Value) -> bool
+        requires left { left.now.kind ≡ own_kind }
+        requires right { right.now.kind ≡ own_kind }
+        ensures { IsTrue result ↔ (left.now ≡ right.now) }
+    {
+        left.is_equal(right)
+    }
+
+    /// Whether it has nothing.
+    fn is_empty(value: &Value) -> bool
+        requires { value.now.kind ≡ own_kind }
+        ensures { IsTrue result ↔ (value.now.content ≡ nothing) }
+    {
+        value.is_empty()
+    }
+
+    /// The one that both contain, or both handed back where neither contains the other (`NotEnough`).
+    fn min(left: Value, right: Value) -> Result<Value, (Value, Value)>
+        requires left { left.kind ≡ own_kind }
+        requires right { right.kind ≡ own_kind }
+        ensures ok { IfOk result (IsLeast left right) }
+        ensures back { IfErr result (λ (back, other). (back ≡ left) × (other ≡ right)) }
+        ensures not_enough { IsErr result → IsIncomparable left.content right.content }
+    {
+        left.min(right)
+    }
+
+    /// The one that contains both, or both handed back where neither contains the other (`NotEnough`).
+    fn max(left: Value, right: Value) -> Result<Value, (Value, Value)>
+        requires left { left.kind ≡ own_kind }
+        requires right { right.kind ≡ own_kind }
+        ensures ok { IfOk result (IsGreatest left right) }
+        ensures back { IfErr result (λ (back, other). (back ≡ left) × (other ≡ right)) }
+        ensures not_enough { IsErr result → IsIncomparable left.content right.content }
+    {
+        left.max(right)
+    }
+
+    ghost empty_is_value: { is_value nothing };
+
+    ghost add_commutes: { (a b : Content) → is_value a → is_value b → sum a b ≡ sum b a };
+
+    ghost add_associates: { (a b c : Content) → is_value a → is_value b → is_value c → sum (sum a b) c ≡ sum a (sum b c) };
+
+    ghost empty_is_neutral: { (a : Content) → is_value a → sum a nothing ≡ a };
+
+    ghost subtract_undoes_add: { (a b : Content) → is_value a → is_value b → difference (sum a b) b ≡ a };
+
+    ghost gte_is_reflexive: { (a : Content) → is_value a → Contains a a };
+
+    ghost gte_is_antisymmetric: { (a b : Content) → is_value a → is_value b → Contains a b → Contains b a → a ≡ b };
+
+    ghost gte_is_transitive: { (a b c : Content) → is_value a → is_value b → is_value c → Contains a b → Contains b c → Contains a c };
+}
+
+/// Whole numbers.
+pub struct NatKind;
+
+impl AmountKind for NatKind {
+    type Data = i128;
+
+    type Fault = TooMuch;
+
+    ghost use Rattle.amount_math.specs.Content.{sum-comm, sum-assoc, sum-nothing, difference-sum, Contains-refl, Contains-trans, Contains-antisym};
+    ghost use Rattle.amount_math.specs.Worth.{IsNat, IsNumber, PassesBound};
+    ghost use Rattle.amount_math.specs.NatLaws.{nothing_is_nat};
+
+    ghost own_kind = { Kind.Nat };
+
+    ghost is_value = { IsNat };
+
+    ghost stands_for = { IsNumber };
+
+    ghost is_refusal = { PassesBound Kind.Nat };
+
+    ghost empty_is_value = { nothing_is_nat };
+
+    ghost add_commutes = { λ a b _ _. sum-comm a b };
+
+    ghost add_associates = { λ a b c _ _ _. sum-assoc a b c };
+
+    ghost empty_is_neutral = { λ a _. sum-nothing a };
+
+    ghost subtract_undoes_add = { λ a b _ _. difference-sum a b };
+
+    ghost gte_is_reflexive = { λ a _. Contains-refl a };
+
+    ghost gte_is_antisymmetric = { λ a b _ _. Contains-antisym a b };
+
+    ghost gte_is_transitive = { λ a b c _ _ _. Contains-trans a b c };
+
+    fn make(from: i128) -> Result<Value, BadValue> {
+        let Ok(number) = u128::try_from(from) else {
+            return Err(BadValue);
+        };
+        if number > NAT_BOUND {
+            return Err(BadValue);
+        }
+        Ok(Value::nat(number))
+    }
+
+    fn coerce(value: Value) -> Result<Value, Value> {
+        match value.kind() {
+            Kind::Nat => Ok(value),
+            Kind::Set | Kind::Bag => Err(value),
+        }
+    }
+
+    fn add(mut left: Value, right: Value) -> Result<Value, (Value, Value, TooMuch)> {
+        match left.absorb_nat(right) {
+            Ok(()) => Ok(left),
+            Err((right, over)) => Err((left, right, over)),
+        }
+    }
+}
+
+/// Adds a gain to what is held, or hands both back. The order doesn't count, and to take the gain
+/// away again gives what was held.
+pub fn credit<K: AmountKind>(held: Value, gain: Value) -> Result<Value, (Value, Value, K::Fault)>
+    requires held { (held.kind ≡ K.own_kind) × K.is_value held.content }
+    requires gain { (gain.kind ≡ K.own_kind) × K.is_value gain.content }
+    ensures ok { IfOk result (λ both. both ≡ record held { content = sum held.content gain.content }) }
+    ensures either_order { IfOk result (λ both. both.content ≡ sum gain.content held.content) }
+    ensures undone { IfOk result (λ both. difference both.content gain.content ≡ held.content) }
+    ensures back { IfErr result (λ (back, other, _). (back ≡ held) × (other ≡ gain)) }
+    ensures refused { IfErr result (λ (_, _, fault). K.is_refusal (sum held.content gain.content) fault) }
+{
+    K::add(held, gain)
+}
+
+/// Whether a value has what the low one has, and the high one what it has.
+pub fn is_between<K: AmountKind>(low: &Value, value: &Value, high: &Value) -> bool
+    requires low { (low.now.kind ≡ K.own_kind) × K.is_value low.now.content }
+    requires value { (value.now.kind ≡ K.own_kind) × K.is_value value.now.content }
+    requires high { (high.now.kind ≡ K.own_kind) × K.is_value high.now.content }
+    ensures between { IsTrue result ↔ (Contains value.now.content low.now.content × Contains high.now.content value.now.content) }
+    ensures apart { IsTrue result → Contains high.now.content low.now.content }
+    ensures same { IsTrue result → low.now.content ≡ high.now.content → value.now.content ≡ low.now.content }
+{
+    K::is_gte(value, low) && K::is_gte(high, value)
+}
