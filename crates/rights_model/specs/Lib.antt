@@ -1,0 +1,5 @@
+pub mod Place
+pub mod Table
+pub mod Supply
+pub mod Tabulated
+pub mod Numbers

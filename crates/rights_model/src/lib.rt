@@ -1,0 +1,83 @@
+//! Who holds which right: holders, movements of rights between them, and the table that movements make.
+//!
+//! It stands on amount_math and host_text. Its one contract: the definitions of specs/ (a table, a
+//! movement applied to it, supply, balance), of which a reader needs no code, and the laws that the
+//! functions below state.
+#![tactic(auto)]
+
+ghost use Rattle.std.specs.Prelude.{◌≡◌, ◌↔◌, IfOk, IsTrue};
+
+pub mod laws;
+#[cfg(test)]
+mod tests;
+
+use amount_math::Value;
+use host_text::keyword::Keyword;
+use std::alloc::{AllocError, Global};
+
+/// Who holds a right. Purses, payments and seats go by their numbers.
+#[derive(Debug, Drop)]
+pub enum Holder {
+    Purse(u32),
+    Payment(u32),
+    /// A slot of a seat's allocation.
+    Slot(u32, Keyword),
+    /// What a turn has taken and not yet put.
+    Hand,
+    /// Where a mint's issues come from and what is burned goes to. It holds nothing.
+    Outside,
+}
+
+/// A value of a brand goes from one holder to another.
+#[derive(Debug, Drop)]
+pub struct Movement {
+    pub brand: u16,
+    pub from: Holder,
+    pub to: Holder,
+    pub value: Value,
+}
+
+impl Holder {
+    /// A copy. A slot's keyword takes memory.
+    pub fn copy(&self, alloc: Global) -> Result<Holder, AllocError>
+        ensures { IfOk result (λ copy. copy ≡ self.now) }
+    {
+        match self {
+            Holder::Purse(number) => Ok(Holder::Purse(*number)),
+            Holder::Payment(number) => Ok(Holder::Payment(*number)),
+            Holder::Slot(seat, keyword) => Ok(Holder::Slot(*seat, keyword.copy(alloc)?)),
+            Holder::Hand => Ok(Holder::Hand),
+            Holder::Outside => Ok(Holder::Outside),
+        }
+    }
+
+    /// Whether both are one holder.
+    pub fn is(&self, other: &Holder) -> bool
+        ensures { IsTrue result ↔ (self.now ≡ other.now) }
+    {
+        match (self, other) {
+            (Holder::Purse(left), Holder::Purse(right)) => left == right,
+            (Holder::Payment(left), Holder::Payment(right)) => left == right,
+            (Holder::Slot(seat, keyword), Holder::Slot(other_seat, other_keyword)) => {
+                seat == other_seat && keyword.is(other_keyword)
+            }
+            (Holder::Hand, Holder::Hand) => true,
+            (Holder::Outside, Holder::Outside) => true,
+            _ => false,
+        }
+    }
+}
+
+impl Movement {
+    /// A copy. The keyword of a slot and the keys of a value take memory.
+    pub fn copy(&self, alloc: Global) -> Result<Movement, AllocError>
+        ensures { IfOk result (λ copy. copy ≡ self.now) }
+    {
+        Ok(Movement {
+            brand: self.brand,
+            from: self.from.copy(alloc)?,
+            to: self.to.copy(alloc)?,
+            value: self.value.copy()?,
+        })
+    }
+}
