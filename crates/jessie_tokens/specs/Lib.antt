@@ -1,0 +1,2 @@
+pub mod Lex
+pub mod Tokens
