@@ -1,0 +1,5 @@
+pub mod Host
+pub mod Stops
+pub mod Machine
+pub mod Ends
+pub mod Scripted

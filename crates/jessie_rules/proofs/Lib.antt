@@ -1,0 +1,9 @@
+pub mod Plays
+pub mod Known
+pub mod Runs
+pub mod Safe
+pub mod Licence
+pub mod Form
+pub mod Price
+pub mod Came
+pub mod Calls
