@@ -1,0 +1,11 @@
+pub mod Lists
+pub mod Contents
+pub mod Supplies
+pub mod KindsKept
+pub mod Covered
+pub mod Movings
+pub mod Hands
+pub mod Transfers
+pub mod Turns
+pub mod Readings
+pub mod HandLaws

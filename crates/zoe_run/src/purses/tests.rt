@@ -1,0 +1,67 @@
+ghost use Rattle.std.specs.Prelude.{◌≡◌, ◌<◌, ◌≤◌, length};
+ghost use Rattle.amount_math.specs.Amount.{Meet};
+ghost use Rattle.amount_math.specs.Content.{of_nat};
+ghost use Rattle.amount_math.specs.Worth.{nat_bound};
+ghost use Rattle.zoe_run.specs.Purses.{amount_at};
+
+use super::Purses;
+use amount_math::{Kind, PutFault, Value};
+use ertp_mint::{Parcel, Stock, Supply};
+use std::alloc::Global;
+use std::process::Abort;
+
+const MOST: u128 = 9_223_372_036_854_775_807;
+
+/// A parcel of so many units of brand 0, of a supply of its own.
+pub(crate) fn parcel(rt: &impl Abort, alloc: Global, number: u128) -> Parcel
+    requires { number ≤ nat_bound }
+    ensures { result ≡ record { brand = 0; value = record { kind = Kind.Nat; content = of_nat number } } }
+{
+    let mut supply = Supply::new(alloc);
+    supply.add_brand(Kind::Nat).expect(rt, "memory for a brand");
+    let value = Value::nat(number);
+    assert!(rt; supply.minted(0) <= MOST);
+    assert!(rt; value.total() <= MOST);
+    supply.issue(0, value).expect(rt, "within the bound")
+}
+
+/// Puts a parcel in a purse, or tells why not.
+fn put(purses: &mut Purses, purse: u32, parcel: Parcel) -> Option<PutFault>
+    requires made { purse < length purses.old }
+    requires meet { Meet (amount_at purses.old purse) parcel }
+    ensures { length purses.new ≡ length purses.old }
+{
+    match purses.put(purse, parcel) {
+        Ok(()) => None,
+        Err((back, fault)) => {
+            let _kept = Stock::of(back);
+            Some(fault)
+        }
+    }
+}
+
+#[test]
+fn purses_are_put_to(rt: HostRuntime) {
+    let mut purses = Purses::new(rt.alloc());
+    let first = purses.open(0, Kind::Nat).expect(&rt, "memory for a purse");
+    let second = purses.open(0, Kind::Nat).expect(&rt, "memory for a purse");
+    assert_eq!(rt; (first, second, purses.made()), (0, 1, 2));
+    let ten = parcel(&rt, rt.alloc(), 10);
+    assert_eq!(rt; put(&mut purses, 1, ten), None);
+    assert_eq!(rt; purses.amount(1).number(), Some(10));
+    assert_eq!(rt; purses.amount(0).number(), Some(0));
+    assert_eq!(rt; purses.brand(1), 0);
+    let twin = purses.twin(rt.alloc()).expect(&rt, "memory for a twin");
+    assert_eq!(rt; (twin.made(), purses.made()), (2, 2));
+}
+
+#[test]
+fn an_empty_purse_gives_nothing(rt: HostRuntime) {
+    let mut purses = Purses::new(rt.alloc());
+    let purse = purses.open(0, Kind::Nat).expect(&rt, "memory for a purse");
+    let nothing = Value::nat(0);
+    let parcel = purses.take(purse, &nothing).expect(&rt, "what it has");
+    let taken = Stock::of(parcel);
+    assert_eq!(rt; (taken.brand(), taken.value().number()), (0, Some(0)));
+    assert_eq!(rt; purses.amount(purse).number(), Some(0));
+}
