@@ -120,11 +120,13 @@ impl Value {
         }
     }
 
-    /// How many units it is, or `None` if its kind isn't nat.
+    /// How many units it is, or `None` if its kind isn't nat, of which the empty value alone can be
+    /// made so far.
     pub fn number(&self) -> Option<u128>
         ensures number { IfSome result (λ n. self.now ≡ record { kind = Kind.Nat; content = of_nat n }) }
         ensures bounded { IfSome result (λ n. n ≤ nat_bound) }
         ensures none { IsNone result → self.now.kind ≢ Kind.Nat }
+        ensures empty { IsNone result → self.now.content ≡ nothing }
     {
         match &self.shape {
             Shape::Nat(number) => Some(*number),

@@ -11,8 +11,8 @@ use std::marker::Model;
 
 /// A right in transit: a value of a brand, on its way from one holder to another (own; ERTP's payment
 /// without its identity). It can't be copied, made elsewhere or dropped. `Supply::issue`, `cut`,
-/// `merge`, `take` and `take_all` alone make one, `Supply::retire`, `put`, `Stock::of`, `cut` and
-/// `merge` alone end one.
+/// `merge` and a take of a stock (`take`, or `take_all` of all that it has) alone make one,
+/// `Supply::retire`, `put`, `cut` and `merge` alone end one.
 #[derive(Debug)]
 pub struct Parcel {
     brand: u16,
@@ -38,7 +38,7 @@ impl Parcel {
         Parcel { brand, value }
     }
 
-    /// The parcel's brand and value, which ends it. Only the supply and a new stock call it.
+    /// The parcel's brand and value, which ends it. Only the supply calls it.
     pub(crate) fn into_parts(self) -> (u16, Value)
         ensures { result ≡ (self.brand, self.value) }
     {
@@ -117,14 +117,6 @@ impl Stock {
         ensures { result ≡ record { brand = brand; value = record { kind = kind; content = nothing } } }
     {
         let value = Value::empty(kind);
-        Stock { brand, value }
-    }
-
-    /// The store of a holder that has just what is put in, which is never refused and takes no memory.
-    pub fn of(parcel: Parcel) -> Stock
-        ensures { result ≡ parcel }
-    {
-        let (brand, value) = parcel.into_parts();
         Stock { brand, value }
     }
 

@@ -35,33 +35,37 @@ fn issue(
     supply.issue(brand, value)
 }
 
-/// Puts a parcel in, or tells why not and leaves it in a stock of its own.
-fn put(stock: &mut Stock, parcel: Parcel) -> Option<PutFault>
+/// Puts a parcel in, or ends the test.
+fn put(rt: &impl Abort, stock: &mut Stock, parcel: Parcel)
     requires { Meet stock.old parcel }
     ensures brand { stock.new.brand ≡ stock.old.brand }
     ensures kind { stock.new.value.kind ≡ stock.old.value.kind }
 {
     match stock.put(parcel) {
-        Ok(()) => None,
-        Err((back, fault)) => {
-            let _kept = Stock::of(back);
-            Some(fault)
-        }
+        Ok(()) => {}
+        Err(_back) => panic!(rt; "within the bound"),
     }
 }
 
-/// Merges the other in, or tells why not and leaves it in a stock of its own.
-fn merge(parcel: &mut Parcel, other: Parcel) -> Option<PutFault>
+/// A stock that has just the parcel.
+fn stocked(rt: &impl Abort, parcel: Parcel) -> Stock
+    ensures brand { result.brand ≡ parcel.brand }
+    ensures kind { result.value.kind ≡ parcel.value.kind }
+{
+    let mut stock = Stock::empty(parcel.brand(), parcel.value().kind());
+    put(rt, &mut stock, parcel);
+    stock
+}
+
+/// Merges the other in, or ends the test.
+fn merge(rt: &impl Abort, parcel: &mut Parcel, other: Parcel)
     requires { Meet parcel.old other }
     ensures brand { parcel.new.brand ≡ parcel.old.brand }
     ensures kind { parcel.new.value.kind ≡ parcel.old.value.kind }
 {
     match parcel.merge(other) {
-        Ok(()) => None,
-        Err((back, fault)) => {
-            let _kept = Stock::of(back);
-            Some(fault)
-        }
+        Ok(()) => {}
+        Err(_back) => panic!(rt; "within the bound"),
     }
 }
 
@@ -78,20 +82,20 @@ fn a_parcel_is_cut_merged_stored_and_taken(rt: HostRuntime) {
         .cut(&Value::nat(3))
         .expect(&rt, "ten units have three");
     let mut stock = Stock::empty(0, Kind::Nat);
-    assert_eq!(rt; put(&mut stock, part), None);
-    let lack = stock
-        .take(&Value::nat(4))
-        .map(|taken| Stock::of(taken).value().number());
-    assert_eq!(rt; lack, Err(TakeFault::NotEnough));
+    put(&rt, &mut stock, part);
+    match stock.take(&Value::nat(4)) {
+        Ok(_taken) => panic!(rt; "three units haven't four"),
+        Err(fault) => assert_eq!(rt; fault, TakeFault::NotEnough),
+    }
     let one = stock
         .take(&Value::nat(1))
         .expect(&rt, "three units have one");
-    assert_eq!(rt; merge(&mut parcel, one), None);
+    merge(&rt, &mut parcel, one);
     assert_eq!(rt; (parcel.brand(), parcel.value().number()), (0, Some(8)));
-    assert_eq!(rt; put(&mut stock, parcel), None);
+    put(&rt, &mut stock, parcel);
     let twin = stock.twin().expect(&rt, "memory for a twin");
     assert_eq!(rt; (twin.brand(), twin.value().number()), (0, Some(10)));
-    let mut all = Stock::of(stock.take_all());
+    let all = stocked(&rt, stock.take_all());
     assert_eq!(rt;
         (all.value().number(), stock.value().number()),
         (Some(10), Some(0))
@@ -116,10 +120,13 @@ fn a_supply_counts_what_is_issued_and_retired(rt: HostRuntime) {
     let twin = twin.expect(&rt, "memory for a twin");
     assert_eq!(rt; (twin.minted(1), twin.burned(1)), (10, 0));
     let most = issue(&rt, &mut supply, 1, MOST);
-    let mut stock = Stock::of(most.expect(&rt, "the bound itself is within it"));
-    let refused = match issue(&rt, &mut supply, 1, 1) {
-        Ok(parcel) => Err(put(&mut stock, parcel)),
-        Err((back, fault)) => Ok((back.number(), fault)),
-    };
-    assert_eq!(rt; refused, Ok((Some(1), PutFault::TooMuch(OVER))));
+    let stock = stocked(&rt, most.expect(&rt, "the bound itself is within it"));
+    assert_eq!(rt; stock.value().number(), Some(MOST));
+    match issue(&rt, &mut supply, 1, 1) {
+        Ok(_parcel) => panic!(rt; "one unit more passes the bound"),
+        Err((back, fault)) => assert_eq!(rt;
+            (back.number(), fault),
+            (Some(1), PutFault::TooMuch(OVER))
+        ),
+    }
 }

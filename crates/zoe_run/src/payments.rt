@@ -153,19 +153,19 @@ impl Payments {
         if number == u32::MAX {
             return Err((parcel, MakeFault::Limit));
         }
-        let payment = Payment {
-            stock: Stock::of(parcel),
-            is_live: true,
-        };
-        match self.payments.push(payment) {
-            Ok(()) => Ok(PaymentRef { number }),
-            Err(failed) => {
-                let Payment {
-                    mut stock,
-                    is_live: _,
-                } = failed.value;
-                Err((stock.take_all(), MakeFault::NoMemory))
+        if self.payments.reserve(1).is_err() {
+            return Err((parcel, MakeFault::NoMemory));
+        }
+        let mut stock = Stock::empty(parcel.brand(), parcel.value().kind());
+        match stock.put(parcel) {
+            Ok(()) => {
+                self.payments.push_reserved(Payment {
+                    stock,
+                    is_live: true,
+                });
+                Ok(PaymentRef { number })
             }
+            Err((parcel, _)) => Err((parcel, MakeFault::NoMemory)),
         }
     }
 

@@ -1,21 +1,17 @@
-use super::Payments;
-use crate::purses::tests::parcel;
-use ertp_mint::Stock;
+use super::{DeadPayment, Payments};
+use crate::purses::tests::{parcel, units};
 
 #[test]
 fn a_payment_is_spent_once(rt: HostRuntime) {
     let mut payments = Payments::new(rt.alloc());
     let five = parcel(&rt, rt.alloc(), 5);
     let made = match payments.make(five) {
-        Ok(payment) => Some(payment.number()),
-        Err((back, _)) => {
-            let _kept = Stock::of(back);
-            None
-        }
+        Ok(payment) => payment.number(),
+        Err(_back) => panic!(rt; "memory for a payment"),
     };
     assert_eq!(rt;
         (made, payments.made(), payments.left()),
-        (Some(0), 1, 4_294_967_294)
+        (0, 1, 4_294_967_294)
     );
     assert!(rt; payments.find(1).is_none());
     let payment = payments.find(0).expect(&rt, "it was made");
@@ -26,14 +22,12 @@ fn a_payment_is_spent_once(rt: HostRuntime) {
     );
     let twin = payments.twin(rt.alloc()).expect(&rt, "memory for a twin");
     let spent = payments.spend(payment).expect(&rt, "it is live");
-    assert_eq!(rt; Stock::of(spent).value().number(), Some(5));
+    assert_eq!(rt; units(&rt, spent), Some(5));
     assert!(rt; !payments.is_live(payment));
     assert_eq!(rt; payments.amount(payment).number(), Some(0));
-    assert!(rt;
-        payments
-            .spend(payment)
-            .map(|again| Stock::of(again).brand())
-            .is_err()
-    );
+    match payments.spend(payment) {
+        Ok(_again) => panic!(rt; "it is spent once"),
+        Err(fault) => assert_eq!(rt; fault, DeadPayment),
+    }
     assert_eq!(rt; (twin.made(), payments.made()), (1, 1));
 }

@@ -5,7 +5,7 @@ ghost use Rattle.amount_math.specs.Worth.{nat_bound};
 ghost use Rattle.zoe_run.specs.Purses.{amount_at};
 
 use super::Purses;
-use amount_math::{Kind, PutFault, Value};
+use amount_math::{Kind, Value};
 use ertp_mint::{Parcel, Stock, Supply};
 use std::alloc::Global;
 use std::process::Abort;
@@ -25,18 +25,24 @@ pub(crate) fn parcel(rt: &impl Abort, alloc: Global, number: u128) -> Parcel
     supply.issue(0, value).expect(rt, "within the bound")
 }
 
-/// Puts a parcel in a purse, or tells why not.
-fn put(purses: &mut Purses, purse: u32, parcel: Parcel) -> Option<PutFault>
+/// Puts a parcel in a purse, or ends the test.
+fn put(rt: &impl Abort, purses: &mut Purses, purse: u32, parcel: Parcel)
     requires made { purse < length purses.old }
     requires meet { Meet (amount_at purses.old purse) parcel }
     ensures { length purses.new ≡ length purses.old }
 {
     match purses.put(purse, parcel) {
-        Ok(()) => None,
-        Err((back, fault)) => {
-            let _kept = Stock::of(back);
-            Some(fault)
-        }
+        Ok(()) => {}
+        Err(_back) => panic!(rt; "within the bound"),
+    }
+}
+
+/// How many units a parcel has, which is put in a stock.
+pub(crate) fn units(rt: &impl Abort, parcel: Parcel) -> Option<u128> {
+    let mut stock = Stock::empty(parcel.brand(), parcel.value().kind());
+    match stock.put(parcel) {
+        Ok(()) => stock.value().number(),
+        Err(_back) => panic!(rt; "within the bound"),
     }
 }
 
@@ -47,7 +53,7 @@ fn purses_are_put_to(rt: HostRuntime) {
     let second = purses.open(0, Kind::Nat).expect(&rt, "memory for a purse");
     assert_eq!(rt; (first, second, purses.made()), (0, 1, 2));
     let ten = parcel(&rt, rt.alloc(), 10);
-    assert_eq!(rt; put(&mut purses, 1, ten), None);
+    put(&rt, &mut purses, 1, ten);
     assert_eq!(rt; purses.amount(1).number(), Some(10));
     assert_eq!(rt; purses.amount(0).number(), Some(0));
     assert_eq!(rt; purses.brand(1), 0);
@@ -61,7 +67,6 @@ fn an_empty_purse_gives_nothing(rt: HostRuntime) {
     let purse = purses.open(0, Kind::Nat).expect(&rt, "memory for a purse");
     let nothing = Value::nat(0);
     let parcel = purses.take(purse, &nothing).expect(&rt, "what it has");
-    let taken = Stock::of(parcel);
-    assert_eq!(rt; (taken.brand(), taken.value().number()), (0, Some(0)));
+    assert_eq!(rt; (parcel.brand(), units(&rt, parcel)), (0, Some(0)));
     assert_eq!(rt; purses.amount(purse).number(), Some(0));
 }

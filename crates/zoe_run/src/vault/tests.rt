@@ -4,7 +4,6 @@ ghost use Rattle.zoe_run.specs.Drafts.{HandIsEmpty, begun, with_brand, with_purs
 
 use super::{Draft, Vault};
 use amount_math::{Kind, Value};
-use ertp_mint::Stock;
 use rights_model::{Holder, Movement};
 use std::alloc::Global;
 use std::process::Abort;
@@ -59,16 +58,14 @@ fn a_turn_with_a_parcel_that_is_given_up_is_undone(rt: HostRuntime) {
         panic!(rt; "memory for an issue");
     };
     let purse = Holder::Purse(0);
-    if let Err((back, _)) = draft.put(&purse, five) {
-        let _kept = Stock::of(back);
+    if let Err(_back) = draft.put(&purse, five) {
         panic!(rt; "memory for a movement");
     }
     assert_eq!(rt; draft.purses().amount(0).number(), Some(5));
     let Ok(two) = draft.take(&purse, &Value::nat(2)) else {
         panic!(rt; "memory for a movement");
     };
-    if let Err((back, _)) = draft.retire(two) {
-        let _kept = Stock::of(back);
+    if let Err(_back) = draft.retire(two) {
         panic!(rt; "memory for a movement");
     }
     assert_eq!(rt;
