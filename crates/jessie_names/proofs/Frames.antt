@@ -1,5 +1,5 @@
 -- Frames, the nearest first and as the code has them, the nearest last.
-use Rattle.std.proofs.Common.{◌≡◌, ℕ, Bool, true, false, ◌||◌, List, [], ◌∷◌, ◌++◌, reverse, ap, ◌∙◌, refl, sym}
+use Rattle.std.proofs.Common.{◌≡◌, ℕ, Bool, true, false, ◌||◌, List, [], ◌∷◌, ◌++◌, reverse, ap, ◌∙◌, refl}
 use Rattle.std.proofs.lemmas.List.{reverse-append}
 use Rattle.jessie_names.specs.declared.names.Entry.{Entry}
 use Rattle.jessie_names.specs.Names.{innermost, around, is_read, is_read_around}

@@ -1,5 +1,5 @@
 -- The first fault of what a text does with names.
-use Rattle.std.specs.Prelude.{ℕ, Bool, true, false, ◌||◌, if◌then◌else◌, List, [], ◌∷◌, ◌++◌, Option, Some, None}
+use Rattle.std.specs.Prelude.{ℕ, Bool, false, ◌||◌, if◌then◌else◌, List, [], ◌∷◌, ◌++◌, Option, Some, None}
 use Rattle.std.specs.Str.{bytes_eq}
 use Rattle.jessie_tree.specs.declared.syntax.Function.{Function}
 use Rattle.jessie_grammar.specs.declared.event.Event.{Event}

@@ -1,12 +1,11 @@
 -- The laws of reading a text.
-use Rattle.std.proofs.Common.{◌≡◌, ℕ, ◌+◌, ◌-◌, ◌≤◌, ◌<◌, nat_lt, Bool, true, false, if◌then◌else◌, List, [], ◌∷◌, ◌++◌, length, drop, Option, Some, None, Result, Ok, Err, refl, sym, ap, subst, ◌∙◌, arith, length-append}
+use Rattle.std.proofs.Common.{◌≡◌, ℕ, ◌-◌, ◌≤◌, ◌<◌, nat_lt, Bool, true, false, if◌then◌else◌, List, [], ◌∷◌, ◌++◌, length, drop, Option, Some, None, Ok, Err, refl, sym, ap, subst, ◌∙◌, arith, length-append}
 use Rattle.std.specs.Prelude.{codes}
 use Rattle.std.proofs.lemmas.Bool.Decides.{nat_tests}
 use Rattle.jessie_tokens.specs.declared.token.Token.{Token}
 use Rattle.jessie_tokens.specs.Lex.{cut}
 use Rattle.jessie_tree.specs.declared.syntax.Module.{Module}
 use Rattle.jessie_grammar.specs.declared.event.Event.{Event}
-use Rattle.jessie_grammar.specs.declared.fault.Fault.{Fault}
 use Rattle.jessie_grammar.specs.declared.fault.Refusal.{Refusal}
 use Rattle.jessie_grammar.specs.declared.fault.Refusal.TheVariants as r
 use Rattle.jessie_grammar.specs.Words.{Found, language_limits}
@@ -16,7 +15,7 @@ use Rattle.jessie_grammar.specs.Grammar as grammar
 use Rattle.jessie_grammar.proofs.Whole.{is_in_grammar, reads_the_grammar, one_tree, refuses_the_first}
 use Rattle.jessie_names.specs.Names.{first, is_function}
 use Rattle.jessie_reader.specs.declared.read.TextRefusal.{TextRefusal}
-use Rattle.jessie_reader.specs.Read.{Answer, read, refusal, place_at, place_of, has_start, by_names, by_tokens}
+use Rattle.jessie_reader.specs.Read.{Answer, read, refusal, place_at, place_of, by_names, by_tokens}
 use Rattle.jessie_reader.specs.Meaning.{IsText, ReadIsText, TextIsRead, OneModule, FirstRefusal, too_many_bytes, refused_token, refused_name, has_no_start, RefusesFirst}
 
 not_long : (n : ℕ) → n ≤ 65536 → nat_lt 65536 n ≡ false

@@ -1,5 +1,5 @@
 -- What reading a text means, in the grammar's words.
-use Rattle.std.specs.Prelude.{◌≡◌, ℕ, suc, ◌≤◌, ◌<◌, true, false, List, [], ◌++◌, length, codes, Some, None, Ok, Err}
+use Rattle.std.specs.Prelude.{◌≡◌, ℕ, ◌≤◌, ◌<◌, true, false, List, [], ◌++◌, length, codes, Some, None, Ok, Err}
 use Rattle.jessie_tokens.specs.declared.token.Token.{Token}
 use Rattle.jessie_tokens.specs.Lex.{cut}
 use Rattle.jessie_tree.specs.declared.syntax.Module.{Module}

@@ -3,7 +3,6 @@ use Rattle.std.specs.Prelude.{◌≡◌, ℕ, ◌-◌, nat_lt, if◌then◌else�
 use Rattle.jessie_tokens.specs.declared.token.Token.{Token}
 use Rattle.jessie_tokens.specs.Lex.{cut}
 use Rattle.jessie_tree.specs.declared.syntax.Module.{Module}
-use Rattle.jessie_grammar.specs.declared.fault.Fault.{Fault}
 use Rattle.jessie_grammar.specs.declared.fault.Refusal.{Refusal}
 use Rattle.jessie_grammar.specs.declared.fault.Refusal.TheVariants as r
 use Rattle.jessie_grammar.specs.Words.{Found, language_limits}

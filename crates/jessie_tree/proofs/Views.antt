@@ -1,7 +1,7 @@
 -- What each kind of data stands for, and lists of data beside the lists in a tree.
-use Rattle.std.proofs.Common.{◌≡◌, ℕ, ℤ, ◌+◌, List, [], ◌∷◌, Bool, length, map, refl, ap, ◌∙◌, add-one, sym, Vec, Global, rules}
+use Rattle.std.proofs.Common.{◌≡◌, ℕ, ℤ, ◌+◌, List, [], ◌∷◌, Bool, length, refl, ap, ◌∙◌, add-one, Vec, Global, rules}
 use Rattle.jessie_tree.specs.Tree.{Tree, null, boolean, number, text, array, fields, object, function, listed, paired, count}
-use Rattle.jessie_tree.specs.View.{tree, tree_step, items_of, fields_of, named, trees, named_trees}
+use Rattle.jessie_tree.specs.View.{tree, items_of, fields_of, trees, named_trees}
 use Rattle.jessie_tree.specs.declared.data.Data.{Data}
 use Rattle.jessie_tree.specs.declared.data.Obj.{Obj}
 use Rattle.jessie_tree.specs.declared.data.Data as D

@@ -12,7 +12,6 @@ use Rattle.jessie_tree.specs.declared.syntax.Step.{Step}
 use Rattle.jessie_tree.specs.declared.syntax.Stmt.{Stmt}
 use Rattle.jessie_tree.specs.declared.syntax.Stmt.TheVariants as s
 use Rattle.jessie_tree.specs.declared.syntax.Function.{Function}
-use Rattle.jessie_tree.specs.declared.syntax.Variable.{Variable}
 use Rattle.jessie_tree.specs.declared.syntax.Module.{Module}
 
 -- the data that a literal stands for

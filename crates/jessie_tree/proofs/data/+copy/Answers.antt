@@ -1,6 +1,6 @@
 use Rattle.std.proofs.Common.{ap}
 use Rattle.jessie_tree.specs.Tree.{fields}
-use Rattle.jessie_tree.specs.View.{fields_of, named_trees}
+use Rattle.jessie_tree.specs.View.{fields_of}
 use Rattle.jessie_tree.proofs.Views.{tree-Record}
 use Rattle.jessie_tree.proofs.data.+copy.Goals as goal
 
