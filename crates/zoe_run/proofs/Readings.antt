@@ -1,13 +1,11 @@
 -- What is read of the stores, and purses and brands that are added.
 use Rattle.std.proofs.Common.{◌≡◌, ◌==◌, ℕ, ◌<◌, Bool, true, false, cond, List, [], ◌∷◌, ◌++◌, length, map, get_or, inl, inr, refl, sym, ◌∙◌, ap, subst, arith, length-append}
-use Rattle.std.proofs.lemmas.Bool.{cases_order, cases_lt}
+use Rattle.std.proofs.lemmas.Bool.{cases_order}
 use Rattle.std.proofs.lemmas.List.{get_or_past, get_or_push, get_or_append_left, map-append}
 use Rattle.std.proofs.Math.ListN.{get_or-map}
-use Rattle.amount_math.specs.Content.{nothing, count, count-nothing}
-use Rattle.amount_math.specs.Worth.{Fits}
+use Rattle.amount_math.specs.Content.{nothing, count}
 use Rattle.amount_math.specs.declared.Amount.{Amount}
 use Rattle.amount_math.specs.declared.Kind.{Kind}
-use Rattle.amount_math.specs.declared.Kind.TheVariants.{Nat}
 use Rattle.ertp_mint.specs.BrandSupply.{BrandSupply, new_supply}
 use Rattle.rights_model.specs.declared.Holder.{Holder}
 use Rattle.rights_model.specs.declared.Holder.TheVariants.{Purse, Payment, Slot, Hand, Outside}
@@ -20,7 +18,7 @@ use Rattle.zoe_run.specs.Vaults.{VaultState, PaymentMark, amount_of}
 use Rattle.zoe_run.specs.Drafts.{DraftState, ArePurses, ArePayments, KeepsHand, with_purse, with_brand, mark}
 use Rattle.zoe_run.specs.Stored.{in_brand, content_in, state_of, table_of, Agrees, IsOfKind, AreOfKind, IsDraftInside}
 use Rattle.zoe_run.proofs.Contents.{at_brand, in_no_amount, same_but_supply}
-use Rattle.zoe_run.proofs.Supplies.{out_at, kind_at}
+use Rattle.zoe_run.proofs.Supplies.{kind_at, out_at-added, kind_at-added, Fits-added}
 use Rattle.zoe_run.proofs.KindsKept.{brand_in, purses_made, payments_made}
 use Rattle.zoe_run.proofs.Covered.{holds-table_of}
 use Rattle.zoe_run.proofs.Movings.{draft_of}
@@ -115,32 +113,13 @@ module _ (v : VaultState) (s : Stores) (ms : List Movement) (u : Bool) (kind : K
   pub draft_of-added : draft_of v (record s { supply = s.supply ++ new_supply kind ∷ [] }) ms u ≡ with_brand (draft_of v s ms u) kind
   draft_of-added = refl
 
-  -- nothing is out of the new brand, nor was before
-  same_out : (b : ℕ) → out_at (s.supply ++ new_supply kind ∷ []) b ≡ out_at s.supply b
-  same_out b = elim (cases_order b (length s.supply)) [
-    | inl same ↦ subst (λ n. out_at (s.supply ++ new_supply kind ∷ []) n ≡ out_at s.supply n) (sym same)
-        (ap (λ (x : BrandSupply). x.outstanding.content) (get_or_push s.supply (new_supply kind) (new_supply Nat) (length s.supply) refl)
-        ∙ sym (ap (λ (x : BrandSupply). x.outstanding.content) (get_or_past s.supply (length s.supply) (new_supply Nat) (omega arith))))
-    | inr (inl below) ↦ ap (λ (x : BrandSupply). x.outstanding.content) (get_or_append_left s.supply (new_supply kind ∷ []) (new_supply Nat) b below)
-    | inr (inr above) ↦ ap (λ (x : BrandSupply). x.outstanding.content) (get_or_past (s.supply ++ new_supply kind ∷ []) b (new_supply Nat) (omega (arith, length-append {A = BrandSupply})) ∙ sym (get_or_past s.supply b (new_supply Nat) (omega arith)))
-  ]
-
   pub added_keeps_hand : KeepsHand (draft_of v s ms u) (draft_of v (record s { supply = s.supply ++ new_supply kind ∷ [] }) ms u)
-  added_keeps_hand = record { each = λ e k. omega (arith, ap (λ c. count c k) (same_out e)) }
-
-  same_kind : (b : ℕ) → b < length s.supply → kind_at (s.supply ++ new_supply kind ∷ []) b ≡ kind_at s.supply b
-  same_kind b below = ap (λ (x : BrandSupply). x.outstanding.kind) (get_or_append_left s.supply (new_supply kind ∷ []) (new_supply Nat) b below)
-
-  fits_added : ((b : ℕ) → Fits (kind_at s.supply b) (out_at s.supply b)) → (b : ℕ) → Fits (kind_at (s.supply ++ new_supply kind ∷ []) b) (out_at (s.supply ++ new_supply kind ∷ []) b)
-  fits_added fits b = elim (cases_lt b (length s.supply)) [
-    | inl below ↦ subst (λ (k : Kind). Fits k (out_at (s.supply ++ new_supply kind ∷ []) b)) (sym (same_kind b below)) (subst (Fits (kind_at s.supply b)) (sym (same_out b)) (fits b))
-    | inr past ↦ record { each = λ k. omega (arith, ap (λ c. count c k) (same_out b), ap (λ (x : BrandSupply). count x.outstanding.content k) (get_or_past s.supply b (new_supply Nat) past), count-nothing k) }
-  ]
+  added_keeps_hand = record { each = λ e k. omega (arith, ap (λ c. count c k) (out_at-added s.supply kind e)) }
 
   kept_kind : (a : Amount) → IsOfKind s.supply a → IsOfKind (s.supply ++ new_supply kind ∷ []) a
   kept_kind a is = record {
     made = omega (arith, is.made, length-append {A = BrandSupply});
-    kind = is.kind ∙ sym (same_kind a.brand is.made);
+    kind = is.kind ∙ sym (kind_at-added s.supply kind a.brand is.made);
   }
 
   pub adds_brand : IsDraftInside s (draft_of v s ms u) → IsDraftInside (record s { supply = s.supply ++ new_supply kind ∷ [] }) (draft_of v (record s { supply = s.supply ++ new_supply kind ∷ [] }) ms u)
@@ -151,10 +130,10 @@ module _ (v : VaultState) (s : Stores) (ms : List Movement) (u : Bool) (kind : K
           sound = is.draft.sound;
           follows = refl;
           can = is.draft.can;
-          bounded = fits_added is.draft.bounded;
-          out_is_held = λ b k. omega (arith, is.draft.out_is_held b k, ap (λ c. count c k) (same_out b));
-          given_up_in_hand = λ b k. omega (arith, is.draft.given_up_in_hand b k, ap (λ c. count c k) (same_out b));
-          unspoiled = λ whole b k. omega (arith, is.draft.unspoiled whole b k, ap (λ c. count c k) (same_out b));
+          bounded = Fits-added s.supply kind is.draft.bounded;
+          out_is_held = λ b k. omega (arith, is.draft.out_is_held b k, ap (λ c. count c k) (out_at-added s.supply kind b));
+          given_up_in_hand = λ b k. omega (arith, is.draft.given_up_in_hand b k, ap (λ c. count c k) (out_at-added s.supply kind b));
+          unspoiled = λ whole b k. omega (arith, is.draft.unspoiled whole b k, ap (λ c. count c k) (out_at-added s.supply kind b));
           purses = purses_made (record s { supply = s.supply ++ new_supply kind ∷ [] }) (table_after v.table ms) kinds;
           payments = payments_made (record s { supply = s.supply ++ new_supply kind ∷ [] }) (table_after v.table ms) kinds;
         };

@@ -1,7 +1,8 @@
 -- What is out of each brand after a movement.
-use Rattle.std.proofs.Common.{◌≡◌, ℕ, ◌<◌, ◌+◌, cond, eqb, List, length, set, inl, inr, refl, sym, ◌∙◌, ap, subst, arith, get_or-set_same, get_or-set_other}
-use Rattle.std.proofs.lemmas.Bool.{cases_eq, ne_eqb, eq-eqb}
-use Rattle.amount_math.specs.Content.{Content, count, sum, difference, Contains, count-sum, count-difference}
+use Rattle.std.proofs.Common.{◌≡◌, ℕ, ◌<◌, ◌+◌, cond, eqb, List, [], ◌∷◌, ◌++◌, length, set, inl, inr, refl, sym, ◌∙◌, ap, subst, arith, get_or-set_same, get_or-set_other, length-append}
+use Rattle.std.proofs.lemmas.Bool.{cases_eq, cases_lt, cases_order, ne_eqb, eq-eqb}
+use Rattle.std.proofs.lemmas.List.{get_or_past, get_or_push, get_or_append_left}
+use Rattle.amount_math.specs.Content.{Content, count, sum, difference, Contains, count-sum, count-difference, count-nothing}
 use Rattle.amount_math.specs.Worth.{Fits}
 use Rattle.amount_math.specs.declared.Kind.{Kind}
 use Rattle.amount_math.specs.declared.Kind.TheVariants.{Nat}
@@ -92,3 +93,25 @@ pub Fits-to : (ss : List BrandSupply) (h : Holder) (b : ℕ) (c : Content) → b
 Fits-to ss h b c made has all e = subst (λ (kind : Kind). Fits kind (out_at (supplies_to ss h b c) e)) (sym (kind_at-to ss h b c e)) (record {
   each = λ k. omega (arith, (all e).each k, out_at-to ss h b c made has e k);
 })
+
+-- ---- a brand is added
+
+module _ (ss : List BrandSupply) (kind : Kind) where
+  -- nothing is out of the new brand, nor was before
+  pub out_at-added : (b : ℕ) → out_at (ss ++ new_supply kind ∷ []) b ≡ out_at ss b
+  out_at-added b = elim (cases_order b (length ss)) [
+    | inl same ↦ subst (λ n. out_at (ss ++ new_supply kind ∷ []) n ≡ out_at ss n) (sym same)
+        (ap (λ (x : BrandSupply). x.outstanding.content) (get_or_push ss (new_supply kind) (new_supply Nat) (length ss) refl)
+        ∙ sym (ap (λ (x : BrandSupply). x.outstanding.content) (get_or_past ss (length ss) (new_supply Nat) (omega arith))))
+    | inr (inl below) ↦ ap (λ (x : BrandSupply). x.outstanding.content) (get_or_append_left ss (new_supply kind ∷ []) (new_supply Nat) b below)
+    | inr (inr above) ↦ ap (λ (x : BrandSupply). x.outstanding.content) (get_or_past (ss ++ new_supply kind ∷ []) b (new_supply Nat) (omega (arith, length-append {A = BrandSupply})) ∙ sym (get_or_past ss b (new_supply Nat) (omega arith)))
+  ]
+
+  pub kind_at-added : (b : ℕ) → b < length ss → kind_at (ss ++ new_supply kind ∷ []) b ≡ kind_at ss b
+  kind_at-added b below = ap (λ (x : BrandSupply). x.outstanding.kind) (get_or_append_left ss (new_supply kind ∷ []) (new_supply Nat) b below)
+
+  pub Fits-added : ((b : ℕ) → Fits (kind_at ss b) (out_at ss b)) → (b : ℕ) → Fits (kind_at (ss ++ new_supply kind ∷ []) b) (out_at (ss ++ new_supply kind ∷ []) b)
+  Fits-added fits b = elim (cases_lt b (length ss)) [
+    | inl below ↦ subst (λ (k : Kind). Fits k (out_at (ss ++ new_supply kind ∷ []) b)) (sym (kind_at-added b below)) (subst (Fits (kind_at ss b)) (sym (out_at-added b)) (fits b))
+    | inr past ↦ record { each = λ k. omega (arith, ap (λ c. count c k) (out_at-added b), ap (λ (x : BrandSupply). count x.outstanding.content k) (get_or_past ss b (new_supply Nat) past), count-nothing k) }
+  ]

@@ -1,6 +1,7 @@
 -- What purses hold: an amount each, by number.
-use Rattle.std.specs.Prelude.{ℕ, List, slice_index_or}
+use Rattle.std.specs.Prelude.{ℕ, ◌==◌, if◌then◌else◌, List, slice_index_or}
 use Rattle.amount_math.specs.Content.{nothing}
+use Rattle.amount_math.specs.Counted.{counted}
 use Rattle.amount_math.specs.declared.Amount.{Amount}
 use Rattle.amount_math.specs.declared.Kind.{Kind}
 use Rattle.amount_math.specs.declared.Kind.TheVariants.{Nat}
@@ -20,3 +21,7 @@ amount_at purses n = slice_index_or purses n no_amount
 -- the most objects of a kind
 abbrev pub most_made : ℕ
 most_made = 4294967295
+
+-- how much an amount counts of a brand, all elements together
+abbrev pub counted_in : ℕ → Amount → ℕ
+counted_in b a = if a.brand == b then counted a.value.content else 0

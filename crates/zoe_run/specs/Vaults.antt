@@ -6,6 +6,7 @@ use Rattle.amount_math.specs.Counted.{counted}
 use Rattle.amount_math.specs.Worth.{Fits}
 use Rattle.amount_math.specs.declared.Amount.{Amount}
 use Rattle.amount_math.specs.declared.Kind.{Kind}
+use Rattle.amount_math.specs.declared.Kind.TheVariants.{Nat}
 use Rattle.ertp_mint.specs.BrandSupply.{BrandSupply, coded_supply, supply_at, issued, retired}
 use Rattle.rights_model.specs.declared.Holder.{Holder}
 use Rattle.rights_model.specs.declared.Holder.TheVariants.{Purse, Payment, Slot, Hand, Outside}
@@ -97,8 +98,9 @@ pub record CanTakePayment (v : VaultState) (p b : ℕ) (c : Content) : Type 0 wh
   pub brand : brand_of v (Payment p) ≡ b
   pub whole : holds v.table (Payment p) b ≡ c
 
--- what is out stays within the bound of its kind, and all that was minted in 128 bits
+-- of whole numbers: what is out stays within the bound, and all that was minted in 128 bits
 pub record CanMint (v : VaultState) (b : ℕ) (c : Content) : Type 0 where
+  pub nat : kind_of v b ≡ Nat
   pub fits : Fits (kind_of v b) (sum (out_of v b) c)
   pub room : (supply_at v.supplies b).minted + counted c < 2 ^ 128
 

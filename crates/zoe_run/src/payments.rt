@@ -1,10 +1,11 @@
 //! Payments by number (ERTP). A payment is made with a parcel, is spent whole, and is then dead for
 //! good.
 
-ghost use Rattle.std.specs.Prelude.{◌≡◌, ◌≢◌, ◌<◌, ◌-◌, ◌↔◌, ◌++◌, ◌∷◌, [], List, length, slice_set, IfOk, IfErr, IfSome, IsOk, IsSome, IsTrue, OnOk, OnErr};
+ghost use Rattle.std.specs.Prelude.{◌≡◌, ◌≢◌, ◌<◌, ◌-◌, ◌↔◌, ◌++◌, ◌∷◌, [], List, length, slice_set, IfOk, IfErr, IfSome, IsOk, IsSome, IsTrue, OnOk, OnErr, sum_by};
 ghost use Rattle.zoe_run.specs.Payments.{PaymentState, live_with, payment_at, spent};
-ghost use Rattle.zoe_run.specs.Purses.{most_made};
+ghost use Rattle.zoe_run.specs.Purses.{counted_in, most_made};
 
+use crate::purses::counted;
 use amount_math::Value;
 use ertp_mint::{Parcel, Stock};
 use std::alloc::{AllocError, Global};
@@ -183,6 +184,17 @@ impl Payments {
         }
         entry.is_live = false;
         Ok(entry.stock.take_all())
+    }
+
+    /// How much all payments of a brand have together. One that was spent has nothing.
+    pub fn total(&self, brand: u16) -> u128
+        ensures { result ≡ sum_by (λ p. counted_in brand p.amount) self.now }
+    {
+        let mut total = 0;
+        for payment in &self.payments {
+            total += counted(&payment.stock, brand);
+        }
+        total
     }
 
     /// A second one, which undoing keeps.

@@ -1,10 +1,10 @@
 //! Purses by number, each of one brand (ERTP). An opened purse stays for good.
 
-ghost use Rattle.std.specs.Prelude.{◌≡◌, ◌<◌, ◌↔◌, ◌++◌, ◌∷◌, [], List, length, slice_set, IfOk, IfErr, IsOk, OnOk, OnErr};
+ghost use Rattle.std.specs.Prelude.{◌≡◌, ◌<◌, ◌↔◌, ◌++◌, ◌∷◌, [], List, length, slice_set, IfOk, IfErr, IsOk, OnOk, OnErr, ◌≤◌, sum_by};
 ghost use Rattle.amount_math.specs.Amount.{Meet, holding};
 ghost use Rattle.amount_math.specs.Content.{Contains, difference, sum};
-ghost use Rattle.amount_math.specs.Worth.{IsPutRefusal, IsTakeRefusal, IsValue};
-ghost use Rattle.zoe_run.specs.Purses.{amount_at, empty_amount, most_made};
+ghost use Rattle.amount_math.specs.Worth.{IsPutRefusal, IsTakeRefusal, IsValue, nat_bound};
+ghost use Rattle.zoe_run.specs.Purses.{amount_at, counted_in, empty_amount, most_made};
 
 use amount_math::{Kind, PutFault, TakeFault, Value};
 use ertp_mint::{Parcel, Stock};
@@ -39,6 +39,20 @@ impl Model for Purses {
     ghost view = { λ a. a.stocks.items };
 
     ghost invariant = { λ a. length a.stocks.items ≤ most_made };
+}
+
+/// How much a store counts of a brand.
+pub(crate) fn counted(stock: &Stock, brand: u16) -> u128
+    ensures counted { result ≡ counted_in brand stock.now }
+    ensures bounded { result ≤ nat_bound }
+{
+    if stock.brand() != brand {
+        return 0;
+    }
+    match stock.value().number() {
+        Some(number) => number,
+        None => 0,
+    }
 }
 
 impl Purses {
@@ -116,6 +130,17 @@ impl Purses {
         ensures refused { IfErr result (IsTakeRefusal (amount_at self.old purse).value.content part.now.content) }
     {
         self.stocks[purse as usize].take(part)
+    }
+
+    /// How much all purses of a brand have together.
+    pub fn total(&self, brand: u16) -> u128
+        ensures { result ≡ sum_by (counted_in brand) self.now }
+    {
+        let mut total = 0;
+        for stock in &self.stocks {
+            total += counted(stock, brand);
+        }
+        total
     }
 
     /// A second one, which undoing keeps.

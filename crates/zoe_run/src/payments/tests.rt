@@ -31,3 +31,21 @@ fn a_payment_is_spent_once(rt: HostRuntime) {
     }
     assert_eq!(rt; (twin.made(), payments.made()), (1, 1));
 }
+
+#[test]
+fn live_payments_of_a_brand_are_added_up(rt: HostRuntime) {
+    let mut payments = Payments::new(rt.alloc());
+    let five = parcel(&rt, rt.alloc(), 5);
+    let payment = match payments.make(five) {
+        Ok(payment) => payment,
+        Err(_back) => panic!(rt; "memory for a payment"),
+    };
+    let seven = parcel(&rt, rt.alloc(), 7);
+    if let Err(_back) = payments.make(seven) {
+        panic!(rt; "memory for a payment");
+    }
+    assert_eq!(rt; (payments.total(0), payments.total(1)), (12, 0));
+    let spent = payments.spend(payment).expect(&rt, "it is live");
+    assert_eq!(rt; units(&rt, spent), Some(5));
+    assert_eq!(rt; payments.total(0), 7);
+}

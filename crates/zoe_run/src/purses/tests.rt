@@ -70,3 +70,14 @@ fn an_empty_purse_gives_nothing(rt: HostRuntime) {
     assert_eq!(rt; (parcel.brand(), units(&rt, parcel)), (0, Some(0)));
     assert_eq!(rt; purses.amount(purse).number(), Some(0));
 }
+
+#[test]
+fn purses_of_a_brand_are_added_up(rt: HostRuntime) {
+    let mut purses = Purses::new(rt.alloc());
+    let _other = purses.open(1, Kind::Nat).expect(&rt, "memory for a purse");
+    let purse = purses.open(0, Kind::Nat).expect(&rt, "memory for a purse");
+    assert_eq!(rt; purses.total(0), 0);
+    let ten = parcel(&rt, rt.alloc(), 10);
+    put(&rt, &mut purses, purse, ten);
+    assert_eq!(rt; (purses.total(0), purses.total(1)), (10, 0));
+}

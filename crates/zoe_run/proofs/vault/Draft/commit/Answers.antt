@@ -1,6 +1,6 @@
 use Rattle.std.proofs.Common.{ap, ◌∙◌}
 use Rattle.zoe_run.specs.Drafts.{DraftState}
-use Rattle.zoe_run.proofs.Turns.{commits, state_of-commit}
+use Rattle.zoe_run.proofs.DraftSteps.{commits, state_of-commit}
 use Rattle.zoe_run.proofs.vault.Draft.commit.Goals as goal
 
 pub invariant_of-result : goal.invariant_of-result

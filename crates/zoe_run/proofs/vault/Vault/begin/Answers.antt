@@ -1,4 +1,4 @@
-use Rattle.zoe_run.proofs.Turns.{begins, begins_empty}
+use Rattle.zoe_run.proofs.DraftSteps.{begins, begins_empty}
 use Rattle.zoe_run.proofs.vault.Vault.begin.Goals as goal
 
 pub invariant_of-result : goal.invariant_of-result

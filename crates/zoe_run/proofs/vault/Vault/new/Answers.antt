@@ -1,4 +1,4 @@
-use Rattle.zoe_run.proofs.Turns.{new_stores}
+use Rattle.zoe_run.proofs.DraftSteps.{new_stores}
 use Rattle.zoe_run.proofs.vault.Vault.new.Goals as goal
 
 pub invariant_of-result : goal.invariant_of-result

@@ -1,0 +1,60 @@
+use Rattle.std.proofs.Common.{◌≡◌, true≢false, true, false, sym, ◌∙◌, ap, Err, arith}
+use Rattle.zoe_run.specs.InputLines.{is_too_long}
+use Rattle.zoe_run.proofs.Limits.{is_too_long-known, is_too_long-longer, is_too_long-within, weaker}
+use Rattle.zoe_run.proofs.RunFair.{run_fair}
+use Rattle.zoe_run.proofs.top.zoe_top.Goals as goal
+
+pub returns-in-Err-TooLong-clause-limits : goal.returns-in-Err-TooLong-clause-limits
+returns-in-Err-TooLong-clause-limits g c = weaker (g.S.Source.left c.args.source.now) _ _ is_too_long-longer (c.in-Err-TooLong.ensures.too_long (ap Err c.in-Err-TooLong.field-0-is))
+
+pub returns-in-Err-TooLong-clause-complete : goal.returns-in-Err-TooLong-clause-complete
+returns-in-Err-TooLong-clause-complete g c =
+    weaker (g.S.Source.left c.args.source.now) (λ input. is_too_long input ≡ true) _ (λ input long words short s k. true≢false (sym long ∙ short))
+    (returns-in-Err-TooLong-clause-limits g c)
+
+pub returns-then-has_long_line-clause-limits : goal.returns-then-has_long_line-clause-limits
+returns-then-has_long_line-clause-limits g c =
+    let long : is_too_long c.in-Ok.input.items ≡ true =
+    is_too_long-within _ c.in-Ok.ensures.within ∙ sym (rw (c.if-has_long_line.true, c.deref.ensures.value) at c.has_long_line.ensures) in
+    is_too_long-known (g.S.Source.left c.args.source.now) _ _ c.in-Ok.ensures.all long
+
+pub returns-then-has_long_line-clause-complete : goal.returns-then-has_long_line-clause-complete
+returns-then-has_long_line-clause-complete g c =
+    weaker (g.S.Source.left c.args.source.now) (λ input. is_too_long input ≡ true) _ (λ input long words short s k. true≢false (sym long ∙ short))
+    (returns-then-has_long_line-clause-limits g c)
+
+pub returns-in-Ok-run-clause-limits : goal.returns-in-Ok-run-clause-limits
+returns-in-Ok-run-clause-limits g c =
+    let short : is_too_long c.in-Ok.input.items ≡ false =
+    is_too_long-within _ c.in-Ok.ensures.within ∙ sym (rw (c.if-has_long_line.false, c.deref.ensures.value) at c.has_long_line.ensures) in
+    is_too_long-known (g.S.Source.left c.args.source.now) _ _ c.in-Ok.ensures.all short
+
+pub returns-in-Err-Failed-run-clause-limits : goal.returns-in-Err-Failed-run-clause-limits
+returns-in-Err-Failed-run-clause-limits g c =
+    let short : is_too_long c.in-Ok.input.items ≡ false =
+    is_too_long-within _ c.in-Ok.ensures.within ∙ sym (rw (c.if-has_long_line.false, c.deref.ensures.value) at c.has_long_line.ensures) in
+    is_too_long-known (g.S.Source.left c.args.source.now) _ _ c.in-Ok.ensures.all short
+
+pub returns-then-not-is_run-clause-fair : goal.returns-then-not-is_run-clause-fair
+returns-then-not-is_run-clause-fair g c = λ input. run_fair _ input (omega arith)
+
+pub returns-in-Err-Failed-clause-fair : goal.returns-in-Err-Failed-clause-fair
+returns-in-Err-Failed-clause-fair g c = λ input. run_fair _ input (omega arith)
+
+pub returns-in-Err-TooLong-clause-fair : goal.returns-in-Err-TooLong-clause-fair
+returns-in-Err-TooLong-clause-fair g c = λ input. run_fair _ input (omega arith)
+
+pub returns-in-Err-NoMemory-clause-fair : goal.returns-in-Err-NoMemory-clause-fair
+returns-in-Err-NoMemory-clause-fair g c = λ input. run_fair _ input (omega arith)
+
+pub returns-then-has_long_line-clause-fair : goal.returns-then-has_long_line-clause-fair
+returns-then-has_long_line-clause-fair g c = λ input. run_fair _ input (omega arith)
+
+pub returns-in-Ok-run-clause-fair : goal.returns-in-Ok-run-clause-fair
+returns-in-Ok-run-clause-fair g c = λ input. run_fair _ input (omega arith)
+
+pub returns-in-Err-Failed-run-clause-fair : goal.returns-in-Err-Failed-run-clause-fair
+returns-in-Err-Failed-run-clause-fair g c = λ input. run_fair _ input (omega arith)
+
+pub returns-clause-fair : goal.returns-clause-fair
+returns-clause-fair g c = λ input. run_fair _ input (omega arith)

@@ -1,0 +1,88 @@
+-- What each status of the top call says.
+use Rattle.std.specs.Prelude.{◌≡◌, ℕ, List, [], ◌∷◌, Bool, true, false, codes, Option}
+use Rattle.std.specs.Str.{bytes_eq}
+use Rattle.std.specs.Io.KnownBytes.{Appends, Keeps}
+use Rattle.zoe_run.specs.Causes.{Rose}
+use Rattle.zoe_run.specs.Fronts.{AppendsFront}
+use Rattle.zoe_run.specs.InputLines.{is_too_long}
+use Rattle.zoe_run.specs.Runs.{AppendsTurns, default_turns, journal_of, turns_of}
+use Rattle.zoe_run.specs.declared.top.Status.{Status}
+use Rattle.zoe_run.specs.declared.top.Status.TheVariants.{Done, Usage, ReadFault, WriteFault, NoMemory, TooLong}
+
+-- the program's name, and `run`
+abbrev pub takes_words : List (List ℕ) → Bool
+takes_words [] = false
+takes_words (name ∷ []) = false
+takes_words (name ∷ word ∷ []) = bytes_eq word (codes "run")
+takes_words (name ∷ word ∷ more ∷ words) = false
+
+-- the exit status
+abbrev pub exit_code : Status → ℕ
+exit_code Done = 0
+exit_code Usage = 2
+exit_code ReadFault = 3
+exit_code WriteFault = 4
+exit_code NoMemory = 5
+exit_code TooLong = 7
+
+-- what is shown on standard error
+abbrev pub status_name : Status → List ℕ
+status_name Done = codes "Done"
+status_name Usage = codes "Usage"
+status_name ReadFault = codes "ReadFault"
+status_name WriteFault = codes "WriteFault"
+status_name NoMemory = codes "NoMemory"
+status_name TooLong = codes "TooLong"
+
+-- what was written, for an input
+abbrev pub Writes : Status → Option (List ℕ) → Option (List ℕ) → List ℕ → Type 0
+Writes Done old new input = Appends old new (journal_of default_turns input)
+Writes Usage old new input = Keeps old new
+Writes ReadFault old new input = Keeps old new
+Writes WriteFault old new input = AppendsFront old new (journal_of default_turns input)
+Writes NoMemory old new input = AppendsTurns old new (turns_of default_turns input)
+Writes TooLong old new input = Keeps old new
+
+-- `TooLong` comes exactly where the input passes a limit and is read so far
+abbrev pub MeetsLimits : Status → List ℕ → Type 0
+MeetsLimits Done input = is_too_long input ≡ false
+MeetsLimits Usage input = Unit {0}
+MeetsLimits ReadFault input = Unit {0}
+MeetsLimits WriteFault input = is_too_long input ≡ false
+MeetsLimits NoMemory input = Unit {0}
+MeetsLimits TooLong input = is_too_long input ≡ true
+
+-- a fault is answered only where its count rose, and no fault is passed over
+abbrev pub SourceFaults : Status → ℕ → ℕ → Type 0
+SourceFaults Done before now = now ≡ before
+SourceFaults Usage before now = now ≡ before
+SourceFaults ReadFault before now = Rose before now
+SourceFaults WriteFault before now = now ≡ before
+SourceFaults NoMemory before now = now ≡ before
+SourceFaults TooLong before now = now ≡ before
+
+abbrev pub SinkFaults : Status → ℕ → ℕ → Type 0
+SinkFaults Done before now = now ≡ before
+SinkFaults Usage before now = now ≡ before
+SinkFaults ReadFault before now = now ≡ before
+SinkFaults WriteFault before now = Rose before now
+SinkFaults NoMemory before now = now ≡ before
+SinkFaults TooLong before now = now ≡ before
+
+-- nothing was written, whatever the source told
+abbrev pub WritesNothing : Status → Option (List ℕ) → Option (List ℕ) → Type 0
+WritesNothing Done old new = Unit {0}
+WritesNothing Usage old new = Keeps old new
+WritesNothing ReadFault old new = Keeps old new
+WritesNothing WriteFault old new = Unit {0}
+WritesNothing NoMemory old new = Unit {0}
+WritesNothing TooLong old new = Keeps old new
+
+-- done, unless memory ran out
+abbrev pub Ends : Status → Type 0
+Ends Done = Unit {0}
+Ends Usage = ⊥
+Ends ReadFault = ⊥
+Ends WriteFault = ⊥
+Ends NoMemory = Unit {0}
+Ends TooLong = ⊥

@@ -1,0 +1,28 @@
+use super::{Brand, Brands};
+use amount_math::Kind;
+use host_text::text::Text;
+use std::test::Fail;
+
+#[test]
+fn a_turns_brands_are_undone_or_kept(rt: HostRuntime) -> Result<(), Fail> {
+    let alloc = rt.alloc();
+    let mut brands = Brands::new(alloc)?;
+    assert_eq!(rt; brands.made(), 1);
+    assert_eq!(rt;
+        (brands.name(0).as_str(), brands.kind(0)),
+        ("Zoe Invitation", Kind::Set)
+    );
+    let name = Text::from_str(alloc, "moola")?;
+    let kind = Kind::Nat;
+    assert_eq!(rt; brands.add(Brand { name, kind }), Ok(1));
+    brands.forget();
+    let name = Text::from_str(alloc, "simoleans")?;
+    assert_eq!(rt; brands.add(Brand { name, kind }), Ok(2));
+    brands.back();
+    assert_eq!(rt; brands.made(), 2);
+    assert_eq!(rt;
+        (brands.name(1).as_str(), brands.kind(1)),
+        ("moola", Kind::Nat)
+    );
+    Ok(())
+}

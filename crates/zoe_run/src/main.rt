@@ -1,0 +1,64 @@
+//! An escrow host: a program that reads JSON lines and writes a journal of their turns. It stands on
+//! amounts, movements of rights, parcels and the data of the contract language; its modules are the
+//! host's layers, each with the contract that it will have as a crate (docs/ARCHITECTURE.md). Its one
+//! contract is `top::zoe_top`'s: what is written is the journal of what was read, whose turns are fair,
+//! and each status has its cause.
+#![tactic(auto)]
+
+pub mod brands;
+pub mod call_arguments;
+pub mod deliveries;
+pub mod effects;
+pub mod holdings;
+pub mod host;
+pub mod host_io;
+pub mod journal_text;
+pub mod laws;
+pub mod lines;
+pub mod message_lines;
+pub mod parties;
+pub mod parts;
+pub mod payments;
+pub mod purses;
+pub mod refusals;
+pub mod run;
+pub mod service_laws;
+pub mod services;
+mod stores;
+pub mod sums;
+pub mod top;
+pub mod turn_queue;
+pub mod turns;
+pub mod values;
+pub mod vault;
+pub mod world;
+
+use crate::host_io::std_ends::{StdSink, StdSource};
+use crate::top::{Status, zoe_top};
+use std::process::ExitCode;
+use std::{env, io};
+
+/// The words of the command line.
+fn words_of(rt: &(impl env::Env + AllocGlobal)) -> io::Result<Vec<String>> {
+    let mut words = Vec::new(rt.alloc());
+    for word in env::args(rt)? {
+        words.push(word)?;
+    }
+    Ok(words)
+}
+
+fn main(rt: HostRuntime) -> ExitCode {
+    let status = match words_of(&rt) {
+        Ok(words) => {
+            let mut source = StdSource::new(rt.reader());
+            let mut sink = StdSink::new(io::writer(&rt));
+            zoe_top(rt.alloc(), &words, &mut source, &mut sink)
+        }
+        Err(_) => Status::Usage,
+    };
+    if status != Status::Done {
+        let name = status.name();
+        let _ = eprintln!(rt; "{name}");
+    }
+    ExitCode::from(status.code())
+}

@@ -1,0 +1,114 @@
+//! All that the program does. Its one contract is `zoe_top`'s, which says of each status what was read
+//! and written and why it came, for whatever bytes and words, and that the turns of the run are fair.
+
+ghost use Rattle.std.specs.Prelude.{◌≡◌, ◌↔◌, ℕ, List, map, true, false, string_bytes, IfSome};
+ghost use Rattle.std.specs.Io.KnownBytes.{IsAtEnd};
+ghost use Rattle.zoe_run.specs.Causes.{Rose};
+ghost use Rattle.zoe_run.specs.Fair.{AreFair};
+ghost use Rattle.zoe_run.specs.InputLines.{is_too_long};
+ghost use Rattle.zoe_run.specs.Runs.{default_turns, turns_of};
+ghost use Rattle.zoe_run.specs.Top.{Ends, MeetsLimits, SinkFaults, SourceFaults, Writes, WritesNothing, exit_code, status_name, takes_words};
+
+use crate::host_io::{ReadError, Sink, Source, read_all};
+use crate::lines::{MAX_INPUT, has_long_line};
+use crate::run::{RunFault, run};
+use std::alloc::Global;
+
+/// How the program ended.
+#[derive(Clone, Copy, Debug, PartialEq, Eq)]
+pub enum Status {
+    Done,
+    Usage,
+    ReadFault,
+    WriteFault,
+    NoMemory,
+    TooLong,
+}
+
+impl Status {
+    /// The program's exit status.
+    pub fn code(self) -> u8
+        ensures { result ≡ exit_code self }
+    {
+        match self {
+            Status::Done => 0,
+            Status::Usage => 2,
+            Status::ReadFault => 3,
+            Status::WriteFault => 4,
+            Status::NoMemory => 5,
+            Status::TooLong => 7,
+        }
+    }
+
+    pub fn name(self) -> &'static str
+        ensures { result.now ≡ status_name self }
+    {
+        match self {
+            Status::Done => "Done",
+            Status::Usage => "Usage",
+            Status::ReadFault => "ReadFault",
+            Status::WriteFault => "WriteFault",
+            Status::NoMemory => "NoMemory",
+            Status::TooLong => "TooLong",
+        }
+    }
+}
+
+/// Whether the words are the program's name and `run`.
+fn is_run(words: &[String]) -> bool
+    ensures { result ≡ takes_words (map (λ w. string_bytes w) words.now) }
+{
+    match words {
+        [_, word] => word.as_str() == "run",
+        _ => false,
+    }
+}
+
+/// Reads the whole input and writes the journal of the run on it.
+pub fn zoe_top<S: Source, K: Sink>(
+    alloc: Global,
+    words: &[String],
+    source: &mut S,
+    sink: &mut K,
+) -> Status
+    // The words aren't taken, and nothing is read or written.
+    ensures usage { (result ≡ Status.Usage) ↔ (takes_words (map (λ w. string_bytes w) words.now) ≡ false) }
+    ensures untouched { result ≡ Status.Usage → (source.new ≡ source.old) × (sink.new ≡ sink.old) }
+
+    // What was written is the journal of what the source held, or a front of it.
+    ensures writes { IfSome (S.left source.old) (Writes result (K.written sink.old) (K.written sink.new)) }
+    ensures all_read { result ≡ Status.Done → IsAtEnd (S.left source.new) }
+    ensures nothing { WritesNothing result (K.written sink.old) (K.written sink.new) }
+
+    // The turns of the run are fair, whatever the input.
+    ensures fair { (input : List ℕ) → AreFair (turns_of default_turns input) }
+
+    // Where nothing stands against it, the run is done.
+    ensures complete { IfSome (S.left source.old) (λ input. takes_words (map (λ w. string_bytes w) words.now) ≡ true → is_too_long input ≡ false → (Rose (S.faults source.old) (S.faults source.new) → ⊥) → (Rose (K.faults sink.old) (K.faults sink.new) → ⊥) → Ends result) }
+
+    // Each other status has its cause.
+    ensures limits { IfSome (S.left source.old) (MeetsLimits result) }
+    ensures source_faults { SourceFaults result (S.faults source.old) (S.faults source.new) }
+    ensures sink_faults { SinkFaults result (K.faults sink.old) (K.faults sink.new) }
+{
+    if !is_run(words) {
+        return Status::Usage;
+    }
+    let input = match read_all(alloc, source, MAX_INPUT) {
+        Ok(input) => input,
+        Err(ReadError::Failed) => return Status::ReadFault,
+        Err(ReadError::TooLong) => return Status::TooLong,
+        Err(ReadError::NoMemory) => return Status::NoMemory,
+    };
+    if has_long_line(&input) {
+        return Status::TooLong;
+    }
+    match run(alloc, &input, sink) {
+        Ok(()) => Status::Done,
+        Err(RunFault::Failed) => Status::WriteFault,
+        Err(RunFault::NoMemory) => Status::NoMemory,
+    }
+}
+
+#[cfg(test)]
+mod tests;
