@@ -1,5 +1,5 @@
 -- What a call is addressed to, from what each of its steps found.
-use Rattle.std.proofs.Common.{◌≡◌, ℕ, List, Bool, true, Some, Ok, refl}
+use Rattle.std.proofs.Common.{◌≡◌, true, Some, Ok, refl}
 use Rattle.std.specs.Prelude.{nat_le}
 use Rattle.jessie_tree.specs.Tree.{Tree, Items, items_nesting, listed, object_of}
 use Rattle.jessie_tree.specs.declared.data.Obj.{Obj}

@@ -12,7 +12,7 @@ use Rattle.zoe_run.specs.Known.{AllObjects}
 use Rattle.zoe_run.specs.Served.{IsMade, KnowsArgs}
 use Rattle.zoe_run.specs.Services.{serve, served}
 use Rattle.zoe_run.specs.Vaults.{VaultState}
-use Rattle.zoe_run.specs.Worlds.{HasRoom, IsValid, MintedWithin, after_all, begins}
+use Rattle.zoe_run.specs.Worlds.{HasRoom, IsValid, MintedWithin, begins}
 use Rattle.zoe_run.specs.declared.brands.Brand.{Brand}
 use Rattle.zoe_run.specs.declared.world.World.{World}
 use Rattle.zoe_run.proofs.EffectsValid.{first_valid, valid-after_all}

@@ -8,7 +8,7 @@ use Rattle.std.specs.List.{slice_split}
 use Rattle.json.specs.Print.{escape_letter, escape_byte, escape, quoted}
 use Rattle.serde_json.specs.Data.{Num, unsigned, negative, float, Data, null, boolean, number, string, array, object, Items, no_items, item, Members, no_members, member}
 use Rattle.serde_json.specs.Written.{number_text, compact_text, items_text, members_text, comma_if}
-use Rattle.zoe_run.proofs.Writable.{put_each, IsWritable, AreWritable, AreWritableMembers, IsWritableNum}
+use Rattle.zoe_run.proofs.Writable.{IsWritable, AreWritable, AreWritableMembers, IsWritableNum}
 
 abbrev pub NoFeed : List ℕ → Type 0
 NoFeed [] = Unit {0}

@@ -1,5 +1,5 @@
 -- A step, from what waits in front and what its turn came to.
-use Rattle.std.proofs.Common.{◌≡◌, ◌+◌, ℕ, List, [], ◌∷◌, Option, Some, None, refl, sym}
+use Rattle.std.proofs.Common.{◌≡◌, ◌+◌, List, [], ◌∷◌, Some, None, refl, sym}
 use Rattle.zoe_run.specs.Deliveries.{Kept, turn_of}
 use Rattle.zoe_run.specs.Hosts.{HostState, step_from, step_of}
 use Rattle.zoe_run.specs.MessageLines.{MessageRead}

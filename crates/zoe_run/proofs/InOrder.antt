@@ -1,11 +1,10 @@
 -- Members that stand in the order of their keys are put as they stand.
-use Rattle.std.proofs.Common.{◌≡◌, List, ℕ, Ordering, Less, Greater, refl, sym, ap, ◌∙◌}
+use Rattle.std.proofs.Common.{◌≡◌, List, ℕ, Less, Greater, refl, ap, ◌∙◌}
 use Rattle.std.proofs.lemmas.Cmp.{nat_list_cmp_total}
-use Rattle.std.specs.Cmp.{IsTotalOrder}
-use Rattle.std.specs.Ordering.{nat_cmp, match_ordering, ordering_reverse}
+use Rattle.std.specs.Ordering.{nat_cmp, ordering_reverse}
 use Rattle.std.specs.Cmp.Lexicographic.{slice_cmp}
 use Rattle.serde_json.specs.Data.{Data, Members, no_members, member, put}
-use Rattle.jessie_tree.specs.Tree.{Tree, Fields, no_fields, field, Before, OrderedFields}
+use Rattle.jessie_tree.specs.Tree.{Fields, no_fields, field, Before, OrderedFields}
 use Rattle.zoe_run.specs.Journal.{json_of, fields_json}
 use Rattle.zoe_run.proofs.Writable.{put_each}
 

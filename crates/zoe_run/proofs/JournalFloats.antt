@@ -6,7 +6,6 @@ use Rattle.serde_json.specs.Data as json
 use Rattle.serde_json.specs.Find.{is_float, of_integer}
 use Rattle.serde_json.specs.Written.{has_float, items_have_float, members_have_float}
 use Rattle.jessie_tree.specs.Tree.{Tree, null, boolean, number, text, array, fields, object, function, Items, no_items, item, Fields, no_fields, field}
-use Rattle.jessie_tree.specs.View.{items_of}
 use Rattle.rights_model.specs.declared.Movement.{Movement}
 use Rattle.zoe_run.specs.declared.refusals.Refusal.{Refusal}
 use Rattle.zoe_run.specs.Journal.{is_beyond, number_json, json_of, items_json, fields_json, answer_json, turn_row, move_row}

@@ -1,6 +1,5 @@
 -- The turns, as they are written, are read back from the text of a journal.
-use Rattle.std.proofs.Common.{◌≡◌, ℕ, zero, suc, ◌^◌, ◌<◌, ◌≤◌, List, [], ◌∷◌, ◌++◌, map, length, Bool, true, false, Option, Some, None, option_and_then, Result, Ok, Err, refl, sym, ap, ◌∙◌, append_assoc, append-nil, arith, eqb}
-use Rattle.std.specs.Fmt.{decimal}
+use Rattle.std.proofs.Common.{◌≡◌, ℕ, List, [], ◌∷◌, ◌++◌, map, None, option_and_then, Result, Ok, Err, refl, sym, ap, ◌∙◌, append_assoc, append-nil, arith, eqb}
 use Rattle.std.specs.List.{All, flat_map, slice_split}
 use Rattle.std.specs.Option.{option_map_or}
 use Rattle.std.specs.Prelude.{codes, if◌then◌else◌, unwrap_or}
@@ -13,19 +12,16 @@ use Rattle.serde_json.specs.Find.{get, as_str, as_number, as_u64, as_array}
 use Rattle.serde_json.specs.Read.{read}
 use Rattle.serde_json.specs.Written.{compact_text}
 use Rattle.jessie_tree.specs.Tree.{Tree, listed}
-use Rattle.jessie_tree.specs.View.{items_of}
 use Rattle.rights_model.specs.declared.Movement.{Movement}
 use Rattle.zoe_run.specs.declared.refusals.Refusal.{Refusal}
 use Rattle.zoe_run.specs.declared.turns.Sum.{Sum}
-use Rattle.zoe_run.specs.Journal.{answer_json, called, turn_json, turn_row, move_row, sum_row, close_row, rows_of, row_text, turn_text, turn_texts, close_text, journal_text}
-use Rattle.zoe_run.specs.JournalLaws.{IsData, IsMove, IsSum, IsDelivery, IsTurn, IsJournal, answer_tree, told, told_delivery, told_answer, told_move, ToldMove, ToldTurn, written}
-use Rattle.zoe_run.specs.Refusals.{refusal_tree}
+use Rattle.zoe_run.specs.Journal.{answer_json, called, turn_json, turn_row, move_row, sum_row, rows_of, row_text, turn_text, turn_texts, close_text, journal_text}
+use Rattle.zoe_run.specs.JournalLaws.{IsData, IsMove, IsSum, IsDelivery, IsTurn, IsJournal, answer_tree, told_delivery, told_answer, told_move, ToldMove, ToldTurn, written}
 use Rattle.zoe_run.specs.Turns.{Delivery, service, bad, message, TurnRecord}
-use Rattle.zoe_run.specs.Values.{value_tree}
 use Rattle.zoe_run.proofs.Feeds.{no_feed, slice_split-row}
 use Rattle.zoe_run.proofs.NamesRead.{value-decimal, brand_in, brand_in-brand_name, object_in, object_in-name_of, holder_in, holder_in-holder_name}
 use Rattle.zoe_run.proofs.ReadBack.{read-compact_text}
-use Rattle.zoe_run.proofs.RowsWritable.{all_head, all_tail, IsRow, AreRows, journal_rows, are_rows-journal}
+use Rattle.zoe_run.proofs.RowsWritable.{all_head, all_tail, AreRows, journal_rows, are_rows-journal}
 use Rattle.zoe_run.proofs.TreesRead.{tree_in, items_in, data_read, value_read, refusal_read, list_read}
 
 -- ---- members of a row

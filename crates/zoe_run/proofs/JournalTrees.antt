@@ -3,9 +3,9 @@ use Rattle.std.proofs.Common.{◌≡◌, ℕ, pos, arith, sym, List, [], ◌∷�
 use Rattle.std.proofs.lemmas.List.{take_more}
 use Rattle.std.specs.FinMap as fin
 use Rattle.std.specs.Prelude.{◌≢◌}
-use Rattle.serde_json.specs.Data.{Data, array, no_items, item, Members, put}
+use Rattle.serde_json.specs.Data.{array, no_items, item, Members, put}
 use Rattle.serde_json.specs.View.{items_of as json_items}
-use Rattle.amount_math.specs.Content.{key_cmp, entries, count, count-of_nat, of_nat, nothing, unit}
+use Rattle.amount_math.specs.Content.{key_cmp, entries, count-of_nat, of_nat, nothing, unit}
 use Rattle.amount_math.specs.Sparse.{empty}
 use Rattle.amount_math.specs.Worth.{Worth}
 use Rattle.amount_math.specs.declared.Kind.{Kind}

@@ -55,3 +55,12 @@ pub mod RunStarts
 pub mod RunWritten
 pub mod Limits
 pub mod CallsTried
+pub mod DefaultFair
+pub mod RangesRead
+pub mod RefusalData
+pub mod ServedData
+pub mod RunBounds
+pub mod AddressedData
+pub mod LinesData
+pub mod RunJournals
+pub mod OrderedRead

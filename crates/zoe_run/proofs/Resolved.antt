@@ -91,7 +91,7 @@ module _ (P : Tree → Type 0) (ls : Labels) (party : List ℕ) (services : OfSe
   walked_from-passes (label ∷ steps) t h =
       option_and_then_some (λ v. walked v steps) (bound_to ls party label) t h (λ v at rest. walked-passes steps v t (bound_to-passes label v at) rest)
 
-  value_at-passes : (path : List ℕ) (t : Tree) → value_at ls party path ≡ Some t → P t
+  pub value_at-passes : (path : List ℕ) (t : Tree) → value_at ls party path ≡ Some t → P t
   unfolding value_at
   value_at-passes path t h = walked_from-passes (steps_of path) t h
 

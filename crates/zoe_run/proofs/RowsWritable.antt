@@ -1,5 +1,5 @@
 -- The rows of a journal are JSON that is read back as it was written.
-use Rattle.std.proofs.Common.{◌≡◌, ℕ, ℤ, zero, suc, pos, negsuc, ◌+◌, ◌^◌, ◌<◌, ◌≤◌, max, List, [], ◌∷◌, ◌++◌, map, length, Bool, true, false, not, nat_lt, Result, Ok, Err, refl, sym, ap, arith}
+use Rattle.std.proofs.Common.{◌≡◌, ℕ, ℤ, suc, pos, negsuc, ◌+◌, ◌^◌, ◌<◌, ◌≤◌, List, [], ◌∷◌, ◌++◌, map, length, Bool, true, false, Result, Ok, Err, refl, arith}
 use Rattle.std.specs.List.{All, flat_map}
 use Rattle.serde_json.specs.Data as json
 use Rattle.serde_json.specs.Data.{depth, items_depth, members_depth}
@@ -10,13 +10,13 @@ use Rattle.jessie_tree.specs.View.{items_of}
 use Rattle.rights_model.specs.declared.Movement.{Movement}
 use Rattle.zoe_run.specs.declared.refusals.Refusal.{Refusal}
 use Rattle.zoe_run.specs.declared.turns.Sum.{Sum}
-use Rattle.zoe_run.specs.Journal.{is_beyond, number_json, json_of, items_json, fields_json, answer_json, called, turn_json, turn_row, move_row, sum_row, close_row, rows_of}
-use Rattle.zoe_run.specs.JournalLaws.{IsWide, InRange, ItemsInRange, FieldsInRange, IsData, IsMove, IsSum, IsDelivery, IsTurn, IsJournal, answer_tree}
+use Rattle.zoe_run.specs.Journal.{is_beyond, number_json, json_of, items_json, answer_json, called, turn_row, move_row, sum_row, close_row, rows_of}
+use Rattle.zoe_run.specs.JournalLaws.{IsData, IsMove, IsDelivery, IsTurn, IsJournal, answer_tree}
 use Rattle.zoe_run.specs.Refusals.{refusal_tree}
 use Rattle.zoe_run.specs.Turns.{Delivery, service, bad, message, TurnRecord}
 use Rattle.zoe_run.specs.Values.{value_tree}
 use Rattle.zoe_run.proofs.InOrder.{as_they_stand, fields_json-as_they_stand, put_each-as_they_stand}
-use Rattle.zoe_run.proofs.Writable.{put_each, IsWritableNum, IsWritable, AreWritable, AreWritableMembers}
+use Rattle.zoe_run.proofs.Writable.{IsWritableNum, IsWritable, AreWritable, AreWritableMembers}
 
 pub all_head : {A : Type 0} (P : A → Type 0) (x : A) (xs : List A) → All P (x ∷ xs) → P x
 all_head P x xs h = h 0 x (omega arith)

@@ -1,12 +1,11 @@
 -- The journal of a run is what its drain writes, and a close row of the host after it.
-use Rattle.std.proofs.Common.{◌≡◌, ℕ, ◌+◌, List, [], ◌++◌, length, Option, refl, sym, ap, ◌∙◌, arith, append_assoc, append-nil}
+use Rattle.std.proofs.Common.{◌≡◌, ℕ, List, ◌++◌, length, Option, sym, ap, ◌∙◌, arith, append_assoc}
 use Rattle.std.proofs.KnownBytes.{Appends-trans}
 use Rattle.std.specs.Io.KnownBytes.{Appends}
 use Rattle.zoe_run.specs.Fronts.{AppendsFront}
 use Rattle.zoe_run.specs.Hosts.{HostState}
 use Rattle.zoe_run.specs.Journal.{close_text, turn_texts}
-use Rattle.zoe_run.specs.Runs.{AppendsTurns, after, closes, drained, journal_of, left_of, read_host, turns_of}
-use Rattle.zoe_run.specs.Turns.{TurnRecord}
+use Rattle.zoe_run.specs.Runs.{after, closes, journal_of, left_of, read_host, turns_of}
 use Rattle.zoe_run.proofs.Drained.{after-turns}
 use Rattle.zoe_run.proofs.RunStarts.{read_turns}
 
@@ -41,6 +40,3 @@ run_drain_failed most input old new f = record {
   whole = journal_closes most input ∙ rw f.whole (append_assoc f.front f.back (closes (after most (read_host input))));
   appended = f.appended;
 }
-
-pub run_all_turns : (most : ℕ) (input : List ℕ) (old new : Option (List ℕ)) → Appends old new (turn_texts (turns_of most input)) → AppendsTurns old new (turns_of most input)
-run_all_turns most input old new all = record { first = turns_of most input; later = []; whole = sym (append-nil (turns_of most input)); appended = all }

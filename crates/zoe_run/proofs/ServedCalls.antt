@@ -2,11 +2,9 @@
 use Rattle.std.proofs.Common.{◌≡◌, ℕ, ◌<◌, All, List, [], length, Result, Ok, Err, OnOk, refl, subst, ap}
 use Rattle.jessie_tree.specs.Tree.{Tree}
 use Rattle.jessie_tree.specs.declared.data.Obj.{Obj}
-use Rattle.rights_model.specs.declared.Movement.{Movement}
 use Rattle.zoe_run.specs.Delivered.{IsReady}
 use Rattle.zoe_run.specs.Services.{Outcome, serve, served}
-use Rattle.zoe_run.specs.Worlds.{Effect, IsValid, after_all}
-use Rattle.zoe_run.specs.declared.refusals.Refusal.{Refusal}
+use Rattle.zoe_run.specs.Worlds.{IsValid, after_all}
 use Rattle.zoe_run.specs.declared.world.World.{World}
 use Rattle.zoe_run.proofs.EffectsValid.{noted_made, valid-after_all}
 use Rattle.zoe_run.proofs.ServedLaws.{serve_answers}

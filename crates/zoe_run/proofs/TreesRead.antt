@@ -1,11 +1,10 @@
 -- Data is read back from its JSON, each object as its name tells it.
-use Rattle.std.proofs.Common.{◌≡◌, ℕ, ℤ, zero, suc, pos, negsuc, ◌^◌, ◌<◌, List, [], ◌∷◌, map, Bool, true, false, ◌==◌, refl, sym, ap, ◌∙◌, arith}
-use Rattle.std.specs.Fmt.{signed_decimal}
+use Rattle.std.proofs.Common.{◌≡◌, ℕ, ℤ, pos, negsuc, List, [], ◌∷◌, map, Bool, true, false, ◌==◌, refl, ap, ◌∙◌, arith}
 use Rattle.std.specs.List.{All}
 use Rattle.std.specs.Prelude.{codes, if◌then◌else◌}
 use Rattle.std.specs.Str.{bytes_eq}
 use Rattle.host_text.specs.Numbers.{value_of}
-use Rattle.host_text.specs.Words.{is_field_name, is_name_start}
+use Rattle.host_text.specs.Words.{is_field_name}
 use Rattle.amount_math.specs.Content.{Content, entries}
 use Rattle.amount_math.specs.Worth.{Worth}
 use Rattle.amount_math.specs.declared.Kind.{Kind}
@@ -18,7 +17,7 @@ use Rattle.zoe_run.specs.declared.refusals.Refusal.{Refusal}
 use Rattle.zoe_run.specs.declared.refusals.Refusal.TheVariants.{BadLine, BadField, BadLabel, UnknownName, NameTaken, WrongObject, NoMethod, BadArgs, BadValue, WrongBrand, NotEnough, TooMuch, DeadPayment, WrongAmount, Limit}
 use Rattle.zoe_run.specs.Refusals.{code_of, shown_by, refusal_tree}
 use Rattle.zoe_run.specs.Values.{number_tree, content_tree, value_tree}
-use Rattle.zoe_run.specs.Journal.{is_beyond, number_json, name_of, json_of, items_json, fields_json}
+use Rattle.zoe_run.specs.Journal.{is_beyond, number_json, json_of, items_json}
 use Rattle.zoe_run.specs.JournalLaws.{IsWide, InRange, ItemsInRange, FieldsInRange, IsData, told, told_items, told_fields}
 use Rattle.zoe_run.proofs.InOrder.{as_they_stand, fields_json-as_they_stand}
 use Rattle.zoe_run.proofs.NamesRead.{value_of-signed_decimal, object_in, object_in-name_of}

@@ -1,11 +1,9 @@
 -- What a message comes to when it is delivered.
-use Rattle.std.specs.Prelude.{◌≡◌, ℕ, ◌+◌, List, [], ◌∷◌, ◌++◌, Bool, true, false, not, is_some, nat_le, Option, Some, None, Result, Ok, Err, codes}
-use Rattle.jessie_tree.specs.Tree.{Tree, Items, items_nesting, listed, object_of}
+use Rattle.std.specs.Prelude.{ℕ, List, [], not, is_some, nat_le, Option, Some, None, Result, Ok, Err, codes}
+use Rattle.jessie_tree.specs.Tree.{Tree, items_nesting, listed, object_of}
 use Rattle.jessie_tree.specs.declared.data.Obj.{Obj}
-use Rattle.rights_model.specs.declared.Movement.{Movement}
-use Rattle.zoe_run.specs.Brands.{most_brands}
 use Rattle.zoe_run.specs.MessageLines.{CallRead, MessageRead, call, bad}
-use Rattle.zoe_run.specs.Outcomes.{◌>>=◌, ◌>>◌, bind, need, wanted}
+use Rattle.zoe_run.specs.Outcomes.{◌>>=◌, ◌>>◌, need, wanted}
 use Rattle.zoe_run.specs.Parties.{Labels, bound_to, resolved_all, value_at, with_label}
 use Rattle.zoe_run.specs.Parts.{most_deep}
 use Rattle.zoe_run.specs.Services.{serve, served}

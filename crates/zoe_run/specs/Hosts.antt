@@ -1,10 +1,10 @@
 -- A host between its calls, and what a step makes of it.
-use Rattle.std.specs.Prelude.{◌≡◌, ℕ, ◌+◌, ◌<◌, ◌≤◌, List, [], ◌∷◌, ◌++◌, length, Option, Some, None, Result, Ok, Err}
+use Rattle.std.specs.Prelude.{◌≡◌, ℕ, ◌+◌, List, [], ◌∷◌, ◌++◌, Option, Some, None, Result, Ok, Err}
 use Rattle.std.specs.declared.alloc.AllocError.{AllocError}
 use Rattle.ertp_mint.specs.BrandSupply.{new_supply}
 use Rattle.amount_math.specs.declared.Kind.TheVariants.{Set}
 use Rattle.rights_model.specs.Table.{no_holdings}
-use Rattle.zoe_run.specs.Brands.{first_brands, most_brands}
+use Rattle.zoe_run.specs.Brands.{first_brands}
 use Rattle.zoe_run.specs.Deliveries.{Kept, turn_of, world_at}
 use Rattle.zoe_run.specs.MessageLines.{Meaning, MessageRead, blank, meaning_of, message}
 use Rattle.zoe_run.specs.Parties.{Labels, labels_of}

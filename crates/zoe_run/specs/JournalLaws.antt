@@ -1,5 +1,5 @@
 -- What the rows of a turn tell of it, and the law that a journal's text tells it.
-use Rattle.std.specs.Prelude.{◌≡◌, ℕ, ℤ, pos, negsuc, ◌^◌, ◌<◌, ◌≤◌, List, [], map, length, Result, Ok, Err, if◌then◌else◌, true}
+use Rattle.std.specs.Prelude.{◌≡◌, ℕ, ℤ, pos, negsuc, ◌^◌, ◌<◌, ◌≤◌, List, map, length, Result, Ok, Err, if◌then◌else◌, true}
 use Rattle.std.specs.List.{All}
 use Rattle.host_text.specs.Words.{is_field_name}
 use Rattle.amount_math.specs.declared.Kind.TheVariants.{Nat}

@@ -1,5 +1,5 @@
 -- A turn: what one message came to.
-use Rattle.std.specs.Prelude.{ℕ, List, [], ◌∷◌, ◌==◌, map, Bool, true, false, Result, Ok, Err, if◌then◌else◌}
+use Rattle.std.specs.Prelude.{ℕ, List, Result, Ok, Err}
 use Rattle.jessie_tree.specs.Tree.{Tree}
 use Rattle.jessie_tree.specs.View.{tree, trees}
 use Rattle.jessie_tree.specs.declared.data.Obj.{Obj}

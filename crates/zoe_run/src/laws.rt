@@ -1,13 +1,14 @@
 //! Laws of runs. Their bodies are empty: what they state is proved of the definitions that the host's
 //! step and the run answer to.
 
-ghost use Rattle.std.specs.Prelude.{◌≡◌, ◌==◌, ◌<◌, ◌≤◌, ℕ, List, Some};
+ghost use Rattle.std.specs.Prelude.{◌≡◌, ◌==◌, ◌<◌, ◌≤◌, ◌^◌, ℕ, List, Some, length, map};
 ghost use Rattle.std.specs.List.{list_any};
 ghost use Rattle.rights_model.specs.declared.Movement.{Movement};
 ghost use Rattle.zoe_run.specs.Fair.{AreFair, IsRising};
 ghost use Rattle.zoe_run.specs.Hosts.{HostState, IsValidHost, step_of};
+ghost use Rattle.zoe_run.specs.JournalLaws.{IsJournal, written};
 ghost use Rattle.zoe_run.specs.Leaves.{Leaves};
-ghost use Rattle.zoe_run.specs.Runs.{after, read_host, turns_of};
+ghost use Rattle.zoe_run.specs.Runs.{after, journal_of, left_of, read_host, turns_of};
 ghost use Rattle.zoe_run.specs.Sums.{brands_of};
 ghost use Rattle.zoe_run.specs.Turns.{TurnRecord};
 
@@ -34,4 +35,12 @@ pub fn steps_keep_valid()
 pub fn sums_are_of_named_brands()
     ensures rising { (movements : List Movement) → IsRising (brands_of movements) }
     ensures named { (movements : List Movement) (brand : ℕ) → list_any (λ n. n == brand) (brands_of movements) ≡ list_any (λ m. m.brand == brand) movements }
+{}
+
+/// The journal of a run on an input of at most 2^30 bytes is one whose text tells its turns, and so two
+/// inputs that have one journal have the same turns, as their rows tell them, and leave as many
+/// deliveries.
+pub fn runs_have_one_text()
+    ensures journals { (most : ℕ) (input : List ℕ) → most ≤ 4000000000 → length input ≤ 2 ^ 30 → IsJournal (turns_of most input) (left_of most input) }
+    ensures one { (most : ℕ) (a b : List ℕ) → most ≤ 4000000000 → length a ≤ 2 ^ 30 → length b ≤ 2 ^ 30 → journal_of most a ≡ journal_of most b → (map written (turns_of most a) ≡ map written (turns_of most b)) × (left_of most a ≡ left_of most b) }
 {}

@@ -2,11 +2,11 @@
 //! which writes its turn's rows in one piece. Its one contract is `run`'s: what is written is the
 //! journal of the input, by the definition of a run, or the front of it that came before a fault.
 
-ghost use Rattle.std.specs.Prelude.{◌≡◌, ◌+◌, ◌^◌, ◌<◌, ◌≤◌, length, OnOk, IfOk, IsErrOf};
+ghost use Rattle.std.specs.Prelude.{◌≡◌, ◌+◌, ◌≤◌, OnOk, IfOk, IsErrOf};
 ghost use Rattle.std.specs.Io.KnownBytes.{Appends, Keeps};
 ghost use Rattle.zoe_run.specs.Causes.{Rose};
 ghost use Rattle.zoe_run.specs.Fronts.{AppendsFront};
-ghost use Rattle.zoe_run.specs.Hosts.{IsValidHost, first_host, host_view};
+ghost use Rattle.zoe_run.specs.Hosts.{IsValidHost, host_view};
 ghost use Rattle.zoe_run.specs.InputLines.{lines_of};
 ghost use Rattle.zoe_run.specs.Journal.{turn_texts};
 ghost use Rattle.zoe_run.specs.Runs.{AppendsTurns, after, closes, default_turns, drained, journal_of, lines_host, read_host, turns_of};

@@ -65,6 +65,7 @@ fn is_run(words: &[String]) -> bool
 }
 
 /// Reads the whole input and writes the journal of the run on it.
+#[tactic(auto, using(crate::proofs::DefaultFair::default_fair))]
 pub fn zoe_top<S: Source, K: Sink>(
     alloc: Global,
     words: &[String],

@@ -4,6 +4,7 @@ use super::{Status, zoe_top};
 use crate::host_io::flaky::{FlakySink, FlakySource};
 use crate::host_io::memory::{MemorySink, MemorySource};
 use std::alloc::{AllocError, Global};
+use std::process::Abort;
 use std::test::Fail;
 
 const KIT: &str =
@@ -42,7 +43,7 @@ const ROWS: [&str; 12] = [
     r#"{"answer":{"ok":{"brand":{"@":"brand1"},"value":70}},"args":[],"by":"alice","do":"getCurrentAmount","kind":"service","n":6,"on":"purse0","row":"turn"}"#,
 ];
 
-const NO_TURN: &str = r#"{"left":0,"row":"close","turns":0}"#;
+const NO_TURN: &str = "{\"left\":0,\"row\":\"close\",\"turns\":0}\n";
 
 /// The program's name and further words.
 fn words(alloc: Global, further: &[&str]) -> Result<Vec<String>, AllocError> {
@@ -54,21 +55,13 @@ fn words(alloc: Global, further: &[&str]) -> Result<Vec<String>, AllocError> {
     Ok(words)
 }
 
-/// The lines, each with a line feed.
-fn text_of(alloc: Global, lines: &[&str]) -> Result<String, AllocError> {
+/// Both lists of lines, each line with a line feed.
+fn text_of(alloc: Global, first: &[&str], then: &[&str]) -> Result<String, AllocError> {
     let mut text = String::new(alloc);
-    for line in lines {
+    for line in first.iter().chain(then) {
         text.push_str(line)?;
         text.push_str("\n")?;
     }
-    Ok(text)
-}
-
-/// The lines of both.
-fn text_of_both(alloc: Global, first: &[&str], then: &[&str]) -> Result<String, AllocError> {
-    let mut text = text_of(alloc, first)?;
-    let rest = text_of(alloc, then)?;
-    text.push_str(rest.as_str())?;
     Ok(text)
 }
 
@@ -81,49 +74,29 @@ fn run_on(alloc: Global, input: &[u8]) -> Result<(Status, MemorySink), AllocErro
     Ok((status, sink))
 }
 
+/// The run on an input is done, and writes this journal.
+fn writes(rt: &(impl Abort + AllocGlobal), input: &[u8], journal: &[u8]) -> Result<(), AllocError> {
+    let (status, sink) = run_on(rt.alloc(), input)?;
+    assert_eq!(rt; status, Status::Done);
+    assert_eq!(rt; sink.bytes(), journal);
+    Ok(())
+}
+
 #[test]
 fn an_empty_input_has_the_close_row(rt: HostRuntime) -> Result<(), Fail> {
-    let (status, sink) = run_on(rt.alloc(), b"")?;
-    assert_eq!(rt; status, Status::Done);
-    let want = text_of(rt.alloc(), &[NO_TURN])?;
-    assert_eq!(rt; sink.bytes(), want.as_bytes());
+    writes(&rt, b"", NO_TURN.as_bytes())?;
     Ok(())
 }
 
 #[test]
 fn a_payment_is_minted_deposited_and_split(rt: HostRuntime) -> Result<(), Fail> {
-    let input = text_of(rt.alloc(), &LINES)?;
-    let (status, sink) = run_on(rt.alloc(), input.as_bytes())?;
-    assert_eq!(rt; status, Status::Done);
-    let want = text_of_both(
+    let input = text_of(rt.alloc(), &LINES, &[])?;
+    let journal = text_of(
         rt.alloc(),
         &ROWS,
         &[r#"{"left":0,"row":"close","turns":6}"#],
     )?;
-    assert_eq!(rt; sink.bytes(), want.as_bytes());
-    Ok(())
-}
-
-#[test]
-fn too_much_is_refused(rt: HostRuntime) -> Result<(), Fail> {
-    let lines = [
-        KIT,
-        r#"{"by":"alice","on":"moola.mint","do":"mintPayment","args":[{"brand":{"@":"moola.brand"},"value":9223372036854775807}]}"#,
-        r#"{"by":"alice","on":"moola.mint","do":"mintPayment","args":[{"brand":{"@":"moola.brand"},"value":1}]}"#,
-    ];
-    let rows = [
-        KIT_ROW,
-        r#"{"answer":{"ok":{"@":"payment0"}},"args":[{"brand":{"@":"brand1"},"value":9223372036854775807}],"by":"alice","do":"mintPayment","kind":"service","n":2,"on":"mint1","row":"turn"}"#,
-        r#"{"brand":"brand1","from":"outside","row":"move","to":"payment0","value":9223372036854775807}"#,
-        r#"{"brand":"brand1","burned":"0","minted":"9223372036854775807","payments":"9223372036854775807","purses":"0","row":"sum","slots":"0"}"#,
-        r##"{"answer":{"refused":{"code":"TooMuch","shown":[{"#":"9223372036854775808"},9223372036854775807]}},"args":[{"brand":{"@":"brand1"},"value":1}],"by":"alice","do":"mintPayment","kind":"service","n":3,"on":"mint1","row":"turn"}"##,
-        r#"{"left":0,"row":"close","turns":3}"#,
-    ];
-    let input = text_of(rt.alloc(), &lines)?;
-    let (status, sink) = run_on(rt.alloc(), input.as_bytes())?;
-    assert_eq!(rt; status, Status::Done);
-    let want = text_of(rt.alloc(), &rows)?;
-    assert_eq!(rt; sink.bytes(), want.as_bytes());
+    writes(&rt, input.as_bytes(), journal.as_bytes())?;
     Ok(())
 }
 
@@ -134,33 +107,42 @@ fn a_payment_is_deposited_once(rt: HostRuntime) -> Result<(), Fail> {
         r#"{"answer":{"ok":{"brand":{"@":"brand1"},"value":70}},"args":[],"by":"alice","do":"getCurrentAmount","kind":"service","n":8,"on":"purse0","row":"turn"}"#,
         r#"{"left":0,"row":"close","turns":8}"#,
     ];
-    let input = text_of_both(rt.alloc(), &LINES, &[DEPOSIT, READING])?;
-    let (status, sink) = run_on(rt.alloc(), input.as_bytes())?;
-    assert_eq!(rt; status, Status::Done);
-    let want = text_of_both(rt.alloc(), &ROWS, &rows)?;
-    assert_eq!(rt; sink.bytes(), want.as_bytes());
+    let input = text_of(rt.alloc(), &LINES, &[DEPOSIT, READING])?;
+    let journal = text_of(rt.alloc(), &ROWS, &rows)?;
+    writes(&rt, input.as_bytes(), journal.as_bytes())?;
+    Ok(())
+}
+
+#[test]
+fn too_much_is_refused(rt: HostRuntime) -> Result<(), Fail> {
+    let lines = [
+        r#"{"by":"alice","on":"moola.mint","do":"mintPayment","args":[{"brand":{"@":"moola.brand"},"value":9223372036854775807}]}"#,
+        r#"{"by":"alice","on":"moola.mint","do":"mintPayment","args":[{"brand":{"@":"moola.brand"},"value":1}]}"#,
+    ];
+    let rows = [
+        r#"{"answer":{"ok":{"@":"payment0"}},"args":[{"brand":{"@":"brand1"},"value":9223372036854775807}],"by":"alice","do":"mintPayment","kind":"service","n":2,"on":"mint1","row":"turn"}"#,
+        r#"{"brand":"brand1","from":"outside","row":"move","to":"payment0","value":9223372036854775807}"#,
+        r#"{"brand":"brand1","burned":"0","minted":"9223372036854775807","payments":"9223372036854775807","purses":"0","row":"sum","slots":"0"}"#,
+        r##"{"answer":{"refused":{"code":"TooMuch","shown":[{"#":"9223372036854775808"},9223372036854775807]}},"args":[{"brand":{"@":"brand1"},"value":1}],"by":"alice","do":"mintPayment","kind":"service","n":3,"on":"mint1","row":"turn"}"##,
+        r#"{"left":0,"row":"close","turns":3}"#,
+    ];
+    let input = text_of(rt.alloc(), &[KIT], &lines)?;
+    let journal = text_of(rt.alloc(), &[KIT_ROW], &rows)?;
+    writes(&rt, input.as_bytes(), journal.as_bytes())?;
     Ok(())
 }
 
 #[test]
 fn a_bad_line_has_a_turn(rt: HostRuntime) -> Result<(), Fail> {
-    let lines = [
-        "[1]",
-        r#"{"do":"m","by":"alice"}"#,
-        " \t\r",
-        r#"{"tick":1.5}"#,
-    ];
     let rows = [
         r#"{"answer":{"refused":{"code":"BadLine","shown":[]}},"args":[],"by":"","do":"","kind":"bad","n":1,"on":"","row":"turn"}"#,
         r#"{"answer":{"refused":{"code":"BadField","shown":["on"]}},"args":[],"by":"","do":"","kind":"bad","n":2,"on":"","row":"turn"}"#,
         r#"{"answer":{"refused":{"code":"BadField","shown":["tick"]}},"args":[],"by":"","do":"","kind":"bad","n":3,"on":"","row":"turn"}"#,
         r#"{"left":0,"row":"close","turns":3}"#,
     ];
-    let input = text_of(rt.alloc(), &lines)?;
-    let (status, sink) = run_on(rt.alloc(), input.as_bytes())?;
-    assert_eq!(rt; status, Status::Done);
-    let want = text_of(rt.alloc(), &rows)?;
-    assert_eq!(rt; sink.bytes(), want.as_bytes());
+    let input = b"[1]\n{\"do\":\"m\",\"by\":\"alice\"}\n \t\r\n{\"tick\":1.5}";
+    let journal = text_of(rt.alloc(), &rows, &[])?;
+    writes(&rt, input, journal.as_bytes())?;
     Ok(())
 }
 
@@ -168,7 +150,7 @@ fn a_bad_line_has_a_turn(rt: HostRuntime) -> Result<(), Fail> {
 #[test]
 fn a_read_that_fails_writes_nothing(rt: HostRuntime) -> Result<(), Fail> {
     let words = words(rt.alloc(), &["run"])?;
-    let input = text_of(rt.alloc(), &LINES)?;
+    let input = text_of(rt.alloc(), &LINES, &[])?;
     let failing = vec![in rt.alloc(); 2]?;
     let mut source = FlakySource::new(input.as_bytes(), failing, KIT.len() + 1);
     let mut sink = MemorySink::new(rt.alloc(), 10_000)?;
@@ -203,10 +185,7 @@ fn a_write_that_fails_ends_the_run(rt: HostRuntime) -> Result<(), Fail> {
 #[test]
 fn a_line_may_have_so_many_bytes(rt: HostRuntime) -> Result<(), Fail> {
     let mut input = vec![in rt.alloc(); b' '; 1_048_576]?;
-    let (status, sink) = run_on(rt.alloc(), &input)?;
-    assert_eq!(rt; status, Status::Done);
-    let want = text_of(rt.alloc(), &[NO_TURN])?;
-    assert_eq!(rt; sink.bytes(), want.as_bytes());
+    writes(&rt, &input, NO_TURN.as_bytes())?;
 
     input.push(b' ')?;
     let (status, sink) = run_on(rt.alloc(), &input)?;

@@ -1,7 +1,6 @@
-use Rattle.std.proofs.Common.{◌≡◌, true≢false, true, false, sym, ◌∙◌, ap, Err, arith}
+use Rattle.std.proofs.Common.{◌≡◌, true≢false, true, false, sym, ◌∙◌, ap, Err}
 use Rattle.zoe_run.specs.InputLines.{is_too_long}
 use Rattle.zoe_run.proofs.Limits.{is_too_long-known, is_too_long-longer, is_too_long-within, weaker}
-use Rattle.zoe_run.proofs.RunFair.{run_fair}
 use Rattle.zoe_run.proofs.top.zoe_top.Goals as goal
 
 pub returns-in-Err-TooLong-clause-limits : goal.returns-in-Err-TooLong-clause-limits
@@ -34,27 +33,3 @@ returns-in-Err-Failed-run-clause-limits g c =
     let short : is_too_long c.in-Ok.input.items ≡ false =
     is_too_long-within _ c.in-Ok.ensures.within ∙ sym (rw (c.if-has_long_line.false, c.deref.ensures.value) at c.has_long_line.ensures) in
     is_too_long-known (g.S.Source.left c.args.source.now) _ _ c.in-Ok.ensures.all short
-
-pub returns-then-not-is_run-clause-fair : goal.returns-then-not-is_run-clause-fair
-returns-then-not-is_run-clause-fair g c = λ input. run_fair _ input (omega arith)
-
-pub returns-in-Err-Failed-clause-fair : goal.returns-in-Err-Failed-clause-fair
-returns-in-Err-Failed-clause-fair g c = λ input. run_fair _ input (omega arith)
-
-pub returns-in-Err-TooLong-clause-fair : goal.returns-in-Err-TooLong-clause-fair
-returns-in-Err-TooLong-clause-fair g c = λ input. run_fair _ input (omega arith)
-
-pub returns-in-Err-NoMemory-clause-fair : goal.returns-in-Err-NoMemory-clause-fair
-returns-in-Err-NoMemory-clause-fair g c = λ input. run_fair _ input (omega arith)
-
-pub returns-then-has_long_line-clause-fair : goal.returns-then-has_long_line-clause-fair
-returns-then-has_long_line-clause-fair g c = λ input. run_fair _ input (omega arith)
-
-pub returns-in-Ok-run-clause-fair : goal.returns-in-Ok-run-clause-fair
-returns-in-Ok-run-clause-fair g c = λ input. run_fair _ input (omega arith)
-
-pub returns-in-Err-Failed-run-clause-fair : goal.returns-in-Err-Failed-run-clause-fair
-returns-in-Err-Failed-run-clause-fair g c = λ input. run_fair _ input (omega arith)
-
-pub returns-clause-fair : goal.returns-clause-fair
-returns-clause-fair g c = λ input. run_fair _ input (omega arith)
