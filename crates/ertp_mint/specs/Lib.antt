@@ -1,1 +1,2 @@
 pub mod BrandSupply
+pub mod Stocks

@@ -1,9 +1,10 @@
 //! Parcels and the stores of one holder.
 
-ghost use Rattle.std.specs.Prelude.{◌≡◌, IfOk, IfErr, OnOk, OnErr};
+ghost use Rattle.std.specs.Prelude.{◌≡◌, ◌≤◌, IfOk, IfErr, OnOk, OnErr};
 ghost use Rattle.amount_math.specs.Amount.{Meet, holding};
 ghost use Rattle.amount_math.specs.Content.{Contains, difference, nothing, sum};
-ghost use Rattle.amount_math.specs.Worth.{IsPutRefusal, IsTakeRefusal, IsValue};
+ghost use Rattle.amount_math.specs.Worth.{IsPutRefusal, IsTakeRefusal, IsValue, nat_bound};
+ghost use Rattle.ertp_mint.specs.Stocks.{counted_in};
 
 use amount_math::{Kind, PutFault, TakeFault, Value};
 use std::alloc::AllocError;
@@ -132,6 +133,20 @@ impl Stock {
         ensures { result.now ≡ self.now.value }
     {
         &self.value
+    }
+
+    /// How much it counts of a brand: nothing of any but its own.
+    pub fn counted(&self, brand: u16) -> u128
+        ensures counted { result ≡ counted_in brand self.now }
+        ensures bounded { result ≤ nat_bound }
+    {
+        if self.brand != brand {
+            return 0;
+        }
+        match self.value.number() {
+            Some(number) => number,
+            None => 0,
+        }
     }
 
     /// Puts a parcel in, or hands it back. Keys take memory.

@@ -100,6 +100,7 @@ fn a_parcel_is_cut_merged_stored_and_taken(rt: HostRuntime) {
         (all.value().number(), stock.value().number()),
         (Some(10), Some(0))
     );
+    assert_eq!(rt; (all.counted(0), all.counted(1)), (10, 0));
 }
 
 #[test]

@@ -1,5 +1,6 @@
 pub mod Place
 pub mod Table
 pub mod Supply
+pub mod Totals
 pub mod Tabulated
 pub mod Numbers

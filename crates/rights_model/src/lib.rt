@@ -37,6 +37,18 @@ pub struct Movement {
     pub value: Value,
 }
 
+/// The totals of a brand: what was minted and burned since the start, and what purses, payments and
+/// slots have.
+#[derive(Clone, Copy, Debug, PartialEq, Eq)]
+pub struct Sum {
+    pub brand: u16,
+    pub minted: u128,
+    pub burned: u128,
+    pub purses: u128,
+    pub payments: u128,
+    pub slots: u128,
+}
+
 impl Holder {
     /// A copy. A slot's keyword takes memory.
     pub fn copy(&self, alloc: Global) -> Result<Holder, AllocError>

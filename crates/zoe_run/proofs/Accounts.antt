@@ -18,9 +18,9 @@ use Rattle.rights_model.specs.Supply.{burned, is_outside, minted, moved_where}
 use Rattle.rights_model.specs.Table.{CanMoveAll, Table, given, holds, moved, no_holdings, table_after, taken}
 use Rattle.rights_model.proofs.TableLaws.{CanMoveAll-push, holds-given_other, holds-taken, holds-taken_other, table_after-push}
 use Rattle.zoe_run.specs.Fair.{is_payment_at, names, names_slot, takes_from}
-use Rattle.zoe_run.specs.Hosts.{first_vault}
-use Rattle.zoe_run.specs.Vaults.{CanGive, CanTake, CanTransfer, PaymentMark, VaultState, after_move, kind_of, mark_of, no_mark, payments_from, payments_to, supplies_from, supplies_to}
-use Rattle.zoe_run.specs.Worlds.{CanDo, CanDoAll, Effect, IsValid, after, after_all, is_slot, move, new_brand, new_purse}
+use Rattle.zoe_run.specs.Vaults.{first_vault, CanGive, CanTake, CanTransfer, PaymentMark, VaultState, after_move, kind_of, mark_of, no_mark, payments_from, payments_to, supplies_from, supplies_to}
+use Rattle.zoe_run.specs.Worlds.{CanDo, CanDoAll, Effect, IsValid, after, after_all, move, new_brand, new_purse}
+use Rattle.rights_model.specs.Totals.{is_slot}
 use Rattle.zoe_run.specs.declared.world.World.{World}
 use Rattle.zoe_run.proofs.EffectsValid.{valid-after}
 use Rattle.zoe_run.proofs.Lists.{get_or-set_seen}

@@ -6,7 +6,7 @@ use Rattle.std.specs.Cmp.{nat_cmp_is}
 use Rattle.std.proofs.lemmas.Bool.{cases_order}
 use Rattle.rights_model.specs.declared.Movement.{Movement}
 use Rattle.zoe_run.specs.Fair.{IsBefore, IsRising}
-use Rattle.zoe_run.specs.Sums.{brands_of, placed}
+use Rattle.rights_model.specs.Totals.{brands_of, placed}
 
 -- what holds in each of the three cases holds of the list with the number in its place
 by_place : (P : List ℕ → Type 0) (n x : ℕ) (xs : List ℕ) → (n < x → P (n ∷ x ∷ xs)) → (n ≡ x → P (x ∷ xs)) → (x < n → P (x ∷ placed n xs)) → P (placed n (x ∷ xs))

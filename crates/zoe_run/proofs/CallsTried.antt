@@ -6,12 +6,11 @@ use Rattle.jessie_tree.specs.View.{tree, trees}
 use Rattle.jessie_tree.specs.declared.data.Data.{Data}
 use Rattle.jessie_tree.specs.declared.data.Obj.{Obj}
 use Rattle.zoe_run.specs.Brands.{first_brands}
-use Rattle.zoe_run.specs.Hosts.{first_vault}
+use Rattle.zoe_run.specs.Vaults.{first_vault, VaultState}
 use Rattle.zoe_run.specs.CallArguments.{arg}
 use Rattle.zoe_run.specs.Known.{AllObjects}
 use Rattle.zoe_run.specs.Served.{IsMade, KnowsArgs}
 use Rattle.zoe_run.specs.Services.{serve, served}
-use Rattle.zoe_run.specs.Vaults.{VaultState}
 use Rattle.zoe_run.specs.Worlds.{HasRoom, IsValid, MintedWithin, begins}
 use Rattle.zoe_run.specs.declared.brands.Brand.{Brand}
 use Rattle.zoe_run.specs.declared.world.World.{World}

@@ -13,7 +13,8 @@ use Rattle.rights_model.specs.Table.{Table, holds, taken, given}
 use Rattle.rights_model.specs.Supply.{is_store}
 use Rattle.rights_model.proofs.TableLaws.{same_place, holds-taken, holds-taken_other, holds-given, holds-given_other, taken_outside, given_outside}
 use Rattle.zoe_run.specs.declared.stores.Stores.{Stores}
-use Rattle.zoe_run.specs.Purses.{no_amount, amount_at}
+use Rattle.zoe_run.specs.Purses.{amount_at}
+use Rattle.ertp_mint.specs.Stocks.{no_amount}
 use Rattle.zoe_run.specs.Payments.{PaymentState, no_payment, payment_at, live_with, spent}
 use Rattle.zoe_run.specs.Stored.{in_brand, content_in, Agrees, stores_from, stores_to}
 use Rattle.zoe_run.specs.Moves.{CanLeave, Had}

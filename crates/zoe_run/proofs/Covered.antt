@@ -11,7 +11,8 @@ use Rattle.rights_model.specs.Place.{Place, place}
 use Rattle.rights_model.specs.Table.{holds}
 use Rattle.rights_model.specs.Tabulated.{IsCovered, at-tabulated}
 use Rattle.zoe_run.specs.declared.stores.Stores.{Stores}
-use Rattle.zoe_run.specs.Purses.{no_amount, amount_at}
+use Rattle.zoe_run.specs.Purses.{amount_at}
+use Rattle.ertp_mint.specs.Stocks.{no_amount}
 use Rattle.zoe_run.specs.Payments.{PaymentState, no_payment, payment_at}
 use Rattle.zoe_run.specs.Stored.{in_brand, content_in, places_of, table_of}
 use Rattle.zoe_run.proofs.Contents.{off_brand, in_no_amount}

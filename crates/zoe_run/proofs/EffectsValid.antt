@@ -15,10 +15,10 @@ use Rattle.rights_model.specs.Supply.{is_inside, is_store, share_of, total_of}
 use Rattle.rights_model.proofs.SupplyLaws.{stores_hold_all}
 use Rattle.rights_model.proofs.TableLaws.{outside_after}
 use Rattle.zoe_run.specs.Brands.{first_brands, most_brands}
-use Rattle.zoe_run.specs.Hosts.{first_vault}
-use Rattle.zoe_run.specs.Vaults.{VaultState, out_of, IsSound}
+use Rattle.zoe_run.specs.Vaults.{first_vault, VaultState, out_of, IsSound}
 use Rattle.zoe_run.specs.Drafts.{DraftState, HandIsEmpty, IsDraft, begun, with_brand, with_purse}
-use Rattle.zoe_run.specs.Worlds.{CanAdd, CanDo, CanDoAll, CanOpen, Effect, IsOrdinary, IsValid, after, after_all, begins, is_payment, is_purse, is_slot, move, new_brand, new_purse}
+use Rattle.zoe_run.specs.Worlds.{CanAdd, CanDo, CanDoAll, CanOpen, Effect, IsOrdinary, IsValid, after, after_all, begins, move, new_brand, new_purse}
+use Rattle.rights_model.specs.Totals.{is_payment, is_purse, is_slot}
 use Rattle.zoe_run.specs.declared.brands.Brand.{Brand}
 use Rattle.zoe_run.specs.declared.world.World.{World}
 use Rattle.zoe_run.proofs.Numbered.{held-empty}

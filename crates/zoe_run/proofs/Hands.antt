@@ -15,7 +15,8 @@ use Rattle.rights_model.specs.Supply.{is_hand, is_inside, is_outside, share_of}
 use Rattle.rights_model.proofs.SupplyLaws.{count-le-total}
 use Rattle.rights_model.proofs.TableLaws.{given_outside}
 use Rattle.zoe_run.specs.declared.stores.Stores.{Stores}
-use Rattle.zoe_run.specs.Purses.{no_amount, amount_at}
+use Rattle.zoe_run.specs.Purses.{amount_at}
+use Rattle.ertp_mint.specs.Stocks.{no_amount}
 use Rattle.zoe_run.specs.Payments.{no_payment, payment_at}
 use Rattle.zoe_run.specs.Vaults.{VaultState, PaymentMark, brand_of}
 use Rattle.zoe_run.specs.Drafts.{in_hand, given_up, HandGains, HandHas, IsGiven, IsTaken, mark, stepped}

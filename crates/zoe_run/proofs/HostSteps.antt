@@ -16,7 +16,8 @@ use Rattle.zoe_run.specs.Outcomes.{bind, need, wanted}
 use Rattle.zoe_run.specs.Parties.{EachLabel, Labels, bound_to, own}
 use Rattle.zoe_run.specs.Served.{Grows, IsMade, KnowsArgs}
 use Rattle.zoe_run.specs.Services.{Outcome, get_current_amount, serve, served}
-use Rattle.zoe_run.specs.Sums.{brands_of, sums_of}
+use Rattle.zoe_run.specs.Sums.{sums_of}
+use Rattle.rights_model.specs.Totals.{brands_of}
 use Rattle.zoe_run.specs.Turns.{Delivery, TurnRecord, bad, message, service}
 use Rattle.zoe_run.specs.Values.{amount_tree}
 use Rattle.zoe_run.specs.Vaults.{VaultState, amount_of}

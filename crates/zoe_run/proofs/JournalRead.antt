@@ -14,7 +14,7 @@ use Rattle.serde_json.specs.Written.{compact_text}
 use Rattle.jessie_tree.specs.Tree.{Tree, listed}
 use Rattle.rights_model.specs.declared.Movement.{Movement}
 use Rattle.zoe_run.specs.declared.refusals.Refusal.{Refusal}
-use Rattle.zoe_run.specs.declared.turns.Sum.{Sum}
+use Rattle.rights_model.specs.declared.Sum.{Sum}
 use Rattle.zoe_run.specs.Journal.{answer_json, called, turn_json, turn_row, move_row, sum_row, rows_of, row_text, turn_text, turn_texts, close_text, journal_text}
 use Rattle.zoe_run.specs.JournalLaws.{IsData, IsMove, IsSum, IsDelivery, IsTurn, IsJournal, answer_tree, told_delivery, told_answer, told_move, ToldMove, ToldTurn, written}
 use Rattle.zoe_run.specs.Turns.{Delivery, service, bad, message, TurnRecord}

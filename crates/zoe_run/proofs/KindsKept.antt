@@ -12,7 +12,8 @@ use Rattle.rights_model.specs.declared.Holder.{Holder}
 use Rattle.rights_model.specs.declared.Holder.TheVariants.{Purse, Payment, Slot, Hand, Outside}
 use Rattle.rights_model.specs.Table.{Table}
 use Rattle.zoe_run.specs.declared.stores.Stores.{Stores}
-use Rattle.zoe_run.specs.Purses.{no_amount, amount_at}
+use Rattle.zoe_run.specs.Purses.{amount_at}
+use Rattle.ertp_mint.specs.Stocks.{no_amount}
 use Rattle.zoe_run.specs.Payments.{PaymentState, no_payment, payment_at, live_with, spent}
 use Rattle.zoe_run.specs.Vaults.{PaymentMark, brand_of}
 use Rattle.zoe_run.specs.Drafts.{mark}

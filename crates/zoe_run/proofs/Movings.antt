@@ -17,7 +17,8 @@ use Rattle.rights_model.specs.Supply.{is_outside, is_inside, is_hand, share_of, 
 use Rattle.rights_model.proofs.TableLaws.{table_after-push, CanMoveAll-push}
 use Rattle.rights_model.proofs.SupplyLaws.{outside_or_inside, total-moved, hand-moved}
 use Rattle.zoe_run.specs.declared.stores.Stores.{Stores}
-use Rattle.zoe_run.specs.Purses.{no_amount, amount_at}
+use Rattle.zoe_run.specs.Purses.{amount_at}
+use Rattle.ertp_mint.specs.Stocks.{no_amount}
 use Rattle.zoe_run.specs.Payments.{no_payment, payment_at, live_with, spent}
 use Rattle.zoe_run.specs.Vaults.{VaultState, PaymentMark, supplies_from, supplies_to, payments_from, payments_to, after_move}
 use Rattle.zoe_run.specs.Drafts.{DraftState, in_hand, given_up, stepped, mark}

@@ -8,7 +8,8 @@ use Rattle.amount_math.specs.Totals.{total-put, total-empty}
 use Rattle.rights_model.specs.declared.Holder.{Holder}
 use Rattle.rights_model.specs.Place.{Place, place}
 use Rattle.rights_model.specs.Table.{Table, holdings, holds, no_holdings}
-use Rattle.zoe_run.specs.Worlds.{held_over, in_numbers, weight_of}
+use Rattle.zoe_run.specs.Worlds.{in_numbers}
+use Rattle.rights_model.specs.Totals.{held_over, weight_of}
 use Rattle.zoe_run.proofs.Totalled.{in_numbers-same}
 
 -- one term is another

@@ -13,7 +13,8 @@ use Rattle.rights_model.specs.Place.{Place, place}
 use Rattle.rights_model.specs.Table.{Table, holds, taken, given, moved}
 use Rattle.rights_model.proofs.TableLaws.{holds-taken_other, holds-given_other}
 use Rattle.zoe_run.specs.Vaults.{VaultState, PaymentMark, no_mark, brand_of, kind_of, payments_from, payments_to, after_move, CanTake, CanGive, CanTransfer}
-use Rattle.zoe_run.specs.Worlds.{AreFresh, AreTotals, IsAsset, IsOrdinary, held_over, is_payment, is_purse, is_slot}
+use Rattle.zoe_run.specs.Worlds.{AreFresh, AreTotals, IsAsset, IsOrdinary}
+use Rattle.rights_model.specs.Totals.{held_over, is_payment, is_purse, is_slot}
 use Rattle.zoe_run.proofs.Numbered.{AddUp, Numbering, AddUp-put, AddUp-elsewhere, AddUp-brands, AddUp-more, held-put_elsewhere}
 use Rattle.zoe_run.proofs.Supplies.{kind_at-added}
 use Rattle.zoe_run.proofs.Transferred.{brands_made, kinds_moved, each_payment, paid-from, brands-from, brands-to}

@@ -12,7 +12,8 @@ use Rattle.rights_model.specs.declared.Holder.TheVariants.{Purse, Payment, Slot,
 use Rattle.rights_model.specs.declared.Movement.{Movement}
 use Rattle.rights_model.specs.Table.{Table, holds, table_after}
 use Rattle.zoe_run.specs.declared.stores.Stores.{Stores}
-use Rattle.zoe_run.specs.Purses.{no_amount, amount_at, empty_amount}
+use Rattle.zoe_run.specs.Purses.{amount_at}
+use Rattle.ertp_mint.specs.Stocks.{no_amount, empty_amount}
 use Rattle.zoe_run.specs.Payments.{no_payment, payment_at}
 use Rattle.zoe_run.specs.Vaults.{VaultState, PaymentMark, amount_of}
 use Rattle.zoe_run.specs.Drafts.{DraftState, ArePurses, ArePayments, KeepsHand, with_purse, with_brand, mark}

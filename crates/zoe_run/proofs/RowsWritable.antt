@@ -9,7 +9,7 @@ use Rattle.jessie_tree.specs.Tree.{Tree, null, boolean, number, text, array, fie
 use Rattle.jessie_tree.specs.View.{items_of}
 use Rattle.rights_model.specs.declared.Movement.{Movement}
 use Rattle.zoe_run.specs.declared.refusals.Refusal.{Refusal}
-use Rattle.zoe_run.specs.declared.turns.Sum.{Sum}
+use Rattle.rights_model.specs.declared.Sum.{Sum}
 use Rattle.zoe_run.specs.Journal.{is_beyond, number_json, json_of, items_json, answer_json, called, turn_row, move_row, sum_row, close_row, rows_of}
 use Rattle.zoe_run.specs.JournalLaws.{IsData, IsMove, IsDelivery, IsTurn, IsJournal, answer_tree}
 use Rattle.zoe_run.specs.Refusals.{refusal_tree}

@@ -17,12 +17,12 @@ use Rattle.rights_model.specs.declared.Movement.{Movement}
 use Rattle.rights_model.specs.Supply.{is_inside}
 use Rattle.rights_model.specs.Table.{holds}
 use Rattle.zoe_run.specs.JournalLaws.{IsHolder, IsMove, IsSum}
-use Rattle.zoe_run.specs.Hosts.{first_vault}
+use Rattle.zoe_run.specs.Vaults.{first_vault, CanGive, CanTake, CanTransfer, PaymentMark, VaultState, brand_of, kind_of, payments_from, payments_to, supplies_from, supplies_to}
 use Rattle.zoe_run.specs.Moved.{IsPassed, IsPassing}
-use Rattle.zoe_run.specs.Purses.{most_made}
-use Rattle.zoe_run.specs.Sums.{brands_of, placed, sum_of, sums_of}
-use Rattle.zoe_run.specs.Vaults.{CanGive, CanTake, CanTransfer, PaymentMark, VaultState, brand_of, kind_of, payments_from, payments_to, supplies_from, supplies_to}
-use Rattle.zoe_run.specs.Worlds.{CanDo, CanDoAll, Effect, IsValid, MintedWithin, after, after_all, count_in, held_over, in_numbers, is_payment, is_purse, move, new_brand, new_purse}
+use Rattle.ertp_mint.specs.Stocks.{most_made}
+use Rattle.zoe_run.specs.Sums.{sum_of, sums_of}
+use Rattle.rights_model.specs.Totals.{brands_of, placed, held_over, is_payment, is_purse}
+use Rattle.zoe_run.specs.Worlds.{CanDo, CanDoAll, Effect, IsValid, MintedWithin, after, after_all, count_in, in_numbers, move, new_brand, new_purse}
 use Rattle.zoe_run.specs.declared.world.World.{World}
 use Rattle.zoe_run.proofs.Accounts.{AreTold, told-after_all}
 use Rattle.zoe_run.proofs.EffectsValid.{valid-after}

@@ -21,16 +21,17 @@ use Rattle.rights_model.proofs.SupplyLaws.{adds_up_after}
 use Rattle.zoe_run.specs.Delivered.{AreGood}
 use Rattle.zoe_run.specs.Deliveries.{Kept, world_at}
 use Rattle.zoe_run.specs.Fair.{AreFair, IsAmountAt, IsReading, is_payment_at, movements_of, names, names_slot, sum_by, table_by, takes_from}
-use Rattle.zoe_run.specs.Hosts.{HostState, IsValidHost, first_host, first_vault, step_of}
+use Rattle.zoe_run.specs.Hosts.{HostState, IsValidHost, first_host, step_of}
+use Rattle.zoe_run.specs.Vaults.{first_vault, VaultState, IsSound, brand_of, kind_of, out_of}
 use Rattle.zoe_run.specs.InputLines.{lines_of}
 use Rattle.zoe_run.specs.Leaves.{Leaves}
 use Rattle.zoe_run.specs.MessageLines.{Meaning, blank, meaning_of, message}
 use Rattle.zoe_run.specs.Runs.{after, drained, line_host, lines_host, read_host, turns_of}
-use Rattle.zoe_run.specs.Sums.{brands_of, sum_of}
+use Rattle.zoe_run.specs.Sums.{sum_of}
+use Rattle.rights_model.specs.Totals.{brands_of, held_over, is_payment, is_purse, is_slot}
 use Rattle.zoe_run.specs.Turns.{TurnRecord}
 use Rattle.zoe_run.specs.Values.{amount_tree}
-use Rattle.zoe_run.specs.Vaults.{VaultState, IsSound, brand_of, kind_of, out_of}
-use Rattle.zoe_run.specs.Worlds.{IsValid, after_all, held_over, is_payment, is_purse, is_slot}
+use Rattle.zoe_run.specs.Worlds.{IsValid, after_all}
 use Rattle.zoe_run.specs.declared.refusals.Refusal.{Refusal}
 use Rattle.zoe_run.proofs.Accounts.{Accounts, AreTold, IsLeft, IsSpent, kinds, left-after_all, or_false, spent_has_nothing, told-after_all}
 use Rattle.zoe_run.proofs.EffectsValid.{first_valid}

@@ -1,7 +1,8 @@
 -- The host once the lines are read: it is valid, and has run no turn.
 use Rattle.std.proofs.Common.{◌≡◌, Ok, ap, ℕ, zero, suc, ◌≤◌, ◌*◌, ◌^◌, List, [], ◌∷◌, refl, sym, ◌∙◌, arith}
 use Rattle.ertp_mint.specs.BrandSupply.{supply_at}
-use Rattle.zoe_run.specs.Hosts.{HostState, IsQueued, IsSubmitted, IsValidHost, first_host, first_vault}
+use Rattle.zoe_run.specs.Hosts.{HostState, IsQueued, IsSubmitted, IsValidHost, first_host}
+use Rattle.zoe_run.specs.Vaults.{first_vault}
 use Rattle.zoe_run.specs.InputLines.{lines_of}
 use Rattle.zoe_run.specs.MessageLines.{Meaning, blank, message, meaning_of}
 use Rattle.zoe_run.specs.Runs.{line_host, lines_host, read_host}

@@ -20,7 +20,7 @@ use Rattle.rights_model.proofs.SupplyLaws.{count-le-total}
 use Rattle.zoe_run.specs.Brands.{most_brands}
 use Rattle.zoe_run.specs.CallArguments.{amount_fields, amount_in, arg, brand_number, has_two, is_brand, is_payment, nat_from, optional_amount, payment_in, payment_number, payment_seen, value_in}
 use Rattle.zoe_run.specs.JournalLaws.{InRange}
-use Rattle.zoe_run.specs.Purses.{most_made}
+use Rattle.ertp_mint.specs.Stocks.{most_made}
 use Rattle.zoe_run.specs.Served.{made_as}
 use Rattle.zoe_run.specs.Services.{Outcome, deposit, get_current_amount, make_empty_purse, make_issuer_kit, mint_payment, next_payment, of_kind, serve, withdraw}
 use Rattle.zoe_run.specs.Values.{amount_tree}

@@ -4,7 +4,8 @@ use Rattle.std.proofs.lemmas.List.{length-map}
 use Rattle.std.proofs.Math.ListN.{get_or-map}
 use Rattle.amount_math.specs.declared.Amount.{Amount}
 use Rattle.rights_model.specs.declared.Holder.TheVariants.{Purse}
-use Rattle.zoe_run.specs.Purses.{no_amount, amount_at}
+use Rattle.zoe_run.specs.Purses.{amount_at}
+use Rattle.ertp_mint.specs.Stocks.{no_amount}
 use Rattle.zoe_run.specs.Payments.{PaymentState, no_payment, payment_at}
 use Rattle.zoe_run.specs.Vaults.{VaultState, brand_of, mark_of}
 use Rattle.zoe_run.specs.Drafts.{ArePurses, ArePayments, mark}

@@ -11,17 +11,13 @@ use Rattle.amount_math.specs.declared.Kind.TheVariants.{Nat}
 use Rattle.rights_model.specs.declared.Holder.{Holder}
 use Rattle.rights_model.specs.Table.{holds}
 use Rattle.rights_model.specs.declared.Holder.TheVariants.{Purse, Payment}
-use Rattle.zoe_run.specs.Purses.{no_amount, amount_at, counted_in}
+use Rattle.zoe_run.specs.Purses.{amount_at}
+use Rattle.ertp_mint.specs.Stocks.{no_amount, counted_in}
 use Rattle.zoe_run.specs.Payments.{PaymentState, no_payment, payment_at}
 use Rattle.zoe_run.specs.Vaults.{VaultState, amount_of, brand_of}
 use Rattle.zoe_run.specs.Drafts.{ArePurses, ArePayments, mark}
-use Rattle.zoe_run.specs.Worlds.{AreTotals, count_in, held_over, in_numbers, is_payment, is_purse}
-
-pub counted_units : (a : Amount) (b n : ℕ) → a.brand ≡ b → a.value ≡ record { kind = Nat; content = of_nat n } → n ≡ counted_in b a
-counted_units a b n brand is = sym (ap (λ x. cond x (counted a.value.content) 0) (eq-eqb a.brand b brand) ∙ ap (λ (w : Worth). counted w.content) is ∙ counted-of_nat n)
-
-pub counted_none : (a : Amount) (b : ℕ) → a.brand ≡ b → a.value.content ≡ nothing → 0 ≡ counted_in b a
-counted_none a b brand is = sym (ap (λ x. cond x (counted a.value.content) 0) (eq-eqb a.brand b brand) ∙ ap counted is ∙ counted-nothing)
+use Rattle.zoe_run.specs.Worlds.{AreTotals, count_in, in_numbers}
+use Rattle.rights_model.specs.Totals.{held_over, is_payment, is_purse}
 
 pub in_numbers-same : (f g : ℕ → ℕ) (n : ℕ) → ((i : ℕ) → i < n → f i ≡ g i) → in_numbers f n ≡ in_numbers g n
 in_numbers-same f g zero is = refl

@@ -12,7 +12,8 @@ use Rattle.rights_model.specs.declared.Movement.{Movement}
 use Rattle.rights_model.specs.Table.{Table, holds, movement, table_after}
 use Rattle.rights_model.specs.Supply.{is_hand}
 use Rattle.zoe_run.specs.declared.stores.Stores.{Stores}
-use Rattle.zoe_run.specs.Purses.{no_amount, amount_at}
+use Rattle.zoe_run.specs.Purses.{amount_at}
+use Rattle.ertp_mint.specs.Stocks.{no_amount}
 use Rattle.zoe_run.specs.Payments.{no_payment, payment_at}
 use Rattle.zoe_run.specs.Vaults.{VaultState, PaymentMark, CanTake, CanGive, CanTransfer}
 use Rattle.zoe_run.specs.Drafts.{KeepsHand, mark}

@@ -12,7 +12,8 @@ use Rattle.rights_model.specs.declared.Movement.{Movement}
 use Rattle.rights_model.specs.Table.{coded_movement, holds, table_after, CanMoveAll}
 use Rattle.rights_model.specs.Supply.{is_inside, total_of}
 use Rattle.zoe_run.specs.Payments.{PaymentState, payment_at}
-use Rattle.zoe_run.specs.Purses.{amount_at, most_made}
+use Rattle.zoe_run.specs.Purses.{amount_at}
+use Rattle.ertp_mint.specs.Stocks.{most_made}
 use Rattle.zoe_run.specs.Vaults.{VaultState, PaymentMark, coded_vault, mark_of, brand_of, kind_of, out_of, amount_of, supplies_to, after_move, IsSound}
 
 pub record DraftState : Type 0 where

@@ -12,12 +12,11 @@ use Rattle.rights_model.specs.declared.Holder.TheVariants as holders
 use Rattle.rights_model.specs.declared.Movement.{Movement}
 use Rattle.rights_model.specs.Supply.{Balanced, burned, minted, supply}
 use Rattle.rights_model.specs.Table.{CanMoveAll, Table, holds, no_holdings, table_after}
-use Rattle.zoe_run.specs.Sums.{brands_of}
+use Rattle.rights_model.specs.Totals.{brands_of, held_over, is_payment, is_purse, is_slot}
 use Rattle.zoe_run.specs.Turns.{TurnRecord, service}
 use Rattle.zoe_run.specs.Values.{amount_tree}
-use Rattle.zoe_run.specs.Worlds.{held_over, is_payment, is_purse, is_slot}
 use Rattle.zoe_run.specs.declared.refusals.Refusal.{Refusal}
-use Rattle.zoe_run.specs.declared.turns.Sum.{Sum}
+use Rattle.rights_model.specs.declared.Sum.{Sum}
 
 -- the movements of all turns, in order
 abbrev pub movements_of : List TurnRecord → List Movement

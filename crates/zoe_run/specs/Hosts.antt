@@ -1,9 +1,6 @@
 -- A host between its calls, and what a step makes of it.
 use Rattle.std.specs.Prelude.{◌≡◌, ℕ, ◌+◌, List, [], ◌∷◌, ◌++◌, Option, Some, None, Result, Ok, Err}
 use Rattle.std.specs.declared.alloc.AllocError.{AllocError}
-use Rattle.ertp_mint.specs.BrandSupply.{new_supply}
-use Rattle.amount_math.specs.declared.Kind.TheVariants.{Set}
-use Rattle.rights_model.specs.Table.{no_holdings}
 use Rattle.zoe_run.specs.Brands.{first_brands}
 use Rattle.zoe_run.specs.Deliveries.{Kept, turn_of, world_at}
 use Rattle.zoe_run.specs.MessageLines.{Meaning, MessageRead, blank, meaning_of, message}
@@ -11,13 +8,12 @@ use Rattle.zoe_run.specs.Parties.{Labels, labels_of}
 use Rattle.zoe_run.specs.Queues.{waiting}
 use Rattle.zoe_run.specs.Delivered.{AreGood}
 use Rattle.zoe_run.specs.Turns.{TurnRecord, turn_view}
-use Rattle.zoe_run.specs.Vaults.{VaultState}
-use Rattle.zoe_run.specs.Worlds.{IsValid, MintedWithin}
+use Rattle.zoe_run.specs.Vaults.{VaultState, first_vault}
+use Rattle.zoe_run.specs.Worlds.{IsValid, MintedWithin, resting_of}
 use Rattle.zoe_run.specs.declared.brands.Brand.{Brand}
 use Rattle.zoe_run.specs.declared.host.Host.{Host}
 use Rattle.zoe_run.specs.declared.host.Submitted.{Submitted}
 use Rattle.zoe_run.specs.declared.host.Submitted.TheVariants as submitted
-use Rattle.zoe_run.specs.declared.world.Resting.{Resting}
 use Rattle.zoe_run.specs.declared.turns.Turn.{Turn}
 
 pub record HostState : Type 0 where
@@ -25,18 +21,9 @@ pub record HostState : Type 0 where
   pub queue : List MessageRead
   pub turns : ℕ
 
--- a vault with the brand of invitations alone
-abbrev pub first_vault : VaultState
-first_vault = record { supplies = new_supply Set ∷ []; purses = []; payments = []; table = no_holdings }
-
 -- a new host
 abbrev pub first_host : HostState
 first_host = record { kept = record { vault = first_vault; brands = first_brands; labels = [] }; queue = []; turns = 0 }
-
--- what lies between turns; in a turn, when the world has it, that of a new host is read
-abbrev pub resting_of : Option Resting → VaultState × List Brand
-resting_of None = (first_vault, first_brands)
-resting_of (Some r) = (r.vault, r.brands.now)
 
 abbrev pub kept_by : VaultState × List Brand → Labels → Kept
 kept_by (vault, brands) labels = record { vault = vault; brands = brands; labels = labels }

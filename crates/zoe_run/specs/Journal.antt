@@ -14,7 +14,7 @@ use Rattle.rights_model.specs.declared.Holder.{Holder}
 use Rattle.rights_model.specs.declared.Holder.TheVariants as holders
 use Rattle.rights_model.specs.declared.Movement.{Movement}
 use Rattle.zoe_run.specs.declared.refusals.Refusal.{Refusal}
-use Rattle.zoe_run.specs.declared.turns.Sum.{Sum}
+use Rattle.rights_model.specs.declared.Sum.{Sum}
 use Rattle.zoe_run.specs.Refusals.{refusal_tree}
 use Rattle.zoe_run.specs.Values.{value_tree}
 use Rattle.zoe_run.specs.Turns.{Delivery, service, bad, message, TurnRecord}

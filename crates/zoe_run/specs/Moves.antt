@@ -12,7 +12,8 @@ use Rattle.ertp_mint.specs.BrandSupply.{supply_at}
 use Rattle.rights_model.specs.declared.Holder.{Holder}
 use Rattle.rights_model.specs.declared.Holder.TheVariants.{Purse, Payment, Slot, Hand, Outside}
 use Rattle.zoe_run.specs.declared.stores.Stores.{Stores}
-use Rattle.zoe_run.specs.Purses.{amount_at, most_made}
+use Rattle.zoe_run.specs.Purses.{amount_at}
+use Rattle.ertp_mint.specs.Stocks.{most_made}
 use Rattle.zoe_run.specs.Payments.{payment_at}
 
 -- a purse of the brand and kind

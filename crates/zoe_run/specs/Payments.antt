@@ -4,7 +4,7 @@ use Rattle.std.specs.Coded.{Coded, code_by, coded×, coded_bool}
 use Rattle.amount_math.specs.Amount.{coded_amount, holding}
 use Rattle.amount_math.specs.Content.{nothing}
 use Rattle.amount_math.specs.declared.Amount.{Amount}
-use Rattle.zoe_run.specs.Purses.{no_amount}
+use Rattle.ertp_mint.specs.Stocks.{no_amount}
 
 -- a payment is live until it is spent
 pub record PaymentState : Type 0 where

@@ -11,7 +11,7 @@ use Rattle.jessie_tree.specs.declared.data.ObjKind.TheVariants as kinds
 use Rattle.rights_model.specs.Table.{movement}
 use Rattle.rights_model.specs.declared.Holder.TheVariants.{Purse, Payment, Outside}
 use Rattle.zoe_run.specs.Brands.{most_brands}
-use Rattle.zoe_run.specs.Purses.{most_made}
+use Rattle.ertp_mint.specs.Stocks.{most_made}
 use Rattle.zoe_run.specs.Outcomes.{◌>>=◌, ◌>>◌, need, wanted}
 use Rattle.zoe_run.specs.Values.{amount_tree, brand_tree, object_tree}
 use Rattle.zoe_run.specs.Vaults.{VaultState, amount_of, brand_of, held_by, kind_of, out_of}

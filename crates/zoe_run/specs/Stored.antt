@@ -11,7 +11,8 @@ use Rattle.rights_model.specs.Table.{Table, holds}
 use Rattle.rights_model.specs.Supply.{is_store}
 use Rattle.rights_model.specs.Tabulated.{tabulated}
 use Rattle.zoe_run.specs.declared.stores.Stores.{Stores}
-use Rattle.zoe_run.specs.Purses.{no_amount, amount_at}
+use Rattle.zoe_run.specs.Purses.{amount_at}
+use Rattle.ertp_mint.specs.Stocks.{no_amount}
 use Rattle.zoe_run.specs.Payments.{payment_at, live_with, spent}
 use Rattle.zoe_run.specs.Vaults.{VaultState, IsSound}
 use Rattle.zoe_run.specs.Drafts.{DraftState, IsDraft, mark}

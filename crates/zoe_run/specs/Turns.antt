@@ -9,7 +9,7 @@ use Rattle.zoe_run.specs.declared.turns.Answer.{Answer}
 use Rattle.zoe_run.specs.declared.turns.Answer.TheVariants as answers
 use Rattle.zoe_run.specs.declared.turns.Delivered.{Delivered}
 use Rattle.zoe_run.specs.declared.turns.Delivered.TheVariants as delivered
-use Rattle.zoe_run.specs.declared.turns.Sum.{Sum}
+use Rattle.rights_model.specs.declared.Sum.{Sum}
 use Rattle.zoe_run.specs.declared.turns.Turn.{Turn}
 
 -- a call that was worked: the party, the target, the method and the arguments; a bad line; or a call that was refused before it was worked: the party and the method

@@ -6,14 +6,14 @@ use Rattle.amount_math.specs.Counted.{counted}
 use Rattle.amount_math.specs.Worth.{Fits}
 use Rattle.amount_math.specs.declared.Amount.{Amount}
 use Rattle.amount_math.specs.declared.Kind.{Kind}
-use Rattle.amount_math.specs.declared.Kind.TheVariants.{Nat}
-use Rattle.ertp_mint.specs.BrandSupply.{BrandSupply, coded_supply, supply_at, issued, retired}
+use Rattle.amount_math.specs.declared.Kind.TheVariants.{Nat, Set}
+use Rattle.ertp_mint.specs.BrandSupply.{BrandSupply, coded_supply, new_supply, supply_at, issued, retired}
 use Rattle.rights_model.specs.declared.Holder.{Holder}
 use Rattle.rights_model.specs.declared.Holder.TheVariants.{Purse, Payment, Slot, Hand, Outside}
 use Rattle.rights_model.specs.declared.Movement.{Movement}
-use Rattle.rights_model.specs.Table.{Table, coded_table, holds, moved}
+use Rattle.rights_model.specs.Table.{Table, coded_table, holds, moved, no_holdings}
 use Rattle.rights_model.specs.Supply.{Balanced}
-use Rattle.zoe_run.specs.Purses.{most_made}
+use Rattle.ertp_mint.specs.Stocks.{most_made}
 
 -- a payment is live until it is spent
 pub record PaymentMark : Type 0 where
@@ -25,6 +25,10 @@ pub record VaultState : Type 0 where
   pub purses : List ℕ
   pub payments : List PaymentMark
   pub table : Table
+
+-- a vault with the brand of invitations alone
+abbrev pub first_vault : VaultState
+first_vault = record { supplies = new_supply Set ∷ []; purses = []; payments = []; table = no_holdings }
 
 -- what is read where no payment was made
 abbrev pub no_mark : PaymentMark

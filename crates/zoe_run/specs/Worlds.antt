@@ -1,20 +1,20 @@
 -- The world that a turn works on, and the effects that a call may have on it.
-use Rattle.std.specs.Prelude.{◌≡◌, ℕ, zero, suc, ◌<◌, ◌≤◌, ◌+◌, ◌*◌, ◌^◌, ◌==◌, ◌&&◌, Bool, true, false, List, [], ◌∷◌, ◌++◌, length, if◌then◌else◌}
-use Rattle.amount_math.specs.Content.{Content, nothing}
+use Rattle.std.specs.Prelude.{◌≡◌, ℕ, zero, suc, ◌<◌, ◌≤◌, ◌+◌, ◌*◌, ◌^◌, ◌==◌, false, List, [], ◌∷◌, ◌++◌, length, Option, Some, None, if◌then◌else◌}
+use Rattle.amount_math.specs.Content.{nothing}
 use Rattle.amount_math.specs.Counted.{counted}
-use Rattle.amount_math.specs.Totals.{total}
 use Rattle.amount_math.specs.declared.Kind.TheVariants.{Nat}
 use Rattle.ertp_mint.specs.BrandSupply.{supply_at}
 use Rattle.rights_model.specs.declared.Holder.{Holder}
-use Rattle.rights_model.specs.declared.Holder.TheVariants.{Purse, Payment, Slot}
+use Rattle.rights_model.specs.declared.Holder.TheVariants.{Purse, Payment}
 use Rattle.rights_model.specs.declared.Movement.{Movement}
-use Rattle.rights_model.specs.Place.{Place}
-use Rattle.rights_model.specs.Table.{Table, holdings, holds}
-use Rattle.zoe_run.specs.Brands.{most_brands}
-use Rattle.zoe_run.specs.Purses.{most_made}
-use Rattle.zoe_run.specs.Vaults.{VaultState, CanTransfer, brand_of, kind_of}
+use Rattle.rights_model.specs.Totals.{held_over, is_payment, is_purse, is_slot}
+use Rattle.rights_model.specs.Table.{holds}
+use Rattle.zoe_run.specs.Brands.{first_brands, most_brands}
+use Rattle.ertp_mint.specs.Stocks.{most_made}
+use Rattle.zoe_run.specs.Vaults.{VaultState, CanTransfer, brand_of, first_vault, kind_of}
 use Rattle.zoe_run.specs.Drafts.{HandIsEmpty, begun, IsDraft, stepped, with_brand, with_purse}
 use Rattle.zoe_run.specs.declared.brands.Brand.{Brand}
+use Rattle.zoe_run.specs.declared.world.Resting.{Resting}
 use Rattle.zoe_run.specs.declared.world.World.{World}
 
 -- a brand is made, an empty purse is opened, or a value is moved
@@ -35,6 +35,11 @@ after_all w (e ∷ es) = after_all (after w e) es
 -- the world at the start of a turn
 abbrev pub begins : VaultState → List Brand → World
 begins vault brands = record { draft = begun vault; brands = record { start = brands; now = brands } }
+
+-- what lies between turns; in a turn, when the world has it, that of a new host is read
+abbrev pub resting_of : Option Resting → VaultState × List Brand
+resting_of None = (first_vault, first_brands)
+resting_of (Some r) = (r.vault, r.brands.now)
 
 -- ---- which effects can be had
 
@@ -59,28 +64,6 @@ CanDo w (move m) = CanTransfer w.draft.now m
 abbrev pub CanDoAll : World → List Effect → Type 0
 CanDoAll w [] = Unit {0}
 CanDoAll w (e ∷ es) = CanDo w e × CanDoAll (after w e) es
-
--- ---- totals
-
-abbrev pub is_purse : Holder → Bool
-is_purse (Purse n) = true
-is_purse _ = false
-
-abbrev pub is_payment : Holder → Bool
-is_payment (Payment n) = true
-is_payment _ = false
-
-abbrev pub is_slot : Holder → Bool
-is_slot (Slot seat keyword) = true
-is_slot _ = false
-
--- how much of a brand a place counts, where its holder passes
-abbrev pub weight_of : (Holder → Bool) → ℕ → Place → Content → ℕ
-weight_of who b p c = if who p.0 && (p.1 == b) then counted c else 0
-
--- how much of a brand those holders have together, all elements counted
-unfoldable pub held_over : (Holder → Bool) → Table → ℕ → ℕ
-held_over who t b = total (weight_of who b) holdings t
 
 -- ---- what holds of the world between calls
 

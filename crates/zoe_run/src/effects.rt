@@ -2,7 +2,7 @@
 
 ghost use Rattle.std.specs.Prelude.{◌≡◌, ◌<◌, All, List, [], length};
 ghost use Rattle.zoe_run.specs.Brands.{first_brands};
-ghost use Rattle.zoe_run.specs.Hosts.{first_vault};
+ghost use Rattle.zoe_run.specs.Vaults.{first_vault};
 ghost use Rattle.zoe_run.specs.Worlds.{CanDoAll, Effect, IsValid, after_all, begins};
 ghost use Rattle.zoe_run.specs.declared.world.World.{World as TurnWorld};
 

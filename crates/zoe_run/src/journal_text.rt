@@ -16,12 +16,12 @@ ghost use Rattle.zoe_run.specs.Turns.{answer_of, delivery_of, turn_view, service
 ghost use Rattle.zoe_run.specs.Values.{value_tree};
 
 use crate::refusals::Refusal;
-use crate::turns::{Answer, Delivered, ServiceCall, Sum, Turn};
+use crate::turns::{Answer, Delivered, ServiceCall, Turn};
 use crate::values::value_data;
 use amount_math::Value as Held;
 use host_text::text::Text;
 use jessie_tree::data::{Data, Obj, ObjKind};
-use rights_model::{Holder, Movement};
+use rights_model::{Holder, Movement, Sum};
 use serde_json::{Map, Value, json};
 use std::alloc::{AllocError, Global};
 

@@ -9,7 +9,7 @@ ghost use Rattle.zoe_run.specs.Hosts.{HostState, IsValidHost, step_of};
 ghost use Rattle.zoe_run.specs.JournalLaws.{IsJournal, written};
 ghost use Rattle.zoe_run.specs.Leaves.{Leaves};
 ghost use Rattle.zoe_run.specs.Runs.{after, journal_of, left_of, read_host, turns_of};
-ghost use Rattle.zoe_run.specs.Sums.{brands_of};
+ghost use Rattle.rights_model.specs.Totals.{brands_of};
 ghost use Rattle.zoe_run.specs.Turns.{TurnRecord};
 
 /// Whatever input is read, and however many of its deliveries are run, the turns are fair: the

@@ -3,9 +3,8 @@
 
 ghost use Rattle.std.specs.Prelude.{◌≡◌, ◌≢◌, ◌<◌, ◌-◌, ◌↔◌, ◌++◌, ◌∷◌, [], List, length, slice_set, IfOk, IfErr, IfSome, IsOk, IsSome, IsTrue, OnOk, OnErr, sum_by};
 ghost use Rattle.zoe_run.specs.Payments.{PaymentState, live_with, payment_at, spent};
-ghost use Rattle.zoe_run.specs.Purses.{counted_in, most_made};
+ghost use Rattle.ertp_mint.specs.Stocks.{counted_in, most_made};
 
-use crate::purses::counted;
 use amount_math::Value;
 use ertp_mint::{Parcel, Stock};
 use std::alloc::{AllocError, Global};
@@ -73,7 +72,7 @@ impl Model for Payments {
     ghost use Rattle.std.specs.Prelude.{List, length, ◌≤◌};
     ghost use Rattle.std.specs.Coded.{coded_list};
     ghost use Rattle.zoe_run.specs.Payments.{PaymentState, coded_payment};
-    ghost use Rattle.zoe_run.specs.Purses.{most_made};
+    ghost use Rattle.ertp_mint.specs.Stocks.{most_made};
 
     ghost Value = { List PaymentState };
 
@@ -192,7 +191,7 @@ impl Payments {
     {
         let mut total = 0;
         for payment in &self.payments {
-            total += counted(&payment.stock, brand);
+            total += payment.stock.counted(brand);
         }
         total
     }

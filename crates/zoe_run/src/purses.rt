@@ -3,8 +3,9 @@
 ghost use Rattle.std.specs.Prelude.{◌≡◌, ◌<◌, ◌↔◌, ◌++◌, ◌∷◌, [], List, length, slice_set, IfOk, IfErr, IsOk, OnOk, OnErr, ◌≤◌, sum_by};
 ghost use Rattle.amount_math.specs.Amount.{Meet, holding};
 ghost use Rattle.amount_math.specs.Content.{Contains, difference, sum};
-ghost use Rattle.amount_math.specs.Worth.{IsPutRefusal, IsTakeRefusal, IsValue, nat_bound};
-ghost use Rattle.zoe_run.specs.Purses.{amount_at, counted_in, empty_amount, most_made};
+ghost use Rattle.amount_math.specs.Worth.{IsPutRefusal, IsTakeRefusal, IsValue};
+ghost use Rattle.zoe_run.specs.Purses.{amount_at};
+ghost use Rattle.ertp_mint.specs.Stocks.{counted_in, empty_amount, most_made};
 
 use amount_math::{Kind, PutFault, TakeFault, Value};
 use ertp_mint::{Parcel, Stock};
@@ -30,7 +31,7 @@ impl Model for Purses {
     ghost use Rattle.std.specs.Coded.{coded_list};
     ghost use Rattle.amount_math.specs.declared.Amount.{Amount};
     ghost use Rattle.amount_math.specs.Amount.{coded_amount};
-    ghost use Rattle.zoe_run.specs.Purses.{most_made};
+    ghost use Rattle.ertp_mint.specs.Stocks.{most_made};
 
     ghost Value = { List Amount };
 
@@ -39,20 +40,6 @@ impl Model for Purses {
     ghost view = { λ a. a.stocks.items };
 
     ghost invariant = { λ a. length a.stocks.items ≤ most_made };
-}
-
-/// How much a store counts of a brand.
-pub(crate) fn counted(stock: &Stock, brand: u16) -> u128
-    ensures counted { result ≡ counted_in brand stock.now }
-    ensures bounded { result ≤ nat_bound }
-{
-    if stock.brand() != brand {
-        return 0;
-    }
-    match stock.value().number() {
-        Some(number) => number,
-        None => 0,
-    }
 }
 
 impl Purses {
@@ -138,7 +125,7 @@ impl Purses {
     {
         let mut total = 0;
         for stock in &self.stocks {
-            total += counted(stock, brand);
+            total += stock.counted(brand);
         }
         total
     }

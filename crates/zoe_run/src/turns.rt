@@ -3,7 +3,7 @@
 use crate::refusals::Refusal;
 use host_text::text::Text;
 use jessie_tree::data::{Data, Obj};
-use rights_model::Movement;
+use rights_model::{Movement, Sum};
 
 /// A call that was worked, once its paths were resolved.
 #[derive(Debug, Drop)]
@@ -30,18 +30,6 @@ pub enum Delivered {
 pub enum Answer {
     Given(Data),
     Refused(Refusal),
-}
-
-/// The totals of a brand: what was minted and burned since the start, and what purses, payments and
-/// slots have.
-#[derive(Clone, Copy, Debug, PartialEq, Eq)]
-pub struct Sum {
-    pub brand: u16,
-    pub minted: u128,
-    pub burned: u128,
-    pub purses: u128,
-    pub payments: u128,
-    pub slots: u128,
 }
 
 /// A turn's record.

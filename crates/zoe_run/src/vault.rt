@@ -11,7 +11,7 @@ ghost use Rattle.amount_math.specs.Worth.{IsPutRefusal, IsTakeRefusal};
 ghost use Rattle.ertp_mint.specs.BrandSupply.{supply_at};
 ghost use Rattle.amount_math.specs.Counted.{counted};
 ghost use Rattle.rights_model.specs.Table.{movement, no_holdings};
-ghost use Rattle.zoe_run.specs.Purses.{most_made};
+ghost use Rattle.ertp_mint.specs.Stocks.{most_made};
 ghost use Rattle.zoe_run.specs.Vaults.{CanTransfer, IsSound, brand_of, held_by, kind_of, out_of};
 ghost use Rattle.zoe_run.specs.Drafts.{ArePayments, ArePurses, HandGains, HandHas, HandIsEmpty, IsDraft, IsGiven, IsTaken, KeepsHand, begun, stepped, with_brand, with_purse, without};
 

@@ -4,17 +4,15 @@
 ghost use Rattle.std.specs.Prelude.{◌≡◌, ◌<◌, All, IfErr, IfOk, OnOk, false, length};
 ghost use Rattle.zoe_run.specs.Brands.{first_brands};
 ghost use Rattle.zoe_run.specs.Drafts.{HandIsEmpty};
-ghost use Rattle.zoe_run.specs.Hosts.{first_vault};
+ghost use Rattle.zoe_run.specs.Vaults.{CanTransfer, first_vault};
 ghost use Rattle.zoe_run.specs.Sums.{sum_of, sums_of};
 ghost use Rattle.zoe_run.specs.Worlds.{CanAdd, CanOpen, IsValid, Keeps, after, begins, move, new_brand, new_purse};
-ghost use Rattle.zoe_run.specs.Vaults.{CanTransfer};
 
 use crate::brands::{Brand, Brands};
 use crate::sums::brands_of;
-use crate::turns::Sum;
 use crate::vault::{Draft, Vault};
 use amount_math::Kind;
-use rights_model::Movement;
+use rights_model::{Movement, Sum};
 use std::alloc::{AllocError, Global};
 
 /// What lies between turns.

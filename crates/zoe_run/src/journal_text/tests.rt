@@ -1,10 +1,10 @@
 use super::{write_close, write_turn};
 use crate::refusals::Refusal;
-use crate::turns::{Answer, Delivered, ServiceCall, Sum, Turn};
+use crate::turns::{Answer, Delivered, ServiceCall, Turn};
 use amount_math::{Kind, Value};
 use host_text::text::Text;
 use jessie_tree::data::{Data, Obj, ObjKind};
-use rights_model::{Holder, Movement};
+use rights_model::{Holder, Movement, Sum};
 use std::alloc::{AllocError, Global};
 use std::test::Fail;
 

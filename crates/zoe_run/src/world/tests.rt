@@ -1,15 +1,14 @@
 ghost use Rattle.std.specs.Prelude.{◌≡◌};
 ghost use Rattle.zoe_run.specs.Brands.{first_brands};
-ghost use Rattle.zoe_run.specs.Hosts.{first_vault};
+ghost use Rattle.zoe_run.specs.Vaults.{first_vault};
 ghost use Rattle.zoe_run.specs.Worlds.{begins};
 
 use super::{Resting, World};
 use crate::brands::{Brand, Brands};
-use crate::turns::Sum;
 use crate::vault::Vault;
 use amount_math::{Kind, Value};
 use host_text::text::Text;
-use rights_model::{Holder, Movement};
+use rights_model::{Holder, Movement, Sum};
 use std::alloc::Global;
 use std::process::Abort;
 

@@ -1,7 +1,8 @@
 use Rattle.std.proofs.Common.{◌≡◌, ◌∙◌, ◌+◌, Some, ap, option_map, refl, sym}
 use Rattle.zoe_run.specs.Deliveries.{turn_of}
 use Rattle.zoe_run.specs.Delivered.{kept_with}
-use Rattle.zoe_run.specs.Hosts.{host_view, kept_by, resting_of}
+use Rattle.zoe_run.specs.Hosts.{host_view, kept_by}
+use Rattle.zoe_run.specs.Worlds.{resting_of}
 use Rattle.zoe_run.specs.MessageLines.{message_view}
 use Rattle.zoe_run.specs.Parties.{labels_of}
 use Rattle.zoe_run.specs.Queues.{front_of, waiting}

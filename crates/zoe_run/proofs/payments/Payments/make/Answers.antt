@@ -2,7 +2,7 @@ use Rattle.std.proofs.Common.{◌≡◌, ◌∙◌, ap, rules}
 use Rattle.amount_math.specs.Amount.{holding}
 use Rattle.amount_math.specs.Content.{nothing, sum, sum-comm, sum-nothing}
 use Rattle.amount_math.specs.declared.Amount.{Amount}
-use Rattle.zoe_run.specs.Purses.{empty_amount}
+use Rattle.ertp_mint.specs.Stocks.{empty_amount}
 use Rattle.zoe_run.proofs.payments.Payments.make.Goals as goal
 
 -- what is put in an empty stock is all that it has then

@@ -1,6 +1,6 @@
 use Rattle.std.proofs.Common.{◌≡◌, ◌≤◌, ◌*◌, take, sum_by}
 use Rattle.amount_math.specs.Worth.{nat_bound}
-use Rattle.zoe_run.specs.Purses.{counted_in}
+use Rattle.ertp_mint.specs.Stocks.{counted_in}
 use Rattle.zoe_run.proofs.payments.Payments.total.Given as goal
 
 abbrev pub invariant-loop-payment : goal.invariant-loop-payment

@@ -1,6 +1,6 @@
 use Rattle.std.proofs.Common.{List, [], ◌∷◌, ◌++◌}
 use Rattle.amount_math.specs.declared.Amount.{Amount}
-use Rattle.zoe_run.specs.Purses.{empty_amount}
+use Rattle.ertp_mint.specs.Stocks.{empty_amount}
 use Rattle.zoe_run.specs.Drafts.{KeepsHand}
 use Rattle.zoe_run.specs.Stored.{IsDraftInside}
 use Rattle.zoe_run.proofs.Lists.{settled}

@@ -1,6 +1,6 @@
 use Rattle.std.proofs.Common.{◌<◌, length, ◌∙◌}
 use Rattle.std.proofs.lemmas.List.Elements.{All-get_or, All-same}
-use Rattle.zoe_run.specs.Sums.{brands_of}
+use Rattle.rights_model.specs.Totals.{brands_of}
 use Rattle.zoe_run.proofs.Placed.{All-brands_of}
 use Rattle.zoe_run.proofs.world.World.sums.Goals as goal
 

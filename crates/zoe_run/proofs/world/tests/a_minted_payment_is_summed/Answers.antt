@@ -8,8 +8,7 @@ use Rattle.rights_model.specs.declared.Holder.TheVariants.{Payment, Outside}
 use Rattle.rights_model.specs.declared.Movement.{Movement}
 use Rattle.rights_model.specs.Table.{movement}
 use Rattle.zoe_run.specs.Brands.{first_brands}
-use Rattle.zoe_run.specs.Hosts.{first_vault}
-use Rattle.zoe_run.specs.Vaults.{CanTransfer}
+use Rattle.zoe_run.specs.Vaults.{first_vault, CanTransfer}
 use Rattle.zoe_run.specs.Worlds.{IsValid, after, begins, new_brand, move}
 use Rattle.zoe_run.specs.declared.brands.Brand.{Brand}
 use Rattle.zoe_run.proofs.EffectsValid.{first_valid, valid-after}
