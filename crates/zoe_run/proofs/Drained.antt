@@ -5,13 +5,13 @@ use Rattle.std.proofs.KnownBytes.{Appends-nil, Appends-trans}
 use Rattle.std.specs.Io.KnownBytes.{Appends}
 use Rattle.zoe_run.specs.Fronts.{AppendsFront}
 use Rattle.std.specs.Option.{option_map_or}
-use Rattle.zoe_run.specs.Deliveries.{Kept, turn_of}
-use Rattle.zoe_run.specs.Hosts.{HostState, IsStep, step_from, step_of, turned}
-use Rattle.zoe_run.specs.Journal.{turn_text, turn_texts}
-use Rattle.zoe_run.specs.MessageLines.{MessageRead}
-use Rattle.zoe_run.specs.Runs.{AppendsTurns, after, drained}
-use Rattle.zoe_run.specs.Turns.{TurnRecord, turn_view}
-use Rattle.zoe_run.specs.declared.turns.Turn.{Turn}
+use Rattle.host_core.specs.Deliveries.{Kept, turn_of}
+use Rattle.host_core.specs.Hosts.{HostState, IsStep, step_from, step_of, turned}
+use Rattle.host_core.specs.Journal.{turn_text, turn_texts}
+use Rattle.host_core.specs.MessageLines.{MessageRead}
+use Rattle.host_core.specs.Runs.{AppendsTurns, after, drained}
+use Rattle.host_core.specs.Turns.{TurnRecord, turn_view}
+use Rattle.host_core.specs.declared.turns.Turn.{Turn}
 
 -- from the first host, with n deliveries allowed, some turns are done and written, and m are allowed in this one
 pub record Drained (n : ℕ) (first : HostState) (m : ℕ) (host : HostState) (old new : Option (List ℕ)) : Type 0 where

@@ -3,11 +3,11 @@ use Rattle.std.proofs.Common.{◌≡◌, ℕ, List, ◌++◌, length, Option, sy
 use Rattle.std.proofs.KnownBytes.{Appends-trans}
 use Rattle.std.specs.Io.KnownBytes.{Appends}
 use Rattle.zoe_run.specs.Fronts.{AppendsFront}
-use Rattle.zoe_run.specs.Hosts.{HostState}
-use Rattle.zoe_run.specs.Journal.{close_text, turn_texts}
-use Rattle.zoe_run.specs.Runs.{after, closes, journal_of, left_of, read_host, turns_of}
+use Rattle.host_core.specs.Hosts.{HostState}
+use Rattle.host_core.specs.Journal.{close_text, turn_texts}
+use Rattle.host_core.specs.Runs.{after, closes, journal_of, left_of, read_host, turns_of}
 use Rattle.zoe_run.proofs.Drained.{after-turns}
-use Rattle.zoe_run.proofs.RunStarts.{read_turns}
+use Rattle.host_core.proofs.RunStarts.{read_turns}
 
 turns_run : (most : ℕ) (input : List ℕ) → length (turns_of most input) ≡ (after most (read_host input)).turns
 turns_run most input = omega (arith, after-turns most (read_host input), read_turns input)

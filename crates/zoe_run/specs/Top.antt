@@ -4,8 +4,8 @@ use Rattle.std.specs.Str.{bytes_eq}
 use Rattle.std.specs.Io.KnownBytes.{Appends, Keeps}
 use Rattle.zoe_run.specs.Causes.{Rose}
 use Rattle.zoe_run.specs.Fronts.{AppendsFront}
-use Rattle.zoe_run.specs.InputLines.{is_too_long}
-use Rattle.zoe_run.specs.Runs.{AppendsTurns, default_turns, journal_of, turns_of}
+use Rattle.host_core.specs.InputLines.{is_too_long}
+use Rattle.host_core.specs.Runs.{AppendsTurns, default_turns, journal_of, turns_of}
 use Rattle.zoe_run.specs.declared.top.Status.{Status}
 use Rattle.zoe_run.specs.declared.top.Status.TheVariants.{Done, Usage, ReadFault, WriteFault, NoMemory, TooLong}
 

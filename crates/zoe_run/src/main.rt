@@ -1,37 +1,12 @@
-//! An escrow host: a program that reads JSON lines and writes a journal of their turns. It stands on
-//! amounts, movements of rights, parcels and the data of the contract language; its modules are the
-//! host's layers, each with the contract that it will have as a crate (docs/ARCHITECTURE.md). Its one
-//! contract is `top::zoe_top`'s: what is written is the journal of what was read, whose turns are fair,
-//! and each status has its cause.
+//! An escrow host: a program that reads JSON lines and writes a journal of their turns. It stands on the
+//! host, and adds what is read and written and what the program ends with. Its one contract is
+//! `top::zoe_top`'s: what is written is the journal of what was read, whose turns are fair, and each
+//! status has its cause.
 #![tactic(auto)]
 
-pub mod brands;
-pub mod call_arguments;
-pub mod deliveries;
-pub mod effects;
-pub mod holdings;
-pub mod host;
 pub mod host_io;
-pub mod journal_text;
-pub mod laws;
-pub mod lines;
-pub mod message_lines;
-pub mod parties;
-pub mod parts;
-pub mod payments;
-pub mod purses;
-pub mod refusals;
 pub mod run;
-pub mod service_laws;
-pub mod services;
-mod stores;
-pub mod sums;
 pub mod top;
-pub mod turn_queue;
-pub mod turns;
-pub mod values;
-pub mod vault;
-pub mod world;
 
 use crate::host_io::std_ends::{StdSink, StdSource};
 use crate::top::{Status, zoe_top};

@@ -6,15 +6,15 @@ ghost use Rattle.std.specs.Prelude.{◌≡◌, ◌+◌, ◌≤◌, OnOk, IfOk, I
 ghost use Rattle.std.specs.Io.KnownBytes.{Appends, Keeps};
 ghost use Rattle.zoe_run.specs.Causes.{Rose};
 ghost use Rattle.zoe_run.specs.Fronts.{AppendsFront};
-ghost use Rattle.zoe_run.specs.Hosts.{IsValidHost, host_view};
-ghost use Rattle.zoe_run.specs.InputLines.{lines_of};
-ghost use Rattle.zoe_run.specs.Journal.{turn_texts};
-ghost use Rattle.zoe_run.specs.Runs.{AppendsTurns, after, closes, default_turns, drained, journal_of, lines_host, read_host, turns_of};
+ghost use Rattle.host_core.specs.Hosts.{IsValidHost, host_view};
+ghost use Rattle.host_core.specs.InputLines.{lines_of};
+ghost use Rattle.host_core.specs.Journal.{turn_texts};
+ghost use Rattle.host_core.specs.Runs.{AppendsTurns, after, closes, default_turns, drained, journal_of, lines_host, read_host, turns_of};
 
-use crate::host::Host;
 use crate::host_io::{Failed, Sink, write_all};
-use crate::journal_text::{write_close, write_turn};
-use crate::lines::Lines;
+use host_core::host::Host;
+use host_core::journal_text::{write_close, write_turn};
+use host_core::lines::Lines;
 use std::alloc::{AllocError, Global};
 
 /// How many deliveries are run at the end of the input.
@@ -78,7 +78,7 @@ fn submit_all(alloc: Global, host: &mut Host, input: &[u8]) -> Result<(), AllocE
 }
 
 /// A new host to which each line of the input is submitted.
-#[tactic(auto, unfolding(crate::specs::Runs::read_host))]
+#[tactic(auto, unfolding(host_core::specs::Runs::read_host))]
 fn read_host(alloc: Global, input: &[u8]) -> Result<Host, AllocError>
     ensures { IfOk result (λ host. host_view host ≡ read_host input.now) }
 {

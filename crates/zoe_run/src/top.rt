@@ -4,14 +4,14 @@
 ghost use Rattle.std.specs.Prelude.{◌≡◌, ◌↔◌, ℕ, List, map, true, false, string_bytes, IfSome};
 ghost use Rattle.std.specs.Io.KnownBytes.{IsAtEnd};
 ghost use Rattle.zoe_run.specs.Causes.{Rose};
-ghost use Rattle.zoe_run.specs.Fair.{AreFair};
-ghost use Rattle.zoe_run.specs.InputLines.{is_too_long};
-ghost use Rattle.zoe_run.specs.Runs.{default_turns, turns_of};
+ghost use Rattle.host_core.specs.Fair.{AreFair};
+ghost use Rattle.host_core.specs.InputLines.{is_too_long};
+ghost use Rattle.host_core.specs.Runs.{default_turns, turns_of};
 ghost use Rattle.zoe_run.specs.Top.{Ends, MeetsLimits, SinkFaults, SourceFaults, Writes, WritesNothing, exit_code, status_name, takes_words};
 
 use crate::host_io::{ReadError, Sink, Source, read_all};
-use crate::lines::{MAX_INPUT, has_long_line};
 use crate::run::{RunFault, run};
+use host_core::lines::{MAX_INPUT, has_long_line};
 use std::alloc::Global;
 
 /// How the program ended.
@@ -65,7 +65,7 @@ fn is_run(words: &[String]) -> bool
 }
 
 /// Reads the whole input and writes the journal of the run on it.
-#[tactic(auto, using(crate::proofs::DefaultFair::default_fair))]
+#[tactic(auto, using(host_core::proofs::DefaultFair::default_fair))]
 pub fn zoe_top<S: Source, K: Sink>(
     alloc: Global,
     words: &[String],

@@ -1,5 +1,5 @@
 use Rattle.std.proofs.Common.{◌≡◌, ◌+◌, ◌-◌, ◌≤◌}
-use Rattle.zoe_run.specs.Hosts.{IsValidHost, host_view}
+use Rattle.host_core.specs.Hosts.{IsValidHost, host_view}
 use Rattle.zoe_run.proofs.Drained.{Drained}
 use Rattle.zoe_run.proofs.run.drain.Given as goal
 

@@ -1,7 +1,7 @@
 use Rattle.std.proofs.Common.{◌∙◌, ap, arith}
 use Rattle.std.proofs.lemmas.Result.{err_from_is_err_and, on_ok_weaker}
-use Rattle.zoe_run.specs.Runs.{after, default_turns}
-use Rattle.zoe_run.proofs.RunStarts.{read_turns, read_valid}
+use Rattle.host_core.specs.Runs.{after, default_turns}
+use Rattle.host_core.proofs.RunStarts.{read_turns, read_valid}
 use Rattle.zoe_run.proofs.RunWritten.{run_close_failed, run_closed, run_drain_failed}
 use Rattle.zoe_run.proofs.run.run.Goals as goal
 

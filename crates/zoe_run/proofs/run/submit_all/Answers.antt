@@ -1,7 +1,7 @@
 use Rattle.std.proofs.Common.{sym, ◌∙◌, ap}
-use Rattle.zoe_run.specs.Hosts.{host_view}
-use Rattle.zoe_run.specs.Runs.{lines_host}
-use Rattle.zoe_run.proofs.RunStarts.{submitted_line}
+use Rattle.host_core.specs.Hosts.{host_view}
+use Rattle.host_core.specs.Runs.{lines_host}
+use Rattle.host_core.proofs.RunStarts.{submitted_line}
 use Rattle.zoe_run.proofs.run.submit_all.Goals as goal
 
 pub loop-line-init : goal.loop-line-init

@@ -1,7 +1,7 @@
 use Rattle.std.proofs.Common.{◌≡◌}
-use Rattle.zoe_run.specs.Hosts.{host_view}
-use Rattle.zoe_run.specs.InputLines.{lines_of}
-use Rattle.zoe_run.specs.Runs.{lines_host}
+use Rattle.host_core.specs.Hosts.{host_view}
+use Rattle.host_core.specs.InputLines.{lines_of}
+use Rattle.host_core.specs.Runs.{lines_host}
 use Rattle.zoe_run.proofs.run.submit_all.Given as goal
 
 abbrev pub invariant-loop-line : goal.invariant-loop-line

@@ -1,6 +1,6 @@
 use Rattle.std.proofs.Common.{◌≡◌, true≢false, true, false, sym, ◌∙◌, ap, Err}
-use Rattle.zoe_run.specs.InputLines.{is_too_long}
-use Rattle.zoe_run.proofs.Limits.{is_too_long-known, is_too_long-longer, is_too_long-within, weaker}
+use Rattle.host_core.specs.InputLines.{is_too_long}
+use Rattle.host_core.proofs.Limits.{is_too_long-known, is_too_long-longer, is_too_long-within, weaker}
 use Rattle.zoe_run.proofs.top.zoe_top.Goals as goal
 
 pub returns-in-Err-TooLong-clause-limits : goal.returns-in-Err-TooLong-clause-limits

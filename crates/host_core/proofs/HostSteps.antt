@@ -1,0 +1,290 @@
+-- What a message's turn does, and that a host's steps keep it valid.
+use Rattle.std.proofs.Common.{◌≡◌, ℕ, zero, suc, ◌+◌, ◌<◌, List, [], ◌∷◌, ◌++◌, Bool, true, false, not, is_some, Option, Some, None, Result, Ok, Err, get_or, refl, sym, ◌∙◌, ap, subst, arith, codes}
+use Rattle.jessie_tree.specs.Tree as tree
+use Rattle.jessie_tree.specs.Tree.{Tree, Fields, Items, Ordered, field, item, items_nesting, listed, nesting, no_fields, no_items, object_of}
+use Rattle.jessie_tree.specs.declared.data.Obj.{Obj}
+use Rattle.jessie_tree.specs.declared.data.ObjKind.TheVariants.{Purse}
+use Rattle.rights_model.specs.declared.Holder.TheVariants as holders
+use Rattle.host_core.specs.Delivered.{AreGood, IsFree, IsGood, IsSteady}
+use Rattle.host_core.specs.Deliveries.{Kept, addressed, answered, call_turn, came_to, free_label, labelled, refused, turn_of, world_at}
+use Rattle.host_core.specs.Fair.{IsReading}
+use Rattle.host_core.specs.Hosts.{HostState, IsValidHost, step_from, step_of, turned}
+use Rattle.vault.specs.Known.{AllInFields, AllInItems, AllObjects}
+use Rattle.host_core.specs.MessageLines.{CallRead, MessageRead}
+use Rattle.host_core.specs.MessageLines as read
+use Rattle.vault.specs.Outcomes.{bind, need, wanted}
+use Rattle.vault.specs.Parties.{EachLabel, Labels, bound_to, own}
+use Rattle.host_core.specs.Served.{Grows, IsMade, KnowsArgs}
+use Rattle.host_core.specs.Services.{Outcome, get_current_amount, serve, served}
+use Rattle.vault.specs.Sums.{sums_of}
+use Rattle.rights_model.specs.Totals.{brands_of}
+use Rattle.host_core.specs.Turns.{Delivery, TurnRecord, bad, message, service}
+use Rattle.vault.specs.Values.{amount_tree}
+use Rattle.vault.specs.Vaults.{VaultState, amount_of}
+use Rattle.vault.specs.Worlds.{CanDoAll, Effect, HasRoom, IsValid, MintedWithin, after_all}
+use Rattle.vault.specs.declared.refusals.Refusal.{Refusal}
+use Rattle.vault.specs.declared.world.World.{World}
+use Rattle.vault.proofs.EffectsValid.{begins_valid, valid-after_all}
+use Rattle.host_core.proofs.Growth.{grows-after_all}
+use Rattle.vault.proofs.Resolved.{OfServices, resolved_all-AllObjects, value_at-AllObjects}
+use Rattle.host_core.proofs.ServedLaws.{serve_can, serve_known, serve_minted, serve_ordered, serve_shallow}
+use Rattle.host_core.proofs.UnitsMoved.{MintUnits, serve_mints}
+
+-- ---- what a call is addressed to
+
+-- steps that came to an answer
+bind_ok : {A B : Type 0} (r : Result A Refusal) (f : A → Result B Refusal) (y : B) → bind r f ≡ Ok y → (x : A) × (r ≡ Ok x) × (f x ≡ Ok y)
+unfolding bind
+bind_ok (Ok x) f y h = (x, refl, h)
+bind_ok (Err e) f y h = absurd (cc)
+
+wanted_ok : {A : Type 0} (o : Option A) (r : Refusal) (x : A) → wanted o r ≡ Ok x → o ≡ Some x
+unfolding wanted
+wanted_ok (Some y) r x h = cc
+wanted_ok None r x h = absurd (cc)
+
+-- the answer is that one
+abbrev Gave : {A : Type 0} → Result A Refusal → A → Type 0
+Gave r x = r ≡ Ok x
+
+is_ok : {A : Type 0} (x y : A) → Gave (Ok x) y → x ≡ y
+is_ok x y h = cc
+
+services_made : (v : VaultState) → OfServices (AllObjects (IsMade v))
+services_made v = record { ertp = refl; zoe = refl; timer = refl }
+
+labels_known : (v : VaultState) (ls : Labels) → AreGood v ls → EachLabel (AllObjects (IsMade v)) ls
+labels_known v [] good = tt
+labels_known v (l ∷ ls) good = (good.0.known, labels_known v ls good.1)
+
+object_known : (P : Obj → Type 0) (t : Tree) (o : Obj) → AllObjects P t → object_of t ≡ Some o → P o
+object_known P (tree.object p) o h e = let same : p ≡ o = cc in subst P same h
+object_known P tree.null o h e = absurd (cc)
+object_known P (tree.boolean b) o h e = absurd (cc)
+object_known P (tree.number z) o h e = absurd (cc)
+object_known P (tree.text s) o h e = absurd (cc)
+object_known P (tree.array ts) o h e = absurd (cc)
+object_known P (tree.fields fs) o h e = absurd (cc)
+object_known P (tree.function s) o h e = absurd (cc)
+
+item_known : (P : Obj → Type 0) (ts : Items) (i : ℕ) → AllInItems P ts → AllObjects P (get_or (listed ts) i tree.null)
+item_known P no_items i h = tt
+item_known P (item t ts) zero h = h.0
+item_known P (item t ts) (suc i) h = item_known P ts i h.1
+
+-- the target was made, and all that the arguments name
+pub addressed_good : (v : VaultState) (ls : Labels) (c : CallRead) (on : Obj) (args : List Tree) → AreGood v ls → addressed ls c ≡ Ok (on, args) → IsMade v on × KnowsArgs v args
+unfolding addressed
+addressed_good v ls c on args good h =
+    let known = labels_known v ls good in
+    let free = bind_ok _ _ _ h in
+    let target = bind_ok _ _ _ free.2 in
+    let items = bind_ok _ _ _ target.2 in
+    let shallow = bind_ok _ _ _ items.2 in
+    let object = bind_ok _ _ _ shallow.2 in
+    let here = value_at-AllObjects (IsMade v) ls c.by (services_made v) known c.on target.0 (wanted_ok _ _ _ target.1) in
+    let given = resolved_all-AllObjects (IsMade v) ls c.by (services_made v) known c.arguments items.0 items.1 in
+    let same = is_ok (object.0, listed items.0) (on, args) object.2 in (
+      subst (IsMade v) (ap (λ (p : Obj × List Tree). p.0) same) (object_known (IsMade v) target.0 object.0 here (wanted_ok _ _ _ object.1)),
+      subst (KnowsArgs v) (ap (λ (p : Obj × List Tree). p.1) same) (record { at = λ place. item_known (IsMade v) items.0 _ given }),
+    )
+
+need_free : (b : Bool) (r : Refusal) → need (not b) r ≡ Ok tt → b ≡ false
+unfolding need
+need_free true r h = absurd (cc)
+need_free false r h = refl
+
+not_some : {A : Type 0} (o : Option A) → is_some o ≡ false → o ≡ None
+not_some None h = refl
+not_some (Some x) h = absurd (cc)
+
+-- a label that passes isn't bound
+pub free_is : (ls : Labels) (by : List ℕ) (label : Option (List ℕ)) → free_label ls by label ≡ Ok tt → IsFree ls by label
+free_is ls by None h = tt
+free_is ls by (Some label) h = not_some (bound_to ls by label) (need_free _ _ h)
+
+-- that of a call which is addressed does
+pub addressed_free : (ls : Labels) (c : CallRead) (on : Obj) (args : List Tree) → addressed ls c ≡ Ok (on, args) → IsFree ls c.by c.label
+unfolding addressed
+addressed_free ls c on args h = let free = bind_ok _ _ _ h in free_is ls c.by c.label free.1
+
+-- ---- labels
+
+mutual
+  known_grows : (P Q : Obj → Type 0) → ((o : Obj) → P o → Q o) → (t : Tree) → AllObjects P t → AllObjects Q t
+  known_grows P Q more (tree.object o) h = more o h
+  known_grows P Q more (tree.array ts) h = items_grow P Q more ts h
+  known_grows P Q more (tree.fields fs) h = fields_grow P Q more fs h
+  known_grows P Q more tree.null h = tt
+  known_grows P Q more (tree.boolean b) h = tt
+  known_grows P Q more (tree.number z) h = tt
+  known_grows P Q more (tree.text s) h = tt
+  known_grows P Q more (tree.function s) h = tt
+
+  items_grow : (P Q : Obj → Type 0) → ((o : Obj) → P o → Q o) → (ts : Items) → AllInItems P ts → AllInItems Q ts
+  items_grow P Q more no_items h = tt
+  items_grow P Q more (item t ts) h = (known_grows P Q more t h.0, items_grow P Q more ts h.1)
+
+  fields_grow : (P Q : Obj → Type 0) → ((o : Obj) → P o → Q o) → (fs : Fields) → AllInFields P fs → AllInFields Q fs
+  fields_grow P Q more no_fields h = tt
+  fields_grow P Q more (field name t fs) h = (known_grows P Q more t h.0, fields_grow P Q more fs h.1)
+
+-- what was made stays made, so labels stay good
+labels_grow : (old new : VaultState) (ls : Labels) → Grows old new → AreGood old ls → AreGood new ls
+labels_grow old new [] grows good = tt
+labels_grow old new (l ∷ ls) grows good = (
+  record { known = known_grows (IsMade old) (IsMade new) grows.each l.1 good.0.known; ordered = good.0.ordered; shallow = good.0.shallow },
+  labels_grow old new ls grows good.1,
+)
+
+more_labels : (v : VaultState) (ls : Labels) (name : List ℕ) (t : Tree) → AreGood v ls → IsGood v t → AreGood v (ls ++ (name, t) ∷ [])
+more_labels v [] name t good one = (one, tt)
+more_labels v (l ∷ ls) name t good one = (good.0, more_labels v ls name t good.1 one)
+
+labels_labelled : (v : VaultState) (ls : Labels) (by : List ℕ) (label : Option (List ℕ)) (t : Tree) → AreGood v ls → IsGood v t → AreGood v (labelled ls by label t)
+labels_labelled v ls by None t good one = good
+labels_labelled v ls by (Some label) t good one = more_labels v ls (own by label) t good one
+
+-- ---- room
+
+within_room : (v : VaultState) (n : ℕ) → MintedWithin v n → n < 4000000000 → HasRoom v
+within_room v n minted few = record { each = λ b. omega (arith, minted.each b) }
+
+within_more : (v : VaultState) (n : ℕ) → MintedWithin v n → MintedWithin v (n + 1)
+within_more v n minted = record { each = λ b. omega (arith, minted.each b) }
+
+pub steady : (s : HostState) → IsValidHost s → s.turns < 4000000000 → IsSteady s.kept
+steady s valid few = record { valid = valid.world; room = within_room s.kept.vault s.turns valid.minted few; labels = valid.labels }
+
+-- ---- a turn
+
+-- A turn has effects that can be had, and notes what they move, with the sums after them. A refused turn moves nothing, and the amount that a purse answers is what it has.
+pub record IsWorked (n : ℕ) (old new : Kept) (t : TurnRecord) : Type 0 where
+  pub effects : List Effect
+  pub can : CanDoAll (world_at old) effects
+  pub mints : MintUnits effects
+  pub vault : new.vault ≡ (after_all (world_at old) effects).draft.now
+  pub valid : IsValid (world_at new)
+  pub minted : (m : ℕ) → MintedWithin old.vault m → MintedWithin new.vault (m + 1)
+  pub labels : AreGood new.vault new.labels
+  pub number : t.number ≡ n
+  pub movements : t.movements ≡ (after_all (world_at old) effects).draft.movements
+  pub sums : t.sums ≡ sums_of new.vault t.movements
+  pub refused : (r : Refusal) → t.answer ≡ Err r → t.movements ≡ []
+  pub read : (purse : ℕ) (answer : Tree) → IsReading t purse answer → answer ≡ amount_tree (amount_of old.vault (holders.Purse purse))
+
+-- what getCurrentAmount answers
+reads : (w : World) (purse : ℕ) (args : List Tree) → serve w (record { kind = Purse; number = purse }) (codes "getCurrentAmount") args ≡ Ok (amount_tree (amount_of w.draft.now (holders.Purse purse)), [])
+unfolding serve get_current_amount
+reads w purse args = refl
+
+reads_amount : (w : World) (by method : List ℕ) (on : Obj) (args : List Tree) (answer : Tree) (effects : List Effect) (purse : ℕ) (other : List ℕ) (others : List Tree) → serve w on method args ≡ Ok (answer, effects)
+    → service by on method args ≡ service other (record { kind = Purse; number = purse }) (codes "getCurrentAmount") others → answer ≡ amount_tree (amount_of w.draft.now (holders.Purse purse))
+reads_amount w by method on args answer effects purse other others is called =
+    let same_on : on ≡ record { kind = Purse; number = purse } = ap called_on called in
+    let same_method : method ≡ codes "getCurrentAmount" = ap called_method called in
+    let given : serve w (record { kind = Purse; number = purse }) (codes "getCurrentAmount") args ≡ Ok (answer, effects) = subst (λ o. serve w o (codes "getCurrentAmount") args ≡ Ok (answer, effects)) same_on (subst (λ m. serve w on m args ≡ Ok (answer, effects)) same_method is) in
+    ap (λ (p : Tree × List Effect). p.0) (sym (is_ok (amount_tree (amount_of w.draft.now (holders.Purse purse)), []) (answer, effects) (sym (reads w purse args) ∙ given)))
+  where
+    called_on : Delivery → Obj
+    called_on (service by on method args) = on
+    called_on bad = record { kind = Purse; number = purse }
+    called_on (message by method) = record { kind = Purse; number = purse }
+
+    called_method : Delivery → List ℕ
+    called_method (service by on method args) = method
+    called_method bad = []
+    called_method (message by method) = []
+
+no_sums : (v : VaultState) → [] ≡ sums_of v []
+unfolding brands_of
+no_sums v = refl
+
+module _ (n : ℕ) (k : Kept) (steady : IsSteady k) where
+  worked_refused : (d : Delivery) (r : Refusal) → IsWorked n k (refused n d r k).0 (refused n d r k).1
+  worked_refused d r = record {
+    effects = [];
+    can = tt;
+    mints = tt;
+    vault = refl;
+    valid = steady.valid;
+    minted = within_more k.vault;
+    labels = steady.labels;
+    number = refl;
+    movements = refl;
+    sums = no_sums k.vault;
+    refused = λ r is. refl;
+    read = λ purse answer is. absurd (not_both r answer is.answered);
+  }
+    where
+      not_both : (r : Refusal) (answer : Tree) → Err r ≡ Ok answer → ⊥
+      not_both r answer h = cc
+
+  module _ (c : CallRead) (on : Obj) (args : List Tree) (good : IsMade k.vault on × KnowsArgs k.vault args) where
+    worked_answered : (answer : Tree) (effects : List Effect) → serve (world_at k) on c.method args ≡ Ok (answer, effects)
+        → let turn = answered n (service c.by on c.method args) c.by c.label k.labels (answer, after_all (world_at k) effects) in IsWorked n k turn.0 turn.1
+    worked_answered answer effects is =
+        let w = after_all (world_at k) effects in
+        let can = serve_can (world_at k) on c.method args answer effects steady.valid steady.room good.0 good.1 is in
+        record {
+          effects = effects;
+          can = can;
+          mints = serve_mints (world_at k) on c.method args answer effects is;
+          vault = refl;
+          valid = begins_valid w (valid-after_all (world_at k) effects steady.valid can);
+          minted = serve_minted (world_at k) on c.method args answer effects steady.valid steady.room good.0 good.1 is;
+          labels = labels_labelled w.draft.now k.labels c.by c.label answer (labels_grow k.vault w.draft.now k.labels (grows-after_all (world_at k) effects) steady.labels) (record {
+            known = serve_known (world_at k) on c.method args answer effects steady.valid steady.room good.0 good.1 is;
+            ordered = serve_ordered (world_at k) on c.method args answer effects steady.valid steady.room good.0 good.1 is;
+            shallow = serve_shallow (world_at k) on c.method args answer effects steady.valid steady.room good.0 good.1 is;
+          });
+          number = refl;
+          movements = refl;
+          sums = refl;
+          refused = λ r e. absurd (not_refused answer r e);
+          read = λ purse given reading. sym (is_ok answer given reading.answered) ∙ reads_amount (world_at k) c.by c.method on args answer effects purse reading.by reading.arguments is reading.called;
+        }
+      where
+        not_refused : (answer : Tree) (r : Refusal) → Ok answer ≡ Err r → ⊥
+        not_refused answer r h = cc
+
+    worked_served : (outcome : Outcome) → serve (world_at k) on c.method args ≡ outcome
+        → let turn = came_to n (service c.by on c.method args) c k (served (world_at k) outcome) in IsWorked n k turn.0 turn.1
+    worked_served (Ok (answer, effects)) is = worked_answered answer effects is
+    worked_served (Err r) is = worked_refused (service c.by on c.method args) r
+
+  worked_call : (c : CallRead) (to : Result (Obj × List Tree) Refusal) → addressed k.labels c ≡ to → IsWorked n k (call_turn n c k to).0 (call_turn n c k to).1
+  worked_call c (Ok (on, args)) is = worked_served c on args (addressed_good k.vault k.labels c on args steady.labels is) _ refl
+  worked_call c (Err r) is = worked_refused (message c.by c.method) r
+
+  pub turn_worked : (m : MessageRead) → IsWorked n k (turn_of n k m).0 (turn_of n k m).1
+  unfolding turn_of
+  turn_worked (read.call c) = worked_call c _ refl
+  turn_worked (read.bad r) = worked_refused bad r
+
+-- ---- a step
+
+pub record IsStepped (s new : HostState) (t : TurnRecord) : Type 0 where
+  pub worked : IsWorked (s.turns + 1) s.kept new.kept t
+  pub turns : new.turns ≡ s.turns + 1
+
+-- what a step gives is the turn of a message
+pub step_worked : (s new : HostState) (t : TurnRecord) → IsValidHost s → s.turns < 4000000000 → step_of s ≡ Some (new, t) → IsStepped s new t
+unfolding step_of
+step_worked s new t valid few is = from s.queue is
+  where
+    from : (queue : List MessageRead) → step_from s queue ≡ Some (new, t) → IsStepped s new t
+    from [] e = absurd (cc)
+    from (m ∷ rest) e =
+        let done = turned s rest (turn_of (s.turns + 1) s.kept m) in
+        let same : done ≡ (new, t) = cc in
+        subst (λ (p : HostState × TurnRecord). IsStepped s p.0 p.1) same (record { worked = turn_worked (s.turns + 1) s.kept (steady s valid few) m; turns = refl })
+
+pub step_valid : (s new : HostState) (t : TurnRecord) → IsValidHost s → s.turns < 4000000000 → step_of s ≡ Some (new, t) → IsValidHost new
+step_valid s new t valid few is =
+    let step = step_worked s new t valid few is in
+    record {
+      world = step.worked.valid;
+      minted = subst (MintedWithin new.kept.vault) (sym step.turns) (step.worked.minted s.turns valid.minted);
+      labels = step.worked.labels;
+    }

@@ -1,0 +1,74 @@
+-- Facts of what chains of steps come to, and of what is read of arguments.
+use Rattle.std.proofs.Common.{◌≡◌, ℕ, ◌≤◌, ℤ, pos, negsuc, Bool, true, false, Option, Some, None, Result, Ok, Err, IfOk, if◌then◌else◌, refl}
+use Rattle.std.proofs.lemmas.Bool.{eqb-true, leb-true, ltb-true}
+use Rattle.amount_math.specs.Content.{of_nat}
+use Rattle.amount_math.specs.Worth.{nat_bound}
+use Rattle.amount_math.specs.declared.Kind.{Kind}
+use Rattle.amount_math.specs.declared.Kind.TheVariants.{Nat, Set, Bag}
+use Rattle.jessie_tree.specs.Tree.{Tree, number_of}
+use Rattle.vault.specs.declared.refusals.Refusal.{Refusal}
+use Rattle.vault.specs.declared.refusals.Refusal.TheVariants.{BadValue}
+use Rattle.vault.specs.Outcomes.{bind, ◌>>=◌, ◌>>◌, need}
+use Rattle.host_core.specs.CallArguments.{IsUnits, amount_in, nat_from, nat_value, payment_in, value_in}
+use Rattle.host_core.specs.Services.{next_payment}
+use Rattle.vault.specs.Vaults.{VaultState, CanMakePayment, brand_of, mark_of}
+use Rattle.rights_model.specs.declared.Holder.TheVariants.{Payment}
+use Rattle.host_core.proofs.Units.{number_is_units}
+
+-- a fact of what a chain gives, from what each step gives
+pub after_step : {A B : Type 0} (P : B → Type 0) (r : Result A Refusal) (f : A → Result B Refusal) → ((x : A) → r ≡ Ok x → IfOk (f x) P) → IfOk (r >>= f) P
+unfolding bind
+after_step P (Ok x) f h = h x refl
+after_step P (Err e) f h = tt
+
+pub after_need : {B : Type 0} (P : B → Type 0) (b : Bool) (r : Refusal) (next : Result B Refusal) → (b ≡ true → IfOk next P) → IfOk (need b r >> next) P
+unfolding bind need
+after_need P true r next h = h refl
+after_need P false r next h = tt
+
+pub after_check : {B : Type 0} (P : B → Type 0) (r : Result (Unit {0}) Refusal) (next : Result B Refusal) → IfOk next P → IfOk (r >> next) P
+unfolding bind
+after_check P (Ok x) next h = h
+after_check P (Err e) next h = tt
+
+-- what a step gave has what each that it gives has
+pub ok_has : {A : Type 0} (P : A → Type 0) (r : Result A Refusal) (x : A) → r ≡ Ok x → IfOk r P → P x
+ok_has P r x is h = rw is at h
+
+-- ---- what is read
+
+nat_test : (n : ℕ) (b : Bool) → (b ≡ true → n ≤ nat_bound) → IfOk (if b then Ok (record { kind = Nat; content = of_nat n }) else Err BadValue) (IsUnits Nat)
+nat_test n true small = number_is_units n (small refl)
+nat_test n false small = tt
+
+nat_value_has : (z : ℤ) → IfOk (nat_value z) (IsUnits Nat)
+nat_value_has (pos n) = nat_test n _ (leb-true n nat_bound)
+nat_value_has (negsuc n) = tt
+
+nat_from_has : (o : Option ℤ) → IfOk (nat_from o) (IsUnits Nat)
+nat_from_has None = tt
+nat_from_has (Some z) = nat_value_has z
+
+value_in_has : (kind : Kind) (t : Tree) → IfOk (value_in kind t) (IsUnits kind)
+unfolding value_in
+value_in_has Nat t = nat_from_has (number_of t)
+value_in_has Set t = tt
+value_in_has Bag t = tt
+
+-- an amount that is read is of the kind
+pub amount_in_has : (t : Tree) (place b : ℕ) (kind : Kind) → IfOk (amount_in t place b kind) (IsUnits kind)
+unfolding amount_in
+amount_in_has t place b kind = after_step _ _ _ (λ parts is. after_need _ _ _ _ (λ own. value_in_has kind parts.1))
+
+pub record IsPaid (v : VaultState) (b p : ℕ) : Type 0 where
+  pub brand : brand_of v (Payment p) ≡ b
+  pub live : (mark_of v p).is_live ≡ true
+
+-- a payment that is read is live, and of the brand
+pub payment_in_has : (v : VaultState) (t : Tree) (place b : ℕ) → IfOk (payment_in v t place b) (IsPaid v b)
+unfolding payment_in
+payment_in_has v t place b = after_step _ _ _ (λ p is. after_need _ _ _ _ (λ own. after_need _ _ _ _ (λ live. record { brand = eqb-true _ _ own; live = live })))
+
+-- the next payment can be made
+pub next_payment_has : (v : VaultState) → IfOk (next_payment v) (CanMakePayment v)
+next_payment_has v = after_need _ _ _ _ (λ room. record { next = refl; room = ltb-true _ _ room })

@@ -1,0 +1,336 @@
+-- The turns of a run are fair.
+use Rattle.std.proofs.Common.{◌≡◌, ℕ, zero, suc, ◌+◌, ◌*◌, ◌^◌, ◌<◌, ◌≤◌, ◌||◌, true, false, List, [], ◌∷◌, ◌++◌, length, map, Option, Some, None, Err, refl, sym, ◌∙◌, ap, subst, arith, length-append}
+use Rattle.std.specs.Option.{option_map_or}
+use Rattle.std.proofs.lemmas.Grind.{flat_map-append}
+use Rattle.std.proofs.lemmas.List.{append-nil, append_assoc}
+use Rattle.std.proofs.lemmas.List.Elements.{All-nil, All-weaker}
+use Rattle.std.proofs.lemmas.List.Folds.{list_any-append}
+use Rattle.amount_math.specs.Content.{nothing, same_content}
+use Rattle.amount_math.specs.Counted.{counted-nothing}
+use Rattle.amount_math.specs.Sparse.{at-empty}
+use Rattle.amount_math.specs.Worth.{Fits, IsValue}
+use Rattle.amount_math.specs.declared.Kind.{Kind}
+use Rattle.ertp_mint.specs.BrandSupply.{supply_at}
+use Rattle.jessie_tree.specs.Tree.{Tree}
+use Rattle.rights_model.specs.declared.Holder.TheVariants as holders
+use Rattle.rights_model.specs.declared.Movement.{Movement}
+use Rattle.rights_model.specs.Place.{place}
+use Rattle.rights_model.specs.Supply.{Balanced, is_store, supply, total_of}
+use Rattle.rights_model.specs.Table.{holdings, holds}
+use Rattle.rights_model.proofs.SupplyLaws.{adds_up_after}
+use Rattle.host_core.specs.Delivered.{AreGood}
+use Rattle.host_core.specs.Deliveries.{Kept, world_at}
+use Rattle.host_core.specs.Fair.{AreFair, IsAmountAt, IsReading, is_payment_at, movements_of, names, names_slot, sum_by, table_by, takes_from}
+use Rattle.host_core.specs.Hosts.{HostState, IsValidHost, first_host, step_of}
+use Rattle.vault.specs.Vaults.{first_vault, VaultState, IsSound, brand_of, kind_of, out_of}
+use Rattle.host_core.specs.InputLines.{lines_of}
+use Rattle.host_core.specs.Leaves.{Leaves}
+use Rattle.host_core.specs.MessageLines.{Meaning, blank, meaning_of, message}
+use Rattle.host_core.specs.Runs.{after, drained, line_host, lines_host, read_host, turns_of}
+use Rattle.vault.specs.Sums.{sum_of}
+use Rattle.rights_model.specs.Totals.{brands_of, held_over, is_payment, is_purse, is_slot}
+use Rattle.host_core.specs.Turns.{TurnRecord}
+use Rattle.vault.specs.Values.{amount_tree}
+use Rattle.vault.specs.Worlds.{IsValid, after_all}
+use Rattle.vault.specs.declared.refusals.Refusal.{Refusal}
+use Rattle.host_core.proofs.Accounts.{Accounts, AreTold, IsLeft, IsSpent, kinds, left-after_all, or_false, spent_has_nothing, told-after_all}
+use Rattle.vault.proofs.EffectsValid.{first_valid}
+use Rattle.host_core.proofs.HostSteps.{IsStepped, step_valid, step_worked}
+use Rattle.host_core.proofs.UnitsMoved.{units-none}
+
+-- ---- the movements of turns
+
+moved_then : (first later : List TurnRecord) → movements_of (first ++ later) ≡ movements_of first ++ movements_of later
+moved_then first later = flat_map-append (λ (t : TurnRecord). t.movements) first later
+
+moved_last : (first : List TurnRecord) (t : TurnRecord) → movements_of (first ++ t ∷ []) ≡ movements_of first ++ t.movements
+moved_last first t = moved_then first (t ∷ []) ∙ ap (λ ms. movements_of first ++ ms) (append-nil t.movements)
+
+-- ---- what the accounts say
+
+-- a brand's totals by the vault are those by the movements
+sum_is : (done : List TurnRecord) (v : VaultState) → Accounts (movements_of done) v → (b : ℕ) → sum_of v b ≡ sum_by done b
+unfolding sum_of
+sum_is done v so b = λ i. record {
+  brand = b;
+  minted = so.minted_are b i;
+  burned = so.burned_are b i;
+  purses = held_over is_purse (so.table i) b;
+  payments = held_over is_payment (so.table i) b;
+  slots = held_over is_slot (so.table i) b;
+}
+
+sums_are : (done : List TurnRecord) (v : VaultState) → Accounts (movements_of done) v → (bs : List ℕ) → map (sum_of v) bs ≡ map (sum_by done) bs
+sums_are done v so [] = refl
+sums_are done v so (b ∷ bs) = ap (λ s. s ∷ map (sum_of v) bs) (sum_is done v so b) ∙ ap (λ ss. sum_by done b ∷ ss) (sums_are done v so bs)
+
+-- what is out is the supply, and the table balances
+out_is : (done : List TurnRecord) (s : HostState) → IsValidHost s → Accounts (movements_of done) s.kept.vault → (b : ℕ) → out_of s.kept.vault b ≡ supply (movements_of done) b
+out_is done s valid so b = same_content _ _ (λ k. sym (sound.balanced.adds_up b k) ∙ ap (λ t. total_of is_store t b k) so.table ∙ adds_up_after (movements_of done) so.defined hand b k)
+  where
+    sound : IsSound s.kept.vault
+    sound = valid.world.draft.sound
+
+    hand : (b : ℕ) → holds (table_by done) holders.Hand b ≡ nothing
+    hand b = subst (λ t. holds t holders.Hand b ≡ nothing) so.table (sound.balanced.hand_empty b)
+
+balances : (done : List TurnRecord) (s : HostState) → IsValidHost s → Accounts (movements_of done) s.kept.vault → Balanced (table_by done) kinds (supply (movements_of done))
+balances done s valid so = record {
+  adds_up = adds_up_after (movements_of done) so.defined hand;
+  hand_empty = hand;
+  bounded = λ b. subst (λ (kind : Kind). Fits kind (supply (movements_of done) b)) (so.of_kind b) (subst (Fits (kind_of s.kept.vault b)) (out_is done s valid so b) (sound.balanced.bounded b));
+}
+  where
+    sound : IsSound s.kept.vault
+    sound = valid.world.draft.sound
+
+    hand : (b : ℕ) → holds (table_by done) holders.Hand b ≡ nothing
+    hand b = subst (λ t. holds t holders.Hand b ≡ nothing) so.table (sound.balanced.hand_empty b)
+
+-- ---- what the turns so far leave
+
+-- the host is valid, and its vault has what the movements of the turns make
+pub record Leads (done : List TurnRecord) (s : HostState) : Type 0 where
+  pub valid : IsValidHost s
+  pub turns : length done ≡ s.turns
+  pub accounts : Accounts (movements_of done) s.kept.vault
+
+-- lines change the queue alone
+record IsQueuedOn (s new : HostState) : Type 0 where
+  kept : new.kept ≡ s.kept
+  turns : new.turns ≡ s.turns
+
+line_queued : (s : HostState) (m : Meaning) → IsQueuedOn s (line_host s m)
+line_queued s blank = record { kept = refl; turns = refl }
+line_queued s (message m) = record { kept = refl; turns = refl }
+
+lines_queued : (s : HostState) (lines : List (List ℕ)) → IsQueuedOn s (lines_host s lines)
+lines_queued s [] = record { kept = refl; turns = refl }
+lines_queued s (line ∷ lines) =
+    let one = line_queued s (meaning_of line) in
+    let rest = lines_queued (line_host s (meaning_of line)) lines in
+    record { kept = rest.kept ∙ one.kept; turns = rest.turns ∙ one.turns }
+
+first_accounts : Accounts [] first_vault
+first_accounts = record {
+  table = refl;
+  defined = tt;
+  minted_are = λ b. none_minted b ∙ sym counted-nothing;
+  burned_are = λ b. none_burned b ∙ sym counted-nothing;
+  of_kind = λ b. refl;
+  one_kind = All-nil (λ (m : Movement). m.value.kind ≡ kinds m.brand);
+  values = All-nil (λ (m : Movement). IsValue m.value.kind m.value.content);
+  slotless = All-nil (λ (m : Movement). names_slot m ≡ false);
+  live = λ p made. absurd (omega arith);
+  made = λ p past. refl;
+  units = units-none;
+  idle = λ p b other. at-empty holdings (place (holders.Payment p) b);
+}
+  where
+    none_minted : (b : ℕ) → (supply_at first_vault.supplies b).minted ≡ 0
+    none_minted zero = refl
+    none_minted (suc b) = refl
+
+    none_burned : (b : ℕ) → (supply_at first_vault.supplies b).burned ≡ 0
+    none_burned zero = refl
+    none_burned (suc b) = refl
+
+leaves_kept : (s : HostState) → IsQueuedOn first_host s → Leads [] s
+leaves_kept s on = record {
+  valid = record {
+    world = subst (λ (k : Kept). IsValid (world_at k)) (sym on.kept) first_valid;
+    minted = record { each = λ b. subst (λ (k : Kept). (supply_at k.vault.supplies b).minted ≤ s.turns * 2 ^ 63) (sym on.kept) (omega (arith, first_accounts.minted_are b, counted-nothing)) };
+    labels = subst (λ (k : Kept). AreGood k.vault k.labels) (sym on.kept) tt;
+  };
+  turns = sym on.turns;
+  accounts = subst (λ (k : Kept). Accounts [] k.vault) (sym on.kept) first_accounts;
+}
+
+pub leaves_first : (input : List ℕ) → Leads [] (read_host input)
+unfolding read_host
+leaves_first input = leaves_kept (lines_host first_host (lines_of input)) (lines_queued first_host (lines_of input))
+
+-- ---- a step
+
+module _ (done : List TurnRecord) (s new : HostState) (t : TurnRecord) (leaves : Leads done s) (few : s.turns < 4000000000) (is : step_of s ≡ Some (new, t)) where
+  step : IsStepped s new t
+  step = step_worked s new t leaves.valid few is
+
+  -- at the turn's start nothing is moved yet
+  told_first : AreTold (movements_of done) (world_at s.kept)
+  told_first = record {
+    accounts = subst (λ ms. Accounts ms s.kept.vault) (sym (append-nil (movements_of done))) leaves.accounts;
+    spent = λ p takes. absurd (cc);
+  }
+
+  told : AreTold (movements_of done) (after_all (world_at s.kept) step.worked.effects)
+  told = told-after_all (movements_of done) (world_at s.kept) step.worked.effects leaves.valid.world step.worked.can step.worked.mints told_first
+
+  told_movements : movements_of (done ++ t ∷ []) ≡ movements_of done ++ (after_all (world_at s.kept) step.worked.effects).draft.movements
+  told_movements = moved_last done t ∙ ap (λ ms. movements_of done ++ ms) step.worked.movements
+
+  step_accounts : Accounts (movements_of (done ++ t ∷ [])) new.kept.vault
+  step_accounts = subst (λ (v : VaultState). Accounts (movements_of (done ++ t ∷ [])) v) (sym step.worked.vault) (subst (λ ms. Accounts ms (after_all (world_at s.kept) step.worked.effects).draft.now) (sym told_movements) told.accounts)
+
+  pub leaves_step : Leads (done ++ t ∷ []) new
+  leaves_step = record {
+    valid = step_valid s new t leaves.valid few is;
+    turns = omega (arith, length-append {A = TurnRecord}, leaves.turns, step.turns);
+    accounts = step_accounts;
+  }
+
+  -- its number, its sums, and what it may not do
+  pub step_number : t.number ≡ length done + 1
+  step_number = step.worked.number ∙ ap (λ n. n + 1) (sym leaves.turns)
+
+  pub step_refused : (r : Refusal) → t.answer ≡ Err r → t.movements ≡ []
+  step_refused = step.worked.refused
+
+  pub step_spent : (p : ℕ) → takes_from p t.movements ≡ true → IsSpent new.kept.vault p
+  step_spent p takes = subst (λ (v : VaultState). IsSpent v p) (sym step.worked.vault) (told.spent p (subst (λ ms. takes_from p ms ≡ true) step.worked.movements takes))
+
+  left : (p : ℕ) → IsSpent s.kept.vault p → IsLeft (after_all (world_at s.kept) step.worked.effects) p
+  left p spent = left-after_all (world_at s.kept) step.worked.effects p step.worked.can (record { spent = spent; unnamed = refl })
+
+  pub step_left : (p : ℕ) → IsSpent s.kept.vault p → IsSpent new.kept.vault p
+  step_left p spent = subst (λ (v : VaultState). IsSpent v p) (sym step.worked.vault) (left p spent).spent
+
+  pub step_unnamed : (p : ℕ) → IsSpent s.kept.vault p → names p t.movements ≡ false
+  step_unnamed p spent = subst (λ ms. names p ms ≡ false) (sym step.worked.movements) (left p spent).unnamed
+
+  pub step_sums : t.sums ≡ map (sum_by (done ++ t ∷ [])) (brands_of t.movements)
+  step_sums = step.worked.sums ∙ sums_are (done ++ t ∷ []) new.kept.vault step_accounts (brands_of t.movements)
+
+  pub step_read : (purse : ℕ) (answer : Tree) → IsReading t purse answer → IsAmountAt (table_by done) kinds purse answer
+  step_read purse answer reading =
+      let b = brand_of s.kept.vault (holders.Purse purse) in
+      record {
+        brand = b;
+        amount = step.worked.read purse answer reading
+            ∙ (λ i. amount_tree (record { brand = b; value = record { kind = leaves.accounts.of_kind b i; content = holds (leaves.accounts.table i) (holders.Purse purse) b } }));
+      }
+
+-- ---- a run
+
+-- the host where the first turns lead, and the deliveries that it still has to run
+record Reached (first later : List TurnRecord) : Type 0 where
+  host : HostState
+  fuel : ℕ
+  leaves : Leads first host
+  rest : later ≡ drained fuel host
+  few : host.turns + fuel ≤ 4000000000
+
+-- the turn is a step from there, and what follows is the run from its end
+record Steps (host : HostState) (first : List TurnRecord) (t : TurnRecord) (later : List TurnRecord) : Type 0 where
+  end : HostState
+  fuel : ℕ
+  leaves : Leads first host
+  few : host.turns < 4000000000
+  is : step_of host ≡ Some (end, t)
+  rest : later ≡ drained fuel end
+  enough : end.turns + fuel ≤ 4000000000
+
+same_head : (t u : TurnRecord) (ts us : List TurnRecord) → t ∷ ts ≡ u ∷ us → t ≡ u
+same_head t u ts us h = cc
+
+same_rest : (t u : TurnRecord) (ts us : List TurnRecord) → t ∷ ts ≡ u ∷ us → ts ≡ us
+same_rest t u ts us h = cc
+
+-- a run that begins with a turn begins with a step
+steps : (n : ℕ) (s : HostState) (first : List TurnRecord) (t : TurnRecord) (later : List TurnRecord) → Leads first s → s.turns + n ≤ 4000000000 → drained n s ≡ t ∷ later → Steps s first t later
+unfolding drained
+steps zero s first t later leaves few is = absurd (cc)
+steps (suc n) s first t later leaves few is = from (step_of s) refl is
+  where
+    from : (next : Option (HostState × TurnRecord)) → step_of s ≡ next → option_map_or (λ p. p.1 ∷ drained n p.0) next [] ≡ t ∷ later → Steps s first t later
+    from None e h = absurd (cc)
+    from (Some (end, u)) e h =
+        let same = same_head u t (drained n end) later h in
+        let room : s.turns < 4000000000 = omega (arith, few) in
+        record {
+          end = end;
+          fuel = n;
+          leaves = leaves;
+          few = room;
+          is = subst (λ w. step_of s ≡ Some (end, w)) same e;
+          rest = sym (same_rest u t (drained n end) later h);
+          enough = omega (arith, few, (step_worked s end u leaves.valid room e).turns);
+        }
+
+reached : (n : ℕ) (s : HostState) (done : List TurnRecord) → Leads done s → s.turns + n ≤ 4000000000 → (first later : List TurnRecord) → drained n s ≡ first ++ later → Reached (done ++ first) later
+reached n s done leaves few [] later is = subst (λ ts. Reached ts later) (sym (append-nil done)) (record { host = s; fuel = n; leaves = leaves; rest = sym is; few = few })
+reached n s done leaves few (t ∷ ts) later is =
+    let one = steps n s done t (ts ++ later) leaves few is in
+    subst (λ us. Reached us later) (append_assoc done (t ∷ []) ts)
+    (reached one.fuel one.end (done ++ t ∷ []) (leaves_step done s one.end t one.leaves one.few one.is) one.enough ts later (sym one.rest))
+
+-- what was spent is named by no later movement
+never_named : (n : ℕ) (s : HostState) (first : List TurnRecord) → Leads first s → s.turns + n ≤ 4000000000 → (p : ℕ) → IsSpent s.kept.vault p → (later : List TurnRecord) → later ≡ drained n s → names p (movements_of later) ≡ false
+never_named n s first leaves few p spent [] is = refl
+never_named n s first leaves few p spent (t ∷ later) is =
+    let one = steps n s first t later leaves few (sym is) in
+    let unnamed = step_unnamed first s one.end t one.leaves one.few one.is p spent in
+    list_any-append (λ (m : Movement). is_payment_at p m.from || is_payment_at p m.to) t.movements (movements_of later)
+    ∙ or_false _ _ unnamed (never_named one.fuel one.end (first ++ t ∷ []) (leaves_step first s one.end t one.leaves one.few one.is) one.enough p (step_left first s one.end t one.leaves one.few one.is p spent) later one.rest)
+
+pub run_fair : (most : ℕ) (input : List ℕ) → most ≤ 4000000000 → AreFair (turns_of most input)
+run_fair most input few = record {
+  kinds = kinds;
+  one_kind = all.leaves.accounts.one_kind;
+  values = all.leaves.accounts.values;
+  slotless = all.leaves.accounts.slotless;
+  numbered = λ first later t is. let host = (upto first (t ∷ later) is).host in let one = at first later t is in step_number first host one.end t one.leaves one.few one.is;
+  defined = all.leaves.accounts.defined;
+  balanced = λ first later is. let here = upto first later is in balances first here.host here.leaves.valid here.leaves.accounts;
+  summed = λ first later t is. let host = (upto first (t ∷ later) is).host in let one = at first later t is in step_sums first host one.end t one.leaves one.few one.is;
+  refused = λ first later t r is. let host = (upto first (t ∷ later) is).host in let one = at first later t is in step_refused first host one.end t one.leaves one.few one.is r;
+  spent = λ first later t p b is takes. let host = (upto first (t ∷ later) is).host in let one = at first later t is in
+      let end = leaves_step first host one.end t one.leaves one.few one.is in
+      subst (λ u. holds u (holders.Payment p) b ≡ nothing) end.accounts.table (spent_has_nothing (movements_of (first ++ t ∷ [])) one.end.kept.vault p b end.accounts (step_spent first host one.end t one.leaves one.few one.is p takes));
+  dead = λ first later t p is takes. let host = (upto first (t ∷ later) is).host in let one = at first later t is in
+      never_named one.fuel one.end (first ++ t ∷ []) (leaves_step first host one.end t one.leaves one.few one.is) one.enough p (step_spent first host one.end t one.leaves one.few one.is p takes) later one.rest;
+  read = λ first later t purse answer is. let host = (upto first (t ∷ later) is).host in let one = at first later t is in step_read first host one.end t one.leaves one.few one.is purse answer;
+}
+  where
+    start : Leads [] (read_host input)
+    start = leaves_first input
+
+    upto : (first later : List TurnRecord) → turns_of most input ≡ first ++ later → Reached first later
+    upto first later is = reached most (read_host input) [] start (omega (arith, few, start.turns)) first later is
+
+    at : (first later : List TurnRecord) (t : TurnRecord) (is : turns_of most input ≡ first ++ t ∷ later) → Steps (upto first (t ∷ later) is).host first t later
+    at first later t is = let here = upto first (t ∷ later) is in steps here.fuel here.host first t later here.leaves here.few (sym here.rest)
+
+    all : Reached (turns_of most input) []
+    all = upto (turns_of most input) [] (sym (append-nil (turns_of most input)))
+
+-- ---- the host that a run leaves
+
+ends : (n : ℕ) (s : HostState) (done : List TurnRecord) → Leads done s → s.turns + n ≤ 4000000000 → Leads (done ++ drained n s) (after n s)
+unfolding drained after
+ends zero s done leaves few = subst (λ ts. Leads ts s) (sym (append-nil done)) leaves
+ends (suc n) s done leaves few = from (λ end t next enough. ends n end (done ++ t ∷ []) next enough) (step_of s) refl
+  where
+    from : ((end : HostState) (t : TurnRecord) → Leads (done ++ t ∷ []) end → end.turns + n ≤ 4000000000 → Leads ((done ++ t ∷ []) ++ drained n end) (after n end))
+        → (next : Option (HostState × TurnRecord)) → step_of s ≡ next → Leads (done ++ option_map_or (λ p. p.1 ∷ drained n p.0) next []) (option_map_or (λ p. after n p.0) next s)
+    from more None e = subst (λ ts. Leads ts s) (sym (append-nil done)) leaves
+    from more (Some (end, t)) e =
+        let room : s.turns < 4000000000 = omega (arith, few) in
+        subst (λ ts. Leads ts (after n end)) (append_assoc done (t ∷ []) (drained n end))
+        (more end t (leaves_step done s end t leaves room e) (omega (arith, few, (step_worked s end t leaves.valid room e).turns)))
+
+pub run_leaves : (most : ℕ) (input : List ℕ) → most ≤ 4000000000 → Leaves (turns_of most input) (after most (read_host input))
+run_leaves most input few =
+    let start = leaves_first input in
+    let end = ends most (read_host input) [] start (omega (arith, few, start.turns)) in
+    let host = after most (read_host input) in
+    record {
+      taken = end.turns;
+      table = end.accounts.table;
+      out = out_is (turns_of most input) host end.valid end.accounts;
+      minted_are = end.accounts.minted_are;
+      burned_are = end.accounts.burned_are;
+      kinds = All-weaker (λ (m : Movement). m.value.kind ≡ kinds m.brand) (λ (m : Movement). m.value.kind ≡ kind_of host.kept.vault m.brand) (λ m is. is ∙ sym (end.accounts.of_kind m.brand)) (movements_of (turns_of most input)) end.accounts.one_kind;
+      live = end.accounts.live;
+      made = end.accounts.made;
+    }

@@ -1,0 +1,36 @@
+-- What a call that is answered leaves: a world that is valid, and movements of brands that were made.
+use Rattle.std.proofs.Common.{◌≡◌, ℕ, ◌<◌, All, List, [], length, Result, Ok, Err, OnOk, refl, subst, ap}
+use Rattle.jessie_tree.specs.Tree.{Tree}
+use Rattle.jessie_tree.specs.declared.data.Obj.{Obj}
+use Rattle.host_core.specs.Delivered.{IsReady}
+use Rattle.host_core.specs.Services.{Outcome, serve, served}
+use Rattle.vault.specs.Worlds.{IsValid, after_all}
+use Rattle.vault.specs.declared.world.World.{World}
+use Rattle.vault.proofs.EffectsValid.{noted_made, valid-after_all}
+use Rattle.host_core.proofs.ServedLaws.{serve_answers}
+
+-- the movements are of brands that were made
+pub record IsNoted (w : World) : Type 0 where
+  pub each : All (λ m. m.brand < length w.draft.now.supplies) w.draft.movements
+
+pub record IsLeft (w : World) : Type 0 where
+  pub valid : IsValid w
+  pub noted : IsNoted w
+
+same_ok : {A E : Type 0} (x y : A) (r : Result A E) → r ≡ Ok x → r ≡ Ok y → x ≡ y
+same_ok x y r e f = cc (e, f)
+
+-- what is said of an answer holds where one was given
+pub on_ok : {A E : Type 0} (r : Result A E) (X : Type 0) → X → OnOk r X
+on_ok (Ok x) X h = h
+on_ok (Err e) X h = tt
+
+left_by : (w : World) (on : Obj) (method : List ℕ) (args : List Tree) → IsReady w on args → w.draft.movements ≡ [] → (r : Outcome) → serve w on method args ≡ r → (answer : Tree) (new : World) → served w r ≡ Ok (answer, new) → IsLeft new
+left_by w on method args ready none (Ok (given, effects)) is answer new e =
+    let can = (serve_answers w on method args given effects ready.valid ready.room ready.target ready.known is).can in
+    let same : after_all w effects ≡ new = ap (λ (p : Tree × World). p.1) (same_ok (given, after_all w effects) (answer, new) (served w (Ok (given, effects))) refl e) in
+    subst IsLeft same (record { valid = valid-after_all w effects ready.valid can; noted = record { each = noted_made w effects can none } })
+left_by w on method args ready none (Err r) is answer new e = absurd (cc e)
+
+pub served_left : (w : World) (on : Obj) (method : List ℕ) (args : List Tree) (answer : Tree) (new : World) → IsReady w on args → w.draft.movements ≡ [] → served w (serve w on method args) ≡ Ok (answer, new) → IsLeft new
+served_left w on method args answer new ready none e = left_by w on method args ready none (serve w on method args) refl answer new e

@@ -1,0 +1,72 @@
+-- A host between its calls, and what a step makes of it.
+use Rattle.std.specs.Prelude.{◌≡◌, ℕ, ◌+◌, List, [], ◌∷◌, ◌++◌, Option, Some, None, Result, Ok, Err}
+use Rattle.std.specs.declared.alloc.AllocError.{AllocError}
+use Rattle.vault.specs.Brands.{first_brands}
+use Rattle.host_core.specs.Deliveries.{Kept, turn_of, world_at}
+use Rattle.host_core.specs.MessageLines.{Meaning, MessageRead, blank, meaning_of, message}
+use Rattle.vault.specs.Parties.{Labels, labels_of}
+use Rattle.host_core.specs.Queues.{waiting}
+use Rattle.host_core.specs.Delivered.{AreGood}
+use Rattle.host_core.specs.Turns.{TurnRecord, turn_view}
+use Rattle.vault.specs.Vaults.{VaultState, first_vault}
+use Rattle.vault.specs.Worlds.{IsValid, MintedWithin, resting_of}
+use Rattle.vault.specs.declared.brands.Brand.{Brand}
+use Rattle.host_core.specs.declared.host.Host.{Host}
+use Rattle.host_core.specs.declared.host.Submitted.{Submitted}
+use Rattle.host_core.specs.declared.host.Submitted.TheVariants as submitted
+use Rattle.host_core.specs.declared.turns.Turn.{Turn}
+
+pub record HostState : Type 0 where
+  pub kept : Kept
+  pub queue : List MessageRead
+  pub turns : ℕ
+
+-- a new host
+abbrev pub first_host : HostState
+first_host = record { kept = record { vault = first_vault; brands = first_brands; labels = [] }; queue = []; turns = 0 }
+
+abbrev pub kept_by : VaultState × List Brand → Labels → Kept
+kept_by (vault, brands) labels = record { vault = vault; brands = brands; labels = labels }
+
+abbrev pub host_view : Host → HostState
+host_view h = record { kept = kept_by (resting_of h.resting) (labels_of h.parties); queue = waiting h.queue; turns = h.turns }
+
+-- a message is appended
+abbrev pub with_message : HostState → MessageRead → HostState
+with_message s m = record s { queue = s.queue ++ m ∷ [] }
+
+abbrev pub turned : HostState → List MessageRead → Kept × TurnRecord → HostState × TurnRecord
+turned s rest (kept, turn) = (record { kept = kept; queue = rest; turns = s.turns + 1 }, turn)
+
+abbrev pub step_from : HostState → List MessageRead → Option (HostState × TurnRecord)
+step_from s [] = None
+step_from s (m ∷ rest) = Some (turned s rest (turn_of (s.turns + 1) s.kept m))
+
+-- the turn of the message in front, and the host after it
+unfoldable pub step_of : HostState → Option (HostState × TurnRecord)
+step_of s = step_from s s.queue
+
+-- A step is the turn of the message in front; where none waits, and for want of memory, nothing happened.
+abbrev pub IsStep : HostState → HostState → Result (Option Turn) AllocError → Type 0
+IsStep old new (Ok None) = (step_of old ≡ None) × (new ≡ old)
+IsStep old new (Ok (Some t)) = step_of old ≡ Some (new, turn_view t)
+IsStep old new (Err e) = new ≡ old
+
+-- ---- what holds of a host between its calls
+
+pub record IsValidHost (s : HostState) : Type 0 where
+  pub world : IsValid (world_at s.kept)
+  pub minted : MintedWithin s.kept.vault s.turns
+  pub labels : AreGood s.kept.vault s.kept.labels
+
+-- ---- submitting
+
+abbrev pub IsQueued : HostState → HostState → Meaning → Type 0
+IsQueued old new blank = ⊥
+IsQueued old new (message m) = new ≡ with_message old m
+
+-- A line that is blank changes nothing, any other appends its message; for want of memory nothing happened.
+abbrev pub IsSubmitted : HostState → HostState → List ℕ → Result Submitted AllocError → Type 0
+IsSubmitted old new line (Ok submitted.Blank) = (meaning_of line ≡ blank) × (new ≡ old)
+IsSubmitted old new line (Ok submitted.Queued) = IsQueued old new (meaning_of line)
+IsSubmitted old new line (Err e) = new ≡ old

@@ -1,0 +1,17 @@
+pub mod InputLines
+pub mod MessageLines
+pub mod Queues
+pub mod CallArguments
+pub mod Services
+pub mod Served
+pub mod Moved
+pub mod Answered
+pub mod Turns
+pub mod Deliveries
+pub mod Delivered
+pub mod Hosts
+pub mod Journal
+pub mod Runs
+pub mod Fair
+pub mod Leaves
+pub mod JournalLaws

@@ -1,0 +1,269 @@
+//! What a message comes to when it is delivered: its paths are resolved, its call is worked, and the
+//! turn's record is made. Its one contract is `turn_of`'s: the turn and what is kept after it are those
+//! that the message has by definition, or, for want of memory, all is as before.
+
+ghost use Rattle.std.specs.Prelude.{◌≡◌, ◌<◌, [], All, length, Err, Ok, IfErr, IfOk, OnErr, OnOk};
+ghost use Rattle.jessie_tree.specs.View.{tree, trees};
+ghost use Rattle.host_core.specs.Deliveries as deliveries;
+ghost use Rattle.host_core.specs.Deliveries.{addressed, came_to, free_label, kept_of, labelled, world_at};
+ghost use Rattle.host_core.specs.Delivered.{IsFree, IsReady, IsSteady, kept_with};
+ghost use Rattle.host_core.specs.MessageLines.{call_view, message_view};
+ghost use Rattle.vault.specs.Outcomes.{Gives};
+ghost use Rattle.vault.specs.Parties.{labels_of};
+ghost use Rattle.host_core.specs.Services as services;
+ghost use Rattle.host_core.specs.Services.{served};
+ghost use Rattle.host_core.specs.Turns.{delivery_of, message, service, turn_view};
+ghost use Rattle.vault.specs.Sums.{sums_of};
+ghost use Rattle.vault.specs.Worlds.{IsValid, Keeps};
+ghost use Rattle.host_core.specs.declared.turns.Delivered;
+
+use crate::message_lines::{Call, Message};
+use crate::services::serve;
+use crate::turns::{Answer, Delivered, ServiceCall, Turn};
+use host_text::text::Text;
+use jessie_tree::data::{self, Data, Obj};
+use std::alloc::{AllocError, Global};
+use vault::parties::Parties;
+use vault::refusals::{Refusal, Stop};
+use vault::world::{Resting, World};
+
+/// The most that data nests.
+const MOST_DEEP: u32 = 32;
+
+/// The refusal where the label for the answer is bound already.
+#[tactic(auto, unfolding(vault::specs::Outcomes::bind, vault::specs::Outcomes::need, vault::specs::Outcomes::wanted))]
+fn free_label(alloc: Global, parties: &Parties, call: &Call) -> Result<(), Stop>
+    ensures { Gives (λ _. tt) result (free_label (labels_of parties.now) call.now.by call.now.label) }
+{
+    let Some(label) = &call.label else {
+        return Ok(());
+    };
+    if parties.is_bound(alloc, &call.by, label)? {
+        return Err(Stop::Refused(Refusal::NameTaken(label.copy(alloc)?)));
+    }
+    Ok(())
+}
+
+/// The target and the arguments, once all paths are resolved.
+#[tactic(auto, unfolding(crate::specs::Deliveries::addressed, vault::specs::Outcomes::bind, vault::specs::Outcomes::need, vault::specs::Outcomes::wanted))]
+fn address(alloc: Global, parties: &Parties, call: &Call) -> Result<(Obj, Vec<Data>), Stop>
+    ensures { Gives (λ (on, arguments). (on, trees arguments.items)) result (addressed (labels_of parties.now) (call_view call.now)) }
+{
+    free_label(alloc, parties, call)?;
+    let Some(target) = parties.value_at(alloc, &call.by, &call.on)? else {
+        return Err(Stop::Refused(Refusal::UnknownName(call.on.copy(alloc)?)));
+    };
+    let arguments = parties.resolve(alloc, &call.by, &call.arguments)?;
+    if !data::all_within(MOST_DEEP, &arguments) {
+        return Err(Stop::Refused(Refusal::BadField(Text::from_str(alloc, "args")?)));
+    }
+    match target.object() {
+        Some(on) => Ok((on, arguments)),
+        None => Err(Stop::Refused(Refusal::WrongObject(0))),
+    }
+}
+
+/// The turn of a call that is refused.
+fn refused_turn(alloc: Global, number: u32, delivered: Delivered, refusal: Refusal) -> Turn
+    ensures { turn_view result ≡ record { number = number; delivery = delivery_of delivered; answer = Err refusal; movements = []; sums = [] } }
+{
+    Turn {
+        number,
+        delivered,
+        answer: Answer::Refused(refusal),
+        movements: Vec::new(alloc),
+        sums: Vec::new(alloc),
+    }
+}
+
+/// The turn of a call that is refused before it is worked.
+fn message_turn(
+    alloc: Global,
+    call: &Call,
+    refusal: Refusal,
+    number: u32,
+) -> Result<Turn, AllocError>
+    ensures { IfOk result (λ turn. turn_view turn ≡ record { number = number; delivery = message call.now.by call.now.method; answer = Err refusal; movements = []; sums = [] }) }
+{
+    let by = call.by.copy(alloc)?;
+    let method = call.method.copy(alloc)?;
+    let delivered = Delivered::Message(by, method);
+    Ok(refused_turn(alloc, number, delivered, refusal))
+}
+
+/// Binds the label for the answer, where one is wanted.
+fn bind_answer(
+    alloc: Global,
+    parties: &mut Parties,
+    call: &Call,
+    answer: &Data,
+) -> Result<(), AllocError>
+    requires { IsFree (labels_of parties.old) call.now.by call.now.label }
+    ensures ok { OnOk result (labels_of parties.new ≡ labelled (labels_of parties.old) call.now.by call.now.label (tree answer.now)) }
+    ensures err { OnErr result (labels_of parties.new ≡ labels_of parties.old) }
+{
+    match &call.label {
+        None => Ok(()),
+        Some(label) => {
+            let value = answer.copy(alloc)?;
+            parties.bind(alloc, &call.by, label, value)
+        }
+    }
+}
+
+/// The turn of a call that was answered. The label for the answer is bound last.
+fn answered_turn(
+    alloc: Global,
+    world: &World,
+    parties: &mut Parties,
+    call: &Call,
+    delivered: Delivered,
+    answer: Data,
+    number: u32,
+) -> Result<Turn, AllocError>
+    requires valid { IsValid world.now }
+    requires made { All (λ m. m.brand < length world.now.draft.now.supplies) world.now.draft.movements }
+    requires free { IsFree (labels_of parties.old) call.now.by call.now.label }
+    ensures turn { IfOk result (λ turn. turn_view turn ≡ record { number = number; delivery = delivery_of delivered; answer = Ok (tree answer); movements = world.now.draft.movements; sums = sums_of world.now.draft.now world.now.draft.movements }) }
+    ensures labels { OnOk result (labels_of parties.new ≡ labelled (labels_of parties.old) call.now.by call.now.label (tree answer)) }
+    ensures err { OnErr result (labels_of parties.new ≡ labels_of parties.old) }
+{
+    let movements = world.movements(alloc)?;
+    let sums = world.sums(alloc, &movements)?;
+    bind_answer(alloc, parties, call, &answer)?;
+    Ok(Turn {
+        number,
+        delivered,
+        answer: Answer::Given(answer),
+        movements,
+        sums,
+    })
+}
+
+/// Works a call on the world of a turn that just began, and gives its record. For want of memory the
+/// turn is to be undone; no label is bound then.
+fn worked(
+    alloc: Global,
+    world: &mut World,
+    parties: &mut Parties,
+    call: &Call,
+    service: ServiceCall,
+    number: u32,
+) -> Result<Turn, AllocError>
+    requires begun { world.old ≡ world_at (kept_of world.old (labels_of parties.old)) }
+    requires ready { IsReady world.old service.on (trees service.arguments.items) }
+    requires free { IsFree (labels_of parties.old) call.now.by call.now.label }
+    requires method { service.method ≡ call.now.method }
+    ensures turn { IfOk result (λ turn. (kept_of world.new (labels_of parties.new), turn_view turn) ≡ came_to number (delivery_of (Delivered.Service service)) (call_view call.now) (kept_of world.old (labels_of parties.old)) (served world.old (services.serve world.old service.on call.now.method (trees service.arguments.items)))) }
+    ensures valid { OnOk result (IsValid world.new) }
+    ensures keeps { Keeps world.old world.new }
+    ensures err { OnErr result (labels_of parties.new ≡ labels_of parties.old) }
+{
+    match serve(alloc, world, service.on, &call.method, &service.arguments) {
+        Ok(answer) => {
+            let delivered = Delivered::Service(service);
+            answered_turn(alloc, world, parties, call, delivered, answer, number)
+        }
+        Err(Stop::Refused(refusal)) => {
+            let delivered = Delivered::Service(service);
+            Ok(refused_turn(alloc, number, delivered, refusal))
+        }
+        Err(Stop::NoMemory) => Err(AllocError),
+    }
+}
+
+/// The call as its turn's record has it.
+fn service_call(
+    alloc: Global,
+    call: &Call,
+    on: Obj,
+    arguments: Vec<Data>,
+) -> Result<ServiceCall, AllocError>
+    ensures call { IfOk result (λ made. delivery_of (Delivered.Service made) ≡ service call.now.by on call.now.method (trees arguments.items)) }
+    ensures method { IfOk result (λ made. made.method ≡ call.now.method) }
+    ensures on { IfOk result (λ made. made.on ≡ on) }
+    ensures arguments { IfOk result (λ made. made.arguments.items ≡ arguments.items) }
+{
+    Ok(ServiceCall {
+        by: call.by.copy(alloc)?,
+        on,
+        method: call.method.copy(alloc)?,
+        arguments,
+    })
+}
+
+/// The turn of a call on an object, and what is kept after it; or, for want of memory, what was kept.
+fn service_turn(
+    alloc: Global,
+    resting: Resting,
+    parties: &mut Parties,
+    call: &Call,
+    service: ServiceCall,
+    number: u32,
+) -> Result<(Resting, Turn), Resting>
+    requires ready { IsReady (world_at (kept_with resting (labels_of parties.old))) service.on (trees service.arguments.items) }
+    requires free { IsFree (labels_of parties.old) call.now.by call.now.label }
+    requires method { service.method ≡ call.now.method }
+    ensures turn { IfOk result (λ (kept, turn). (kept_with kept (labels_of parties.new), turn_view turn) ≡ came_to number (delivery_of (Delivered.Service service)) (call_view call.now) (kept_with resting (labels_of parties.old)) (served (world_at (kept_with resting (labels_of parties.old))) (services.serve (world_at (kept_with resting (labels_of parties.old))) service.on call.now.method (trees service.arguments.items)))) }
+    ensures back { IfErr result (λ kept. kept_with kept (labels_of parties.new) ≡ kept_with resting (labels_of parties.old)) }
+{
+    let mut world = match World::begin(resting) {
+        Ok(world) => world,
+        Err(resting) => return Err(resting),
+    };
+    match worked(alloc, &mut world, parties, call, service, number) {
+        Ok(turn) => Ok((world.commit(), turn)),
+        Err(_) => Err(world.undo()),
+    }
+}
+
+/// The turn of a call, and what is kept after it; or, for want of memory, what was kept.
+fn call_turn(
+    alloc: Global,
+    resting: Resting,
+    parties: &mut Parties,
+    call: &Call,
+    number: u32,
+) -> Result<(Resting, Turn), Resting>
+    requires { IsSteady (kept_with resting (labels_of parties.old)) }
+    ensures turn { IfOk result (λ (kept, turn). (kept_with kept (labels_of parties.new), turn_view turn) ≡ deliveries.call_turn number (call_view call.now) (kept_with resting (labels_of parties.old)) (addressed (labels_of parties.old) (call_view call.now))) }
+    ensures back { IfErr result (λ kept. kept_with kept (labels_of parties.new) ≡ kept_with resting (labels_of parties.old)) }
+{
+    match address(alloc, parties, call) {
+        Ok((on, arguments)) => match service_call(alloc, call, on, arguments) {
+            Ok(service) => service_turn(alloc, resting, parties, call, service, number),
+            Err(_) => Err(resting),
+        },
+        Err(Stop::Refused(refusal)) => match message_turn(alloc, call, refusal, number) {
+            Ok(turn) => Ok((resting, turn)),
+            Err(_) => Err(resting),
+        },
+        Err(Stop::NoMemory) => Err(resting),
+    }
+}
+
+/// The turn of a message, which has the number, and what is kept after it; or, for want of memory, what
+/// was kept.
+#[tactic(auto, unfolding(crate::specs::Deliveries::turn_of))]
+pub(crate) fn turn_of(
+    alloc: Global,
+    resting: Resting,
+    parties: &mut Parties,
+    message: &Message,
+    number: u32,
+) -> Result<(Resting, Turn), Resting>
+    requires { IsSteady (kept_with resting (labels_of parties.old)) }
+    ensures turn { IfOk result (λ (kept, turn). (kept_with kept (labels_of parties.new), turn_view turn) ≡ deliveries.turn_of number (kept_with resting (labels_of parties.old)) (message_view message.now)) }
+    ensures back { IfErr result (λ kept. kept_with kept (labels_of parties.new) ≡ kept_with resting (labels_of parties.old)) }
+{
+    match message {
+        Message::Call(call) => call_turn(alloc, resting, parties, call, number),
+        Message::Bad(refusal) => match refusal.copy(alloc) {
+            Ok(refusal) => Ok((
+                resting,
+                refused_turn(alloc, number, Delivered::Bad, refusal),
+            )),
+            Err(_) => Err(resting),
+        },
+    }
+}

@@ -1,0 +1,106 @@
+//! The host: what lies between turns, and the queue. Its one contract is the step's: it is the turn of
+//! the message in front, as that is defined, or nothing happened.
+
+ghost use Rattle.std.specs.Prelude.{◌≡◌, ◌<◌, ◌≤◌, ◌+◌, IsTrue, is_some, length, IfOk};
+
+use crate::deliveries::turn_of;
+use crate::message_lines::{Line, read_line};
+use crate::turn_queue::TurnQueue;
+use crate::turns::Turn;
+use std::alloc::{AllocError, Global};
+use vault::parties::Parties;
+use vault::world::Resting;
+
+/// What a line was submitted as.
+#[derive(Clone, Copy, Debug, PartialEq, Eq)]
+pub enum Submitted {
+    /// It has spaces, tabs and carriage returns alone.
+    Blank,
+    /// Its message waits.
+    Queued,
+}
+
+/// An escrow host. Contracts see it as what is kept between turns, the queue and the number of turns
+/// (specs/Hosts.antt).
+#[derive(Debug, Drop)]
+pub struct Host {
+    resting: Option<Resting>,
+    parties: Parties,
+    queue: TurnQueue,
+    turns: u32,
+    ghost whole: { IsTrue (is_some resting) },
+}
+
+impl Host {
+    ghost use Rattle.host_core.specs.Hosts.{IsStep, IsSubmitted, IsValidHost, first_host, host_view};
+
+    /// A new host, which has the brand of invitations and no right.
+    pub fn new(alloc: Global) -> Result<Host, AllocError>
+        ensures host { IfOk result (λ host. host_view host ≡ first_host) }
+    {
+        let resting = Resting::first(alloc)?;
+        Ok(Host {
+            resting: Some(resting),
+            parties: Parties::new(alloc),
+            queue: TurnQueue::new(alloc),
+            turns: 0,
+        })
+    }
+
+    /// Appends the message that a line means, if it means one. A bad line is a message too, which is
+    /// refused when it is delivered. On an error all is as before.
+    pub fn submit(&mut self, alloc: Global, line: &[u8]) -> Result<Submitted, AllocError>
+        ensures submitted { IsSubmitted (host_view self.old) (host_view self.new) line.now result }
+    {
+        match read_line(alloc, line)? {
+            Line::Blank => Ok(Submitted::Blank),
+            Line::Message(message) => {
+                self.queue.push(message)?;
+                Ok(Submitted::Queued)
+            }
+        }
+    }
+
+    /// The turn of the message in front, or `None` exactly where none waits. For want of memory the
+    /// host is as it was at the turn's start, with the message in front.
+    pub fn step(&mut self, alloc: Global) -> Result<Option<Turn>, AllocError>
+        requires valid { IsValidHost (host_view self.old) }
+        requires few { self.old.turns < 4000000000 }
+        ensures step { IsStep (host_view self.old) (host_view self.new) result }
+        ensures valid { IsValidHost (host_view self.new) }
+        ensures turns { self.new.turns ≤ self.old.turns + 1 }
+    {
+        let Some(message) = self.queue.front() else {
+            return Ok(None);
+        };
+        let Some(resting) = self.resting.take() else {
+            unreachable!()
+        };
+        match turn_of(alloc, resting, &mut self.parties, message, self.turns + 1) {
+            Ok((resting, turn)) => {
+                self.resting = Some(resting);
+                self.queue.pop();
+                self.turns += 1;
+                Ok(Some(turn))
+            }
+            Err(resting) => {
+                self.resting = Some(resting);
+                Err(AllocError)
+            }
+        }
+    }
+
+    /// How many messages wait.
+    pub fn waiting(&self) -> u64
+        ensures { result ≡ length (host_view self.now).queue }
+    {
+        self.queue.len()
+    }
+
+    /// How many turns were run.
+    pub fn turns(&self) -> u32
+        ensures { result ≡ (host_view self.now).turns }
+    {
+        self.turns
+    }
+}

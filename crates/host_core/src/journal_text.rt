@@ -1,0 +1,345 @@
+//! The text of the journal: a turn's rows, each one JSON object and a line feed, and the close row. Its
+//! one contract: what is written is the turn's text as the journal defines it, and no journal has the
+//! text of another.
+
+ghost use Rattle.std.specs.Prelude.{◌≡◌, ◌++◌, [], ◌∷◌, pos, false, map, Ok, Err, IfOk, OnOk, string_bytes, decimal};
+ghost use Rattle.std.specs.List.{flat_map};
+ghost use Rattle.serde_json.specs.Data.{array, no_items, no_members};
+ghost use Rattle.serde_json.specs.View.{view, items_view, members_view};
+ghost use Rattle.serde_json.specs.Written.{has_float};
+ghost use Rattle.jessie_tree.specs.Tree.{object as object_at};
+ghost use Rattle.jessie_tree.specs.View.{tree, trees, named_trees, items_of, fields_of};
+ghost use Rattle.host_core.specs.Journal.{word_of, is_single, name_of, brand_name, holder_name as name_of_holder, number_json, json_of, items_json, fields_json, answer_json, called, turn_json, turn_row, move_row, sum_row, close_row, row_text, turn_text, close_text};
+ghost use Rattle.host_core.specs.JournalLaws.{OneText};
+ghost use Rattle.vault.specs.Refusals.{refusal_tree};
+ghost use Rattle.host_core.specs.Turns.{answer_of, delivery_of, turn_view, service, bad, message};
+ghost use Rattle.vault.specs.Values.{value_tree};
+
+use crate::turns::{Answer, Delivered, ServiceCall, Turn};
+use amount_math::Value as Held;
+use host_text::text::Text;
+use jessie_tree::data::{Data, Obj, ObjKind};
+use rights_model::{Holder, Movement, Sum};
+use serde_json::{Map, Value, json};
+use std::alloc::{AllocError, Global};
+use vault::refusals::Refusal;
+use vault::values::value_data;
+
+fn kind_word(kind: ObjKind) -> &'static str
+    ensures { result.now ≡ word_of kind }
+{
+    match kind {
+        ObjKind::Ertp => "ertp",
+        ObjKind::Zoe => "zoe",
+        ObjKind::Timer => "timer",
+        ObjKind::Brand(_) => "brand",
+        ObjKind::Issuer => "issuer",
+        ObjKind::Mint => "mint",
+        ObjKind::Purse => "purse",
+        ObjKind::Deposit => "deposit",
+        ObjKind::Payment => "payment",
+        ObjKind::Installation => "installation",
+        ObjKind::Instance => "instance",
+        ObjKind::Zcf => "zcf",
+        ObjKind::Seat => "seat",
+        ObjKind::Zseat => "zseat",
+        ObjKind::Zmint => "zmint",
+        ObjKind::Facet => "facet",
+        ObjKind::Promise => "promise",
+    }
+}
+
+/// Whether there is one object alone of the kind.
+fn is_alone(kind: ObjKind) -> bool
+    ensures { result ≡ is_single kind }
+{
+    match kind {
+        ObjKind::Ertp => true,
+        ObjKind::Zoe => true,
+        ObjKind::Timer => true,
+        _ => false,
+    }
+}
+
+#[tactic(auto, unfolding(crate::specs::Journal::name_of))]
+fn object_name(alloc: Global, object: Obj) -> Result<String, AllocError>
+    ensures { IfOk result (λ name. string_bytes name ≡ name_of object) }
+{
+    let word = kind_word(object.kind);
+    if is_alone(object.kind) {
+        String::from_str(alloc, word)
+    } else {
+        format!(in alloc; "{}{}", word, object.number)
+    }
+}
+
+fn brand_text(alloc: Global, brand: u16) -> Result<String, AllocError>
+    ensures { IfOk result (λ name. string_bytes name ≡ brand_name brand) }
+{
+    format!(in alloc; "brand{}", brand)
+}
+
+#[tactic(auto, unfolding(crate::specs::Journal::holder_name))]
+fn holder_text(alloc: Global, holder: &Holder) -> Result<String, AllocError>
+    ensures { IfOk result (λ name. string_bytes name ≡ name_of_holder holder.now) }
+{
+    match holder {
+        Holder::Purse(number) => format!(in alloc; "purse{}", *number),
+        Holder::Payment(number) => format!(in alloc; "payment{}", *number),
+        Holder::Slot(seat, keyword) => format!(in alloc; "seat{}.{}", *seat, keyword.as_str()),
+        Holder::Hand => String::from_str(alloc, "hand"),
+        Holder::Outside => String::from_str(alloc, "outside"),
+    }
+}
+
+/// A number as JSON, as text where it lies beyond `2^63 - 1` either way.
+fn number_value(alloc: Global, number: i128) -> Result<Value, AllocError>
+    ensures { IfOk result (λ v. view v ≡ number_json number) }
+{
+    if -(1 << 63) < number && number < 1 << 63 {
+        return Ok(Value::from(number as i64));
+    }
+    let decimal = format!(in alloc; "{}", number)?;
+    json!(in alloc; {"#": decimal})
+}
+
+/// What a holder has, as JSON.
+fn held_value(alloc: Global, held: &Held) -> Result<Value, AllocError>
+    ensures { IfOk result (λ v. view v ≡ json_of (value_tree held.now)) }
+{
+    let held = value_data(alloc, held)?;
+    data_value(alloc, &held)
+}
+
+#[cycle(value)]
+fn data_value(alloc: Global, data: &Data) -> Result<Value, AllocError>
+    ensures { IfOk result (λ v. view v ≡ json_of (tree «data».now)) }
+{
+    match data {
+        Data::Number(number) => number_value(alloc, *number),
+        Data::Text(text) => Value::try_from_str(alloc, text.as_str()),
+        Data::Bool(truth) => Ok(Value::Bool(*truth)),
+        Data::Null => Ok(Value::Null),
+        Data::Array(items) => Ok(Value::Array(item_values(alloc, items.as_slice())?)),
+        Data::Record(fields) => Ok(Value::Object(field_values(alloc, fields.as_slice())?)),
+        Data::Object(object) => object_value(alloc, *object),
+        Data::Function(name) => json!(in alloc; {"=>": name.as_str()}),
+    }
+}
+
+fn object_value(alloc: Global, object: Obj) -> Result<Value, AllocError>
+    ensures { IfOk result (λ v. view v ≡ json_of (object_at object)) }
+{
+    let name = object_name(alloc, object)?;
+    json!(in alloc; {"@": name})
+}
+
+#[cycle(value)]
+fn item_values(alloc: Global, items: &[Data]) -> Result<Vec<Value>, AllocError>
+    ensures { IfOk result (λ values. items_view values.items ≡ items_json (items_of (trees items.now))) }
+{
+    let mut values = Vec::new(alloc);
+    for item in items {
+        values.push(data_value(alloc, item)?)?;
+    }
+    Ok(values)
+}
+
+#[cycle(value)]
+fn field_values(alloc: Global, fields: &[(Text, Data)]) -> Result<Map<String, Value>, AllocError>
+    ensures { IfOk result (λ values. members_view values.entries
+        ≡ fields_json (fields_of (named_trees fields.now)) no_members) }
+{
+    let mut values = Map::new(alloc);
+    for (name, item) in fields {
+        let key = String::from_str(alloc, name.as_str())?;
+        drop(values.insert(key, data_value(alloc, item)?)?);
+    }
+    Ok(values)
+}
+
+fn refusal_value(alloc: Global, refusal: &Refusal) -> Result<Value, AllocError>
+    ensures { IfOk result (λ v. view v ≡ json_of (refusal_tree refusal.now)) }
+{
+    let refusal = refusal.data(alloc)?;
+    data_value(alloc, &refusal)
+}
+
+fn answer_value(alloc: Global, answer: &Answer) -> Result<Value, AllocError>
+    ensures { IfOk result (λ v. view v ≡ answer_json (answer_of answer.now)) }
+{
+    match answer {
+        Answer::Given(given) => given_value(alloc, given),
+        Answer::Refused(refusal) => refused_value(alloc, refusal),
+    }
+}
+
+fn given_value(alloc: Global, given: &Data) -> Result<Value, AllocError>
+    ensures { IfOk result (λ v. view v ≡ answer_json (Ok (tree given.now))) }
+{
+    let given = data_value(alloc, given)?;
+    json!(in alloc; {"ok": given})
+}
+
+fn refused_value(alloc: Global, refusal: &Refusal) -> Result<Value, AllocError>
+    ensures { IfOk result (λ v. view v ≡ answer_json (Err refusal.now)) }
+{
+    let refused = refusal_value(alloc, refusal)?;
+    json!(in alloc; {"refused": refused})
+}
+
+fn service_value(
+    alloc: Global,
+    number: u32,
+    answer: Value,
+    call: &ServiceCall,
+) -> Result<Value, AllocError>
+    ensures { IfOk result (λ v. view v ≡ turn_json (view answer)
+        (called (service call.now.by call.now.on call.now.method (trees call.now.arguments.items))) number) }
+{
+    let on = object_name(alloc, call.on)?;
+    let arguments = Value::Array(item_values(alloc, call.arguments.as_slice())?);
+    let (by, method) = (call.by.as_str(), call.method.as_str());
+    json!(in alloc; {
+        "answer": answer, "args": arguments, "by": by, "do": method,
+        "kind": "service", "n": number, "on": on, "row": "turn"
+    })
+}
+
+fn bad_value(alloc: Global, number: u32, answer: Value) -> Result<Value, AllocError>
+    ensures { IfOk result (λ v. view v ≡ turn_json (view answer) (called bad) number) }
+{
+    json!(in alloc; {
+        "answer": answer, "args": [], "by": "", "do": "",
+        "kind": "bad", "n": number, "on": "", "row": "turn"
+    })
+}
+
+fn message_value(
+    alloc: Global,
+    number: u32,
+    answer: Value,
+    by: &Text,
+    method: &Text,
+) -> Result<Value, AllocError>
+    ensures { IfOk result (λ v. view v ≡ turn_json (view answer) (called (message by.now method.now)) number) }
+{
+    let (by, method) = (by.as_str(), method.as_str());
+    json!(in alloc; {
+        "answer": answer, "args": [], "by": by, "do": method,
+        "kind": "message", "n": number, "on": "", "row": "turn"
+    })
+}
+
+fn turn_value(alloc: Global, turn: &Turn) -> Result<Value, AllocError>
+    ensures { IfOk result (λ v. view v ≡ turn_row (turn_view turn.now)) }
+{
+    let answer = answer_value(alloc, &turn.answer)?;
+    match &turn.delivered {
+        Delivered::Service(call) => service_value(alloc, turn.number, answer, call),
+        Delivered::Bad => bad_value(alloc, turn.number, answer),
+        Delivered::Message(by, method) => message_value(alloc, turn.number, answer, by, method),
+    }
+}
+
+fn move_value(alloc: Global, movement: &Movement) -> Result<Value, AllocError>
+    ensures { IfOk result (λ v. view v ≡ move_row movement.now) }
+{
+    let brand = brand_text(alloc, movement.brand)?;
+    let from = holder_text(alloc, &movement.from)?;
+    let to = holder_text(alloc, &movement.to)?;
+    let value = held_value(alloc, &movement.value)?;
+    json!(in alloc; {"brand": brand, "from": from, "row": "move", "to": to, "value": value})
+}
+
+fn decimal_text(alloc: Global, total: u128) -> Result<String, AllocError>
+    ensures { IfOk result (λ text. string_bytes text ≡ decimal total) }
+{
+    format!(in alloc; "{}", total)
+}
+
+fn sum_value(alloc: Global, sum: &Sum) -> Result<Value, AllocError>
+    ensures { IfOk result (λ v. view v ≡ sum_row sum.now) }
+{
+    let brand = brand_text(alloc, sum.brand)?;
+    let burned = decimal_text(alloc, sum.burned)?;
+    let minted = decimal_text(alloc, sum.minted)?;
+    let payments = decimal_text(alloc, sum.payments)?;
+    let purses = decimal_text(alloc, sum.purses)?;
+    let slots = decimal_text(alloc, sum.slots)?;
+    json!(in alloc; {
+        "brand": brand, "burned": burned, "minted": minted, "payments": payments,
+        "purses": purses, "row": "sum", "slots": slots
+    })
+}
+
+/// Adds a row to the text.
+#[tactic(auto, unfolding(crate::specs::Journal::row_text))]
+fn push_row(alloc: Global, text: &mut String, row: &Value) -> Result<(), AllocError>
+    requires { has_float (view row.now) ≡ false }
+    ensures { OnOk result (string_bytes text.new ≡ string_bytes text.old ++ row_text (view row.now)) }
+{
+    let line = row.to_string(alloc)?;
+    text.push_str(line.as_str())?;
+    text.push_str("\n")?;
+    Ok(())
+}
+
+fn push_moves(alloc: Global, text: &mut String, movements: &[Movement]) -> Result<(), AllocError>
+    ensures { OnOk result (string_bytes text.new ≡ string_bytes text.old ++ flat_map row_text (map move_row movements.now)) }
+{
+    for movement in movements {
+        let row = move_value(alloc, movement)?;
+        push_row(alloc, text, &row)?;
+    }
+    Ok(())
+}
+
+fn push_sums(alloc: Global, text: &mut String, sums: &[Sum]) -> Result<(), AllocError>
+    ensures { OnOk result (string_bytes text.new ≡ string_bytes text.old ++ flat_map row_text (map sum_row sums.now)) }
+{
+    for sum in sums {
+        let row = sum_value(alloc, sum)?;
+        push_row(alloc, text, &row)?;
+    }
+    Ok(())
+}
+
+/// The rows of a turn.
+#[tactic(auto, unfolding(crate::specs::Journal::turn_text))]
+pub fn write_turn(alloc: Global, turn: &Turn) -> Result<String, AllocError>
+    ensures { IfOk result (λ text. string_bytes text ≡ turn_text (turn_view turn.now)) }
+{
+    let mut text = String::new(alloc);
+    let row = turn_value(alloc, turn)?;
+    push_row(alloc, &mut text, &row)?;
+    push_moves(alloc, &mut text, turn.movements.as_slice())?;
+    push_sums(alloc, &mut text, turn.sums.as_slice())?;
+    Ok(text)
+}
+
+fn close_value(alloc: Global, left: u64, turns: u32) -> Result<Value, AllocError>
+    ensures { IfOk result (λ v. view v ≡ close_row left turns) }
+{
+    json!(in alloc; {"left": left, "row": "close", "turns": turns})
+}
+
+/// The close row: how many deliveries are left, and how many turns were run.
+#[tactic(auto, unfolding(crate::specs::Journal::close_text))]
+pub fn write_close(alloc: Global, left: u64, turns: u32) -> Result<String, AllocError>
+    ensures { IfOk result (λ text. string_bytes text ≡ close_text left turns) }
+{
+    let mut text = String::new(alloc);
+    let row = close_value(alloc, left, turns)?;
+    push_row(alloc, &mut text, &row)?;
+    Ok(text)
+}
+
+/// No journal has the text of another: the text tells its turns, as they are written, and how many
+/// deliveries are left.
+pub fn one_text()
+    ensures { OneText }
+{}
+
+#[cfg(test)]
+mod tests;

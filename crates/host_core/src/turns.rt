@@ -1,0 +1,45 @@
+//! A turn: what one message came to, as its rows tell it.
+
+use host_text::text::Text;
+use jessie_tree::data::{Data, Obj};
+use rights_model::{Movement, Sum};
+use vault::refusals::Refusal;
+
+/// A call that was worked, once its paths were resolved.
+#[derive(Debug, Drop)]
+pub struct ServiceCall {
+    /// The party, by its label.
+    pub by: Text,
+    pub on: Obj,
+    pub method: Text,
+    pub arguments: Vec<Data>,
+}
+
+/// What was delivered.
+#[derive(Debug, Drop)]
+pub enum Delivered {
+    Service(ServiceCall),
+    /// A line that is refused.
+    Bad,
+    /// A call that was refused before it was worked: the party and the method.
+    Message(Text, Text),
+}
+
+/// What was answered.
+#[derive(Debug, Drop)]
+pub enum Answer {
+    Given(Data),
+    Refused(Refusal),
+}
+
+/// A turn's record.
+#[derive(Debug, Drop)]
+pub struct Turn {
+    /// From 1.
+    pub number: u32,
+    pub delivered: Delivered,
+    pub answer: Answer,
+    pub movements: Vec<Movement>,
+    /// One for each brand that the movements name, by number.
+    pub sums: Vec<Sum>,
+}

@@ -1,0 +1,107 @@
+-- What each party has under its labels, and what stands at a path.
+use Rattle.std.specs.Prelude.{ℕ, ℤ, pos, negsuc, List, [], ◌∷◌, ◌++◌, map, slice_get, Option, Some, None, option_and_then, Result, Ok, if◌then◌else◌, codes, string_bytes}
+use Rattle.std.specs.Option.{option_map_or}
+use Rattle.std.specs.Str.{bytes_eq}
+use Rattle.host_text.specs.Numbers.{number_in}
+use Rattle.jessie_tree.specs.Tree as tree
+use Rattle.jessie_tree.specs.Tree.{Tree, Items, item, Fields, field, listed, get}
+use Rattle.jessie_tree.specs.View as views
+use Rattle.jessie_tree.specs.declared.data.Obj.{Obj}
+use Rattle.jessie_tree.specs.declared.data.ObjKind.TheVariants.{Ertp, Zoe, Timer}
+use Rattle.vault.specs.Parts.{PartTree, PartItems, PartFields, steps_of}
+use Rattle.vault.specs.Parts as part
+use Rattle.vault.specs.Outcomes.{◌>>=◌, wanted}
+use Rattle.vault.specs.declared.parties.Parties.{Parties}
+use Rattle.vault.specs.declared.refusals.Refusal.{Refusal}
+use Rattle.vault.specs.declared.refusals.Refusal.TheVariants.{UnknownName}
+
+-- a label of a party, with what it was bound to
+abbrev pub Labels : Type 0
+Labels = List (List ℕ × Tree)
+
+-- a party's label, apart from another party's of the same text
+abbrev pub own : List ℕ → List ℕ → List ℕ
+own party label = party ++ 46 ∷ label
+
+abbrev pub labels_of : Parties → Labels
+labels_of p = map (λ e. (string_bytes e.0, views.tree e.1)) p.labels.entries
+
+abbrev pub label_in : List ℕ → Labels → Option Tree
+label_in name [] = None
+label_in name (l ∷ ls) = if bytes_eq name l.0 then Some l.1 else label_in name ls
+
+-- what each party has under a label from the start
+abbrev pub service_of : List ℕ → Option Obj
+service_of label =
+    if bytes_eq label (codes "ertp") then Some (record { kind = Ertp; number = 0 })
+    else if bytes_eq label (codes "zoe") then Some (record { kind = Zoe; number = 0 })
+    else if bytes_eq label (codes "timer") then Some (record { kind = Timer; number = 0 })
+    else None
+
+-- what a party has under a label: an object that each has from the start, or what was bound
+abbrev pub bound_to : Labels → List ℕ → List ℕ → Option Tree
+bound_to ls party label = option_map_or (λ o. Some (tree.object o)) (service_of label) (label_in (own party label) ls)
+
+abbrev pub with_label : Labels → List ℕ → List ℕ → Tree → Labels
+with_label ls party label t = ls ++ (own party label, t) ∷ []
+
+-- what each label was bound to passes
+abbrev pub EachLabel : (Tree → Type 0) → Labels → Type 0
+EachLabel Passes [] = Unit {0}
+EachLabel Passes (l ∷ ls) = Passes l.1 × EachLabel Passes ls
+
+-- the place in an array that a step names
+abbrev pub place_of : ℤ → Option ℕ
+place_of (pos n) = Some n
+place_of (negsuc n) = None
+
+-- the part of an array at the place that the step writes
+abbrev pub item_at : List Tree → List ℕ → Option Tree
+item_at ts s = option_and_then (λ n. slice_get ts n) (option_and_then place_of (number_in s))
+
+-- the field of a record, or the part of an array, that a step of a path names
+abbrev pub part_at : Tree → List ℕ → Option Tree
+part_at (tree.fields fs) s = get s fs
+part_at (tree.array ts) s = item_at (listed ts) s
+part_at _ s = None
+
+abbrev pub walked : Tree → List (List ℕ) → Option Tree
+walked t [] = Some t
+walked t (s ∷ steps) = option_and_then (λ u. walked u steps) (part_at t s)
+
+abbrev pub walked_from : Labels → List ℕ → List (List ℕ) → Option Tree
+walked_from ls party [] = None
+walked_from ls party (label ∷ steps) = option_and_then (λ t. walked t steps) (bound_to ls party label)
+
+-- what stands at a path of a party's
+unfoldable pub value_at : Labels → List ℕ → List ℕ → Option Tree
+value_at ls party path = walked_from ls party (steps_of path)
+
+-- the argument, with what stands at its paths in their place, the first path that isn't there refused
+abbrev mutual
+  pub resolved : Labels → List ℕ → PartTree → Result Tree Refusal
+  resolved ls party part.null = Ok tree.null
+  resolved ls party (part.boolean b) = Ok (tree.boolean b)
+  resolved ls party (part.number z) = Ok (tree.number z)
+  resolved ls party (part.text s) = Ok (tree.text s)
+  resolved ls party (part.array ps) = do
+    ts ← resolved_all ls party ps
+    Ok (tree.array ts)
+  resolved ls party (part.fields fs) = do
+    ts ← resolved_fields ls party fs
+    Ok (tree.fields ts)
+  resolved ls party (part.path p) = wanted (value_at ls party p) (UnknownName p)
+
+  pub resolved_all : Labels → List ℕ → PartItems → Result Items Refusal
+  resolved_all ls party part.no_items = Ok tree.no_items
+  resolved_all ls party (part.item p ps) = do
+    t ← resolved ls party p
+    ts ← resolved_all ls party ps
+    Ok (item t ts)
+
+  pub resolved_fields : Labels → List ℕ → PartFields → Result Fields Refusal
+  resolved_fields ls party part.no_fields = Ok tree.no_fields
+  resolved_fields ls party (part.field name p fs) = do
+    t ← resolved ls party p
+    ts ← resolved_fields ls party fs
+    Ok (field name t ts)

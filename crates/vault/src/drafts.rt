@@ -1,0 +1,400 @@
+//! The vault, which is the supply, the purses and the payments as one, and a turn's draft of it.
+//!
+//! Contracts see a vault as the table of who holds what, with the brands of purses and payments and
+//! what is out of each brand. Each change of a draft is one movement, applied as rights_model defines
+//! it, so that the table of a draft is the kept one after the draft's movements. Whatever calls are
+//! made, each brand's purses and live payments add up to what is out of it.
+
+ghost use Rattle.std.specs.Prelude.{◌≡◌, ◌<◌, ◌+◌, ◌^◌, ◌↔◌, [], false, length, IsOk, IfErr, IfOk, OnErr, OnOk};
+ghost use Rattle.amount_math.specs.Content.{Contains, sum};
+ghost use Rattle.amount_math.specs.Worth.{IsPutRefusal, IsTakeRefusal};
+ghost use Rattle.ertp_mint.specs.BrandSupply.{supply_at};
+ghost use Rattle.amount_math.specs.Counted.{counted};
+ghost use Rattle.rights_model.specs.Table.{movement, no_holdings};
+ghost use Rattle.ertp_mint.specs.Stocks.{most_made};
+ghost use Rattle.vault.specs.Vaults.{CanTransfer, IsSound, brand_of, held_by, kind_of, out_of};
+ghost use Rattle.vault.specs.Drafts.{ArePayments, ArePurses, HandGains, HandHas, HandIsEmpty, IsDraft, IsGiven, IsTaken, KeepsHand, begun, stepped, with_brand, with_purse, without};
+
+use crate::payments::Payments;
+use crate::purses::{OpenFault, Purses};
+use crate::stores::Stores;
+use amount_math::{Kind, PutFault, TakeFault, Value};
+use ertp_mint::{Parcel, Supply};
+use rights_model::{Holder, Movement};
+use std::alloc::{AllocError, Global};
+use std::marker::Model;
+
+/// All rights between turns.
+#[derive(Debug, Drop)]
+pub struct Vault {
+    alloc: Global,
+    stores: Stores,
+}
+
+impl Model for Vault {
+    ghost use Rattle.vault.specs.Stored.{IsVaultInside, state_of, table_of};
+    ghost use Rattle.vault.specs.Vaults.{VaultState, coded_vault};
+
+    ghost Value = { VaultState };
+
+    ghost coded = { coded_vault };
+
+    ghost view = { λ a. state_of a.stores (table_of a.stores) };
+
+    ghost invariant = { λ a. IsVaultInside a.stores };
+}
+
+/// A turn's changes, which are to be committed or undone.
+#[derive(Debug)]
+pub struct Draft {
+    alloc: Global,
+    kept: Vault,
+    stores: Stores,
+    movements: Vec<Movement>,
+    is_spoiled: bool,
+}
+
+impl Model for Draft {
+    ghost use Rattle.rights_model.specs.Table.{table_after};
+    ghost use Rattle.vault.specs.Drafts.{DraftState, coded_draft};
+    ghost use Rattle.vault.specs.Stored.{IsDraftInside, state_of};
+
+    ghost Value = { DraftState };
+
+    ghost coded = { coded_draft };
+
+    ghost view = { λ a. record { kept = a.kept; now = state_of a.stores (table_after a.kept.table a.movements.items); movements = a.movements.items; spoiled = a.is_spoiled } };
+
+    ghost invariant = { λ a. IsDraftInside a.stores (record { kept = a.kept; now = state_of a.stores (table_after a.kept.table a.movements.items); movements = a.movements.items; spoiled = a.is_spoiled }) };
+}
+
+impl Vault {
+    /// A vault without brands, purses and payments.
+    pub fn new(alloc: Global) -> Vault
+        ensures { result ≡ record { supplies = []; purses = []; payments = []; table = no_holdings } }
+    {
+        let supply = Supply::new(alloc);
+        let purses = Purses::new(alloc);
+        let payments = Payments::new(alloc);
+        let stores = Stores {
+            supply,
+            purses,
+            payments,
+        };
+        Vault { alloc, stores }
+    }
+
+    /// Starts a turn, or hands the vault back. The vault as it is is kept.
+    pub fn begin(self) -> Result<Draft, (Vault, AllocError)>
+        ensures ok { IfOk result (λ draft. draft ≡ begun self) }
+        ensures valid { IfOk result IsDraft }
+        ensures hand { IfOk result HandIsEmpty }
+        ensures back { IfErr result (λ (vault, _). vault ≡ self) }
+    {
+        let alloc = self.alloc;
+        match self.stores.twin(alloc) {
+            Ok(stores) => Ok(Draft {
+                alloc,
+                kept: self,
+                stores,
+                movements: Vec::new(alloc),
+                is_spoiled: false,
+            }),
+            Err(error) => Err((self, error)),
+        }
+    }
+
+    pub fn supply(&self) -> &Supply
+        ensures supply { result.now ≡ self.now.supplies }
+        ensures sound { IsSound self.now }
+    {
+        &self.stores.supply
+    }
+
+    pub fn purses(&self) -> &Purses
+        ensures { ArePurses self.now result.now }
+    {
+        &self.stores.purses
+    }
+
+    pub fn payments(&self) -> &Payments
+        ensures { ArePayments self.now result.now }
+    {
+        &self.stores.payments
+    }
+}
+
+/// A movement of a copy of the value between copies of the holders.
+fn step(
+    alloc: Global,
+    brand: u16,
+    from: &Holder,
+    to: &Holder,
+    value: &Value,
+) -> Result<Movement, AllocError>
+    ensures { IfOk result (λ step. step ≡ movement brand from.now to.now value.now) }
+{
+    Ok(Movement {
+        brand,
+        from: from.copy(alloc)?,
+        to: to.copy(alloc)?,
+        value: value.copy()?,
+    })
+}
+
+impl Draft {
+    /// Ends the turn, and keeps what it did.
+    pub fn commit(self) -> Vault
+        requires unspoiled { self.spoiled ≡ false }
+        requires hand { HandIsEmpty self }
+        ensures { result ≡ self.now }
+    {
+        let Draft {
+            alloc,
+            kept: _,
+            stores: now,
+            movements: _,
+            is_spoiled: _,
+        } = self;
+        Vault { alloc, stores: now }
+    }
+
+    /// Ends the turn, as if it had not been.
+    pub fn undo(self) -> Vault
+        requires { HandIsEmpty self }
+        ensures { result ≡ self.kept }
+    {
+        let Draft {
+            alloc: _,
+            kept: vault,
+            stores: _,
+            movements: _,
+            is_spoiled: _,
+        } = self;
+        vault
+    }
+
+    /// The movements since the turn's start, in order.
+    pub fn movements(&self) -> &[Movement]
+        ensures { result.now ≡ self.now.movements }
+    {
+        &self.movements
+    }
+
+    /// Whether a parcel was given up, so that only undoing is left.
+    pub fn is_spoiled(&self) -> bool
+        ensures { result ≡ self.now.spoiled }
+    {
+        self.is_spoiled
+    }
+
+    pub fn supply(&self) -> &Supply
+        ensures supply { result.now ≡ self.now.now.supplies }
+        ensures valid { IsDraft self.now }
+    {
+        &self.stores.supply
+    }
+
+    pub fn purses(&self) -> &Purses
+        ensures { ArePurses self.now.now result.now }
+    {
+        &self.stores.purses
+    }
+
+    pub fn payments(&self) -> &Payments
+        ensures { ArePayments self.now.now result.now }
+    {
+        &self.stores.payments
+    }
+
+    /// Moves a value whole from one holder to another. After the error, which is want of memory, all
+    /// is as before but for the hand's inside: the draft may be spoiled, and can be undone.
+    pub fn transfer(&mut self, step: &Movement) -> Result<(), AllocError>
+        requires { CanTransfer self.old.now step.now }
+        ensures ok { OnOk result (self.new ≡ stepped self.old step.now) }
+        ensures valid { IsDraft self.new }
+        ensures kept { self.new.kept ≡ self.old.kept }
+        ensures hand { KeepsHand self.old self.new }
+    {
+        let mut noted = step.copy(self.alloc)?;
+        self.movements.reserve(1)?;
+        let Ok(parcel) = self.stores.leave(&step.from, step.brand, &step.value) else {
+            return Err(AllocError);
+        };
+        match self.stores.come(&step.to, parcel) {
+            Ok(()) => {
+                self.movements.push_reserved(noted);
+                Ok(())
+            }
+            Err((parcel, _)) => {
+                noted.to = Holder::Hand;
+                self.movements.push_reserved(noted);
+                self.stores.supply.retire(parcel);
+                self.is_spoiled = true;
+                Err(AllocError)
+            }
+        }
+    }
+
+    /// Takes a part of a purse, or a whole payment, in the hand. On an error all is as before.
+    pub fn take(&mut self, holder: &Holder, value: &Value) -> Result<Parcel, TakeFault>
+        requires { IsTaken self.old.now holder.now value.now }
+        ensures ok { OnOk result (self.new ≡ stepped self.old (movement (brand_of self.old.now holder.now) holder.now Holder.Hand value.now)) }
+        ensures parcel { IfOk result (λ parcel. parcel ≡ record { brand = brand_of self.old.now holder.now; value = value.now }) }
+        ensures enough { OnOk result (Contains (held_by self.old.now holder.now) value.now.content) }
+        ensures hand { IfOk result (λ parcel. HandHas self.new parcel.brand parcel.value.content) }
+        ensures gains { OnOk result (HandGains self.old self.new (brand_of self.old.now holder.now) value.now.content) }
+        ensures valid { IsDraft self.new }
+        ensures err { OnErr result (self.new ≡ self.old) }
+        ensures refused { IfErr result (IsTakeRefusal (held_by self.old.now holder.now) value.now.content) }
+    {
+        let brand = self.stores.brand(holder);
+        let Ok(noted) = step(self.alloc, brand, holder, &Holder::Hand, value) else {
+            return Err(TakeFault::NoMemory);
+        };
+        if self.movements.reserve(1).is_err() {
+            return Err(TakeFault::NoMemory);
+        }
+        match self.stores.leave(holder, brand, value) {
+            Ok(parcel) => {
+                self.movements.push_reserved(noted);
+                Ok(parcel)
+            }
+            Err(fault) => Err(fault),
+        }
+    }
+
+    /// Puts a parcel of the hand in a purse, or makes the next payment of it. On an error the parcel
+    /// is handed back and all is as before.
+    pub fn put(&mut self, holder: &Holder, parcel: Parcel) -> Result<(), (Parcel, PutFault)>
+        requires holder { IsGiven self.old.now holder.now parcel.brand }
+        requires made { parcel.brand < length self.old.now.supplies }
+        requires kind { parcel.value.kind ≡ kind_of self.old.now parcel.brand }
+        requires hand { HandHas self.old parcel.brand parcel.value.content }
+        ensures ok { OnOk result (self.new ≡ stepped self.old (movement parcel.brand Holder.Hand holder.now parcel.value)) }
+        ensures loses { OnOk result (HandGains self.new self.old parcel.brand parcel.value.content) }
+        ensures valid { IsDraft self.new }
+        ensures back { IfErr result (λ (back, _). back ≡ parcel) }
+        ensures err { OnErr result (self.new ≡ self.old) }
+        ensures refused { IfErr result (λ (_, fault). IsPutRefusal parcel.value.kind (sum (held_by self.old.now holder.now) parcel.value.content) fault) }
+    {
+        let Ok(noted) = step(
+            self.alloc,
+            parcel.brand(),
+            &Holder::Hand,
+            holder,
+            parcel.value(),
+        ) else {
+            return Err((parcel, PutFault::NoMemory));
+        };
+        if self.movements.reserve(1).is_err() {
+            return Err((parcel, PutFault::NoMemory));
+        }
+        match self.stores.come(holder, parcel) {
+            Ok(()) => {
+                self.movements.push_reserved(noted);
+                Ok(())
+            }
+            Err(refused) => Err(refused),
+        }
+    }
+
+    /// Brings a value out in the hand. On an error the value is handed back and all is as before.
+    pub fn issue(&mut self, brand: u16, value: Value) -> Result<Parcel, (Value, PutFault)>
+        requires made { brand < length self.old.now.supplies }
+        requires kind { value.kind ≡ kind_of self.old.now brand }
+        requires room { (supply_at self.old.now.supplies brand).minted + counted value.content < 2 ^ 128 }
+        ensures ok { OnOk result (self.new ≡ stepped self.old (movement brand Holder.Outside Holder.Hand value)) }
+        ensures parcel { IfOk result (λ parcel. parcel ≡ record { brand = brand; value = value }) }
+        ensures hand { IfOk result (λ parcel. HandHas self.new parcel.brand parcel.value.content) }
+        ensures gains { OnOk result (HandGains self.old self.new brand value.content) }
+        ensures valid { IsDraft self.new }
+        ensures back { IfErr result (λ (back, _). back ≡ value) }
+        ensures err { OnErr result (self.new ≡ self.old) }
+        ensures refused { IfErr result (λ (_, fault). IsPutRefusal value.kind (sum (out_of self.old.now brand) value.content) fault) }
+    {
+        let Ok(noted) = step(self.alloc, brand, &Holder::Outside, &Holder::Hand, &value) else {
+            return Err((value, PutFault::NoMemory));
+        };
+        if self.movements.reserve(1).is_err() {
+            return Err((value, PutFault::NoMemory));
+        }
+        match self.stores.supply.issue(brand, value) {
+            Ok(parcel) => {
+                self.movements.push_reserved(noted);
+                Ok(parcel)
+            }
+            Err(refused) => Err(refused),
+        }
+    }
+
+    /// Ends a parcel of the hand, or hands it back for want of memory and leaves all as before.
+    pub fn retire(&mut self, parcel: Parcel) -> Result<(), (Parcel, AllocError)>
+        requires made { parcel.brand < length self.old.now.supplies }
+        requires kind { parcel.value.kind ≡ kind_of self.old.now parcel.brand }
+        requires hand { HandHas self.old parcel.brand parcel.value.content }
+        ensures ok { OnOk result (self.new ≡ stepped self.old (movement parcel.brand Holder.Hand Holder.Outside parcel.value)) }
+        ensures loses { OnOk result (HandGains self.new self.old parcel.brand parcel.value.content) }
+        ensures valid { IsDraft self.new }
+        ensures back { IfErr result (λ (back, _). back ≡ parcel) }
+        ensures err { OnErr result (self.new ≡ self.old) }
+    {
+        let noted = match step(
+            self.alloc,
+            parcel.brand(),
+            &Holder::Hand,
+            &Holder::Outside,
+            parcel.value(),
+        ) {
+            Ok(noted) => noted,
+            Err(error) => return Err((parcel, error)),
+        };
+        if let Err(error) = self.movements.reserve(1) {
+            return Err((parcel, error));
+        }
+        self.stores.supply.retire(parcel);
+        self.movements.push_reserved(noted);
+        Ok(())
+    }
+
+    /// Gives a parcel of the hand up, without memory. The draft is then only to be undone.
+    pub fn give_up(&mut self, parcel: Parcel)
+        requires made { parcel.brand < length self.old.now.supplies }
+        requires kind { parcel.value.kind ≡ kind_of self.old.now parcel.brand }
+        requires hand { HandHas self.old parcel.brand parcel.value.content }
+        ensures given_up { self.new ≡ without self.old parcel }
+        ensures loses { HandGains self.new self.old parcel.brand parcel.value.content }
+        ensures valid { IsDraft self.new }
+    {
+        self.stores.supply.retire(parcel);
+        self.is_spoiled = true;
+    }
+
+    /// Opens an empty purse of the brand, and answers its number. On an error all is as before.
+    pub fn open_purse(&mut self, brand: u16, kind: Kind) -> Result<u32, OpenFault>
+        requires made { brand < length self.old.now.supplies }
+        requires kind { kind ≡ kind_of self.old.now brand }
+        ensures ok { OnOk result (self.new ≡ with_purse self.old brand) }
+        ensures number { IfOk result (λ purse. purse ≡ length self.old.now.purses) }
+        ensures room { IsOk result → length self.old.now.purses < most_made }
+        ensures limit { IfErr result (λ fault. (fault ≡ OpenFault.Limit) ↔ (length self.old.now.purses ≡ most_made)) }
+        ensures hand { KeepsHand self.old self.new }
+        ensures valid { IsDraft self.new }
+        ensures err { OnErr result (self.new ≡ self.old) }
+    {
+        self.stores.purses.open(brand, kind)
+    }
+
+    /// Adds the next brand, of which nothing is out. On an error all is as before.
+    pub fn add_brand(&mut self, kind: Kind) -> Result<(), AllocError>
+        ensures ok { OnOk result (self.new ≡ with_brand self.old kind) }
+        ensures hand { KeepsHand self.old self.new }
+        ensures valid { IsDraft self.new }
+        ensures err { OnErr result (self.new ≡ self.old) }
+    {
+        self.stores.supply.add_brand(kind)
+    }
+}
+
+#[cfg(test)]
+mod tests;

@@ -1,0 +1,280 @@
+//! What each party has under its labels, what stands at a path, and the arguments of a line with what
+//! stands at their paths. Its one contract: a party has `ertp`, `zoe` and `timer` from the start and,
+//! beside them, what was bound for it, and nothing else; a path that isn't there is refused.
+
+ghost use Rattle.std.specs.Prelude.{◌≡◌, ◌∷◌, [], map, option_map, is_some, string_bytes, IfOk, OnErr, OnOk, None};
+ghost use Rattle.jessie_tree.specs.View.{tree, trees, named_trees};
+ghost use Rattle.jessie_tree.specs.View as views;
+ghost use Rattle.vault.specs.Outcomes.{Gives, wanted};
+ghost use Rattle.vault.specs.Parties.{bound_to, item_at, label_in, labels_of, own, part_at, resolved, resolved_all, resolved_fields, service_of, value_at, walked, walked_from, with_label};
+ghost use Rattle.vault.specs.Parts.{steps_of};
+ghost use Rattle.vault.specs.PartViews.{fields_of, items_of, named_part_trees, part_tree, part_trees};
+ghost use Rattle.vault.specs.declared.refusals.Refusal.TheVariants.{UnknownName};
+
+use crate::parts::Part;
+use crate::refusals::{Refusal, Stop};
+use host_text::number::read_number;
+use host_text::text::Text;
+use indexmap::IndexMap;
+use jessie_tree::data::{Data, Obj, ObjKind};
+use std::alloc::{AllocError, Global};
+
+/// What the parties have under their labels. A party exists from its first mention and has from the
+/// start `ertp`, `zoe` and `timer`. Contracts see the labels that were bound since (specs/Parties.antt).
+#[derive(Debug, Drop)]
+pub struct Parties {
+    /// By the party, a dot and the label.
+    labels: IndexMap<String, Data>,
+}
+
+impl Parties {
+    /// Parties that have bound nothing yet.
+    pub fn new(alloc: Global) -> Parties
+        ensures { labels_of result ≡ [] }
+    {
+        Parties {
+            labels: IndexMap::new(alloc),
+        }
+    }
+
+    /// Whether the party has something under the label.
+    pub fn is_bound(&self, alloc: Global, party: &Text, label: &Text) -> Result<bool, AllocError>
+        ensures { IfOk result (λ there. there ≡ is_some (bound_to (labels_of self.now) party.now label.now)) }
+    {
+        if service(label.as_str()).is_some() {
+            return Ok(true);
+        }
+        let found = self.bound(alloc, party, label.as_str())?;
+        Ok(found.is_some())
+    }
+
+    /// Binds a label that is free to the value. On an error all is as before.
+    pub fn bind(
+        &mut self,
+        alloc: Global,
+        party: &Text,
+        label: &Text,
+        value: Data,
+    ) -> Result<(), AllocError>
+        requires { bound_to (labels_of self.old) party.now label.now ≡ None }
+        ensures ok { OnOk result (labels_of self.new ≡ with_label (labels_of self.old) party.now label.now (tree value)) }
+        ensures err { OnErr result (labels_of self.new ≡ labels_of self.old) }
+    {
+        let name = full_name(alloc, party, label.as_str())?;
+        self.labels.insert(name, value)?;
+        Ok(())
+    }
+
+    /// A copy of what stands at a path of the party's, or `None` exactly where its label or a step of it
+    /// isn't there.
+    #[tactic(auto, unfolding(crate::specs::Parties::value_at))]
+    pub fn value_at(
+        &self,
+        alloc: Global,
+        party: &Text,
+        path: &Text,
+    ) -> Result<Option<Data>, AllocError>
+        ensures { IfOk result (λ found. option_map (λ made. tree made) found ≡ value_at (labels_of self.now) party.now path.now) }
+    {
+        let steps = steps_of(alloc, path.as_str())?;
+        self.walked_from(alloc, party, steps.as_slice())
+    }
+
+    /// The arguments with copies of what stands at their paths in the place of the paths. The first path
+    /// that isn't there is refused.
+    pub fn resolve(
+        &self,
+        alloc: Global,
+        party: &Text,
+        arguments: &[Part],
+    ) -> Result<Vec<Data>, Stop>
+        ensures { Gives (λ made. views.items_of (trees made.items)) result (resolved_all (labels_of self.now) party.now (items_of (part_trees arguments.now))) }
+    {
+        resolve_items(alloc, self, party, arguments)
+    }
+
+    /// What was bound for the party under the label.
+    fn bound(&self, alloc: Global, party: &Text, label: &str) -> Result<Option<&Data>, AllocError>
+        ensures { IfOk result (λ found. option_map (λ there. tree there.now) found ≡ label_in (own party.now label.now) (labels_of self.now)) }
+    {
+        let name = full_name(alloc, party, label)?;
+        Ok(self.labels.get(name.as_str()))
+    }
+
+    /// A copy of what stands at the end of the steps, of which the first is a label of the party's.
+    fn walked_from(
+        &self,
+        alloc: Global,
+        party: &Text,
+        steps: &[&str],
+    ) -> Result<Option<Data>, AllocError>
+        ensures { IfOk result (λ found. option_map (λ made. tree made) found ≡ walked_from (labels_of self.now) party.now (map (λ step. step.now) steps.now)) }
+    {
+        match steps {
+            [] => Ok(None),
+            [label, steps @ ..] => self.walked_from_label(alloc, party, label, steps),
+        }
+    }
+
+    /// A copy of what stands at the end of the steps from what the party has under the label.
+    fn walked_from_label(
+        &self,
+        alloc: Global,
+        party: &Text,
+        label: &str,
+        steps: &[&str],
+    ) -> Result<Option<Data>, AllocError>
+        ensures { IfOk result (λ found. option_map (λ made. tree made) found ≡ walked_from (labels_of self.now) party.now (label.now ∷ map (λ step. step.now) steps.now)) }
+    {
+        if let Some(object) = service(label) {
+            return copy_at(alloc, &Data::Object(object), steps);
+        }
+        match self.bound(alloc, party, label)? {
+            Some(found) => copy_at(alloc, found, steps),
+            None => Ok(None),
+        }
+    }
+}
+
+/// The party, a dot and the label.
+fn full_name(alloc: Global, party: &Text, label: &str) -> Result<String, AllocError>
+    ensures { IfOk result (λ name. string_bytes name ≡ own party.now label.now) }
+{
+    let party = party.as_str();
+    format!(in alloc; "{party}.{label}")
+}
+
+/// What stands between the dots of a path.
+fn steps_of<'a>(alloc: Global, path: &'a str) -> Result<Vec<&'a str>, AllocError>
+    ensures { IfOk result (λ steps. map (λ step. step.now) steps.items ≡ steps_of path.now) }
+{
+    path.split('.').collect(alloc)
+}
+
+/// What each party has under the label from the start.
+fn service(label: &str) -> Option<Obj>
+    ensures { result ≡ service_of label.now }
+{
+    let kind = match label {
+        "ertp" => ObjKind::Ertp,
+        "zoe" => ObjKind::Zoe,
+        "timer" => ObjKind::Timer,
+        _ => return None,
+    };
+    Some(Obj { kind, number: 0 })
+}
+
+/// The field of a record, or the part of an array, that a step of a path names.
+fn part_at<'a>(whole: &'a Data, step: &str) -> Option<&'a Data>
+    ensures { option_map (λ part. tree part.now) result ≡ part_at (tree whole.now) step.now }
+{
+    match whole.items() {
+        Some(items) => item_at(items, step),
+        None => whole.field(step),
+    }
+}
+
+/// The part of an array at the place that the step writes.
+fn item_at<'a>(items: &'a [Data], step: &str) -> Option<&'a Data>
+    ensures { option_map (λ item. tree item.now) result ≡ item_at (trees items.now) step.now }
+{
+    let place = read_number(step.as_bytes())?;
+    let place = usize::try_from(place).ok()?;
+    items.get(place)
+}
+
+/// What stands at the end of the steps.
+fn walk<'a>(whole: &'a Data, steps: &[&str]) -> Option<&'a Data>
+    ensures { option_map (λ part. tree part.now) result ≡ walked (tree whole.now) (map (λ step. step.now) steps.now) }
+{
+    let mut part = whole;
+    for step in steps {
+        part = part_at(part, step)?;
+    }
+    Some(part)
+}
+
+/// A copy of what stands at the end of the steps.
+fn copy_at(alloc: Global, whole: &Data, steps: &[&str]) -> Result<Option<Data>, AllocError>
+    ensures { IfOk result (λ found. option_map (λ part. tree part) found ≡ walked (tree whole.now) (map (λ step. step.now) steps.now)) }
+{
+    match walk(whole, steps) {
+        Some(part) => Ok(Some(part.copy(alloc)?)),
+        None => Ok(None),
+    }
+}
+
+/// The part with what stands at its paths.
+#[cycle(resolve)]
+fn resolve_part(alloc: Global, parties: &Parties, party: &Text, part: &Part) -> Result<Data, Stop>
+    ensures { Gives (λ made. tree made) result (resolved (labels_of parties.now) party.now (part_tree part.now)) }
+{
+    match part {
+        Part::Null => Ok(Data::Null),
+        Part::Bool(truth) => Ok(Data::Bool(*truth)),
+        Part::Number(number) => Ok(Data::Number(*number)),
+        Part::Text(text) => Ok(Data::Text(text.copy(alloc)?)),
+        Part::Array(items) => Ok(Data::Array(resolve_items(
+            alloc,
+            parties,
+            party,
+            items.as_slice(),
+        )?)),
+        Part::Record(fields) => Ok(Data::Record(resolve_fields(
+            alloc,
+            parties,
+            party,
+            fields.as_slice(),
+        )?)),
+        Part::Path(path) => resolve_path(alloc, parties, party, path),
+    }
+}
+
+/// A copy of what stands at the path, or its refusal.
+#[tactic(auto, unfolding(crate::specs::Outcomes::wanted))]
+fn resolve_path(alloc: Global, parties: &Parties, party: &Text, path: &Text) -> Result<Data, Stop>
+    ensures { Gives (λ made. tree made) result (wanted (value_at (labels_of parties.now) party.now path.now) (UnknownName path.now)) }
+{
+    match parties.value_at(alloc, party, path)? {
+        Some(data) => Ok(data),
+        None => Err(Stop::Refused(Refusal::UnknownName(path.copy(alloc)?))),
+    }
+}
+
+/// Each part with what stands at its paths, in their order.
+#[cycle(resolve)]
+fn resolve_items(
+    alloc: Global,
+    parties: &Parties,
+    party: &Text,
+    items: &[Part],
+) -> Result<Vec<Data>, Stop>
+    ensures { Gives (λ made. views.items_of (trees made.items)) result (resolved_all (labels_of parties.now) party.now (items_of (part_trees items.now))) }
+{
+    let mut found = Vec::new(alloc);
+    for item in items {
+        found.push(resolve_part(alloc, parties, party, item)?)?;
+    }
+    Ok(found)
+}
+
+/// Each field with what stands at its paths, in their order.
+#[cycle(resolve)]
+fn resolve_fields(
+    alloc: Global,
+    parties: &Parties,
+    party: &Text,
+    fields: &[(Text, Part)],
+) -> Result<Vec<(Text, Data)>, Stop>
+    ensures { Gives (λ made. views.fields_of (named_trees made.items)) result (resolved_fields (labels_of parties.now) party.now (fields_of (named_part_trees fields.now))) }
+{
+    let mut found = Vec::new(alloc);
+    for (name, part) in fields {
+        let data = resolve_part(alloc, parties, party, part)?;
+        found.push((name.copy(alloc)?, data))?;
+    }
+    Ok(found)
+}
+
+#[cfg(test)]
+mod tests;

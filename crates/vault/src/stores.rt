@@ -1,0 +1,125 @@
+//! The stores inside a vault: the supply, the purses and the payments. A value leaves one, or the
+//! outside, as a parcel, and comes to another, or goes outside.
+
+ghost use Rattle.std.specs.Prelude.{◌≡◌, ◌<◌, IfErr, IfOk, IsTrue, OnErr, OnOk, length, slice_set};
+ghost use Rattle.vault.specs.Payments.{payment_at, spent};
+ghost use Rattle.vault.specs.Stored.{amount_in, stores_from, stores_to};
+ghost use Rattle.vault.specs.Moves.{CanCome, CanLeave, Had, IsComeRefusal, IsIssued, IsLeaveRefusal, IsMade};
+
+use crate::payments::{PaymentRef, Payments};
+use crate::purses::Purses;
+use amount_math::{PutFault, TakeFault, Value};
+use ertp_mint::{Parcel, Supply};
+use rights_model::Holder;
+use std::alloc::{AllocError, Global};
+
+#[derive(Debug, Drop)]
+pub(crate) struct Stores {
+    pub(crate) supply: Supply,
+    pub(crate) purses: Purses,
+    pub(crate) payments: Payments,
+}
+
+impl Stores {
+    /// A second one, which undoing keeps.
+    pub(crate) fn twin(&self, alloc: Global) -> Result<Stores, AllocError>
+        ensures { IfOk result (λ twin. twin ≡ self.now) }
+    {
+        Ok(Stores {
+            supply: self.supply.twin(alloc)?,
+            purses: self.purses.twin(alloc)?,
+            payments: self.payments.twin(alloc)?,
+        })
+    }
+
+    /// The brand of a purse or a payment.
+    pub(crate) fn brand(&self, holder: &Holder) -> u16
+        requires { IsMade self.now holder.now }
+        ensures { result ≡ (amount_in self.now holder.now).brand }
+    {
+        match holder {
+            Holder::Purse(purse) => self.purses.brand(*purse),
+            Holder::Payment(payment) => match self.payments.find(*payment) {
+                Some(payment) => self.payments.brand(payment),
+                None => unreachable!(),
+            },
+            Holder::Slot(_, _) | Holder::Hand | Holder::Outside => unreachable!(),
+        }
+    }
+
+    /// The parcel of a value that leaves the holder. On an error all is as before.
+    pub(crate) fn leave(
+        &mut self,
+        from: &Holder,
+        brand: u16,
+        value: &Value,
+    ) -> Result<Parcel, TakeFault>
+        requires { CanLeave self.old from.now brand value.now }
+        ensures ok { OnOk result (self.new ≡ stores_from self.old from.now brand value.now.content) }
+        ensures parcel { IfOk result (λ parcel. parcel ≡ record { brand = brand; value = value.now }) }
+        ensures enough { OnOk result (Had self.old from.now value.now.content) }
+        ensures err { OnErr result (self.new ≡ self.old) }
+        ensures refused { IfErr result (IsLeaveRefusal self.old from.now value.now.content) }
+    {
+        match from {
+            Holder::Purse(purse) => self.purses.take(*purse, value),
+            Holder::Payment(payment) => Ok(self.spend(*payment)),
+            Holder::Outside => self.issue(brand, value),
+            Holder::Slot(_, _) | Holder::Hand => unreachable!(),
+        }
+    }
+
+    fn spend(&mut self, payment: u32) -> Parcel
+        requires made { payment < length self.old.payments }
+        requires live { IsTrue (payment_at self.old.payments payment).is_live }
+        ensures parcel { result ≡ (payment_at self.old.payments payment).amount }
+        ensures spent { self.new ≡ record self.old { payments = slice_set self.old.payments payment (spent (payment_at self.old.payments payment)) } }
+    {
+        let Some(payment) = self.payments.find(payment) else {
+            unreachable!()
+        };
+        match self.payments.spend(payment) {
+            Ok(parcel) => parcel,
+            Err(_) => unreachable!(),
+        }
+    }
+
+    fn issue(&mut self, brand: u16, value: &Value) -> Result<Parcel, TakeFault>
+        requires { IsIssued self.old brand value.now }
+        ensures ok { OnOk result (self.new ≡ stores_from self.old Holder.Outside brand value.now.content) }
+        ensures parcel { IfOk result (λ parcel. parcel ≡ record { brand = brand; value = value.now }) }
+        ensures err { OnErr result (self.new ≡ self.old) }
+        ensures refused { IfErr result (λ fault. fault ≡ TakeFault.NoMemory) }
+    {
+        let Ok(value) = value.copy() else {
+            return Err(TakeFault::NoMemory);
+        };
+        match self.supply.issue(brand, value) {
+            Ok(parcel) => Ok(parcel),
+            Err((_, PutFault::NoMemory)) => Err(TakeFault::NoMemory),
+            Err((_, PutFault::TooMuch(_))) => unreachable!(),
+        }
+    }
+
+    /// Lets a parcel come to the holder, or hands it back and leaves all as before.
+    pub(crate) fn come(&mut self, to: &Holder, parcel: Parcel) -> Result<(), (Parcel, PutFault)>
+        requires { CanCome self.old to.now parcel }
+        ensures ok { OnOk result (self.new ≡ stores_to self.old to.now parcel) }
+        ensures back { IfErr result (λ (back, _). back ≡ parcel) }
+        ensures err { OnErr result (self.new ≡ self.old) }
+        ensures refused { IfErr result (λ (_, fault). IsComeRefusal self.old to.now parcel fault) }
+    {
+        match to {
+            Holder::Purse(purse) => self.purses.put(*purse, parcel),
+            Holder::Payment(_) => match self.payments.make(parcel) {
+                Ok(_) => Ok(()),
+                Err((parcel, _)) => Err((parcel, PutFault::NoMemory)),
+            },
+            Holder::Outside => {
+                self.supply.retire(parcel);
+                Ok(())
+            }
+            Holder::Slot(_, _) | Holder::Hand => unreachable!(),
+        }
+    }
+}

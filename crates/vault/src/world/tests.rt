@@ -1,0 +1,65 @@
+ghost use Rattle.std.specs.Prelude.{◌≡◌};
+ghost use Rattle.vault.specs.Brands.{first_brands};
+ghost use Rattle.vault.specs.Vaults.{first_vault};
+ghost use Rattle.vault.specs.Worlds.{begins};
+
+use super::{Resting, World};
+use crate::brands::{Brand, Brands};
+use crate::drafts::Vault;
+use amount_math::{Kind, Value};
+use host_text::text::Text;
+use rights_model::{Holder, Movement, Sum};
+use std::alloc::Global;
+use std::process::Abort;
+
+/// The world of a new host's first turn.
+fn first_world(rt: &impl Abort, alloc: Global) -> World
+    ensures { result ≡ begins first_vault first_brands }
+{
+    let mut draft = match Vault::new(alloc).begin() {
+        Ok(draft) => draft,
+        Err((_, _)) => panic!(rt; "memory for a draft"),
+    };
+    draft.add_brand(Kind::Set).expect(rt, "memory for a brand");
+    let vault = draft.commit();
+    let brands = Brands::new(alloc).expect(rt, "memory for brands");
+    match World::begin(Resting { vault, brands }) {
+        Ok(world) => world,
+        Err(_resting) => panic!(rt; "memory for a draft"),
+    }
+}
+
+#[test]
+fn a_minted_payment_is_summed(rt: HostRuntime) {
+    let mut world = first_world(&rt, rt.alloc());
+    let name = Text::from_str(rt.alloc(), "Moola").expect(&rt, "memory for a name");
+    let brand = Brand {
+        name,
+        kind: Kind::Nat,
+    };
+    world.make_brand(brand).expect(&rt, "memory for a brand");
+    let mint = Movement {
+        brand: 1,
+        from: Holder::Outside,
+        to: Holder::Payment(0),
+        value: Value::nat(5),
+    };
+    world.transfer(&mint).expect(&rt, "memory for a movement");
+    let movements = world
+        .movements(rt.alloc())
+        .expect(&rt, "memory for movements");
+    let sums = world
+        .sums(rt.alloc(), &movements)
+        .expect(&rt, "memory for sums");
+    let moola = Sum {
+        brand: 1,
+        minted: 5,
+        burned: 0,
+        purses: 0,
+        payments: 5,
+        slots: 0,
+    };
+    assert_eq!(rt; sums.as_slice(), [moola].as_slice());
+    let resting = world.undo();
+    assert_eq!(rt; resting.brands.made(), 1);
+}

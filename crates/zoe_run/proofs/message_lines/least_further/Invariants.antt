@@ -1,7 +1,0 @@
-use Rattle.std.proofs.Common.{◌≡◌}
-use Rattle.serde_json.specs.View.{members_view}
-use Rattle.zoe_run.proofs.FurtherFields.{first_further}
-use Rattle.zoe_run.proofs.message_lines.least_further.Given as goal
-
-abbrev pub invariant-loop-name : goal.invariant-loop-name
-invariant-loop-name l = first_further (members_view l.members.entries) ≡ first_further (members_view l.name-iterator)

@@ -1,5 +1,0 @@
-use Rattle.zoe_run.proofs.Readings.{reads_purses}
-use Rattle.zoe_run.proofs.vault.Draft.purses.Goals as goal
-
-pub returns : goal.returns
-returns c = rw (← c.self.view_is) (reads_purses _ _ c.self.invariant.agrees c.self.invariant.kinds)

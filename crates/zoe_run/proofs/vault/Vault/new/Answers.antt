@@ -1,5 +1,0 @@
-use Rattle.zoe_run.proofs.DraftSteps.{new_stores}
-use Rattle.zoe_run.proofs.vault.Vault.new.Goals as goal
-
-pub invariant_of-result : goal.invariant_of-result
-invariant_of-result c = rw (c.new-supply.ensures, c.new-purses.ensures, c.new-payments.ensures) new_stores

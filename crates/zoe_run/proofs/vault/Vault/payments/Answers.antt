@@ -1,5 +1,0 @@
-use Rattle.zoe_run.proofs.Readings.{Agrees-table_of, reads_payments}
-use Rattle.zoe_run.proofs.vault.Vault.payments.Goals as goal
-
-pub returns : goal.returns
-returns c = rw (← c.self.view_is) (reads_payments _ _ (Agrees-table_of _) c.self.invariant.kinds)
