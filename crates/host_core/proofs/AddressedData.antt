@@ -7,30 +7,24 @@ use Rattle.jessie_tree.specs.Tree.{Items, Ordered, OrderedItems, Tree, item, ite
 use Rattle.jessie_tree.specs.declared.data.Obj.{Obj}
 use Rattle.host_core.specs.CallArguments.{arg}
 use Rattle.host_core.specs.Delivered.{AreGood}
-use Rattle.host_core.specs.Deliveries.{addressed, free_label}
+use Rattle.host_core.specs.Deliveries.{addressed, free_label, given_by}
 use Rattle.host_core.specs.JournalLaws.{InRange, IsData, ItemsInRange}
-use Rattle.host_core.specs.MessageLines.{CallRead}
+use Rattle.host_core.specs.MessageLines.{CallRead, GiveRead}
 use Rattle.vault.specs.OrderedParts.{OrderedPartItems}
-use Rattle.vault.specs.Outcomes.{wanted}
 use Rattle.vault.specs.Parties.{EachLabel, Labels, resolved, resolved_all, resolved_fields, value_at}
 use Rattle.vault.specs.Parts as part
 use Rattle.vault.specs.Parts.{PartFields, PartItems, PartTree}
 use Rattle.vault.specs.Vaults.{VaultState}
-use Rattle.vault.specs.declared.refusals.Refusal.{Refusal}
 use Rattle.vault.specs.declared.refusals.Refusal.TheVariants.{BadField, NameTaken, UnknownName, WrongObject}
+use Rattle.host_core.proofs.GoodLabels.{value_at-good}
 use Rattle.host_core.proofs.RangesRead.{PartItemsInRange, resolved_all-InRange, value_at-InRange}
-use Rattle.host_core.proofs.RefusalData.{Comes, IsTold, comes_last, comes_need, comes_refused, comes_step, comes_wanted, told_number, told_text}
+use Rattle.host_core.proofs.RefusalData.{Comes, comes_found, comes_last, comes_need, comes_refused, comes_step, comes_wanted, told_number, told_text}
 use Rattle.vault.proofs.Resolved.{resolved_all-Ordered}
 use Rattle.host_core.proofs.RowsWritable.{all_head, all_tail}
 use Rattle.host_core.proofs.ServedData.{object-InRange}
 
 abbrev Any : {A : Type 0} → A → Type 0
 Any x = Unit {0}
-
-found_told : {A : Type 0} (o : Option A) (r : Refusal) → IsTold r → Comes {A = A} Any (wanted o r)
-unfolding wanted
-found_told (Some x) r told = tt
-found_told None r told = told
 
 module _ (ls : Labels) (party : List ℕ) where
   mutual
@@ -41,7 +35,7 @@ module _ (ls : Labels) (party : List ℕ) where
     resolved_told (part.text s) = tt
     resolved_told (part.array ps) = comes_step Any (resolved_all ls party ps) _ (comes_refused Any _ (resolved_all_told ps)) (λ ts is. tt)
     resolved_told (part.fields fs) = comes_step Any (resolved_fields ls party fs) _ (comes_refused Any _ (resolved_fields_told fs)) (λ ts is. tt)
-    resolved_told (part.path p) = found_told (value_at ls party p) (UnknownName p) (told_text (UnknownName p) p refl)
+    resolved_told (part.path p) = comes_found Any (value_at ls party p) (UnknownName p) (told_text (UnknownName p) p refl) (λ t at. tt)
 
     resolved_all_told : (ps : PartItems) → Comes Any (resolved_all ls party ps)
     resolved_all_told part.no_items = tt
@@ -76,6 +70,15 @@ addressed_told ls c ranges ordered range order =
       target = object-InRange target on (value_at-InRange ls c.by ranges c.on target at) seen;
       arguments = listed_data items (resolved_all-InRange ls c.by ranges c.arguments items range is) (resolved_all-Ordered ls c.by ordered c.arguments items order is) (leb-true _ _ shallow);
     })))))
+
+-- what a give gives is data, or the refusal is told
+pub given_told : (v : VaultState) (ls : Labels) (g : GiveRead) → EachLabel InRange ls → AreGood v ls → Comes IsData (given_by ls g)
+unfolding given_by
+given_told v ls g ranges good =
+    comes_step _ (free_label ls g.to (Some g.label)) _ (comes_refused Any _ (free_told ls g.to (Some g.label))) (λ u free.
+    comes_found _ (value_at ls g.by g.given) (UnknownName g.given) (told_text (UnknownName g.given) g.given refl) (λ given at.
+    let is = value_at-good v ls g.by g.given given good at in
+    record { ranges = value_at-InRange ls g.by ranges g.given given at; ordered = is.ordered; shallow = is.shallow }))
 
 -- each argument is in range, and so is one that is missing
 arguments_in_range : (args : List Tree) → All IsData args → (i : ℕ) → InRange (get_or args i null)

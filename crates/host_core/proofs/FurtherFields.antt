@@ -1,4 +1,4 @@
--- The first field that a call hasn't, of members in byte order, is the least one.
+-- The first field that a form hasn't, of members in byte order, is the least one.
 use Rattle.std.proofs.Common.{◌≡◌, ℕ, List, [], ◌∷◌, Bool, true, false, if◌then◌else◌, Option, Some, None, Ordering, Less, Equal, Greater, nat_cmp, string_cmp, string_bytes, refl}
 use Rattle.std.specs.Cmp.Lexicographic.{slice_cmp}
 use Rattle.std.specs.List.{AllByRecursion}
@@ -7,13 +7,13 @@ use Rattle.std.specs.Map.{keys_of}
 use Rattle.std.specs.Ordering.{match_ordering}
 use Rattle.serde_json.specs.Data.{Members, no_members, member}
 use Rattle.serde_json.specs.View.{members_view}
-use Rattle.host_core.specs.MessageLines.{is_call_field, lesser, least_further}
+use Rattle.host_core.specs.MessageLines.{Form, is_field_of, lesser, least_further}
 use Rattle.vault.proofs.PartTrees.{Entry}
 
--- the first name that a call hasn't
-abbrev pub first_further : Members → Option (List ℕ)
-first_further no_members = None
-first_further (member name d ms) = if is_call_field name then first_further ms else Some name
+-- the first name that a form hasn't
+abbrev pub first_further : Form → Members → Option (List ℕ)
+first_further form no_members = None
+first_further form (member name d ms) = if is_field_of form name then first_further form ms else Some name
 
 -- the name is below the other, where there is one
 abbrev Below : List ℕ → Option (List ℕ) → Type 0
@@ -34,12 +34,12 @@ below_either : (n : List ℕ) (further : Bool) (a b : Option (List ℕ)) → Bel
 below_either n true a b h k = h
 below_either n false a b h k = k
 
-below_all : (n : List ℕ) (first : Entry) (es : List Entry) → n ≡ string_bytes first.0 → AllByRecursion (λ y. string_cmp first.0 y ≡ Less) (keys_of es) → Below n (least_further (members_view es))
-below_all n first [] is h = tt
-below_all n first (e ∷ es) is h =
+below_all : (form : Form) (n : List ℕ) (first : Entry) (es : List Entry) → n ≡ string_bytes first.0 → AllByRecursion (λ y. string_cmp first.0 y ≡ Less) (keys_of es) → Below n (least_further form (members_view es))
+below_all form n first [] is h = tt
+below_all form n first (e ∷ es) is h =
     let here : Below n (Some (string_bytes e.0)) = rw is h.0 in
-    let later : Below n (least_further (members_view es)) = below_all n first es is h.1 in
-    below_either n (is_call_field (string_bytes e.0)) _ _ later (below_lesser n (Some (string_bytes e.0)) (least_further (members_view es)) here later)
+    let later : Below n (least_further form (members_view es)) = below_all form n first es is h.1 in
+    below_either n (is_field_of form (string_bytes e.0)) _ _ later (below_lesser n (Some (string_bytes e.0)) (least_further form (members_view es)) here later)
 
 lesser_below : (n : List ℕ) (o : Option (List ℕ)) → Below n o → lesser (Some n) o ≡ Some n
 lesser_below n None h = refl
@@ -49,9 +49,9 @@ choice : (b : Bool) (x y z w : Option (List ℕ)) → x ≡ y → z ≡ w → (i
 choice true x y z w e f = e
 choice false x y z w e f = f
 
-pub first_is_least : (es : List Entry) → IsStrictlySortedBy string_cmp (keys_of es) → least_further (members_view es) ≡ first_further (members_view es)
+pub first_is_least : (form : Form) (es : List Entry) → IsStrictlySortedBy string_cmp (keys_of es) → least_further form (members_view es) ≡ first_further form (members_view es)
 unfolding IsStrictlySortedBy
-first_is_least [] h = refl
-first_is_least (e ∷ es) h =
-    choice (is_call_field (string_bytes e.0)) _ _ _ _ (first_is_least es h.1)
-    (lesser_below (string_bytes e.0) (least_further (members_view es)) (below_all (string_bytes e.0) e es refl h.0))
+first_is_least form [] h = refl
+first_is_least form (e ∷ es) h =
+    choice (is_field_of form (string_bytes e.0)) _ _ _ _ (first_is_least form es h.1)
+    (lesser_below (string_bytes e.0) (least_further form (members_view es)) (below_all form (string_bytes e.0) e es refl h.0))

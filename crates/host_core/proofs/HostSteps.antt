@@ -6,11 +6,11 @@ use Rattle.jessie_tree.specs.declared.data.Obj.{Obj}
 use Rattle.jessie_tree.specs.declared.data.ObjKind.TheVariants.{Purse}
 use Rattle.rights_model.specs.declared.Holder.TheVariants as holders
 use Rattle.host_core.specs.Delivered.{AreGood, IsFree, IsGood, IsSteady}
-use Rattle.host_core.specs.Deliveries.{Kept, addressed, answered, call_turn, came_to, free_label, labelled, refused, turn_of, world_at}
+use Rattle.host_core.specs.Deliveries.{Kept, addressed, answered, call_turn, came_to, free_label, give_turn, given_by, labelled, refused, turn_of, world_at}
 use Rattle.host_core.specs.Fair.{IsReading}
 use Rattle.host_core.specs.Hosts.{HostState, IsValidHost, step_from, step_of, turned}
 use Rattle.vault.specs.Known.{AllInFields, AllInItems, AllObjects}
-use Rattle.host_core.specs.MessageLines.{CallRead, MessageRead}
+use Rattle.host_core.specs.MessageLines.{CallRead, GiveRead, MessageRead}
 use Rattle.host_core.specs.MessageLines as read
 use Rattle.vault.specs.Outcomes.{bind, need, wanted}
 use Rattle.vault.specs.Parties.{EachLabel, Labels, bound_to, own}
@@ -18,13 +18,14 @@ use Rattle.host_core.specs.Served.{Grows, IsMade, KnowsArgs}
 use Rattle.host_core.specs.Services.{Outcome, get_current_amount, serve, served}
 use Rattle.vault.specs.Sums.{sums_of}
 use Rattle.rights_model.specs.Totals.{brands_of}
-use Rattle.host_core.specs.Turns.{Delivery, TurnRecord, bad, message, service}
+use Rattle.host_core.specs.Turns.{Delivery, TurnRecord, bad, give, message, service}
 use Rattle.vault.specs.Values.{amount_tree}
 use Rattle.vault.specs.Vaults.{VaultState, amount_of}
 use Rattle.vault.specs.Worlds.{CanDoAll, Effect, HasRoom, IsValid, MintedWithin, after_all}
 use Rattle.vault.specs.declared.refusals.Refusal.{Refusal}
 use Rattle.vault.specs.declared.world.World.{World}
 use Rattle.vault.proofs.EffectsValid.{begins_valid, valid-after_all}
+use Rattle.host_core.proofs.GoodLabels.{value_at-good}
 use Rattle.host_core.proofs.Growth.{grows-after_all}
 use Rattle.vault.proofs.Resolved.{OfServices, resolved_all-AllObjects, value_at-AllObjects}
 use Rattle.host_core.proofs.ServedLaws.{serve_can, serve_known, serve_minted, serve_ordered, serve_shallow}
@@ -108,6 +109,18 @@ pub addressed_free : (ls : Labels) (c : CallRead) (on : Obj) (args : List Tree) 
 unfolding addressed
 addressed_free ls c on args h = let free = bind_ok _ _ _ h in free_is ls c.by c.label free.1
 
+-- what a give gives is good
+given_good : (v : VaultState) (ls : Labels) (g : GiveRead) (given : Tree) → AreGood v ls → given_by ls g ≡ Ok given → IsGood v given
+unfolding given_by
+given_good v ls g given good h =
+    let free = bind_ok _ _ _ h in
+    value_at-good v ls g.by g.given given good (wanted_ok _ _ _ free.2)
+
+-- and the receiver's label isn't bound
+pub given_free : (ls : Labels) (g : GiveRead) (given : Tree) → given_by ls g ≡ Ok given → IsFree ls g.to (Some g.label)
+unfolding given_by
+given_free ls g given h = let free = bind_ok _ _ _ h in free_is ls g.to (Some g.label) free.1
+
 -- ---- labels
 
 mutual
@@ -188,11 +201,13 @@ reads_amount w by method on args answer effects purse other others is called =
   where
     called_on : Delivery → Obj
     called_on (service by on method args) = on
+    called_on (give by to label given) = record { kind = Purse; number = purse }
     called_on bad = record { kind = Purse; number = purse }
     called_on (message by method) = record { kind = Purse; number = purse }
 
     called_method : Delivery → List ℕ
     called_method (service by on method args) = method
+    called_method (give by to label given) = []
     called_method bad = []
     called_method (message by method) = []
 
@@ -257,9 +272,37 @@ module _ (n : ℕ) (k : Kept) (steady : IsSteady k) where
   worked_call c (Ok (on, args)) is = worked_served c on args (addressed_good k.vault k.labels c on args steady.labels is) _ refl
   worked_call c (Err r) is = worked_refused (message c.by c.method) r
 
+  -- a give moves nothing
+  worked_given : (g : GiveRead) (given : Tree) → IsGood k.vault given → IsWorked n k (give_turn n g k (Ok given)).0 (give_turn n g k (Ok given)).1
+  worked_given g given good = record {
+    effects = [];
+    can = tt;
+    mints = tt;
+    vault = refl;
+    valid = steady.valid;
+    minted = within_more k.vault;
+    labels = more_labels k.vault k.labels (own g.to g.label) given steady.labels good;
+    number = refl;
+    movements = refl;
+    sums = no_sums k.vault;
+    refused = λ r is. absurd (not_refused r is);
+    read = λ purse answer is. absurd (no_call purse is.by is.arguments is.called);
+  }
+    where
+      not_refused : (r : Refusal) → Ok tree.null ≡ Err r → ⊥
+      not_refused r h = cc
+
+      no_call : (purse : ℕ) (by : List ℕ) (args : List Tree) → give g.by g.to g.label given ≡ service by (record { kind = Purse; number = purse }) (codes "getCurrentAmount") args → ⊥
+      no_call purse by args h = cc
+
+  worked_give : (g : GiveRead) (to : Result Tree Refusal) → given_by k.labels g ≡ to → IsWorked n k (give_turn n g k to).0 (give_turn n g k to).1
+  worked_give g (Ok given) is = worked_given g given (given_good k.vault k.labels g given steady.labels is)
+  worked_give g (Err r) is = worked_refused (message g.by g.label) r
+
   pub turn_worked : (m : MessageRead) → IsWorked n k (turn_of n k m).0 (turn_of n k m).1
   unfolding turn_of
   turn_worked (read.call c) = worked_call c _ refl
+  turn_worked (read.give g) = worked_give g _ refl
   turn_worked (read.bad r) = worked_refused bad r
 
 -- ---- a step

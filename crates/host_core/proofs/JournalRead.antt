@@ -1,5 +1,5 @@
 -- The turns, as they are written, are read back from the text of a journal.
-use Rattle.std.proofs.Common.{◌≡◌, ℕ, List, [], ◌∷◌, ◌++◌, map, None, option_and_then, Result, Ok, Err, refl, sym, ap, ◌∙◌, append_assoc, append-nil, arith, eqb}
+use Rattle.std.proofs.Common.{◌≡◌, ℕ, List, [], ◌∷◌, ◌++◌, get_or, map, None, option_and_then, Result, Ok, Err, refl, sym, ap, ◌∙◌, append_assoc, append-nil, arith, eqb}
 use Rattle.std.specs.List.{All, flat_map, slice_split}
 use Rattle.std.specs.Option.{option_map_or}
 use Rattle.std.specs.Prelude.{codes, if◌then◌else◌, unwrap_or}
@@ -11,13 +11,13 @@ use Rattle.serde_json.specs.Data as json
 use Rattle.serde_json.specs.Find.{get, as_str, as_number, as_u64, as_array}
 use Rattle.serde_json.specs.Read.{read}
 use Rattle.serde_json.specs.Written.{compact_text}
-use Rattle.jessie_tree.specs.Tree.{Tree, listed}
+use Rattle.jessie_tree.specs.Tree.{Tree, listed, null}
 use Rattle.rights_model.specs.declared.Movement.{Movement}
 use Rattle.vault.specs.declared.refusals.Refusal.{Refusal}
 use Rattle.rights_model.specs.declared.Sum.{Sum}
 use Rattle.host_core.specs.Journal.{answer_json, called, turn_json, turn_row, move_row, sum_row, rows_of, row_text, turn_text, turn_texts, close_text, journal_text}
 use Rattle.host_core.specs.JournalLaws.{IsData, IsMove, IsSum, IsDelivery, IsTurn, IsJournal, answer_tree, told_delivery, told_answer, told_move, ToldMove, ToldTurn, written}
-use Rattle.host_core.specs.Turns.{Delivery, service, bad, message, TurnRecord}
+use Rattle.host_core.specs.Turns.{Delivery, service, give, bad, message, TurnRecord}
 use Rattle.vault.proofs.Feeds.{no_feed, slice_split-row}
 use Rattle.host_core.proofs.NamesRead.{value-decimal, brand_in, brand_in-brand_name, object_in, object_in-name_of, holder_in, holder_in-holder_name}
 use Rattle.vault.proofs.ReadBack.{read-compact_text}
@@ -46,9 +46,14 @@ total_in name row = digits_value 10 (text_in name row)
 abbrev pub answer_in : json.Data → Result Tree Tree
 answer_in d = option_map_or (λ e. Ok (tree_in e)) (get (codes "ok") d) (Err (tree_in (member_in (codes "refused") d)))
 
+-- the one argument of a give
+abbrev pub given_in : json.Data → Tree
+given_in row = get_or (list_in (codes "args") row) 0 null
+
 abbrev pub delivery_in : json.Data → Delivery
 delivery_in row =
     if bytes_eq (text_in (codes "kind") row) (codes "service") then service (text_in (codes "by") row) (object_in (text_in (codes "on") row)) (text_in (codes "do") row) (list_in (codes "args") row) else
+    if bytes_eq (text_in (codes "kind") row) (codes "give") then give (text_in (codes "by") row) (text_in (codes "on") row) (text_in (codes "do") row) (given_in row) else
     if bytes_eq (text_in (codes "kind") row) (codes "bad") then bad else message (text_in (codes "by") row) (text_in (codes "do") row)
 
 abbrev pub turn_in : json.Data → List ToldMove → List Sum → ToldTurn
@@ -79,6 +84,7 @@ answer_read (Err r) h = ap (λ u. Err u) (refusal_read r h)
 
 delivery_read : (d : Delivery) (answer : json.Data) (n : ℕ) → IsDelivery d → delivery_in (turn_json answer (called d) n) ≡ told_delivery d
 delivery_read (service by on method arguments) answer n h = rw (object_in-name_of on h.0, list_read arguments h.1) refl
+delivery_read (give by to label given) answer n h = ap (give by to label) (data_read given h)
 delivery_read bad answer n h = refl
 delivery_read (message by method) answer n h = refl
 

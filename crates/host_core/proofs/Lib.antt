@@ -1,9 +1,11 @@
 pub mod Cuts
 pub mod JsonLines
 pub mod FurtherFields
+pub mod GoodLabels
 pub mod HostSteps
 pub mod UnitsMoved
 pub mod Accounts
+pub mod RunOrder
 pub mod RunFair
 pub mod BrandsNamed
 pub mod Units
@@ -24,7 +26,6 @@ pub mod HostFronts
 pub mod RunStarts
 pub mod Limits
 pub mod CallsTried
-pub mod DefaultFair
 pub mod RangesRead
 pub mod RefusalData
 pub mod ServedData

@@ -9,7 +9,7 @@ use Rattle.jessie_tree.specs.Tree.{Tree, number_of}
 use Rattle.vault.specs.declared.refusals.Refusal.{Refusal}
 use Rattle.vault.specs.declared.refusals.Refusal.TheVariants.{BadValue}
 use Rattle.vault.specs.Outcomes.{bind, ◌>>=◌, ◌>>◌, need}
-use Rattle.host_core.specs.CallArguments.{IsUnits, amount_in, nat_from, nat_value, payment_in, value_in}
+use Rattle.host_core.specs.CallArguments.{IsUnits, amount_in, nat_from, nat_value, payment_in, payment_of, value_in}
 use Rattle.host_core.specs.Services.{next_payment}
 use Rattle.vault.specs.Vaults.{VaultState, CanMakePayment, brand_of, mark_of}
 use Rattle.rights_model.specs.declared.Holder.TheVariants.{Payment}
@@ -64,10 +64,14 @@ pub record IsPaid (v : VaultState) (b p : ℕ) : Type 0 where
   pub brand : brand_of v (Payment p) ≡ b
   pub live : (mark_of v p).is_live ≡ true
 
+payment_of_has : (v : VaultState) (t : Tree) (place b : ℕ) → IfOk (payment_of v t place b) (λ p. brand_of v (Payment p) ≡ b)
+unfolding payment_of
+payment_of_has v t place b = after_step _ _ _ (λ p is. after_need _ _ _ _ (λ own. eqb-true _ _ own))
+
 -- a payment that is read is live, and of the brand
 pub payment_in_has : (v : VaultState) (t : Tree) (place b : ℕ) → IfOk (payment_in v t place b) (IsPaid v b)
 unfolding payment_in
-payment_in_has v t place b = after_step _ _ _ (λ p is. after_need _ _ _ _ (λ own. after_need _ _ _ _ (λ live. record { brand = eqb-true _ _ own; live = live })))
+payment_in_has v t place b = after_step _ _ _ (λ p is. after_need _ _ _ _ (λ live. record { brand = ok_has _ _ p is (payment_of_has v t place b); live = live }))
 
 -- the next payment can be made
 pub next_payment_has : (v : VaultState) → IfOk (next_payment v) (CanMakePayment v)

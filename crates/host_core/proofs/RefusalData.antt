@@ -71,6 +71,11 @@ unfolding need
 comes_last P true r wrong right = right
 comes_last P false r wrong right = wrong
 
+pub comes_found : {A : Type 0} (P : A → Type 0) (o : Option A) (r : Refusal) → IsTold r → ((x : A) → o ≡ Some x → P x) → Comes P (wanted o r)
+unfolding wanted
+comes_found P (Some x) r wrong right = right x refl
+comes_found P None r wrong right = wrong
+
 pub comes_wanted : {A B : Type 0} (P : B → Type 0) (o : Option A) (r : Refusal) (f : A → Result B Refusal) → IsTold r → ((x : A) → o ≡ Some x → Comes P (f x)) → Comes P (bind (wanted o r) f)
 unfolding bind wanted
 comes_wanted P (Some x) r f wrong right = right x refl

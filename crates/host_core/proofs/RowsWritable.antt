@@ -1,6 +1,7 @@
 -- The rows of a journal are JSON that is read back as it was written.
 use Rattle.std.proofs.Common.{◌≡◌, ℕ, ℤ, suc, pos, negsuc, ◌+◌, ◌^◌, ◌<◌, ◌≤◌, List, [], ◌∷◌, ◌++◌, map, length, Bool, true, false, Result, Ok, Err, refl, arith}
 use Rattle.std.specs.List.{All, flat_map}
+use Rattle.std.proofs.lemmas.List.Elements.{All-cons, All-nil}
 use Rattle.serde_json.specs.Data as json
 use Rattle.serde_json.specs.Data.{depth, items_depth, members_depth}
 use Rattle.serde_json.specs.Find.{of_integer}
@@ -13,7 +14,7 @@ use Rattle.rights_model.specs.declared.Sum.{Sum}
 use Rattle.host_core.specs.Journal.{is_beyond, number_json, json_of, items_json, answer_json, called, turn_row, move_row, sum_row, close_row, rows_of}
 use Rattle.host_core.specs.JournalLaws.{IsData, IsMove, IsDelivery, IsTurn, IsJournal, answer_tree}
 use Rattle.vault.specs.Refusals.{refusal_tree}
-use Rattle.host_core.specs.Turns.{Delivery, service, bad, message, TurnRecord}
+use Rattle.host_core.specs.Turns.{Delivery, service, give, bad, message, TurnRecord}
 use Rattle.vault.specs.Values.{value_tree}
 use Rattle.host_core.proofs.InOrder.{as_they_stand, fields_json-as_they_stand, put_each-as_they_stand}
 use Rattle.vault.proofs.Writable.{IsWritableNum, IsWritable, AreWritable, AreWritableMembers}
@@ -104,6 +105,7 @@ low_answer (Err r) h = omega (arith, low_data (refusal_tree r) h)
 
 arguments_hold : (d : Delivery) → IsDelivery d → All IsData (called d).arguments
 arguments_hold (service by on method arguments) h = h.1
+arguments_hold (give by to label given) h = All-cons IsData given [] h (All-nil IsData)
 arguments_hold bad h = λ k d within. absurd (omega (arith, within))
 arguments_hold (message by method) h = λ k d within. absurd (omega (arith, within))
 

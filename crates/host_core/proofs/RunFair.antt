@@ -1,5 +1,5 @@
 -- The turns of a run are fair.
-use Rattle.std.proofs.Common.{◌≡◌, ℕ, zero, suc, ◌+◌, ◌*◌, ◌^◌, ◌<◌, ◌≤◌, ◌||◌, true, false, List, [], ◌∷◌, ◌++◌, length, map, Option, Some, None, Err, refl, sym, ◌∙◌, ap, subst, arith, length-append}
+use Rattle.std.proofs.Common.{◌≡◌, ℕ, zero, suc, ◌+◌, ◌<◌, ◌≤◌, ◌||◌, true, false, List, [], ◌∷◌, ◌++◌, length, map, Option, Some, None, Err, refl, sym, ◌∙◌, ap, subst, arith, length-append}
 use Rattle.std.specs.Option.{option_map_or}
 use Rattle.std.proofs.lemmas.Grind.{flat_map-append}
 use Rattle.std.proofs.lemmas.List.{append-nil, append_assoc}
@@ -18,24 +18,23 @@ use Rattle.rights_model.specs.Place.{place}
 use Rattle.rights_model.specs.Supply.{Balanced, is_store, supply, total_of}
 use Rattle.rights_model.specs.Table.{holdings, holds}
 use Rattle.rights_model.proofs.SupplyLaws.{adds_up_after}
-use Rattle.host_core.specs.Delivered.{AreGood}
-use Rattle.host_core.specs.Deliveries.{Kept, world_at}
+use Rattle.host_core.specs.Deliveries.{world_at}
 use Rattle.host_core.specs.Fair.{AreFair, IsAmountAt, IsReading, is_payment_at, movements_of, names, names_slot, sum_by, table_by, takes_from}
-use Rattle.host_core.specs.Hosts.{HostState, IsValidHost, first_host, step_of}
+use Rattle.host_core.specs.Hosts.{HostState, IsValidHost, first_host, most_turns, step_of}
 use Rattle.vault.specs.Vaults.{first_vault, VaultState, IsSound, brand_of, kind_of, out_of}
-use Rattle.host_core.specs.InputLines.{lines_of}
 use Rattle.host_core.specs.Leaves.{Leaves}
-use Rattle.host_core.specs.MessageLines.{Meaning, blank, meaning_of, message}
-use Rattle.host_core.specs.Runs.{after, drained, line_host, lines_host, read_host, turns_of}
+use Rattle.host_core.specs.MessageLines.{MessageRead}
+use Rattle.host_core.specs.Runs.{AreFairToLimit, after, drained, end_of, meanings_of, turns_in_order, turns_of}
 use Rattle.vault.specs.Sums.{sum_of}
 use Rattle.rights_model.specs.Totals.{brands_of, held_over, is_payment, is_purse, is_slot}
 use Rattle.host_core.specs.Turns.{TurnRecord}
 use Rattle.vault.specs.Values.{amount_tree}
-use Rattle.vault.specs.Worlds.{IsValid, after_all}
+use Rattle.vault.specs.Worlds.{after_all}
 use Rattle.vault.specs.declared.refusals.Refusal.{Refusal}
 use Rattle.host_core.proofs.Accounts.{Accounts, AreTold, IsLeft, IsSpent, kinds, left-after_all, or_false, spent_has_nothing, told-after_all}
 use Rattle.vault.proofs.EffectsValid.{first_valid}
 use Rattle.host_core.proofs.HostSteps.{IsStepped, step_valid, step_worked}
+use Rattle.host_core.proofs.RunOrder.{after_order, drained_order, first_turns, host_of, kept_after, took_lines, turns_count}
 use Rattle.host_core.proofs.UnitsMoved.{units-none}
 
 -- ---- the movements of turns
@@ -95,22 +94,6 @@ pub record Leads (done : List TurnRecord) (s : HostState) : Type 0 where
   pub turns : length done ≡ s.turns
   pub accounts : Accounts (movements_of done) s.kept.vault
 
--- lines change the queue alone
-record IsQueuedOn (s new : HostState) : Type 0 where
-  kept : new.kept ≡ s.kept
-  turns : new.turns ≡ s.turns
-
-line_queued : (s : HostState) (m : Meaning) → IsQueuedOn s (line_host s m)
-line_queued s blank = record { kept = refl; turns = refl }
-line_queued s (message m) = record { kept = refl; turns = refl }
-
-lines_queued : (s : HostState) (lines : List (List ℕ)) → IsQueuedOn s (lines_host s lines)
-lines_queued s [] = record { kept = refl; turns = refl }
-lines_queued s (line ∷ lines) =
-    let one = line_queued s (meaning_of line) in
-    let rest = lines_queued (line_host s (meaning_of line)) lines in
-    record { kept = rest.kept ∙ one.kept; turns = rest.turns ∙ one.turns }
-
 first_accounts : Accounts [] first_vault
 first_accounts = record {
   table = refl;
@@ -135,20 +118,23 @@ first_accounts = record {
     none_burned zero = refl
     none_burned (suc b) = refl
 
-leaves_kept : (s : HostState) → IsQueuedOn first_host s → Leads [] s
-leaves_kept s on = record {
-  valid = record {
-    world = subst (λ (k : Kept). IsValid (world_at k)) (sym on.kept) first_valid;
-    minted = record { each = λ b. subst (λ (k : Kept). (supply_at k.vault.supplies b).minted ≤ s.turns * 2 ^ 63) (sym on.kept) (omega (arith, first_accounts.minted_are b, counted-nothing)) };
-    labels = subst (λ (k : Kept). AreGood k.vault k.labels) (sym on.kept) tt;
-  };
-  turns = sym on.turns;
-  accounts = subst (λ (k : Kept). Accounts [] k.vault) (sym on.kept) first_accounts;
+-- a new host, whatever messages wait
+pub leads_first : (ms : List MessageRead) → Leads [] (host_of 0 first_host.kept ms)
+leads_first ms = record {
+  valid = record { world = first_valid; minted = record { each = λ b. omega (arith, first_accounts.minted_are b, counted-nothing) }; labels = tt };
+  turns = refl;
+  accounts = first_accounts;
 }
 
-pub leaves_first : (input : List ℕ) → Leads [] (read_host input)
-unfolding read_host
-leaves_first input = leaves_kept (lines_host first_host (lines_of input)) (lines_queued first_host (lines_of input))
+-- what waits says nothing of where the turns lead
+leads_on : (done : List TurnRecord) (s new : HostState) → Leads done s → new.kept ≡ s.kept → new.turns ≡ s.turns → Leads done new
+leads_on done s new leads kept turns =
+    let there : Leads done (host_of s.turns s.kept new.queue) = record {
+      valid = record { world = leads.valid.world; minted = leads.valid.minted; labels = leads.valid.labels };
+      turns = leads.turns;
+      accounts = leads.accounts;
+    } in
+    subst (Leads done) (λ i. host_of (sym turns i) (sym kept i) new.queue) there
 
 -- ---- a step
 
@@ -273,8 +259,8 @@ never_named n s first leaves few p spent (t ∷ later) is =
     list_any-append (λ (m : Movement). is_payment_at p m.from || is_payment_at p m.to) t.movements (movements_of later)
     ∙ or_false _ _ unnamed (never_named one.fuel one.end (first ++ t ∷ []) (leaves_step first s one.end t one.leaves one.few one.is) one.enough p (step_left first s one.end t one.leaves one.few one.is p spent) later one.rest)
 
-pub run_fair : (most : ℕ) (input : List ℕ) → most ≤ 4000000000 → AreFair (turns_of most input)
-run_fair most input few = record {
+drained_fair : (n : ℕ) (s : HostState) → Leads [] s → s.turns + n ≤ 4000000000 → AreFair (drained n s)
+drained_fair n s start few = record {
   kinds = kinds;
   one_kind = all.leaves.accounts.one_kind;
   values = all.leaves.accounts.values;
@@ -292,17 +278,25 @@ run_fair most input few = record {
   read = λ first later t purse answer is. let host = (upto first (t ∷ later) is).host in let one = at first later t is in step_read first host one.end t one.leaves one.few one.is purse answer;
 }
   where
-    start : Leads [] (read_host input)
-    start = leaves_first input
+    upto : (first later : List TurnRecord) → drained n s ≡ first ++ later → Reached first later
+    upto first later is = reached n s [] start few first later is
 
-    upto : (first later : List TurnRecord) → turns_of most input ≡ first ++ later → Reached first later
-    upto first later is = reached most (read_host input) [] start (omega (arith, few, start.turns)) first later is
-
-    at : (first later : List TurnRecord) (t : TurnRecord) (is : turns_of most input ≡ first ++ t ∷ later) → Steps (upto first (t ∷ later) is).host first t later
+    at : (first later : List TurnRecord) (t : TurnRecord) (is : drained n s ≡ first ++ t ∷ later) → Steps (upto first (t ∷ later) is).host first t later
     at first later t is = let here = upto first (t ∷ later) is in steps here.fuel here.host first t later here.leaves here.few (sym here.rest)
 
-    all : Reached (turns_of most input) []
-    all = upto (turns_of most input) [] (sym (append-nil (turns_of most input)))
+    all : Reached (drained n s) []
+    all = upto (drained n s) [] (sym (append-nil (drained n s)))
+
+order_fair : (ms : List MessageRead) → length ms ≤ 4000000000 → AreFair (turns_in_order 0 first_host.kept ms)
+order_fair ms few = subst AreFair (drained_order 0 first_host.kept ms) (drained_fair (length ms) (host_of 0 first_host.kept ms) (leads_first ms) (omega (arith, few)))
+
+pub runs_fair : (most : ℕ) (input : List ℕ) → AreFairToLimit (turns_of most input)
+runs_fair most input = record {
+  fair = λ first later is few.
+      let run = took_lines (meanings_of most input) first_host in
+      let front = first_turns 0 first_host.kept run.taken first later (sym run.turns ∙ is) in
+      subst AreFair (sym front.turns) (order_fair front.messages (omega (arith, few, ap length front.turns, turns_count 0 first_host.kept front.messages)));
+}
 
 -- ---- the host that a run leaves
 
@@ -319,18 +313,26 @@ ends (suc n) s done leaves few = from (λ end t next enough. ends n end (done ++
         subst (λ ts. Leads ts (after n end)) (append_assoc done (t ∷ []) (drained n end))
         (more end t (leaves_step done s end t leaves room e) (omega (arith, few, (step_worked s end t leaves.valid room e).turns)))
 
-pub run_leaves : (most : ℕ) (input : List ℕ) → most ≤ 4000000000 → Leaves (turns_of most input) (after most (read_host input))
-run_leaves most input few =
-    let start = leaves_first input in
-    let end = ends most (read_host input) [] start (omega (arith, few, start.turns)) in
-    let host = after most (read_host input) in
-    record {
-      taken = end.turns;
-      table = end.accounts.table;
-      out = out_is (turns_of most input) host end.valid end.accounts;
-      minted_are = end.accounts.minted_are;
-      burned_are = end.accounts.burned_are;
-      kinds = All-weaker (λ (m : Movement). m.value.kind ≡ kinds m.brand) (λ (m : Movement). m.value.kind ≡ kind_of host.kept.vault m.brand) (λ m is. is ∙ sym (end.accounts.of_kind m.brand)) (movements_of (turns_of most input)) end.accounts.one_kind;
-      live = end.accounts.live;
-      made = end.accounts.made;
-    }
+leads_leaves : (ts : List TurnRecord) (s : HostState) → Leads ts s → Leaves ts s
+leads_leaves ts s leads = record {
+  taken = leads.turns;
+  table = leads.accounts.table;
+  out = out_is ts s leads.valid leads.accounts;
+  minted_are = leads.accounts.minted_are;
+  burned_are = leads.accounts.burned_are;
+  kinds = All-weaker (λ (m : Movement). m.value.kind ≡ kinds m.brand) (λ (m : Movement). m.value.kind ≡ kind_of s.kept.vault m.brand) (λ m is. is ∙ sym (leads.accounts.of_kind m.brand)) (movements_of ts) leads.accounts.one_kind;
+  live = leads.accounts.live;
+  made = leads.accounts.made;
+}
+
+order_leads : (ms : List MessageRead) → length ms ≤ 4000000000 → Leads (turns_in_order 0 first_host.kept ms) (host_of (0 + length ms) (kept_after 0 first_host.kept ms) [])
+order_leads ms few =
+    let end = ends (length ms) (host_of 0 first_host.kept ms) [] (leads_first ms) (omega (arith, few)) in
+    subst (Leads (turns_in_order 0 first_host.kept ms)) (after_order 0 first_host.kept ms) (subst (λ ts. Leads ts (after (length ms) (host_of 0 first_host.kept ms))) (drained_order 0 first_host.kept ms) end)
+
+pub runs_leave : (most : ℕ) (input : List ℕ) → length (turns_of most input) ≤ most_turns → Leaves (turns_of most input) (end_of most input)
+runs_leave most input few =
+    let run = took_lines (meanings_of most input) first_host in
+    let there = order_leads run.taken (omega (arith, few, ap length run.turns, turns_count 0 first_host.kept run.taken)) in
+    subst (λ ts. Leaves ts (end_of most input)) (sym run.turns)
+    (leads_leaves (turns_in_order 0 first_host.kept run.taken) (end_of most input) (leads_on (turns_in_order 0 first_host.kept run.taken) (host_of (0 + length run.taken) (kept_after 0 first_host.kept run.taken) []) (end_of most input) there run.kept run.count))

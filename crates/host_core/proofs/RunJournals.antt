@@ -1,5 +1,5 @@
 -- The journal of a run tells its turns: their numbers are in range, and the data in them is ordered and nests little.
-use Rattle.std.proofs.Common.{◌≡◌, ℕ, zero, suc, ◌+◌, ◌^◌, ◌<◌, ◌≤◌, List, [], ◌∷◌, ◌++◌, length, map, Option, Some, None, Result, Ok, Err, refl, sym, subst, arith, append-nil}
+use Rattle.std.proofs.Common.{◌≡◌, ℕ, zero, suc, ◌+◌, ◌^◌, ◌<◌, ◌≤◌, List, [], ◌∷◌, ◌++◌, length, map, Option, Some, None, Result, Ok, Err, refl, sym, ap, subst, arith, append-nil, length-append}
 use Rattle.std.specs.List.{All}
 use Rattle.std.specs.Option.{option_map_or}
 use Rattle.std.proofs.lemmas.List.Elements.{All-cons, All-nil}
@@ -7,29 +7,31 @@ use Rattle.jessie_tree.specs.Tree.{Tree}
 use Rattle.jessie_tree.specs.declared.data.Obj.{Obj}
 use Rattle.rights_model.specs.declared.Movement.{Movement}
 use Rattle.host_core.specs.Delivered.{IsSteady}
-use Rattle.host_core.specs.Deliveries.{Kept, addressed, answered, call_turn, came_to, labelled, refused, turn_of, world_at}
+use Rattle.host_core.specs.Deliveries.{Kept, addressed, answered, call_turn, came_to, give_turn, given_by, labelled, refused, turn_of, world_at}
 use Rattle.host_core.specs.Fair.{movements_of}
-use Rattle.host_core.specs.Hosts.{HostState, step_from, step_of, turned}
+use Rattle.host_core.specs.Hosts.{HostState, first_host, step_from, step_of, turned}
+use Rattle.host_core.specs.InputLines.{lines_of}
 use Rattle.host_core.specs.JournalLaws.{InRange, IsData, IsDelivery, IsJournal, IsMove, IsSum, IsTurn, answer_tree, written}
 use Rattle.host_core.specs.MessageLines as read
-use Rattle.host_core.specs.MessageLines.{CallRead, MessageRead}
+use Rattle.host_core.specs.MessageLines.{CallRead, GiveRead, Meaning, MessageRead, meaning_of}
 use Rattle.host_core.specs.Moved.{Moves}
 use Rattle.vault.specs.Parties.{EachLabel, Labels}
-use Rattle.host_core.specs.Runs.{after, drained, journal_of, left_of, read_host, turns_of}
+use Rattle.host_core.specs.Runs.{drained, end_of, journal_of, left_of, meanings_of, messages_of, turns_in_order, turns_of}
 use Rattle.host_core.specs.Served.{IsMade, KnowsArgs}
 use Rattle.host_core.specs.Services.{Outcome, serve, served}
 use Rattle.host_core.specs.Turns.{Delivery, TurnRecord, bad, message, service}
 use Rattle.vault.specs.Worlds.{Effect, after_all}
 use Rattle.vault.specs.declared.refusals.Refusal.{Refusal}
 use Rattle.host_core.proofs.Accounts.{Accounts, AreTold}
-use Rattle.host_core.proofs.AddressedData.{IsAddressed, addressed_told, arg_in_range, good_ordered}
+use Rattle.host_core.proofs.AddressedData.{IsAddressed, addressed_told, arg_in_range, given_told, good_ordered}
 use Rattle.host_core.proofs.HostSteps.{addressed_good, steady, step_worked}
 use Rattle.host_core.proofs.JournalRead.{one_text}
-use Rattle.host_core.proofs.LinesData.{AreMessages, IsMessage, IsReadied, read_readied, read_waits}
+use Rattle.host_core.proofs.LinesData.{AreMessages, IsMeaning, IsMessage, IsReadied, meaning_told, meanings_few}
 use Rattle.host_core.proofs.RefusalData.{Comes, IsTold}
 use Rattle.vault.proofs.Resolved.{EachLabel-with_label}
-use Rattle.host_core.proofs.RunBounds.{ArePassing, IsBounded, noted-after_all, sum_told}
-use Rattle.host_core.proofs.RunFair.{Leads, leaves_first, leaves_step}
+use Rattle.host_core.proofs.RunBounds.{ArePassing, IsBounded, first_bounded, noted-after_all, sum_told}
+use Rattle.host_core.proofs.RunFair.{Leads, leads_first, leaves_step}
+use Rattle.host_core.proofs.RunOrder.{drained_order, host_of, took_lines, turns_count}
 use Rattle.host_core.proofs.ServedData.{serve_told}
 use Rattle.host_core.proofs.ServedLaws.{serve_answers}
 use Rattle.host_core.proofs.UnitsMoved.{serve_mints}
@@ -82,31 +84,44 @@ module _ (n : ℕ) (before : List Movement) (k : Kept) (steady : IsSteady k) (to
       told_served c on args good comes (serve (world_at k) on c.method args) refl (serve_told (world_at k) steady.valid args (arg_in_range args comes.arguments) on c.method good.0)
   told_call c (Err r) is comes = told_refused (message c.by c.method) r tt comes
 
+  -- a give binds what it gives, and answers nothing
+  told_given : (g : GiveRead) (given : Tree) → IsData given → IsTurnTold (give_turn n g k (Ok given)).0 (give_turn n g k (Ok given)).1
+  told_given g given data_given = record {
+    bounded = bounded;
+    labels = EachLabel-with_label InRange k.labels g.to g.label given ranges data_given.ranges;
+    delivery = data_given;
+    answer = record { ranges = tt; ordered = tt; shallow = omega arith };
+    movements = All-nil IsMove;
+  }
+
+  told_give : (g : GiveRead) (to : Result Tree Refusal) → Comes IsData to → IsTurnTold (give_turn n g k to).0 (give_turn n g k to).1
+  told_give g (Ok given) comes = told_given g given comes
+  told_give g (Err r) comes = told_refused (message g.by g.label) r tt comes
+
   told_turn : (m : MessageRead) → IsMessage m → IsTurnTold (turn_of n k m).0 (turn_of n k m).1
   unfolding turn_of
   told_turn (read.call c) is = told_call c (addressed k.labels c) refl (addressed_told k.labels c ranges (good_ordered k.vault k.labels steady.labels) is.0 is.1)
+  told_turn (read.give g) is = told_give g (given_by k.labels g) (given_told k.vault k.labels g ranges steady.labels)
   told_turn (read.bad r) is = told_refused bad r tt is
 
 -- ---- a step
 
-record IsStepTold (s new : HostState) (t : TurnRecord) : Type 0 where
+record IsStepTold (new : HostState) (t : TurnRecord) : Type 0 where
   turn : IsTurnTold new.kept t
   queue : AreMessages new.queue
-  waiting : length new.queue ≤ length s.queue
 
-step_told : (before : List Movement) (s new : HostState) (t : TurnRecord) → IsSteady s.kept → AreTold before (world_at s.kept) → IsReadied s → step_of s ≡ Some (new, t) → IsStepTold s new t
+step_told : (before : List Movement) (s new : HostState) (t : TurnRecord) → IsSteady s.kept → AreTold before (world_at s.kept) → IsReadied s → step_of s ≡ Some (new, t) → IsStepTold new t
 unfolding step_of
-step_told before s new t steady told ready is = from s.queue ready.queue (omega arith) is
+step_told before s new t steady told ready is = from s.queue ready.queue is
   where
-    from : (queue : List MessageRead) → AreMessages queue → length queue ≤ length s.queue → step_from s queue ≡ Some (new, t) → IsStepTold s new t
-    from [] messages few e = absurd (cc)
-    from (m ∷ rest) messages few e =
+    from : (queue : List MessageRead) → AreMessages queue → step_from s queue ≡ Some (new, t) → IsStepTold new t
+    from [] messages e = absurd (cc)
+    from (m ∷ rest) messages e =
         let done = turned s rest (turn_of (s.turns + 1) s.kept m) in
         let same : done ≡ (new, t) = cc in
-        subst (λ (p : HostState × TurnRecord). IsStepTold s p.0 p.1) same (record {
+        subst (λ (p : HostState × TurnRecord). IsStepTold p.0 p.1) same (record {
           turn = told_turn (s.turns + 1) before s.kept steady told ready.bounded ready.labels m messages.0;
           queue = messages.1;
-          waiting = omega (arith, few);
         })
 
 -- at the turn's start nothing is moved yet
@@ -117,14 +132,11 @@ told_first done s leaves = record {
 }
 
 module _ (done : List TurnRecord) (s new : HostState) (t : TurnRecord) (leaves : Leads done s) (ready : IsReadied s) (few : s.turns < 4000000000) (is : step_of s ≡ Some (new, t)) where
-  stepped : IsStepTold s new t
+  stepped : IsStepTold new t
   stepped = step_told (movements_of done) s new t (steady s leaves.valid few) (told_first done s leaves) ready is
 
   step_readied : IsReadied new
   step_readied = record { bounded = stepped.turn.bounded; labels = stepped.turn.labels; queue = stepped.queue }
-
-  step_waits : length new.queue ≤ length s.queue
-  step_waits = stepped.waiting
 
   step_turn : IsTurn t
   step_turn =
@@ -140,36 +152,57 @@ module _ (done : List TurnRecord) (s new : HostState) (t : TurnRecord) (leaves :
 
 -- ---- a run
 
-record IsRun (turns : List TurnRecord) (end : HostState) (most waiting : ℕ) : Type 0 where
-  turns_told : All IsTurn turns
-  few : length turns ≤ most
-  left : length end.queue ≤ waiting
-
-run_told : (n : ℕ) (s : HostState) (done : List TurnRecord) → Leads done s → s.turns + n ≤ 4000000000 → IsReadied s → IsRun (drained n s) (after n s) n (length s.queue)
-unfolding drained after
-run_told zero s done leaves few ready = record { turns_told = All-nil IsTurn; few = omega arith; left = omega arith }
+run_told : (n : ℕ) (s : HostState) (done : List TurnRecord) → Leads done s → s.turns + n ≤ 4000000000 → IsReadied s → All IsTurn (drained n s)
+unfolding drained
+run_told zero s done leaves few ready = All-nil IsTurn
 run_told (suc n) s done leaves few ready = from (λ end t next enough readied. run_told n end (done ++ t ∷ []) next enough readied) (step_of s) refl
   where
-    from : ((end : HostState) (t : TurnRecord) → Leads (done ++ t ∷ []) end → end.turns + n ≤ 4000000000 → IsReadied end → IsRun (drained n end) (after n end) n (length end.queue))
-        → (next : Option (HostState × TurnRecord)) → step_of s ≡ next → IsRun (option_map_or (λ p. p.1 ∷ drained n p.0) next []) (option_map_or (λ p. after n p.0) next s) (suc n) (length s.queue)
-    from more None e = record { turns_told = All-nil IsTurn; few = omega arith; left = omega arith }
+    from : ((end : HostState) (t : TurnRecord) → Leads (done ++ t ∷ []) end → end.turns + n ≤ 4000000000 → IsReadied end → All IsTurn (drained n end))
+        → (next : Option (HostState × TurnRecord)) → step_of s ≡ next → All IsTurn (option_map_or (λ p. p.1 ∷ drained n p.0) next [])
+    from more None e = All-nil IsTurn
     from more (Some (end, t)) e =
         let room : s.turns < 4000000000 = omega (arith, few) in
         let rest = more end t (leaves_step done s end t leaves room e) (omega (arith, few, (step_worked s end t leaves.valid room e).turns)) (step_readied done s end t leaves ready room e) in
-        record {
-          turns_told = All-cons IsTurn t (drained n end) (step_turn done s end t leaves ready room e) rest.turns_told;
-          few = omega (arith, rest.few);
-          left = omega (arith, rest.left, step_waits done s end t leaves ready room e);
-        }
+        All-cons IsTurn t (drained n end) (step_turn done s end t leaves ready room e) rest
+
+order_told : (ms : List MessageRead) → length ms ≤ 4000000000 → AreMessages ms → All IsTurn (turns_in_order 0 first_host.kept ms)
+order_told ms few told =
+    subst (All IsTurn) (drained_order 0 first_host.kept ms) (run_told (length ms) (host_of 0 first_host.kept ms) [] (leads_first ms) (omega (arith, few)) (record { bounded = first_bounded; labels = tt; queue = told }))
+
+-- ---- the messages of an input
+
+line_messages : (m : Meaning) (ms : List Meaning) → IsMeaning m → AreMessages (messages_of ms) → AreMessages (messages_of (m ∷ ms))
+line_messages read.blank ms told rest = rest
+line_messages (read.message m) ms told rest = (told, rest)
+line_messages (read.run n) ms told rest = rest
+
+lines_messages : (lines : List (List ℕ)) (most : ℕ) → AreMessages (messages_of (map meaning_of lines ++ read.run most ∷ []))
+lines_messages [] most = tt
+lines_messages (line ∷ lines) most = line_messages (meaning_of line) (map meaning_of lines ++ read.run most ∷ []) (meaning_told line) (lines_messages lines most)
+
+first_messages : (ms : List MessageRead) (more : List MessageRead) → AreMessages (ms ++ more) → AreMessages ms
+first_messages [] more told = tt
+first_messages (m ∷ ms) more told = (told.0, first_messages ms more told.1)
+
+messages_few : (ms : List Meaning) → length (messages_of ms) ≤ length ms
+messages_few [] = omega arith
+messages_few (read.blank ∷ ms) = omega (arith, messages_few ms)
+messages_few (read.message m ∷ ms) = omega (arith, messages_few ms)
+messages_few (read.run n ∷ ms) = omega (arith, messages_few ms)
 
 -- the turns of a run, and how many deliveries are left, make a journal that tells them
-pub runs_are_journals : (most : ℕ) (input : List ℕ) → most ≤ 4000000000 → length input ≤ 2 ^ 30 → IsJournal (turns_of most input) (left_of most input)
-runs_are_journals most input few short =
-    let start = leaves_first input in
-    let run = run_told most (read_host input) [] start (omega (arith, few, start.turns)) (read_readied input) in
-    record { turns = run.turns_told; count = omega (arith, run.few, few); rest = omega (arith, run.left, read_waits input, short) }
+pub runs_are_journals : (most : ℕ) (input : List ℕ) → length input ≤ 2 ^ 30 → IsJournal (turns_of most input) (left_of most input)
+runs_are_journals most input short =
+    let run = took_lines (meanings_of most input) first_host in
+    let all : AreMessages (run.taken ++ (end_of most input).queue) = subst AreMessages run.all (lines_messages (lines_of input) most) in
+    let few : length run.taken + left_of most input ≤ 2 ^ 30 + 2 = omega (arith, short, meanings_few most input, messages_few (meanings_of most input), ap length run.all, length-append run.taken (end_of most input).queue) in
+    record {
+      turns = subst (All IsTurn) (sym run.turns) (order_told run.taken (omega (arith, few)) (first_messages run.taken (end_of most input).queue all));
+      count = omega (arith, few, ap length run.turns, turns_count 0 first_host.kept run.taken);
+      rest = omega (arith, few);
+    }
 
 -- runs with one journal have the same turns, as they are written, and leave as many deliveries
-pub one_run : (most : ℕ) (a b : List ℕ) → most ≤ 4000000000 → length a ≤ 2 ^ 30 → length b ≤ 2 ^ 30 → journal_of most a ≡ journal_of most b → (map written (turns_of most a) ≡ map written (turns_of most b)) × (left_of most a ≡ left_of most b)
+pub one_run : (most : ℕ) (a b : List ℕ) → length a ≤ 2 ^ 30 → length b ≤ 2 ^ 30 → journal_of most a ≡ journal_of most b → (map written (turns_of most a) ≡ map written (turns_of most b)) × (left_of most a ≡ left_of most b)
 unfolding journal_of
-one_run most a b few short_a short_b same = one_text (turns_of most a) (turns_of most b) (left_of most a) (left_of most b) (runs_are_journals most a few short_a) (runs_are_journals most b few short_b) same
+one_run most a b short_a short_b same = one_text (turns_of most a) (turns_of most b) (left_of most a) (left_of most b) (runs_are_journals most a short_a) (runs_are_journals most b short_b) same

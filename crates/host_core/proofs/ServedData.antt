@@ -18,11 +18,11 @@ use Rattle.rights_model.specs.Supply.{is_inside}
 use Rattle.rights_model.specs.Table.{holds}
 use Rattle.rights_model.proofs.SupplyLaws.{count-le-total}
 use Rattle.vault.specs.Brands.{most_brands}
-use Rattle.host_core.specs.CallArguments.{amount_fields, amount_in, arg, brand_number, has_two, is_brand, is_payment, nat_from, optional_amount, payment_in, payment_number, payment_seen, value_in}
+use Rattle.host_core.specs.CallArguments.{amount_fields, amount_in, arg, brand_number, has_two, is_brand, is_payment, nat_from, optional_amount, payment_in, payment_number, payment_of, payment_seen, value_in}
 use Rattle.host_core.specs.JournalLaws.{InRange}
 use Rattle.ertp_mint.specs.Stocks.{most_made}
 use Rattle.host_core.specs.Served.{made_as}
-use Rattle.host_core.specs.Services.{Outcome, deposit, get_current_amount, make_empty_purse, make_issuer_kit, mint_payment, next_payment, of_kind, serve, withdraw}
+use Rattle.host_core.specs.Services.{Outcome, deposit, get_current_amount, is_live, make_empty_purse, make_issuer_kit, mint_payment, next_payment, of_kind, serve, withdraw}
 use Rattle.vault.specs.Values.{amount_tree}
 use Rattle.vault.specs.Vaults.{amount_of, brand_of, held_by, kind_of, no_mark, out_of}
 use Rattle.vault.specs.Worlds.{IsValid}
@@ -142,12 +142,20 @@ module _ (w : World) (valid : IsValid w) where
   too_much_told : (a b : Content) → count a unit ≤ nat_bound → count b unit ≤ nat_bound → Comes {A = Unit {0}} Any (Err (TooMuch (pos (count (sum a b) unit)) (pos nat_bound)))
   too_much_told a b first second = told_numbers (TooMuch (pos (count (sum a b) unit)) (pos nat_bound)) (count (sum a b) unit) nat_bound refl (omega (arith, count-sum a b unit, first, second)) (omega arith)
 
+  brand_payment_told : (t : Tree) (place b : ℕ) → InRange t → place < 2 ^ 32 → Comes (λ p. p < 2 ^ 32) (payment_of w.draft.now t place b)
+  unfolding payment_of
+  brand_payment_told t place b range small =
+      comes_wanted _ (payment_seen t) (WrongObject place) _ (told_number (WrongObject place) place refl (omega (arith, small))) (λ p is.
+      comes_need _ _ (WrongBrand (brand_of w.draft.now (Payment p))) _ (told_number (WrongBrand (brand_of w.draft.now (Payment p))) (brand_of w.draft.now (Payment p)) refl (omega (arith, payment_brand_small p))) (λ own.
+      payment_named t p range is))
+
   payment_told : (t : Tree) (place b : ℕ) → InRange t → place < 2 ^ 32 → Comes Any (payment_in w.draft.now t place b)
   unfolding payment_in
   payment_told t place b range small =
-      comes_wanted Any (payment_seen t) (WrongObject place) _ (told_number (WrongObject place) place refl (omega (arith, small))) (λ p is.
-      comes_need Any _ (WrongBrand (brand_of w.draft.now (Payment p))) _ (told_number (WrongBrand (brand_of w.draft.now (Payment p))) (brand_of w.draft.now (Payment p)) refl (omega (arith, payment_brand_small p))) (λ own.
-      comes_need Any _ (DeadPayment p) _ (told_number (DeadPayment p) p refl (omega (arith, payment_named t p range is))) (λ live. tt)))
+      let told = brand_payment_told t place b range small in
+      comes_step Any (payment_of w.draft.now t place b) _ (comes_refused _ _ told) (λ p is.
+      let few : p < 2 ^ 32 = subst (Comes (λ p. p < 2 ^ 32)) is told in
+      comes_need Any _ (DeadPayment p) _ (told_number (DeadPayment p) p refl (omega (arith, few))) (λ live. tt))
 
   next_told : Comes (λ p. p < most_made) (next_payment w.draft.now)
   next_told = comes_need _ _ (Limit most_made) _ (told_number (Limit most_made) most_made refl (omega arith)) (λ room. ltb-true _ _ room)
@@ -184,6 +192,10 @@ module _ (w : World) (valid : IsValid w) where
   unfolding make_empty_purse
   make_empty_purse_told b = comes_need _ _ (Limit most_made) _ (told_number (Limit most_made) most_made refl (omega arith)) (λ room.
       let few : length w.draft.now.purses < most_made = ltb-true _ _ room in omega (arith, few))
+
+  is_live_told : (b : ℕ) (args : List Tree) → InRange (arg 1 args) → Answers (is_live w b args)
+  unfolding is_live
+  is_live_told b args range = comes_step _ (payment_of w.draft.now (arg 1 args) 1 b) _ (comes_refused _ _ (brand_payment_told (arg 1 args) 1 b range (omega arith))) (λ p is. tt)
 
   amount_told_in_range : (a : Amount) → a.value.kind ≡ Nat → a.brand < 2 ^ 32 → count a.value.content unit ≤ nat_bound → InRange (amount_tree a)
   unfolding amount_tree
@@ -229,7 +241,9 @@ module _ (w : World) (valid : IsValid w) where
     kind_told : (k : ObjKind) (n : ℕ) (m : List ℕ) → made_as w.draft.now k n → Answers (of_kind w k n m args)
     kind_told kinds.Ertp n m made = comes_where _ (bytes_eq m (codes "makeIssuerKit")) _ _ (make_issuer_kit_told args) (no_method m)
     kind_told kinds.Mint n m made = comes_where _ (bytes_eq m (codes "mintPayment")) _ _ (mint_payment_told n args (ranges 1)) (no_method m)
-    kind_told kinds.Issuer n m made = comes_where _ (bytes_eq m (codes "makeEmptyPurse")) _ _ (make_empty_purse_told n) (no_method m)
+    kind_told kinds.Issuer n m made =
+        comes_where _ (bytes_eq m (codes "makeEmptyPurse")) _ _ (make_empty_purse_told n)
+        (comes_where _ (bytes_eq m (codes "isLive")) _ _ (is_live_told n args (ranges 1)) (no_method m))
     kind_told kinds.Purse n m made =
         comes_where _ (bytes_eq m (codes "getCurrentAmount")) _ _ (get_current_amount_told n made)
         (comes_where _ (bytes_eq m (codes "deposit")) _ _ (deposit_told n args made (ranges 1) (ranges 2))

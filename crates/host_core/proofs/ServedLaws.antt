@@ -21,7 +21,7 @@ use Rattle.host_core.specs.CallArguments.{arg}
 use Rattle.vault.specs.Known.{AllObjects}
 use Rattle.host_core.specs.Moved.{IsPassed, Moves}
 use Rattle.host_core.specs.Served.{IsBrand, IsMade, KnowsArgs, made_as}
-use Rattle.host_core.specs.Services.{Outcome, deposit, get_current_amount, make_empty_purse, make_issuer_kit, mint_payment, of_kind, serve, served, withdraw}
+use Rattle.host_core.specs.Services.{Outcome, deposit, get_current_amount, is_live, make_empty_purse, make_issuer_kit, mint_payment, of_kind, serve, served, withdraw}
 use Rattle.vault.specs.Values.{amount_tree, brand_tree, number_tree, object_tree, value_tree}
 use Rattle.vault.specs.Vaults.{VaultState, CanMakePayment, CanTransfer, PaymentMark, amount_of, brand_of, kind_of, no_mark, payments_from}
 use Rattle.vault.specs.Worlds.{CanDoAll, Effect, HasRoom, IsAsset, IsValid, MintedWithin, after, after_all, move, new_brand, new_purse}
@@ -120,6 +120,11 @@ make_empty_purse_so w b asset = after_need _ _ _ _ (λ room. record {
   shallow = omega arith;
 })
 
+-- a truth value names nothing, and there is no effect
+is_live_so : (w : World) (b : ℕ) (args : List Tree) → AnswersWell w (is_live w b args)
+unfolding is_live
+is_live_so w b args = after_step _ _ _ (λ payment is. record { can = tt; moves = tt; minted = no_more w; known = tt; ordered = tt; shallow = omega arith })
+
 get_current_amount_so : (w : World) (p : ℕ) → IsValid w → p < length w.draft.now.purses → AnswersWell w (get_current_amount w p)
 unfolding get_current_amount
 get_current_amount_so w p valid made =
@@ -164,7 +169,9 @@ module _ (w : World) (valid : IsValid w) (room : HasRoom w.draft.now) where
   kind_so : (k : ObjKind) (n : ℕ) (m : List ℕ) (args : List Tree) → made_as w.draft.now k n → AnswersWell w (of_kind w k n m args)
   kind_so kinds.Ertp n m args made = by_test w (bytes_eq m (codes "makeIssuerKit")) _ _ (make_issuer_kit_so w args valid) tt
   kind_so kinds.Mint n m args made = by_test w (bytes_eq m (codes "mintPayment")) _ _ (mint_payment_so w n args valid room made) tt
-  kind_so kinds.Issuer n m args made = by_test w (bytes_eq m (codes "makeEmptyPurse")) _ _ (make_empty_purse_so w n made) tt
+  kind_so kinds.Issuer n m args made =
+      by_test w (bytes_eq m (codes "makeEmptyPurse")) _ _ (make_empty_purse_so w n made)
+      (by_test w (bytes_eq m (codes "isLive")) _ _ (is_live_so w n args) tt)
   kind_so kinds.Purse n m args made =
       by_test w (bytes_eq m (codes "getCurrentAmount")) _ _ (get_current_amount_so w n valid made)
       (by_test w (bytes_eq m (codes "deposit")) _ _ (deposit_so w n args valid made)

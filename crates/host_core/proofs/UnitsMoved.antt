@@ -19,7 +19,7 @@ use Rattle.rights_model.specs.Table.{Table, given, holdings, holds, moved, no_ho
 use Rattle.rights_model.proofs.SupplyLaws.{count-le-total}
 use Rattle.rights_model.proofs.TableLaws.{given_outside, holds-given, holds-given_other, holds-taken, holds-taken_other, same_place, taken_outside}
 use Rattle.host_core.specs.CallArguments.{IsUnits, arg}
-use Rattle.host_core.specs.Services.{Outcome, deposit, get_current_amount, make_empty_purse, make_issuer_kit, mint_payment, of_kind, serve, withdraw}
+use Rattle.host_core.specs.Services.{Outcome, deposit, get_current_amount, is_live, make_empty_purse, make_issuer_kit, mint_payment, of_kind, serve, withdraw}
 use Rattle.vault.specs.Vaults.{CanTake, CanTransfer, VaultState, kind_of, out_of}
 use Rattle.vault.specs.Worlds.{Effect, IsValid, move, new_brand, new_purse}
 use Rattle.vault.specs.declared.world.World.{World}
@@ -76,6 +76,10 @@ make_empty_purse_mints : (w : World) (b : ℕ) → MintsSo (make_empty_purse w b
 unfolding make_empty_purse
 make_empty_purse_mints w b = after_need _ _ _ _ (λ room. (tt, tt))
 
+is_live_mints : (w : World) (b : ℕ) (args : List Tree) → MintsSo (is_live w b args)
+unfolding is_live
+is_live_mints w b args = after_step _ _ _ (λ payment is. tt)
+
 get_current_amount_mints : (w : World) (p : ℕ) → MintsSo (get_current_amount w p)
 unfolding get_current_amount
 get_current_amount_mints w p = tt
@@ -95,7 +99,9 @@ by_test false x y h k = k
 kind_mints : (w : World) (k : ObjKind) (n : ℕ) (m : List ℕ) (args : List Tree) → MintsSo (of_kind w k n m args)
 kind_mints w kinds.Ertp n m args = by_test (bytes_eq m (codes "makeIssuerKit")) _ _ (make_issuer_kit_mints w args) tt
 kind_mints w kinds.Mint n m args = by_test (bytes_eq m (codes "mintPayment")) _ _ (mint_payment_mints w n args) tt
-kind_mints w kinds.Issuer n m args = by_test (bytes_eq m (codes "makeEmptyPurse")) _ _ (make_empty_purse_mints w n) tt
+kind_mints w kinds.Issuer n m args =
+    by_test (bytes_eq m (codes "makeEmptyPurse")) _ _ (make_empty_purse_mints w n)
+    (by_test (bytes_eq m (codes "isLive")) _ _ (is_live_mints w n args) tt)
 kind_mints w kinds.Purse n m args =
     by_test (bytes_eq m (codes "getCurrentAmount")) _ _ (get_current_amount_mints w n)
     (by_test (bytes_eq m (codes "deposit")) _ _ (deposit_mints w n args)

@@ -92,11 +92,17 @@ optional_amount t place brand held = if is_null t then Ok tt else do
 abbrev pub payment_seen : Tree → Option ℕ
 payment_seen t = option_and_then payment_number (object_of t)
 
--- a live payment of the brand, by its number
-unfoldable pub payment_in : VaultState → Tree → ℕ → ℕ → Result ℕ Refusal
-payment_in v t place brand = do
+-- a payment of the brand, by its number
+unfoldable pub payment_of : VaultState → Tree → ℕ → ℕ → Result ℕ Refusal
+payment_of v t place brand = do
   payment ← wanted (payment_seen t) (WrongObject place)
   need (brand_of v (Payment payment) == brand) (WrongBrand (brand_of v (Payment payment)))
+  Ok payment
+
+-- one that is live
+unfoldable pub payment_in : VaultState → Tree → ℕ → ℕ → Result ℕ Refusal
+payment_in v t place brand = do
+  payment ← payment_of v t place brand
   need (mark_of v payment).is_live (DeadPayment payment)
   Ok payment
 

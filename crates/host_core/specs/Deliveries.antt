@@ -1,8 +1,8 @@
 -- What a message comes to when it is delivered.
 use Rattle.std.specs.Prelude.{ℕ, List, [], not, is_some, nat_le, Option, Some, None, Result, Ok, Err, codes}
-use Rattle.jessie_tree.specs.Tree.{Tree, items_nesting, listed, object_of}
+use Rattle.jessie_tree.specs.Tree.{Tree, null, items_nesting, listed, object_of}
 use Rattle.jessie_tree.specs.declared.data.Obj.{Obj}
-use Rattle.host_core.specs.MessageLines.{CallRead, MessageRead, call, bad}
+use Rattle.host_core.specs.MessageLines.{CallRead, GiveRead, MessageRead, call, give, bad}
 use Rattle.vault.specs.Outcomes.{◌>>=◌, ◌>>◌, need, wanted}
 use Rattle.vault.specs.Parties.{Labels, bound_to, resolved_all, value_at, with_label}
 use Rattle.vault.specs.Parts.{most_deep}
@@ -43,6 +43,12 @@ addressed ls c = do
   on ← wanted (object_of target) (WrongObject 0)
   Ok (on, listed args)
 
+-- what a give gives: the label is to be free for the receiver, and the path to lead to something
+unfoldable pub given_by : Labels → GiveRead → Result Tree Refusal
+given_by ls g = do
+  free_label ls g.to (Some g.label)
+  wanted (value_at ls g.by g.given) (UnknownName g.given)
+
 -- ---- the turn
 
 -- where the answer is ok, the label is bound to it
@@ -71,7 +77,16 @@ abbrev pub call_turn : ℕ → CallRead → Kept → Result (Obj × List Tree) R
 call_turn n c k (Ok (on, args)) = came_to n (delivery.service c.by on c.method args) c k (served (world_at k) (serve (world_at k) on c.method args))
 call_turn n c k (Err r) = refused n (delivery.message c.by c.method) r k
 
+-- a give binds the receiver's label to what is given, and moves nothing
+abbrev pub give_turn : ℕ → GiveRead → Kept → Result Tree Refusal → Kept × TurnRecord
+give_turn n g k (Ok given) = (
+  record k { labels = with_label k.labels g.to g.label given },
+  record { number = n; delivery = delivery.give g.by g.to g.label given; answer = Ok null; movements = []; sums = [] },
+)
+give_turn n g k (Err r) = refused n (delivery.message g.by g.label) r k
+
 -- what is kept after the message's turn, which has the number, and the turn
 unfoldable pub turn_of : ℕ → Kept → MessageRead → Kept × TurnRecord
 turn_of n k (call c) = call_turn n c k (addressed k.labels c)
+turn_of n k (give g) = give_turn n g k (given_by k.labels g)
 turn_of n k (bad r) = refused n delivery.bad r k

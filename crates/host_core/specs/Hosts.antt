@@ -1,17 +1,19 @@
 -- A host between its calls, and what a step makes of it.
-use Rattle.std.specs.Prelude.{◌≡◌, ℕ, ◌+◌, List, [], ◌∷◌, ◌++◌, Option, Some, None, Result, Ok, Err}
+use Rattle.std.specs.Prelude.{◌≡◌, ◌<◌, ◌≤◌, ℕ, ◌+◌, List, [], ◌∷◌, ◌++◌, length, Option, Some, None, Result, Ok, Err}
 use Rattle.std.specs.declared.alloc.AllocError.{AllocError}
 use Rattle.vault.specs.Brands.{first_brands}
 use Rattle.host_core.specs.Deliveries.{Kept, turn_of, world_at}
-use Rattle.host_core.specs.MessageLines.{Meaning, MessageRead, blank, meaning_of, message}
+use Rattle.host_core.specs.MessageLines.{Meaning, MessageRead, blank, meaning_of, message, run}
 use Rattle.vault.specs.Parties.{Labels, labels_of}
 use Rattle.host_core.specs.Queues.{waiting}
 use Rattle.host_core.specs.Delivered.{AreGood}
 use Rattle.host_core.specs.Turns.{TurnRecord, turn_view}
 use Rattle.vault.specs.Vaults.{VaultState, first_vault}
-use Rattle.vault.specs.Worlds.{IsValid, MintedWithin, resting_of}
+use Rattle.vault.specs.Worlds.{resting_of, IsValid, MintedWithin}
 use Rattle.vault.specs.declared.brands.Brand.{Brand}
 use Rattle.host_core.specs.declared.host.Host.{Host}
+use Rattle.host_core.specs.declared.host.StepFault.{StepFault}
+use Rattle.host_core.specs.declared.host.StepFault.TheVariants as faults
 use Rattle.host_core.specs.declared.host.Submitted.{Submitted}
 use Rattle.host_core.specs.declared.host.Submitted.TheVariants as submitted
 use Rattle.host_core.specs.declared.turns.Turn.{Turn}
@@ -46,11 +48,21 @@ step_from s (m ∷ rest) = Some (turned s rest (turn_of (s.turns + 1) s.kept m))
 unfoldable pub step_of : HostState → Option (HostState × TurnRecord)
 step_of s = step_from s s.queue
 
--- A step is the turn of the message in front; where none waits, and for want of memory, nothing happened.
-abbrev pub IsStep : HostState → HostState → Result (Option Turn) AllocError → Type 0
+-- the most turns of a host
+abbrev pub most_turns : ℕ
+most_turns = 4000000000
+
+-- the last turn was run, and a delivery is left
+pub record IsAtLimit (s : HostState) : Type 0 where
+  pub turns : most_turns ≤ s.turns
+  pub left : 1 ≤ length s.queue
+
+-- A step is the turn of the message in front, where it may be run; where none waits, where the last turn was run, and for want of memory, nothing happened.
+abbrev pub IsStep : HostState → HostState → Result (Option Turn) StepFault → Type 0
 IsStep old new (Ok None) = (step_of old ≡ None) × (new ≡ old)
-IsStep old new (Ok (Some t)) = step_of old ≡ Some (new, turn_view t)
-IsStep old new (Err e) = new ≡ old
+IsStep old new (Ok (Some t)) = (step_of old ≡ Some (new, turn_view t)) × (old.turns < most_turns)
+IsStep old new (Err faults.TurnLimit) = IsAtLimit old × (new ≡ old)
+IsStep old new (Err faults.NoMemory) = new ≡ old
 
 -- ---- what holds of a host between its calls
 
@@ -64,9 +76,11 @@ pub record IsValidHost (s : HostState) : Type 0 where
 abbrev pub IsQueued : HostState → HostState → Meaning → Type 0
 IsQueued old new blank = ⊥
 IsQueued old new (message m) = new ≡ with_message old m
+IsQueued old new (run n) = ⊥
 
--- A line that is blank changes nothing, any other appends its message; for want of memory nothing happened.
+-- A line that is blank or a run line changes nothing, any other appends its message; for want of memory nothing happened.
 abbrev pub IsSubmitted : HostState → HostState → List ℕ → Result Submitted AllocError → Type 0
 IsSubmitted old new line (Ok submitted.Blank) = (meaning_of line ≡ blank) × (new ≡ old)
+IsSubmitted old new line (Ok (submitted.Run n)) = (meaning_of line ≡ run n) × (new ≡ old)
 IsSubmitted old new line (Ok submitted.Queued) = IsQueued old new (meaning_of line)
 IsSubmitted old new line (Err e) = new ≡ old

@@ -17,7 +17,7 @@ use Rattle.vault.specs.declared.refusals.Refusal.{Refusal}
 use Rattle.rights_model.specs.declared.Sum.{Sum}
 use Rattle.vault.specs.Refusals.{refusal_tree}
 use Rattle.vault.specs.Values.{value_tree}
-use Rattle.host_core.specs.Turns.{Delivery, service, bad, message, TurnRecord}
+use Rattle.host_core.specs.Turns.{Delivery, service, give, bad, message, TurnRecord}
 
 -- ---- names
 
@@ -114,6 +114,7 @@ pub record Called : Type 0 where
 
 abbrev pub called : Delivery → Called
 called (service by on method arguments) = record { kind = codes "service"; by = by; on = name_of on; method = method; arguments = arguments }
+called (give by to label given) = record { kind = codes "give"; by = by; on = to; method = label; arguments = given ∷ [] }
 called bad = record { kind = codes "bad"; by = []; on = []; method = []; arguments = [] }
 called (message by method) = record { kind = codes "message"; by = by; on = []; method = method; arguments = [] }
 

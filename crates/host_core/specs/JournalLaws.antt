@@ -14,7 +14,7 @@ use Rattle.vault.specs.declared.refusals.Refusal.{Refusal}
 use Rattle.rights_model.specs.declared.Sum.{Sum}
 use Rattle.host_core.specs.Journal.{is_single, journal_text}
 use Rattle.vault.specs.Refusals.{refusal_tree}
-use Rattle.host_core.specs.Turns.{Delivery, service, bad, message, TurnRecord}
+use Rattle.host_core.specs.Turns.{Delivery, service, give, bad, message, TurnRecord}
 use Rattle.vault.specs.Values.{value_tree}
 
 -- ---- what the rows tell
@@ -50,6 +50,7 @@ abbrev mutual
 
 abbrev pub told_delivery : Delivery → Delivery
 told_delivery (service by on method arguments) = service by (named on) method (map told arguments)
+told_delivery (give by to label given) = give by to label (told given)
 told_delivery bad = bad
 told_delivery (message by method) = message by method
 
@@ -132,6 +133,7 @@ pub record IsSum (s : Sum) : Type 0 where
 
 abbrev pub IsDelivery : Delivery → Type 0
 IsDelivery (service by on method arguments) = (on.number < 2 ^ 32) × All IsData arguments
+IsDelivery (give by to label given) = IsData given
 IsDelivery bad = Unit {0}
 IsDelivery (message by method) = Unit {0}
 

@@ -1,5 +1,6 @@
 pub mod InputLines
 pub mod MessageLines
+pub mod FormTables
 pub mod Queues
 pub mod CallArguments
 pub mod Services

@@ -1,16 +1,14 @@
 -- A run: from the bytes of the input to the turns, and to the journal.
-use Rattle.std.specs.Prelude.{◌≡◌, ℕ, zero, suc, List, [], ◌∷◌, ◌++◌, length, Option}
+use Rattle.std.specs.Prelude.{◌≡◌, ◌≤◌, ◌+◌, ℕ, zero, suc, map, List, [], ◌∷◌, ◌++◌, length, Option}
 use Rattle.std.specs.Option.{option_map_or}
 use Rattle.std.specs.Io.KnownBytes.{Appends}
-use Rattle.host_core.specs.Hosts.{HostState, first_host, step_of, with_message}
+use Rattle.host_core.specs.Deliveries.{Kept, turn_of}
+use Rattle.host_core.specs.Fair.{AreFair}
+use Rattle.host_core.specs.Hosts.{HostState, first_host, most_turns, step_of, with_message}
 use Rattle.host_core.specs.InputLines.{lines_of}
 use Rattle.host_core.specs.Journal.{close_text, journal_text, turn_texts}
-use Rattle.host_core.specs.MessageLines.{Meaning, blank, message, meaning_of}
+use Rattle.host_core.specs.MessageLines.{Meaning, MessageRead, blank, message, meaning_of, run}
 use Rattle.host_core.specs.Turns.{TurnRecord}
-
--- how many deliveries are run at the end of the input
-abbrev pub default_turns : ℕ
-default_turns = 10000
 
 -- the turns of at most n deliveries, each of the message in front
 unfoldable pub drained : ℕ → HostState → List TurnRecord
@@ -22,39 +20,88 @@ unfoldable pub after : ℕ → HostState → HostState
 after zero s = s
 after (suc n) s = option_map_or (λ p. after n p.0) (step_of s) s
 
--- a message is queued, a blank line is skipped
+-- the host after a line, and the turns that it brings: a message is queued, a run line takes at most its number of deliveries
 abbrev pub line_host : HostState → Meaning → HostState
 line_host s blank = s
 line_host s (message m) = with_message s m
+line_host s (run n) = after n s
 
--- the host once all lines are read
-abbrev pub lines_host : HostState → List (List ℕ) → HostState
+abbrev pub line_turns : HostState → Meaning → List TurnRecord
+line_turns s blank = []
+line_turns s (message m) = []
+line_turns s (run n) = drained n s
+
+-- the host after lines, one after another, and their turns
+abbrev pub lines_host : HostState → List Meaning → HostState
 lines_host s [] = s
-lines_host s (line ∷ lines) = lines_host (line_host s (meaning_of line)) lines
+lines_host s (m ∷ ms) = lines_host (line_host s m) ms
 
--- the host at the end of the input, before its deliveries
-unfoldable pub read_host : List ℕ → HostState
-read_host input = lines_host first_host (lines_of input)
+abbrev pub lines_turns : HostState → List Meaning → List TurnRecord
+lines_turns s [] = []
+lines_turns s (m ∷ ms) = line_turns s m ++ lines_turns (line_host s m) ms
+
+-- what the lines of an input mean; the end of the input is a run line of so many deliveries
+abbrev pub meanings_of : ℕ → List ℕ → List Meaning
+meanings_of most input = map meaning_of (lines_of input) ++ run most ∷ []
+
+-- the host at the end of the run on an input, of which at most so many deliveries are run at the input's end
+abbrev pub end_of : ℕ → List ℕ → HostState
+end_of most input = lines_host first_host (meanings_of most input)
+
+-- the turns of that run
+abbrev pub turns_of : ℕ → List ℕ → List TurnRecord
+turns_of most input = lines_turns first_host (meanings_of most input)
+
+-- how many deliveries are left
+abbrev pub left_of : ℕ → List ℕ → ℕ
+left_of most input = length (end_of most input).queue
 
 -- the close row of a host: how many deliveries are left, and how many turns it ran
 abbrev pub closes : HostState → List ℕ
 closes s = close_text (length s.queue) s.turns
 
--- the turns of the run on an input, of which at most so many deliveries are run
-abbrev pub turns_of : ℕ → List ℕ → List TurnRecord
-turns_of most input = drained most (read_host input)
-
--- how many deliveries are left
-abbrev pub left_of : ℕ → List ℕ → ℕ
-left_of most input = length (after most (read_host input)).queue
-
 -- the journal of a run
 unfoldable pub journal_of : ℕ → List ℕ → List ℕ
 journal_of most input = journal_text (turns_of most input) (left_of most input)
+
+-- the turns as far as they can be run are fair
+pub record AreFairToLimit (ts : List TurnRecord) : Type 0 where
+  pub fair : (first later : List TurnRecord) → ts ≡ first ++ later → length first ≤ most_turns → AreFair first
+
+-- ---- in which order messages are delivered
+
+-- the messages of lines
+abbrev pub messages_of : List Meaning → List MessageRead
+messages_of [] = []
+messages_of (blank ∷ ms) = messages_of ms
+messages_of (message m ∷ ms) = m ∷ messages_of ms
+messages_of (run n ∷ ms) = messages_of ms
+
+-- the turns of messages that are delivered one after another, from a number on
+abbrev pub turns_in_order : ℕ → Kept → List MessageRead → List TurnRecord
+turns_in_order n k [] = []
+turns_in_order n k (m ∷ ms) = (turn_of (n + 1) k m).1 ∷ turns_in_order (n + 1) (turn_of (n + 1) k m).0 ms
+
+-- first in first out: the turns are those of the first messages, one for each, in the order of their lines, and the others are left
+pub record AreInOrder (messages : List MessageRead) (ts : List TurnRecord) (left : ℕ) : Type 0 where
+  pub taken : List MessageRead
+  pub waiting : List MessageRead
+  pub all : messages ≡ taken ++ waiting
+  pub turns : ts ≡ turns_in_order 0 first_host.kept taken
+  pub left_are : left ≡ length waiting
 
 -- the rows of the first turns were appended, whole, and nothing else
 pub record AppendsTurns (old new : Option (List ℕ)) (turns : List TurnRecord) : Type 0 where
   pub first : List TurnRecord
   pub later : List TurnRecord
   pub whole : turns ≡ first ++ later
+  pub appended : Appends old new (turn_texts first)
+
+-- those of the first turns, up to the last that may be run and no further, where another is left
+pub record AppendsToLimit (old new : Option (List ℕ)) (before : ℕ) (turns : List TurnRecord) : Type 0 where
+  pub first : List TurnRecord
+  pub later : List TurnRecord
+  pub whole : turns ≡ first ++ later
+  pub last : before + length first ≡ most_turns
+  pub more : 1 ≤ length later
   pub appended : Appends old new (turn_texts first)

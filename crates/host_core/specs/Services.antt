@@ -4,7 +4,7 @@ use Rattle.std.specs.Str.{bytes_eq}
 use Rattle.amount_math.specs.Content.{Content, count, sum, unit}
 use Rattle.amount_math.specs.Worth.{nat_bound}
 use Rattle.amount_math.specs.declared.Kind.TheVariants.{Nat}
-use Rattle.jessie_tree.specs.Tree.{Tree, fields, field, no_fields, is_null, text_of}
+use Rattle.jessie_tree.specs.Tree.{Tree, boolean, fields, field, no_fields, is_null, text_of}
 use Rattle.jessie_tree.specs.declared.data.Obj.{Obj}
 use Rattle.jessie_tree.specs.declared.data.ObjKind.{ObjKind}
 use Rattle.jessie_tree.specs.declared.data.ObjKind.TheVariants as kinds
@@ -14,8 +14,8 @@ use Rattle.vault.specs.Brands.{most_brands}
 use Rattle.ertp_mint.specs.Stocks.{most_made}
 use Rattle.vault.specs.Outcomes.{◌>>=◌, ◌>>◌, need, wanted}
 use Rattle.vault.specs.Values.{amount_tree, brand_tree, object_tree}
-use Rattle.vault.specs.Vaults.{VaultState, amount_of, brand_of, held_by, kind_of, out_of}
-use Rattle.host_core.specs.CallArguments.{amount_in, arg, optional_amount, payment_in}
+use Rattle.vault.specs.Vaults.{VaultState, amount_of, brand_of, held_by, kind_of, mark_of, out_of}
+use Rattle.host_core.specs.CallArguments.{amount_in, arg, optional_amount, payment_in, payment_of}
 use Rattle.vault.specs.Worlds.{Effect, after_all, move, new_brand, new_purse}
 use Rattle.vault.specs.declared.refusals.Refusal.{Refusal}
 use Rattle.vault.specs.declared.refusals.Refusal.TheVariants.{BadArgs, Limit, NoMethod, NotEnough, TooMuch}
@@ -79,6 +79,13 @@ make_empty_purse w brand = do
   need (nat_lt (length w.draft.now.purses) most_made) (Limit most_made)
   Ok (object_tree kinds.Purse (length w.draft.now.purses), new_purse brand ∷ [])
 
+-- issuer.isLive(payment)
+unfoldable pub is_live : World → ℕ → List Tree → Outcome
+is_live w brand args = do
+  let v = w.draft.now
+  payment ← payment_of v (arg 1 args) 1 brand
+  Ok (boolean (mark_of v payment).is_live, [])
+
 -- purse.getCurrentAmount()
 unfoldable pub get_current_amount : World → ℕ → Outcome
 get_current_amount w purse = Ok (amount_tree (amount_of w.draft.now (Purse purse)), [])
@@ -112,8 +119,11 @@ of_ertp w method args = if bytes_eq method (codes "makeIssuerKit") then make_iss
 abbrev pub of_mint : World → ℕ → List ℕ → List Tree → Outcome
 of_mint w n method args = if bytes_eq method (codes "mintPayment") then mint_payment w n args else Err (NoMethod method)
 
-abbrev pub of_issuer : World → ℕ → List ℕ → Outcome
-of_issuer w n method = if bytes_eq method (codes "makeEmptyPurse") then make_empty_purse w n else Err (NoMethod method)
+abbrev pub of_issuer : World → ℕ → List ℕ → List Tree → Outcome
+of_issuer w n method args =
+    if bytes_eq method (codes "makeEmptyPurse") then make_empty_purse w n
+    else if bytes_eq method (codes "isLive") then is_live w n args
+    else Err (NoMethod method)
 
 abbrev pub of_purse : World → ℕ → List ℕ → List Tree → Outcome
 of_purse w n method args =
@@ -125,7 +135,7 @@ of_purse w n method args =
 abbrev pub of_kind : World → ObjKind → ℕ → List ℕ → List Tree → Outcome
 of_kind w kinds.Ertp n method args = of_ertp w method args
 of_kind w kinds.Mint n method args = of_mint w n method args
-of_kind w kinds.Issuer n method args = of_issuer w n method
+of_kind w kinds.Issuer n method args = of_issuer w n method args
 of_kind w kinds.Purse n method args = of_purse w n method args
 of_kind w _ n method args = Err (NoMethod method)
 

@@ -12,9 +12,10 @@ use Rattle.host_core.specs.declared.turns.Delivered.TheVariants as delivered
 use Rattle.rights_model.specs.declared.Sum.{Sum}
 use Rattle.host_core.specs.declared.turns.Turn.{Turn}
 
--- a call that was worked: the party, the target, the method and the arguments; a bad line; or a call that was refused before it was worked: the party and the method
+-- a call that was worked: the party, the target, the method and the arguments; a name that was given: the giver, the receiver, the receiver's label and what it stands for; a bad line; or a message that was refused before it was worked: the party, and the method or the label
 pub data Delivery : Type 0 where
   service : List ℕ → Obj → List ℕ → List Tree → Delivery
+  give : List ℕ → List ℕ → List ℕ → Tree → Delivery
   bad : Delivery
   message : List ℕ → List ℕ → Delivery
 
@@ -29,6 +30,7 @@ pub record TurnRecord : Type 0 where
 
 abbrev pub delivery_of : Delivered → Delivery
 delivery_of (delivered.Service c) = service c.by c.on c.method (trees c.arguments.items)
+delivery_of (delivered.Give g) = give g.by g.to g.label (tree g.given)
 delivery_of delivered.Bad = bad
 delivery_of (delivered.Message by method) = message by method
 

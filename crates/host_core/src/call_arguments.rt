@@ -4,9 +4,11 @@
 ghost use Rattle.std.specs.Prelude.{◌≡◌, ◌<◌, ◌≤◌, IfOk, option_map, length};
 ghost use Rattle.jessie_tree.specs.Tree.{is_null, text_of};
 ghost use Rattle.jessie_tree.specs.View.{tree, trees};
-ghost use Rattle.host_core.specs.CallArguments.{IsLive, IsUnits, amount_fields, amount_in, arg, brand_number, nat_from, optional_amount, payment_in, payment_seen, same_value, seen, value_in};
+ghost use Rattle.host_core.specs.CallArguments.{IsLive, IsUnits, amount_fields, amount_in, arg, brand_number, nat_from, optional_amount, payment_in, payment_of, payment_seen, same_value, seen, value_in};
 ghost use Rattle.vault.specs.Outcomes.{Gives, Refuses, need, wanted};
 ghost use Rattle.host_core.specs.Served.{KnowsArgs};
+ghost use Rattle.rights_model.specs.declared.Holder.TheVariants.{Payment};
+ghost use Rattle.vault.specs.Vaults.{brand_of};
 ghost use Rattle.vault.specs.declared.refusals.Refusal.TheVariants as refusals;
 ghost use Rattle.amount_math.specs.Content.{count, unit};
 ghost use Rattle.amount_math.specs.Worth.{nat_bound};
@@ -167,6 +169,21 @@ fn wrong_amount(held: &Value, named: &Value) -> Stop
 
 // ---- payments
 
+/// A payment of the brand, live or spent.
+#[tactic(auto, unfolding(crate::specs::CallArguments::payment_of, vault::specs::Outcomes::bind, vault::specs::Outcomes::need, vault::specs::Outcomes::wanted))]
+pub fn brand_payment(world: &World, args: &[Data], place: u32, brand: u16) -> Result<u32, Stop>
+    requires place { 1 ≤ place }
+    requires known { KnowsArgs world.now.draft.now (trees args.now) }
+    ensures gives { Gives (λ payment. payment) result (payment_of world.now.draft.now (arg place (trees args.now)) place brand) }
+    ensures made { IfOk result (λ payment. payment < length world.now.draft.now.payments) }
+    ensures brand { IfOk result (λ payment. brand_of world.now.draft.now (Payment payment) ≡ brand) }
+{
+    let payment = any_payment(world, args, place)?;
+    let found = payment_brand(world, payment);
+    need(found == brand, Refusal::WrongBrand(u32::from(found)))?;
+    Ok(payment)
+}
+
 /// A live payment of the brand.
 #[tactic(auto, unfolding(crate::specs::CallArguments::payment_in, vault::specs::Outcomes::bind, vault::specs::Outcomes::need, vault::specs::Outcomes::wanted))]
 pub fn payment(world: &World, args: &[Data], place: u32, brand: u16) -> Result<u32, Stop>
@@ -175,9 +192,7 @@ pub fn payment(world: &World, args: &[Data], place: u32, brand: u16) -> Result<u
     ensures gives { Gives (λ payment. payment) result (payment_in world.now.draft.now (arg place (trees args.now)) place brand) }
     ensures live { IfOk result (λ payment. IsLive world.now.draft.now payment brand) }
 {
-    let payment = any_payment(world, args, place)?;
-    let found = payment_brand(world, payment);
-    need(found == brand, Refusal::WrongBrand(u32::from(found)))?;
+    let payment = brand_payment(world, args, place, brand)?;
     need(is_live(world, payment), Refusal::DeadPayment(payment))?;
     Ok(payment)
 }

@@ -2,24 +2,26 @@
 //! turn's record is made. Its one contract is `turn_of`'s: the turn and what is kept after it are those
 //! that the message has by definition, or, for want of memory, all is as before.
 
-ghost use Rattle.std.specs.Prelude.{◌≡◌, ◌<◌, [], All, length, Err, Ok, IfErr, IfOk, OnErr, OnOk};
+ghost use Rattle.std.specs.Prelude.{◌≡◌, ◌<◌, [], All, length, Some, Err, Ok, IfErr, IfOk, OnErr, OnOk};
 ghost use Rattle.jessie_tree.specs.View.{tree, trees};
 ghost use Rattle.host_core.specs.Deliveries as deliveries;
+ghost use Rattle.jessie_tree.specs.Tree.{null};
 ghost use Rattle.host_core.specs.Deliveries.{addressed, came_to, free_label, kept_of, labelled, world_at};
 ghost use Rattle.host_core.specs.Delivered.{IsFree, IsReady, IsSteady, kept_with};
-ghost use Rattle.host_core.specs.MessageLines.{call_view, message_view};
+ghost use Rattle.host_core.specs.MessageLines.{call_view, give_view, message_view};
 ghost use Rattle.vault.specs.Outcomes.{Gives};
-ghost use Rattle.vault.specs.Parties.{labels_of};
+ghost use Rattle.vault.specs.Parties.{labels_of, with_label};
 ghost use Rattle.host_core.specs.Services as services;
 ghost use Rattle.host_core.specs.Services.{served};
+ghost use Rattle.host_core.specs.Turns as turns;
 ghost use Rattle.host_core.specs.Turns.{delivery_of, message, service, turn_view};
 ghost use Rattle.vault.specs.Sums.{sums_of};
 ghost use Rattle.vault.specs.Worlds.{IsValid, Keeps};
 ghost use Rattle.host_core.specs.declared.turns.Delivered;
 
-use crate::message_lines::{Call, Message};
+use crate::message_lines::{Call, Give, Message};
 use crate::services::serve;
-use crate::turns::{Answer, Delivered, ServiceCall, Turn};
+use crate::turns::{Answer, Delivered, GivenName, ServiceCall, Turn};
 use host_text::text::Text;
 use jessie_tree::data::{self, Data, Obj};
 use std::alloc::{AllocError, Global};
@@ -30,18 +32,26 @@ use vault::world::{Resting, World};
 /// The most that data nests.
 const MOST_DEEP: u32 = 32;
 
-/// The refusal where the label for the answer is bound already.
+/// The refusal where a label that a party is to have is bound already.
 #[tactic(auto, unfolding(vault::specs::Outcomes::bind, vault::specs::Outcomes::need, vault::specs::Outcomes::wanted))]
-fn free_label(alloc: Global, parties: &Parties, call: &Call) -> Result<(), Stop>
-    ensures { Gives (λ _. tt) result (free_label (labels_of parties.now) call.now.by call.now.label) }
+fn free_label(alloc: Global, parties: &Parties, party: &Text, label: &Text) -> Result<(), Stop>
+    ensures { Gives (λ _. tt) result (deliveries.free_label (labels_of parties.now) party.now (Some label.now)) }
 {
-    let Some(label) = &call.label else {
-        return Ok(());
-    };
-    if parties.is_bound(alloc, &call.by, label)? {
+    if parties.is_bound(alloc, party, label)? {
         return Err(Stop::Refused(Refusal::NameTaken(label.copy(alloc)?)));
     }
     Ok(())
+}
+
+/// The refusal where the label for the answer is bound already.
+#[tactic(auto, unfolding(vault::specs::Outcomes::bind, vault::specs::Outcomes::need, vault::specs::Outcomes::wanted))]
+fn free_answer(alloc: Global, parties: &Parties, call: &Call) -> Result<(), Stop>
+    ensures { Gives (λ _. tt) result (free_label (labels_of parties.now) call.now.by call.now.label) }
+{
+    match &call.label {
+        Some(label) => free_label(alloc, parties, &call.by, label),
+        None => Ok(()),
+    }
 }
 
 /// The target and the arguments, once all paths are resolved.
@@ -49,7 +59,7 @@ fn free_label(alloc: Global, parties: &Parties, call: &Call) -> Result<(), Stop>
 fn address(alloc: Global, parties: &Parties, call: &Call) -> Result<(Obj, Vec<Data>), Stop>
     ensures { Gives (λ (on, arguments). (on, trees arguments.items)) result (addressed (labels_of parties.now) (call_view call.now)) }
 {
-    free_label(alloc, parties, call)?;
+    free_answer(alloc, parties, call)?;
     let Some(target) = parties.value_at(alloc, &call.by, &call.on)? else {
         return Err(Stop::Refused(Refusal::UnknownName(call.on.copy(alloc)?)));
     };
@@ -76,17 +86,18 @@ fn refused_turn(alloc: Global, number: u32, delivered: Delivered, refusal: Refus
     }
 }
 
-/// The turn of a call that is refused before it is worked.
+/// The turn of a message that is refused before it is worked: the party, and the method or the label.
 fn message_turn(
     alloc: Global,
-    call: &Call,
+    by: &Text,
+    method: &Text,
     refusal: Refusal,
     number: u32,
 ) -> Result<Turn, AllocError>
-    ensures { IfOk result (λ turn. turn_view turn ≡ record { number = number; delivery = message call.now.by call.now.method; answer = Err refusal; movements = []; sums = [] }) }
+    ensures { IfOk result (λ turn. turn_view turn ≡ record { number = number; delivery = message by.now method.now; answer = Err refusal; movements = []; sums = [] }) }
 {
-    let by = call.by.copy(alloc)?;
-    let method = call.method.copy(alloc)?;
+    let by = by.copy(alloc)?;
+    let method = method.copy(alloc)?;
     let delivered = Delivered::Message(by, method);
     Ok(refused_turn(alloc, number, delivered, refusal))
 }
@@ -234,11 +245,83 @@ fn call_turn(
             Ok(service) => service_turn(alloc, resting, parties, call, service, number),
             Err(_) => Err(resting),
         },
-        Err(Stop::Refused(refusal)) => match message_turn(alloc, call, refusal, number) {
-            Ok(turn) => Ok((resting, turn)),
-            Err(_) => Err(resting),
-        },
+        Err(Stop::Refused(refusal)) => {
+            match message_turn(alloc, &call.by, &call.method, refusal, number) {
+                Ok(turn) => Ok((resting, turn)),
+                Err(_) => Err(resting),
+            }
+        }
         Err(Stop::NoMemory) => Err(resting),
+    }
+}
+
+/// What a give gives: the receiver's label is free, and something stands at the giver's path.
+#[tactic(auto, unfolding(crate::specs::Deliveries::given_by, vault::specs::Outcomes::bind, vault::specs::Outcomes::need, vault::specs::Outcomes::wanted))]
+fn given_by(alloc: Global, parties: &Parties, give: &Give) -> Result<Data, Stop>
+    ensures { Gives (λ given. tree given) result (deliveries.given_by (labels_of parties.now) (give_view give.now)) }
+{
+    free_label(alloc, parties, &give.to, &give.label)?;
+    match parties.value_at(alloc, &give.by, &give.given)? {
+        Some(given) => Ok(given),
+        None => Err(Stop::Refused(Refusal::UnknownName(give.given.copy(alloc)?))),
+    }
+}
+
+/// The give as its turn's record has it.
+fn given_name(alloc: Global, give: &Give, given: Data) -> Result<GivenName, AllocError>
+    ensures { IfOk result (λ made. delivery_of (Delivered.Give made) ≡ turns.give give.now.by give.now.to give.now.label (tree given)) }
+{
+    Ok(GivenName {
+        by: give.by.copy(alloc)?,
+        to: give.to.copy(alloc)?,
+        label: give.label.copy(alloc)?,
+        given,
+    })
+}
+
+/// Binds the receiver's label to what is given, and makes the turn's record. For want of memory no
+/// label is bound.
+fn given_turn(
+    alloc: Global,
+    parties: &mut Parties,
+    give: &Give,
+    given: Data,
+    number: u32,
+) -> Result<Turn, AllocError>
+    requires { IsFree (labels_of parties.old) give.now.to (Some give.now.label) }
+    ensures turn { IfOk result (λ turn. turn_view turn ≡ record { number = number; delivery = turns.give give.now.by give.now.to give.now.label (tree given); answer = Ok null; movements = []; sums = [] }) }
+    ensures labels { OnOk result (labels_of parties.new ≡ with_label (labels_of parties.old) give.now.to give.now.label (tree given)) }
+    ensures err { OnErr result (labels_of parties.new ≡ labels_of parties.old) }
+{
+    let value = given.copy(alloc)?;
+    let delivered = Delivered::Give(given_name(alloc, give, given)?);
+    parties.bind(alloc, &give.to, &give.label, value)?;
+    Ok(Turn {
+        number,
+        delivered,
+        answer: Answer::Given(Data::Null),
+        movements: Vec::new(alloc),
+        sums: Vec::new(alloc),
+    })
+}
+
+/// The turn of a give; or, for want of memory, nothing happened. It changes the labels alone, whatever
+/// else is kept.
+fn give_turn(
+    alloc: Global,
+    parties: &mut Parties,
+    give: &Give,
+    number: u32,
+) -> Result<Turn, AllocError>
+    ensures turn { IfOk result (λ turn. (kept : Resting) → (kept_with kept (labels_of parties.new), turn_view turn) ≡ deliveries.give_turn number (give_view give.now) (kept_with kept (labels_of parties.old)) (deliveries.given_by (labels_of parties.old) (give_view give.now))) }
+    ensures err { OnErr result (labels_of parties.new ≡ labels_of parties.old) }
+{
+    match given_by(alloc, parties, give) {
+        Ok(given) => given_turn(alloc, parties, give, given, number),
+        Err(Stop::Refused(refusal)) => {
+            message_turn(alloc, &give.by, &give.label, refusal, number)
+        }
+        Err(Stop::NoMemory) => Err(AllocError),
     }
 }
 
@@ -258,6 +341,10 @@ pub(crate) fn turn_of(
 {
     match message {
         Message::Call(call) => call_turn(alloc, resting, parties, call, number),
+        Message::Give(give) => match give_turn(alloc, parties, give, number) {
+            Ok(turn) => Ok((resting, turn)),
+            Err(_) => Err(resting),
+        },
         Message::Bad(refusal) => match refusal.copy(alloc) {
             Ok(refusal) => Ok((
                 resting,

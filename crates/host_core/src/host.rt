@@ -8,6 +8,7 @@ use crate::message_lines::{Line, read_line};
 use crate::turn_queue::TurnQueue;
 use crate::turns::Turn;
 use std::alloc::{AllocError, Global};
+use thiserror::Error;
 use vault::parties::Parties;
 use vault::world::Resting;
 
@@ -18,7 +19,22 @@ pub enum Submitted {
     Blank,
     /// Its message waits.
     Queued,
+    /// At most so many deliveries are to be run at once. Nothing is changed by it.
+    Run(u32),
 }
+
+/// Why no step is made.
+#[derive(Clone, Copy, Debug, PartialEq, Eq, Error)]
+pub enum StepFault {
+    /// The last turn that may be run was run, and a delivery is left.
+    #[error("the last turn was run")]
+    TurnLimit,
+    #[error("there is no memory")]
+    NoMemory,
+}
+
+/// The most turns that a host runs.
+pub const MOST_TURNS: u32 = 4_000_000_000;
 
 /// An escrow host. Contracts see it as what is kept between turns, the queue and the number of turns
 /// (specs/Hosts.antt).
@@ -37,6 +53,7 @@ impl Host {
     /// A new host, which has the brand of invitations and no right.
     pub fn new(alloc: Global) -> Result<Host, AllocError>
         ensures host { IfOk result (λ host. host_view host ≡ first_host) }
+        ensures valid { IfOk result (λ host. IsValidHost (host_view host)) }
     {
         let resting = Resting::first(alloc)?;
         Ok(Host {
@@ -48,12 +65,16 @@ impl Host {
     }
 
     /// Appends the message that a line means, if it means one. A bad line is a message too, which is
-    /// refused when it is delivered. On an error all is as before.
+    /// refused when it is delivered. A run line is answered, and left to the caller. On an error all is
+    /// as before.
+    #[tactic(auto, using(crate::proofs::RunStarts::queue_keeps_valid))]
     pub fn submit(&mut self, alloc: Global, line: &[u8]) -> Result<Submitted, AllocError>
         ensures submitted { IsSubmitted (host_view self.old) (host_view self.new) line.now result }
+        ensures valid { IsValidHost (host_view self.old) → IsValidHost (host_view self.new) }
     {
         match read_line(alloc, line)? {
             Line::Blank => Ok(Submitted::Blank),
+            Line::Run(most) => Ok(Submitted::Run(most)),
             Line::Message(message) => {
                 self.queue.push(message)?;
                 Ok(Submitted::Queued)
@@ -61,18 +82,20 @@ impl Host {
         }
     }
 
-    /// The turn of the message in front, or `None` exactly where none waits. For want of memory the
-    /// host is as it was at the turn's start, with the message in front.
-    pub fn step(&mut self, alloc: Global) -> Result<Option<Turn>, AllocError>
+    /// The turn of the message in front, or `None` exactly where none waits. Where turn 4,000,000,000
+    /// was run and a message is left, and for want of memory, the host is as it was, with the message
+    /// in front.
+    pub fn step(&mut self, alloc: Global) -> Result<Option<Turn>, StepFault>
         requires valid { IsValidHost (host_view self.old) }
-        requires few { self.old.turns < 4000000000 }
         ensures step { IsStep (host_view self.old) (host_view self.new) result }
         ensures valid { IsValidHost (host_view self.new) }
-        ensures turns { self.new.turns ≤ self.old.turns + 1 }
     {
         let Some(message) = self.queue.front() else {
             return Ok(None);
         };
+        if self.turns >= MOST_TURNS {
+            return Err(StepFault::TurnLimit);
+        }
         let Some(resting) = self.resting.take() else {
             unreachable!()
         };
@@ -85,7 +108,7 @@ impl Host {
             }
             Err(resting) => {
                 self.resting = Some(resting);
-                Err(AllocError)
+                Err(StepFault::NoMemory)
             }
         }
     }
@@ -104,3 +127,6 @@ impl Host {
         self.turns
     }
 }
+
+#[cfg(test)]
+mod tests;

@@ -12,10 +12,10 @@ ghost use Rattle.jessie_tree.specs.View.{tree, trees, named_trees, items_of, fie
 ghost use Rattle.host_core.specs.Journal.{word_of, is_single, name_of, brand_name, holder_name as name_of_holder, number_json, json_of, items_json, fields_json, answer_json, called, turn_json, turn_row, move_row, sum_row, close_row, row_text, turn_text, close_text};
 ghost use Rattle.host_core.specs.JournalLaws.{OneText};
 ghost use Rattle.vault.specs.Refusals.{refusal_tree};
-ghost use Rattle.host_core.specs.Turns.{answer_of, delivery_of, turn_view, service, bad, message};
+ghost use Rattle.host_core.specs.Turns.{answer_of, delivery_of, turn_view, service, give, bad, message};
 ghost use Rattle.vault.specs.Values.{value_tree};
 
-use crate::turns::{Answer, Delivered, ServiceCall, Turn};
+use crate::turns::{Answer, Delivered, GivenName, ServiceCall, Turn};
 use amount_math::Value as Held;
 use host_text::text::Text;
 use jessie_tree::data::{Data, Obj, ObjKind};
@@ -206,6 +206,23 @@ fn service_value(
     })
 }
 
+fn give_value(
+    alloc: Global,
+    number: u32,
+    answer: Value,
+    given: &GivenName,
+) -> Result<Value, AllocError>
+    ensures { IfOk result (λ v. view v ≡ turn_json (view answer)
+        (called (give given.now.by given.now.to given.now.label (tree given.now.given))) number) }
+{
+    let what = data_value(alloc, &given.given)?;
+    let (by, to, label) = (given.by.as_str(), given.to.as_str(), given.label.as_str());
+    json!(in alloc; {
+        "answer": answer, "args": [what], "by": by, "do": label,
+        "kind": "give", "n": number, "on": to, "row": "turn"
+    })
+}
+
 fn bad_value(alloc: Global, number: u32, answer: Value) -> Result<Value, AllocError>
     ensures { IfOk result (λ v. view v ≡ turn_json (view answer) (called bad) number) }
 {
@@ -237,6 +254,7 @@ fn turn_value(alloc: Global, turn: &Turn) -> Result<Value, AllocError>
     let answer = answer_value(alloc, &turn.answer)?;
     match &turn.delivered {
         Delivered::Service(call) => service_value(alloc, turn.number, answer, call),
+        Delivered::Give(given) => give_value(alloc, turn.number, answer, given),
         Delivered::Bad => bad_value(alloc, turn.number, answer),
         Delivered::Message(by, method) => message_value(alloc, turn.number, answer, by, method),
     }

@@ -14,9 +14,11 @@ ghost use Rattle.vault.specs.Vaults.{CanMakePayment};
 ghost use Rattle.vault.specs.Worlds.{HasRoom, IsAsset, IsValid, Keeps};
 ghost use Rattle.vault.specs.declared.refusals.Refusal.TheVariants as refusals;
 
-use crate::call_arguments::{amount, argument, need, optional_amount, payment, units};
+use crate::call_arguments::{
+    amount, argument, brand_payment, need, optional_amount, payment, units,
+};
 use crate::holdings::{
-    payment_value, payments_made, purse_brand, purse_value, purses_made, value_out,
+    self, payment_value, payments_made, purse_brand, purse_value, purses_made, value_out,
 };
 use amount_math::{Kind, NAT_BOUND, Value};
 use host_text::text::Text;
@@ -175,6 +177,17 @@ fn make_empty_purse(world: &mut World, brand: u16) -> Result<Data, Stop>
     Ok(object_data(ObjKind::Purse, purse))
 }
 
+/// issuer.isLive(payment)
+#[tactic(auto, unfolding(crate::specs::Services::is_live, vault::specs::Outcomes::bind, vault::specs::Outcomes::need, vault::specs::Outcomes::wanted))]
+fn is_live(world: &World, brand: u16, args: &[Data]) -> Result<Data, Stop>
+    requires valid { IsValid world.now }
+    requires known { KnowsArgs world.now.draft.now (trees args.now) }
+    ensures { Serves world.now world.now result (services.is_live world.now brand (trees args.now)) }
+{
+    let payment = brand_payment(world, args, 1, brand)?;
+    Ok(Data::Bool(holdings::is_live(world, payment)))
+}
+
 /// purse.getCurrentAmount()
 #[tactic(auto, unfolding(crate::specs::Services::get_current_amount))]
 fn get_current_amount(alloc: Global, world: &World, purse: u32) -> Result<Data, Stop>
@@ -266,13 +279,22 @@ fn serve_mint(
     }
 }
 
-fn serve_issuer(alloc: Global, world: &mut World, brand: u16, method: &str) -> Result<Data, Stop>
+fn serve_issuer(
+    alloc: Global,
+    world: &mut World,
+    brand: u16,
+    method: &str,
+    args: &[Data],
+) -> Result<Data, Stop>
+    requires valid { IsValid world.old }
+    requires known { KnowsArgs world.old.draft.now (trees args.now) }
     requires asset { IsAsset world.old.draft.now brand }
-    ensures row { Serves world.old world.new result (services.of_issuer world.old brand method.now) }
+    ensures row { Serves world.old world.new result (services.of_issuer world.old brand method.now (trees args.now)) }
     ensures keeps { Keeps world.old world.new }
 {
     match method {
         "makeEmptyPurse" => make_empty_purse(world, brand),
+        "isLive" => is_live(world, brand, args),
         _ => Err(no_method(alloc, method)),
     }
 }
@@ -329,7 +351,13 @@ pub fn serve(
     match target.kind {
         ObjKind::Ertp => serve_ertp(alloc, world, method, arguments),
         ObjKind::Mint => serve_mint(alloc, world, brand_number(world, number), method, arguments),
-        ObjKind::Issuer => serve_issuer(alloc, world, brand_number(world, number), method),
+        ObjKind::Issuer => serve_issuer(
+            alloc,
+            world,
+            brand_number(world, number),
+            method,
+            arguments,
+        ),
         ObjKind::Purse => serve_purse(alloc, world, number, method, arguments),
         _ => Err(no_method(alloc, method)),
     }

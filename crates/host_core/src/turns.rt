@@ -15,13 +15,26 @@ pub struct ServiceCall {
     pub arguments: Vec<Data>,
 }
 
+/// A name that was given.
+#[derive(Debug, Drop)]
+pub struct GivenName {
+    /// The giver and the receiver, by their labels.
+    pub by: Text,
+    pub to: Text,
+    /// The receiver's label for it.
+    pub label: Text,
+    /// What it stands for.
+    pub given: Data,
+}
+
 /// What was delivered.
 #[derive(Debug, Drop)]
 pub enum Delivered {
     Service(ServiceCall),
+    Give(GivenName),
     /// A line that is refused.
     Bad,
-    /// A call that was refused before it was worked: the party and the method.
+    /// A message that was refused before it was worked: the party, and the method, or in a give the label.
     Message(Text, Text),
 }
 

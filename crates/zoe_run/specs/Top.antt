@@ -1,20 +1,13 @@
 -- What each status of the top call says.
-use Rattle.std.specs.Prelude.{◌≡◌, ℕ, List, [], ◌∷◌, Bool, true, false, codes, Option}
-use Rattle.std.specs.Str.{bytes_eq}
+use Rattle.std.specs.Prelude.{◌≡◌, ◌<◌, ◌≤◌, ℕ, List, length, true, false, codes, Option}
 use Rattle.std.specs.Io.KnownBytes.{Appends, Keeps}
 use Rattle.zoe_run.specs.Causes.{Rose}
 use Rattle.zoe_run.specs.Fronts.{AppendsFront}
 use Rattle.host_core.specs.InputLines.{is_too_long}
-use Rattle.host_core.specs.Runs.{AppendsTurns, default_turns, journal_of, turns_of}
+use Rattle.host_core.specs.Hosts.{most_turns}
+use Rattle.host_core.specs.Runs.{AppendsToLimit, AppendsTurns, journal_of, turns_of}
 use Rattle.zoe_run.specs.declared.top.Status.{Status}
-use Rattle.zoe_run.specs.declared.top.Status.TheVariants.{Done, Usage, ReadFault, WriteFault, NoMemory, TooLong}
-
--- the program's name, and `run`
-abbrev pub takes_words : List (List ℕ) → Bool
-takes_words [] = false
-takes_words (name ∷ []) = false
-takes_words (name ∷ word ∷ []) = bytes_eq word (codes "run")
-takes_words (name ∷ word ∷ more ∷ words) = false
+use Rattle.zoe_run.specs.declared.top.Status.TheVariants.{Done, Usage, ReadFault, WriteFault, NoMemory, TurnLimit, TooLong}
 
 -- the exit status
 abbrev pub exit_code : Status → ℕ
@@ -23,6 +16,7 @@ exit_code Usage = 2
 exit_code ReadFault = 3
 exit_code WriteFault = 4
 exit_code NoMemory = 5
+exit_code TurnLimit = 6
 exit_code TooLong = 7
 
 -- what is shown on standard error
@@ -32,25 +26,36 @@ status_name Usage = codes "Usage"
 status_name ReadFault = codes "ReadFault"
 status_name WriteFault = codes "WriteFault"
 status_name NoMemory = codes "NoMemory"
+status_name TurnLimit = codes "TurnLimit"
 status_name TooLong = codes "TooLong"
 
--- what was written, for an input
-abbrev pub Writes : Status → Option (List ℕ) → Option (List ℕ) → List ℕ → Type 0
-Writes Done old new input = Appends old new (journal_of default_turns input)
-Writes Usage old new input = Keeps old new
-Writes ReadFault old new input = Keeps old new
-Writes WriteFault old new input = AppendsFront old new (journal_of default_turns input)
-Writes NoMemory old new input = AppendsTurns old new (turns_of default_turns input)
-Writes TooLong old new input = Keeps old new
+-- what was written, for an input and so many deliveries at its end
+abbrev pub Writes : Status → Option (List ℕ) → Option (List ℕ) → ℕ → List ℕ → Type 0
+Writes Done old new most input = Appends old new (journal_of most input)
+Writes Usage old new most input = Keeps old new
+Writes ReadFault old new most input = Keeps old new
+Writes WriteFault old new most input = AppendsFront old new (journal_of most input)
+Writes NoMemory old new most input = AppendsTurns old new (turns_of most input)
+Writes TurnLimit old new most input = AppendsToLimit old new 0 (turns_of most input)
+Writes TooLong old new most input = Keeps old new
 
--- `TooLong` comes exactly where the input passes a limit and is read so far
-abbrev pub MeetsLimits : Status → List ℕ → Type 0
-MeetsLimits Done input = is_too_long input ≡ false
-MeetsLimits Usage input = Unit {0}
-MeetsLimits ReadFault input = Unit {0}
-MeetsLimits WriteFault input = is_too_long input ≡ false
-MeetsLimits NoMemory input = Unit {0}
-MeetsLimits TooLong input = is_too_long input ≡ true
+-- `TooLong` comes exactly where the input passes a limit and is read so far, `TurnLimit` exactly where the last turn was run and another is left
+pub record IsWithin (most : ℕ) (input : List ℕ) : Type 0 where
+  pub bytes : is_too_long input ≡ false
+  pub turns : length (turns_of most input) ≤ most_turns
+
+pub record IsPast (most : ℕ) (input : List ℕ) : Type 0 where
+  pub bytes : is_too_long input ≡ false
+  pub turns : most_turns < length (turns_of most input)
+
+abbrev pub MeetsLimits : Status → ℕ → List ℕ → Type 0
+MeetsLimits Done most input = IsWithin most input
+MeetsLimits Usage most input = Unit {0}
+MeetsLimits ReadFault most input = Unit {0}
+MeetsLimits WriteFault most input = is_too_long input ≡ false
+MeetsLimits NoMemory most input = Unit {0}
+MeetsLimits TurnLimit most input = IsPast most input
+MeetsLimits TooLong most input = is_too_long input ≡ true
 
 -- a fault is answered only where its count rose, and no fault is passed over
 abbrev pub SourceFaults : Status → ℕ → ℕ → Type 0
@@ -59,6 +64,7 @@ SourceFaults Usage before now = now ≡ before
 SourceFaults ReadFault before now = Rose before now
 SourceFaults WriteFault before now = now ≡ before
 SourceFaults NoMemory before now = now ≡ before
+SourceFaults TurnLimit before now = now ≡ before
 SourceFaults TooLong before now = now ≡ before
 
 abbrev pub SinkFaults : Status → ℕ → ℕ → Type 0
@@ -67,6 +73,7 @@ SinkFaults Usage before now = now ≡ before
 SinkFaults ReadFault before now = now ≡ before
 SinkFaults WriteFault before now = Rose before now
 SinkFaults NoMemory before now = now ≡ before
+SinkFaults TurnLimit before now = now ≡ before
 SinkFaults TooLong before now = now ≡ before
 
 -- nothing was written, whatever the source told
@@ -76,7 +83,18 @@ WritesNothing Usage old new = Keeps old new
 WritesNothing ReadFault old new = Keeps old new
 WritesNothing WriteFault old new = Unit {0}
 WritesNothing NoMemory old new = Unit {0}
+WritesNothing TurnLimit old new = Unit {0}
 WritesNothing TooLong old new = Keeps old new
+
+-- the words are refused, unless memory ran out
+abbrev pub IsRefused : Status → Type 0
+IsRefused Done = ⊥
+IsRefused Usage = Unit {0}
+IsRefused ReadFault = ⊥
+IsRefused WriteFault = ⊥
+IsRefused NoMemory = Unit {0}
+IsRefused TurnLimit = ⊥
+IsRefused TooLong = ⊥
 
 -- done, unless memory ran out
 abbrev pub Ends : Status → Type 0
@@ -85,4 +103,5 @@ Ends Usage = ⊥
 Ends ReadFault = ⊥
 Ends WriteFault = ⊥
 Ends NoMemory = Unit {0}
+Ends TurnLimit = ⊥
 Ends TooLong = ⊥

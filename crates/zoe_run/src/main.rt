@@ -7,9 +7,11 @@
 pub mod host_io;
 pub mod run;
 pub mod top;
+pub mod words;
 
 use crate::host_io::std_ends::{StdSink, StdSource};
 use crate::top::{Status, zoe_top};
+use crate::words::usage;
 use std::process::ExitCode;
 use std::{env, io};
 
@@ -34,6 +36,10 @@ fn main(rt: HostRuntime) -> ExitCode {
     if status != Status::Done {
         let name = status.name();
         let _ = eprintln!(rt; "{name}");
+    }
+    if status == Status::Usage {
+        let usage = usage();
+        let _ = eprintln!(rt; "{usage}");
     }
     ExitCode::from(status.code())
 }

@@ -1,16 +1,16 @@
 //! All that the program does. Its one contract is `zoe_top`'s, which says of each status what was read
 //! and written and why it came, for whatever bytes and words, and that the turns of the run are fair.
 
-ghost use Rattle.std.specs.Prelude.{◌≡◌, ◌↔◌, ℕ, List, map, true, false, string_bytes, IfSome};
+ghost use Rattle.std.specs.Prelude.{◌≡◌, ℕ, List, map, true, false, string_bytes, IfSome};
 ghost use Rattle.std.specs.Io.KnownBytes.{IsAtEnd};
 ghost use Rattle.zoe_run.specs.Causes.{Rose};
-ghost use Rattle.host_core.specs.Fair.{AreFair};
-ghost use Rattle.host_core.specs.InputLines.{is_too_long};
-ghost use Rattle.host_core.specs.Runs.{default_turns, turns_of};
-ghost use Rattle.zoe_run.specs.Top.{Ends, MeetsLimits, SinkFaults, SourceFaults, Writes, WritesNothing, exit_code, status_name, takes_words};
+ghost use Rattle.host_core.specs.Runs.{AreFairToLimit, AreInOrder, left_of, meanings_of, messages_of, turns_of};
+ghost use Rattle.zoe_run.specs.Top.{Ends, IsRefused, IsWithin, MeetsLimits, SinkFaults, SourceFaults, Writes, WritesNothing, exit_code, status_name};
+ghost use Rattle.zoe_run.specs.Words.{takes_words, turns_given};
 
 use crate::host_io::{ReadError, Sink, Source, read_all};
 use crate::run::{RunFault, run};
+use crate::words::{WordsFault, read_words};
 use host_core::lines::{MAX_INPUT, has_long_line};
 use std::alloc::Global;
 
@@ -22,6 +22,7 @@ pub enum Status {
     ReadFault,
     WriteFault,
     NoMemory,
+    TurnLimit,
     TooLong,
 }
 
@@ -36,6 +37,7 @@ impl Status {
             Status::ReadFault => 3,
             Status::WriteFault => 4,
             Status::NoMemory => 5,
+            Status::TurnLimit => 6,
             Status::TooLong => 7,
         }
     }
@@ -49,23 +51,14 @@ impl Status {
             Status::ReadFault => "ReadFault",
             Status::WriteFault => "WriteFault",
             Status::NoMemory => "NoMemory",
+            Status::TurnLimit => "TurnLimit",
             Status::TooLong => "TooLong",
         }
     }
 }
 
-/// Whether the words are the program's name and `run`.
-fn is_run(words: &[String]) -> bool
-    ensures { result ≡ takes_words (map (λ w. string_bytes w) words.now) }
-{
-    match words {
-        [_, word] => word.as_str() == "run",
-        _ => false,
-    }
-}
-
 /// Reads the whole input and writes the journal of the run on it.
-#[tactic(auto, using(host_core::proofs::DefaultFair::default_fair))]
+#[tactic(auto, using(host_core::proofs::RunFair::runs_fair, host_core::proofs::RunOrder::runs_in_order))]
 pub fn zoe_top<S: Source, K: Sink>(
     alloc: Global,
     words: &[String],
@@ -73,28 +66,32 @@ pub fn zoe_top<S: Source, K: Sink>(
     sink: &mut K,
 ) -> Status
     // The words aren't taken, and nothing is read or written.
-    ensures usage { (result ≡ Status.Usage) ↔ (takes_words (map (λ w. string_bytes w) words.now) ≡ false) }
-    ensures untouched { result ≡ Status.Usage → (source.new ≡ source.old) × (sink.new ≡ sink.old) }
+    ensures usage { result ≡ Status.Usage → takes_words (map (λ w. string_bytes w) words.now) ≡ false }
+    ensures refused { takes_words (map (λ w. string_bytes w) words.now) ≡ false → IsRefused result }
+    ensures untouched { takes_words (map (λ w. string_bytes w) words.now) ≡ false → (source.new ≡ source.old) × (sink.new ≡ sink.old) }
 
     // What was written is the journal of what the source held, or a front of it.
-    ensures writes { IfSome (S.left source.old) (Writes result (K.written sink.old) (K.written sink.new)) }
+    ensures writes { IfSome (S.left source.old) (Writes result (K.written sink.old) (K.written sink.new) (turns_given (map (λ w. string_bytes w) words.now))) }
     ensures all_read { result ≡ Status.Done → IsAtEnd (S.left source.new) }
     ensures nothing { WritesNothing result (K.written sink.old) (K.written sink.new) }
 
-    // The turns of the run are fair, whatever the input.
-    ensures fair { (input : List ℕ) → AreFair (turns_of default_turns input) }
+    // The turns of the run are fair, and stand in the order of their messages, whatever the input.
+    ensures fair { (most : ℕ) (input : List ℕ) → AreFairToLimit (turns_of most input) }
+    ensures in_order { (most : ℕ) (input : List ℕ) → AreInOrder (messages_of (meanings_of most input)) (turns_of most input) (left_of most input) }
 
     // Where nothing stands against it, the run is done.
-    ensures complete { IfSome (S.left source.old) (λ input. takes_words (map (λ w. string_bytes w) words.now) ≡ true → is_too_long input ≡ false → (Rose (S.faults source.old) (S.faults source.new) → ⊥) → (Rose (K.faults sink.old) (K.faults sink.new) → ⊥) → Ends result) }
+    ensures complete { IfSome (S.left source.old) (λ input. takes_words (map (λ w. string_bytes w) words.now) ≡ true → IsWithin (turns_given (map (λ w. string_bytes w) words.now)) input → (Rose (S.faults source.old) (S.faults source.new) → ⊥) → (Rose (K.faults sink.old) (K.faults sink.new) → ⊥) → Ends result) }
 
     // Each other status has its cause.
-    ensures limits { IfSome (S.left source.old) (MeetsLimits result) }
+    ensures limits { IfSome (S.left source.old) (MeetsLimits result (turns_given (map (λ w. string_bytes w) words.now))) }
     ensures source_faults { SourceFaults result (S.faults source.old) (S.faults source.new) }
     ensures sink_faults { SinkFaults result (K.faults sink.old) (K.faults sink.new) }
 {
-    if !is_run(words) {
-        return Status::Usage;
-    }
+    let options = match read_words(alloc, words) {
+        Ok(options) => options,
+        Err(WordsFault::Usage) => return Status::Usage,
+        Err(WordsFault::NoMemory) => return Status::NoMemory,
+    };
     let input = match read_all(alloc, source, MAX_INPUT) {
         Ok(input) => input,
         Err(ReadError::Failed) => return Status::ReadFault,
@@ -104,9 +101,10 @@ pub fn zoe_top<S: Source, K: Sink>(
     if has_long_line(&input) {
         return Status::TooLong;
     }
-    match run(alloc, &input, sink) {
+    match run(alloc, &input, options.turns, sink) {
         Ok(()) => Status::Done,
         Err(RunFault::Failed) => Status::WriteFault,
+        Err(RunFault::TurnLimit) => Status::TurnLimit,
         Err(RunFault::NoMemory) => Status::NoMemory,
     }
 }

@@ -1,5 +1,5 @@
 use super::{write_close, write_turn};
-use crate::turns::{Answer, Delivered, ServiceCall, Turn};
+use crate::turns::{Answer, Delivered, GivenName, ServiceCall, Turn};
 use amount_math::{Kind, Value};
 use host_text::text::Text;
 use jessie_tree::data::{Data, Obj, ObjKind};
@@ -248,5 +248,27 @@ fn bad_lines_and_messages_are_refused(rt: HostRuntime) -> Result<(), Fail> {
     let expected =
         r#"{"answer":{"refused":{"code":"UnknownName","shown":["p"]}},"args":[],"by":"bob","do":"deposit","kind":"message","n":4,"on":"","row":"turn"}"#;
     assert!(rt; tells(alloc, &refused(alloc, 4, sent, unknown), expected)?);
+    Ok(())
+}
+
+#[test]
+fn a_name_is_given(rt: HostRuntime) -> Result<(), Fail> {
+    let alloc = rt.alloc();
+    let given = GivenName {
+        by: Text::from_str(alloc, "alice")?,
+        to: Text::from_str(alloc, "bob")?,
+        label: Text::from_str(alloc, "pay")?,
+        given: Data::Object(object(ObjKind::Payment, 0)),
+    };
+    let turn = Turn {
+        number: 7,
+        delivered: Delivered::Give(given),
+        answer: Answer::Given(Data::Null),
+        movements: Vec::new(alloc),
+        sums: Vec::new(alloc),
+    };
+    let expected =
+        r#"{"answer":{"ok":null},"args":[{"@":"payment0"}],"by":"alice","do":"pay","kind":"give","n":7,"on":"bob","row":"turn"}"#;
+    assert!(rt; tells(alloc, &turn, expected)?);
     Ok(())
 }

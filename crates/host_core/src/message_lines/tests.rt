@@ -1,6 +1,6 @@
 //! Lines with what they mean, from the rules of the input.
 
-use super::{Call, Line, Message, read_line};
+use super::{Call, Give, Line, Message, read_line};
 use std::alloc::{AllocError, Global};
 use std::process::Abort;
 use std::test::Fail;
@@ -20,9 +20,9 @@ BadField do | {"args":5}
 BadField on | {"do":"m","by":"alice"}
 BadField by | {"do":"m"}
 BadField tick | {"tick":1.5}
-BadField run | {"run":1,"tick":2,"give":"x","do":"m"}
+BadField do | {"run":1,"tick":2,"give":"x","do":"m"}
 BadField tick | {"tick":2,"give":"x","do":"m","all":1}
-BadField give | {"do":"m","give":"x"}
+BadField as | {"do":"m","give":"x"}
 BadField extra | {"by":"alice","on":"a","do":"m","extra":1}
 BadField beta | {"by":"alice","on":"a","do":"m","zeta":1,"beta":2}
 BadField and | {"by":"alice","on":"a","do":"m","and":1,"args":null}
@@ -82,14 +82,51 @@ alice a m 1 - | {"by":"alice","on":"a","do":"m","args":[[]]}
 alice a m 1 - | {"by":"alice","on":"a","do":"m","args":[""]}
 alice a m 1 - | {"by":"alice","on":"a","do":"m","args":[null]}
 alice a m 3 - | {"by":"alice","on":"a","do":"m","args":[1,[2],{"a":3}]}
-alice moola.mint mintPayment 1 p | {"by":"alice","on":"moola.mint","do":"mintPayment","args":[{"brand":{"@":"moola.brand"},"value":100}],"as":"p"}"##;
+alice moola.mint mintPayment 1 p | {"by":"alice","on":"moola.mint","do":"mintPayment","args":[{"brand":{"@":"moola.brand"},"value":100}],"as":"p"}
+BadField as | {"give":"p"}
+BadField by | {"give":"p","as":"x"}
+BadField to | {"give":"p","as":"x","by":"a"}
+BadField give | {"give":5,"as":"x","by":"a","to":"b"}
+BadField give | {"give":"","as":"x","by":"a","to":"b"}
+BadField give | {"give":"p..q","as":"x","by":"a","to":"b"}
+BadField do | {"give":"p","as":"x","by":"a","to":"b","do":"m"}
+BadField args | {"give":"p","as":"x","by":"a","to":"b","on":"p","args":[]}
+BadField as | {"give":"p","as":5,"by":"a","to":5}
+BadField as | {"give":"p","as":null,"by":"a","to":"b"}
+BadField to | {"give":"p","as":"x","by":"A","to":null,"zeta":1}
+BadLabel B | {"give":"p","as":"X","by":"a","to":"B"}
+BadLabel A | {"give":"p","as":"X","by":"A","to":"B"}
+BadLabel X | {"give":"p","as":"X","by":"a","to":"b"}
+BadLabel instance5 | {"give":"p","as":"x","by":"a","to":"instance5"}
+BadLabel instance | {"give":"p","as":"x","by":"instance","to":"instance5"}
+a gives p to b as x | {"give":"p","as":"x","by":"a","to":"b"}
+a gives p.0.q to b as instance5 | {"by":"a","give":"p.0.q","to":"b","as":"instance5"}
+BadField run | {"run":-1}
+BadField run | {"run":4294967296}
+BadField run | {"run":18446744073709551616}
+BadField run | {"run":"5"}
+BadField run | {"run":1.5}
+BadField run | {"run":1.0}
+BadField run | {"run":1e1}
+BadField run | {"run":-0}
+BadField run | {"run":null}
+BadField run | {"run":{"#":"5"}}
+BadField run | {"run":[5]}
+BadField x | {"run":5,"x":1}
+BadField do | {"run":5,"do":"m","tick":1}
+BadField run | {"run":"x","tick":1}
+run 0 | {"run":0}
+run 5 | {"run":5}
+run 4294967295 | {"run":4294967295}"##;
 
-/// What a line is read as, in short: `blank`, the refusal's code with what it shows, or the call with
-/// the number of its arguments.
+/// What a line is read as, in short: `blank`, the number of deliveries that are run, the refusal's code
+/// with what it shows, the call with the number of its arguments, or the give.
 fn short(alloc: Global, line: &Line) -> Result<String, AllocError> {
     match line {
         Line::Blank => String::from_str(alloc, "blank"),
+        Line::Run(count) => format!(in alloc; "run {}", *count),
         Line::Message(Message::Call(call)) => short_call(alloc, call),
+        Line::Message(Message::Give(give)) => short_give(alloc, give),
         Line::Message(Message::Bad(refusal)) => short_refusal(alloc, refusal),
     }
 }
@@ -106,6 +143,16 @@ fn short_call(alloc: Global, call: &Call) -> Result<String, AllocError> {
         call.method.as_str(),
         call.arguments.len(),
         label
+    )
+}
+
+fn short_give(alloc: Global, give: &Give) -> Result<String, AllocError> {
+    format!(in alloc;
+        "{} gives {} to {} as {}",
+        give.by.as_str(),
+        give.given.as_str(),
+        give.to.as_str(),
+        give.label.as_str()
     )
 }
 

@@ -177,6 +177,30 @@ fn value_given(answer: Result<Data, Refusal>) -> Option<i128> {
     }
 }
 
+/// The truth value that was answered.
+fn truth_given(answer: Result<Data, Refusal>) -> Option<bool> {
+    match answer {
+        Ok(Data::Bool(truth)) => Some(truth),
+        _ => None,
+    }
+}
+
+/// The brand that a payment was refused for.
+fn wrong_brand(answer: Result<Data, Refusal>) -> Option<u32> {
+    match answer {
+        Err(Refusal::WrongBrand(brand)) => Some(brand),
+        _ => None,
+    }
+}
+
+/// The place of the argument that was refused as no payment.
+fn wrong_object(answer: Result<Data, Refusal>) -> Option<u32> {
+    match answer {
+        Err(Refusal::WrongObject(place)) => Some(place),
+        _ => None,
+    }
+}
+
 fn code(answer: Result<Data, Refusal>) -> &'static str {
     match answer {
         Ok(_) => "",
@@ -288,5 +312,42 @@ fn calls_are_refused_and_change_nothing(rt: HostRuntime) {
     );
     let left = call(&rt, alloc, &mut world, 12, purse, "getCurrentAmount", &[]);
     assert_eq!(rt; value_given(left), Some(10));
+    drop(world.commit());
+}
+
+#[test]
+fn an_issuer_tells_live_payments_from_spent_ones(rt: HostRuntime) {
+    let alloc = rt.alloc();
+    let mut world = first_world(&rt, alloc);
+    let (ertp, mint, issuer) = (
+        object(ObjKind::Ertp, 0),
+        object(ObjKind::Mint, 1),
+        object(ObjKind::Issuer, 1),
+    );
+    let (other, purse) = (object(ObjKind::Issuer, 2), object(ObjKind::Purse, 0));
+    let name = [text(&rt, alloc, "moola")];
+    drop(call(&rt, alloc, &mut world, 0, ertp, "makeIssuerKit", &name));
+    drop(call(&rt, alloc, &mut world, 1, ertp, "makeIssuerKit", &name));
+    drop(call(&rt, alloc, &mut world, 2, issuer, "makeEmptyPurse", &[]));
+    let ten = [amount(&rt, alloc, 1, 10)];
+    drop(call(&rt, alloc, &mut world, 3, mint, "mintPayment", &ten));
+    let payment = [Data::Object(object(ObjKind::Payment, 0))];
+    assert_eq!(rt;
+        truth_given(call(&rt, alloc, &mut world, 4, issuer, "isLive", &payment)),
+        Some(true)
+    );
+    assert_eq!(rt;
+        wrong_brand(call(&rt, alloc, &mut world, 5, other, "isLive", &payment)),
+        Some(1)
+    );
+    assert_eq!(rt;
+        wrong_object(call(&rt, alloc, &mut world, 6, issuer, "isLive", &ten)),
+        Some(1)
+    );
+    drop(call(&rt, alloc, &mut world, 7, purse, "deposit", &payment));
+    assert_eq!(rt;
+        truth_given(call(&rt, alloc, &mut world, 8, issuer, "isLive", &payment)),
+        Some(false)
+    );
     drop(world.commit());
 }

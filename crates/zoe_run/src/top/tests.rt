@@ -3,6 +3,7 @@
 use super::{Status, zoe_top};
 use crate::host_io::flaky::{FlakySink, FlakySource};
 use crate::host_io::memory::{MemorySink, MemorySource};
+use crate::run::run;
 use std::alloc::{AllocError, Global};
 use std::process::Abort;
 use std::test::Fail;
@@ -41,6 +42,23 @@ const ROWS: [&str; 12] = [
     r#"{"brand":"brand1","from":"purse0","row":"move","to":"payment1","value":30}"#,
     r#"{"brand":"brand1","burned":"0","minted":"100","payments":"30","purses":"70","row":"sum","slots":"0"}"#,
     r#"{"answer":{"ok":{"brand":{"@":"brand1"},"value":70}},"args":[],"by":"alice","do":"getCurrentAmount","kind":"service","n":6,"on":"purse0","row":"turn"}"#,
+];
+
+/// Five parties, each of whom makes a kit.
+const KITS: [&str; 5] = [
+    r#"{"by":"a","on":"ertp","do":"makeIssuerKit","args":["a"]}"#,
+    r#"{"by":"b","on":"ertp","do":"makeIssuerKit","args":["b"]}"#,
+    r#"{"by":"c","on":"ertp","do":"makeIssuerKit","args":["c"]}"#,
+    r#"{"by":"d","on":"ertp","do":"makeIssuerKit","args":["d"]}"#,
+    r#"{"by":"e","on":"ertp","do":"makeIssuerKit","args":["e"]}"#,
+];
+
+const KIT_ROWS: [&str; 5] = [
+    r#"{"answer":{"ok":{"brand":{"@":"brand1"},"issuer":{"@":"issuer1"},"mint":{"@":"mint1"}}},"args":["a"],"by":"a","do":"makeIssuerKit","kind":"service","n":1,"on":"ertp","row":"turn"}"#,
+    r#"{"answer":{"ok":{"brand":{"@":"brand2"},"issuer":{"@":"issuer2"},"mint":{"@":"mint2"}}},"args":["b"],"by":"b","do":"makeIssuerKit","kind":"service","n":2,"on":"ertp","row":"turn"}"#,
+    r#"{"answer":{"ok":{"brand":{"@":"brand3"},"issuer":{"@":"issuer3"},"mint":{"@":"mint3"}}},"args":["c"],"by":"c","do":"makeIssuerKit","kind":"service","n":3,"on":"ertp","row":"turn"}"#,
+    r#"{"answer":{"ok":{"brand":{"@":"brand4"},"issuer":{"@":"issuer4"},"mint":{"@":"mint4"}}},"args":["d"],"by":"d","do":"makeIssuerKit","kind":"service","n":4,"on":"ertp","row":"turn"}"#,
+    r#"{"answer":{"ok":{"brand":{"@":"brand5"},"issuer":{"@":"issuer5"},"mint":{"@":"mint5"}}},"args":["e"],"by":"e","do":"makeIssuerKit","kind":"service","n":5,"on":"ertp","row":"turn"}"#,
 ];
 
 const NO_TURN: &str = "{\"left\":0,\"row\":\"close\",\"turns\":0}\n";
@@ -143,6 +161,106 @@ fn a_bad_line_has_a_turn(rt: HostRuntime) -> Result<(), Fail> {
     let input = b"[1]\n{\"do\":\"m\",\"by\":\"alice\"}\n \t\r\n{\"tick\":1.5}";
     let journal = text_of(rt.alloc(), &rows, &[])?;
     writes(&rt, input, journal.as_bytes())?;
+    Ok(())
+}
+
+/// Run lines aren't queued, and the order of the turns is that of the messages.
+#[test]
+fn run_lines_have_no_turns(rt: HostRuntime) -> Result<(), Fail> {
+    let lines = [
+        r#"{"run":2}"#,
+        KITS[3],
+        r#"{"run":0}"#,
+        r#"{"run":4294967295}"#,
+        KITS[4],
+    ];
+    let input = text_of(rt.alloc(), &KITS[..3], &lines)?;
+    let journal = text_of(
+        rt.alloc(),
+        &KIT_ROWS,
+        &[r#"{"left":0,"row":"close","turns":5}"#],
+    )?;
+    writes(&rt, input.as_bytes(), journal.as_bytes())?;
+    Ok(())
+}
+
+/// Of four messages one is run before the end of the input, and at the end at most so many.
+fn ends_with(
+    rt: &(impl Abort + AllocGlobal),
+    most: u32,
+    rows: &[&str],
+    close: &str,
+) -> Result<(), AllocError> {
+    let input = text_of(rt.alloc(), &KITS[..3], &[r#"{"run":1}"#, KITS[3]])?;
+    let journal = text_of(rt.alloc(), rows, &[close])?;
+    let mut sink = MemorySink::new(rt.alloc(), 10_000)?;
+    let ended = run(rt.alloc(), input.as_bytes(), most, &mut sink);
+    assert!(rt; ended.is_ok());
+    assert_eq!(rt; sink.bytes(), journal.as_bytes());
+    Ok(())
+}
+
+#[test]
+fn run_lines_take_so_many(rt: HostRuntime) -> Result<(), Fail> {
+    let close = r#"{"left":3,"row":"close","turns":1}"#;
+    ends_with(&rt, 0, &KIT_ROWS[..1], close)?;
+    let close = r#"{"left":2,"row":"close","turns":2}"#;
+    ends_with(&rt, 1, &KIT_ROWS[..2], close)?;
+    let close = r#"{"left":0,"row":"close","turns":4}"#;
+    ends_with(&rt, 4_294_967_295, &KIT_ROWS[..4], close)?;
+    Ok(())
+}
+
+/// A payment of nothing is live like any other, and its deposit spends it.
+#[test]
+fn nothing_is_withdrawn_and_deposited(rt: HostRuntime) -> Result<(), Fail> {
+    let is_live = r#"{"by":"alice","on":"moola.issuer","do":"isLive","args":[{"@":"p"}]}"#;
+    let lines = [
+        r#"{"by":"alice","on":"moola.issuer","do":"makeEmptyPurse","as":"purse"}"#,
+        r#"{"by":"alice","on":"purse","do":"withdraw","args":[{"brand":{"@":"moola.brand"},"value":0}],"as":"p"}"#,
+        is_live,
+        DEPOSIT,
+        is_live,
+    ];
+    let sum =
+        r#"{"brand":"brand1","burned":"0","minted":"0","payments":"0","purses":"0","row":"sum","slots":"0"}"#;
+    let rows = [
+        r#"{"answer":{"ok":{"@":"purse0"}},"args":[],"by":"alice","do":"makeEmptyPurse","kind":"service","n":2,"on":"issuer1","row":"turn"}"#,
+        r#"{"answer":{"ok":{"@":"payment0"}},"args":[{"brand":{"@":"brand1"},"value":0}],"by":"alice","do":"withdraw","kind":"service","n":3,"on":"purse0","row":"turn"}"#,
+        r#"{"brand":"brand1","from":"purse0","row":"move","to":"payment0","value":0}"#,
+        sum,
+        r#"{"answer":{"ok":true},"args":[{"@":"payment0"}],"by":"alice","do":"isLive","kind":"service","n":4,"on":"issuer1","row":"turn"}"#,
+        r#"{"answer":{"ok":{"brand":{"@":"brand1"},"value":0}},"args":[{"@":"payment0"}],"by":"alice","do":"deposit","kind":"service","n":5,"on":"purse0","row":"turn"}"#,
+        r#"{"brand":"brand1","from":"payment0","row":"move","to":"purse0","value":0}"#,
+        sum,
+        r#"{"answer":{"ok":false},"args":[{"@":"payment0"}],"by":"alice","do":"isLive","kind":"service","n":6,"on":"issuer1","row":"turn"}"#,
+        r#"{"left":0,"row":"close","turns":6}"#,
+    ];
+    let input = text_of(rt.alloc(), &[KIT], &lines)?;
+    let journal = text_of(rt.alloc(), &[KIT_ROW], &rows)?;
+    writes(&rt, input.as_bytes(), journal.as_bytes())?;
+    Ok(())
+}
+
+/// What is given is the receiver's under its own label, which is bound once.
+#[test]
+fn a_name_is_given(rt: HostRuntime) -> Result<(), Fail> {
+    let lines = [
+        r#"{"by":"alice","give":"moola","to":"bob","as":"kit"}"#,
+        r#"{"by":"bob","on":"kit.issuer","do":"makeEmptyPurse"}"#,
+        r#"{"by":"alice","give":"moola.mint","to":"bob","as":"kit"}"#,
+        r#"{"by":"bob","give":"moola","to":"alice","as":"kit"}"#,
+    ];
+    let rows = [
+        r#"{"answer":{"ok":null},"args":[{"brand":{"@":"brand1"},"issuer":{"@":"issuer1"},"mint":{"@":"mint1"}}],"by":"alice","do":"kit","kind":"give","n":2,"on":"bob","row":"turn"}"#,
+        r#"{"answer":{"ok":{"@":"purse0"}},"args":[],"by":"bob","do":"makeEmptyPurse","kind":"service","n":3,"on":"issuer1","row":"turn"}"#,
+        r#"{"answer":{"refused":{"code":"NameTaken","shown":["kit"]}},"args":[],"by":"alice","do":"kit","kind":"message","n":4,"on":"","row":"turn"}"#,
+        r#"{"answer":{"refused":{"code":"UnknownName","shown":["moola"]}},"args":[],"by":"bob","do":"kit","kind":"message","n":5,"on":"","row":"turn"}"#,
+        r#"{"left":0,"row":"close","turns":5}"#,
+    ];
+    let input = text_of(rt.alloc(), &[KIT], &lines)?;
+    let journal = text_of(rt.alloc(), &[KIT_ROW], &rows)?;
+    writes(&rt, input.as_bytes(), journal.as_bytes())?;
     Ok(())
 }
 

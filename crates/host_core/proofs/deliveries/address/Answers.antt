@@ -14,5 +14,5 @@ returns-in-Some-object c =
     let there : value_at (labels_of c.args.parties.now) c.args.call.now.by c.args.call.now.on ≡ Some (tree c.in-Some.target) = sym c.in_ok-target.ensures ∙ ap (option_map tree) c.in-Some.is in
     let few : nat_le (items_nesting (items_of (trees c.in_ok-arguments.arguments.items))) most_deep ≡ true = sym (rw c.deref-2.ensures.value at c.if-not-all_within.ensures) in
     addressed_is _ (call_view c.args.call.now) (tree c.in-Some.target) (items_of (trees c.in_ok-arguments.arguments.items)) c.in-Some-object.on
-    c.in_ok-free_label.ensures there (rw c.deref.ensures.value at c.in_ok-arguments.ensures) few (sym c.in-Some-object.ensures)
+    c.in_ok-free_answer.ensures there (rw c.deref.ensures.value at c.in_ok-arguments.ensures) few (sym c.in-Some-object.ensures)
     ∙ ap (λ ts. Ok (c.in-Some-object.on, ts)) (listed_back (trees c.in_ok-arguments.arguments.items))

@@ -1,53 +1,51 @@
-use Rattle.std.proofs.Common.{◌≡◌, ◌+◌, ◌-◌, suc, sym, ◌∙◌, refl, arith}
+use Rattle.std.proofs.Common.{◌≡◌, ◌+◌, ◌-◌, suc, sym, ◌∙◌, arith}
 use Rattle.std.proofs.lemmas.Result.{err_from_is_err_and}
-use Rattle.zoe_run.proofs.Drained.{drained_all, drained_end, drained_failed, drained_memory, drained_start, drained_turn, stepped_none, stepped_some}
+use Rattle.host_core.proofs.RunOrder.{step_count}
+use Rattle.zoe_run.proofs.Drained.{after_turn, drain_empty, drain_failed, drain_limit, drain_over, drain_turn, stepped_limit, stepped_none, stepped_some}
 use Rattle.zoe_run.proofs.run.drain.Goals as goal
 
-pub loop-init : goal.loop-init
-loop-init g c = record {
-  worked = drained_start _ _ _ _ (omega arith);
-  valid = c.requires.valid;
-  turns = omega arith;
-  quiet = refl;
-}
+pub returns-in_err-turn-clause-limit : goal.returns-in_err-turn-clause-limit
+returns-in_err-turn-clause-limit g c =
+    let p = err_from_is_err_and c.from_residual.result c.from_residual.ensures.1 in
+    let left : c.args.most - c.loop.counter ≡ suc (c.args.most - (c.loop.counter + 1)) = omega arith in
+    λ e. drain_limit _ _ _ _ _ _ c.loop.invariant.worked _ left c.loop.invariant.few (stepped_limit _ _ c.in_err-turn.field-0.0 (cc (p.1, p.2, e)) c.in_err-turn.ensures.step)
 
-pub returns-in_default-stepped-clause-host : goal.returns-in_default-stepped-clause-host
-returns-in_default-stepped-clause-host g c =
-    let none = stepped_none _ _ _ c.in_default-stepped.is c.in-Ok.ensures.step in
-    none.1 ∙ sym (drained_end _ _ _ _ _ _ none.0 c.loop.invariant.worked).1
+pub returns-in_default-clause-host : goal.returns-in_default-clause-host
+returns-in_default-clause-host g c =
+    let none = stepped_none _ _ _ c.in_default.is c.in_ok-turn.ensures.step in
+    none.1 ∙ sym (c.loop.invariant.ends ∙ (drain_empty _ _ _ _ _ _ c.loop.invariant.worked none.0).1)
 
-pub returns-in_default-stepped-clause-ok : goal.returns-in_default-stepped-clause-ok
-returns-in_default-stepped-clause-ok g c =
-    let none = stepped_none _ _ _ c.in_default-stepped.is c.in-Ok.ensures.step in
-    (drained_end _ _ _ _ _ _ none.0 c.loop.invariant.worked).0
-
-pub returns-in_default-write_turn-clause-memory : goal.returns-in_default-write_turn-clause-memory
-returns-in_default-write_turn-clause-memory g c = λ e. drained_memory _ _ _ _ _ _ c.loop.invariant.worked
+pub returns-in_default-clause-ok : goal.returns-in_default-clause-ok
+returns-in_default-clause-ok g c =
+    let none = stepped_none _ _ _ c.in_default.is c.in_ok-turn.ensures.step in
+    (drain_empty _ _ _ _ _ _ c.loop.invariant.worked none.0).0
 
 pub returns-in_err-write-clause-failed : goal.returns-in_err-write-clause-failed
 returns-in_err-write-clause-failed g c =
-    let p = err_from_is_err_and c.from_residual.result c.from_residual.ensures.1 in
+    let p = err_from_is_err_and c.from_residual-in_err-write.result c.from_residual-in_err-write.ensures.1 in
     let left : c.args.most - c.loop.counter ≡ suc (c.args.most - (c.loop.counter + 1)) = omega arith in
-    λ e. drained_failed _ _ _ _ _ _ _ _ _ _ left (stepped_some _ _ _ _ c.in-Some.is c.in-Ok.ensures.step) c.loop.invariant.worked
-    (rw (c.as_str.ensures.value, c.in-Ok-write_turn.ensures) at (c.in_err-write.ensures.failed (cc (p.1, p.2, e))))
+    let stepped = stepped_some _ _ _ _ c.in-Some.is c.in_ok-turn.ensures.step in
+    λ e. drain_failed _ _ _ _ _ _ c.loop.invariant.worked _ left _ _ stepped.0 _
+    (rw (c.as_str.ensures.value, c.in-Ok.ensures) at (c.in_err-write.ensures.failed (cc (p.1, p.2, e))))
 
 pub loop-preserved : goal.loop-preserved
 loop-preserved g c =
     let left : c.args.most - c.loop.counter ≡ suc (c.args.most - (c.loop.counter + 1)) = omega arith in
+    let stepped = stepped_some _ _ _ _ c.in-Some.is c.in_ok-turn.ensures.step in
     record {
-      worked = drained_turn _ _ _ _ _ _ _ _ _ _ left (stepped_some _ _ _ _ c.in-Some.is c.in-Ok.ensures.step) c.loop.invariant.worked
-          (rw (c.as_str.ensures.value, c.in-Ok-write_turn.ensures) at c.in_ok-write.ensures.ok);
+      worked = drain_turn _ _ _ _ _ _ c.loop.invariant.worked _ left _ _ stepped.0 _ (rw (c.as_str.ensures.value, c.in-Ok.ensures) at c.in_ok-write.ensures.ok);
+      ends = c.loop.invariant.ends ∙ after_turn _ _ _ _ _ left stepped.0;
       valid = c.step.ensures.valid;
-      turns = omega (arith, c.step.ensures.turns);
+      few = omega (arith, step_count _ _ _ stepped.0, stepped.1);
       quiet = c.in_ok-write.ensures.quiet ∙ c.loop.invariant.quiet;
     }
 
 pub returns-clause-host : goal.returns-clause-host
 returns-clause-host g c =
     let none : c.args.most - c.loop.counter ≡ 0 = omega arith in
-    sym (drained_all _ _ _ _ _ _ none c.loop.invariant.worked).1
+    sym (c.loop.invariant.ends ∙ (drain_over _ _ _ _ _ _ c.loop.invariant.worked none).1)
 
 pub returns-clause-ok : goal.returns-clause-ok
 returns-clause-ok g c =
     let none : c.args.most - c.loop.counter ≡ 0 = omega arith in
-    (drained_all _ _ _ _ _ _ none c.loop.invariant.worked).0
+    (drain_over _ _ _ _ _ _ c.loop.invariant.worked none).0
