@@ -1,0 +1,4 @@
+pub mod RowLists
+pub mod SlotLists
+pub mod Coverings
+pub mod IssuerLists

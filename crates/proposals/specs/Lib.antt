@@ -1,0 +1,5 @@
+pub mod Rows
+pub mod Slots
+pub mod Proposals
+pub mod OfferSafety
+pub mod IssuerRecords

@@ -1,0 +1,39 @@
+-- Rows, each a keyword with an amount: what a proposal gives and wants, and what the slots of a seat have.
+use Rattle.std.specs.Prelude.{◌≡◌, ℕ, ◌≤◌, List, [], ◌∷◌, length, Option, Some, None, if◌then◌else◌, refl}
+use Rattle.std.specs.Coded.{Coded, code_by, coded×, coded_list, coded_ℕ}
+use Rattle.std.specs.Option.{option_map_or}
+use Rattle.std.specs.Str.{bytes_eq}
+use Rattle.amount_math.specs.Amount.{coded_amount}
+use Rattle.amount_math.specs.Content.{Content, nothing}
+use Rattle.amount_math.specs.declared.Amount.{Amount}
+use Rattle.proposals.specs.declared.allocations.Row.{Row}
+
+-- the numbers that stand for a row, which a model needs
+abbrev pub coded_row : Coded Row
+coded_row = code_by (List ℕ × Amount) (coded× (coded_list coded_ℕ) coded_amount) (λ r. (r.keyword, r.amount)) (λ p. record { keyword = p.0; amount = p.1 }) (λ _. refl)
+
+abbrev pub row_of : List ℕ → Amount → Row
+row_of keyword amount = record { keyword = keyword; amount = amount }
+
+-- what stands under a keyword
+abbrev pub amount_under : List ℕ → List Row → Option Amount
+amount_under keyword [] = None
+amount_under keyword (r ∷ rs) = if bytes_eq keyword r.keyword then Some r.amount else amount_under keyword rs
+
+-- what is had under a keyword: nothing where it doesn't stand
+abbrev pub content_under : List ℕ → List Row → Content
+content_under keyword rs = option_map_or (λ a. a.value.content) (amount_under keyword rs) nothing
+
+-- the most rows
+abbrev pub most_rows : ℕ
+most_rows = 64
+
+-- no keyword stands twice
+abbrev pub AreApart : List Row → Type 0
+AreApart [] = Unit {0}
+AreApart (r ∷ rs) = (amount_under r.keyword rs ≡ None) × AreApart rs
+
+-- at most 64 rows, each of a keyword of its own
+pub record AreRows (rs : List Row) : Type 0 where
+  pub few : length rs ≤ most_rows
+  pub apart : AreApart rs

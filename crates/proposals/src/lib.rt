@@ -1,0 +1,13 @@
+//! Proposals, allocations and issuer records: what an offer gives and wants, what a seat's slots have,
+//! and which brands an instance knows (Zoe).
+//!
+//! It stands on amounts and keywords. Its one contract: offer safety (`offer_safety::offer_safe`) is
+//! plain comparison of a proposal's rows with an allocation, row by row under its keyword.
+#![tactic(auto)]
+
+pub mod allocations;
+pub mod issuer_records;
+pub mod offer_safety;
+pub mod offers;
+#[cfg(test)]
+mod tests;
