@@ -2,7 +2,9 @@
 use Rattle.std.specs.Prelude.{ℕ, List, [], Option, None, Some, IsNone, map, slice_index_or, sum_by, unwrap_or, refl}
 use Rattle.std.specs.Coded.{Coded, code_by, coded×, coded_list, coded_option, coded_ℕ}
 use Rattle.amount_math.specs.Content.{Content}
+use Rattle.amount_math.specs.Worth.{IsPutRefusal}
 use Rattle.amount_math.specs.declared.Amount.{Amount}
+use Rattle.amount_math.specs.declared.Kind.{Kind}
 use Rattle.ertp_mint.specs.Stocks.{counted_in}
 use Rattle.proposals.specs.Proposals.{coded_proposal}
 use Rattle.proposals.specs.Slots.{emptied, slots_of}
@@ -11,6 +13,8 @@ use Rattle.proposals.specs.declared.allocations.Row.{Row}
 use Rattle.proposals.specs.declared.offers.Exit.TheVariants.{OnDemand}
 use Rattle.proposals.specs.declared.offers.Proposal.{Proposal}
 use Rattle.seats.specs.Slots.{with_less, with_more}
+use Rattle.seats.specs.declared.seats.SlotFault.{SlotFault}
+use Rattle.seats.specs.declared.seats.SlotFault.TheVariants.{Put, SeatExited}
 
 -- a seat is open until it is closed. It keeps what its slots had then
 pub record SeatState : Type 0 where
@@ -53,6 +57,11 @@ taken_from keyword part seat = record seat { slots = with_less keyword part seat
 -- a seat once it is closed
 abbrev pub closed : SeatState → SeatState
 closed seat = record seat { last = Some seat.slots }
+
+-- when a parcel isn't put in a slot: the seat was closed, or the slot refuses it as a store does
+abbrev pub IsSlotRefusal : Kind → Content → SlotFault → Type 0
+IsSlotRefusal kind c SeatExited = Unit {0}
+IsSlotRefusal kind c (Put fault) = IsPutRefusal kind c fault
 
 -- how much of a brand slots have together, and all seats
 abbrev pub slots_counted : ℕ → List Row → ℕ

@@ -4,11 +4,11 @@
 ghost use Rattle.std.specs.Prelude.{◌≡◌, ◌<◌, ◌↔◌, ◌++◌, ◌∷◌, [], None, length, is_none, slice_set, IfErr, IfOk, IsOk, IsSome, OnErr, OnOk};
 ghost use Rattle.amount_math.specs.Amount.{Meet};
 ghost use Rattle.amount_math.specs.Content.{Contains, sum};
-ghost use Rattle.amount_math.specs.Worth.{IsPutRefusal, IsTakeRefusal, IsValue};
+ghost use Rattle.amount_math.specs.Worth.{IsTakeRefusal, IsValue};
 ghost use Rattle.ertp_mint.specs.Stocks.{most_made};
 ghost use Rattle.proposals.specs.Rows.{amount_under, content_under, most_rows};
 ghost use Rattle.proposals.specs.Slots.{FitsSeat};
-ghost use Rattle.seats.specs.Seats.{IsOpen, allocation_of, closed, opened, put_in, seat_at, seats_counted, taken_from};
+ghost use Rattle.seats.specs.Seats.{IsOpen, IsSlotRefusal, allocation_of, closed, opened, put_in, seat_at, seats_counted, taken_from};
 ghost use Rattle.seats.specs.Slots.{slot_at};
 
 use crate::seat::Seat;
@@ -34,6 +34,15 @@ pub enum CloseFault {
     /// It was closed before (Zoe: a seat exits once).
     SeatExited,
     NoMemory,
+}
+
+/// Why a parcel is not put in a slot.
+#[derive(Clone, Copy, Debug, PartialEq, Eq)]
+pub enum SlotFault {
+    /// The seat was closed before (Zoe: what has exited takes nothing more).
+    SeatExited,
+    /// The slot doesn't take it.
+    Put(PutFault),
 }
 
 /// All seats. Contracts see of each its instance, its proposal, its slots as rows and, once it is
@@ -130,25 +139,33 @@ impl Seats {
     }
 
     /// Puts a parcel in the slot of a keyword, or in a further slot of the parcel's brand, which stands
-    /// last (own), or hands the parcel back. A further slot takes memory.
+    /// last (own), or hands the parcel back: exactly where the seat was closed before, or as the slot
+    /// refuses it. A further slot takes memory.
     pub fn put(
         &mut self,
         alloc: Global,
         seat: u32,
         keyword: &Keyword,
         parcel: Parcel,
-    ) -> Result<(), (Parcel, PutFault)>
+    ) -> Result<(), (Parcel, SlotFault)>
         requires made { seat < length self.old }
-        requires is_open { IsOpen (seat_at self.old seat) }
-        requires meet { IsSome (amount_under keyword.now (seat_at self.old seat).slots) → Meet (slot_at keyword.now (seat_at self.old seat).slots) parcel }
-        requires room { amount_under keyword.now (seat_at self.old seat).slots ≡ None → length (seat_at self.old seat).slots < most_rows }
+        requires meet { IsOpen (seat_at self.old seat) → IsSome (amount_under keyword.now (seat_at self.old seat).slots) → Meet (slot_at keyword.now (seat_at self.old seat).slots) parcel }
+        requires room { IsOpen (seat_at self.old seat) → amount_under keyword.now (seat_at self.old seat).slots ≡ None → length (seat_at self.old seat).slots < most_rows }
         ensures ok { OnOk result (self.new ≡ slice_set self.old seat (put_in keyword.now parcel (seat_at self.old seat))) }
         ensures value { OnOk result (IsValue parcel.value.kind (sum (content_under keyword.now (seat_at self.old seat).slots) parcel.value.content)) }
+        ensures was_open { IsOk result → IsOpen (seat_at self.old seat) }
+        ensures exited { IfErr result (λ (_, fault). (fault ≡ SlotFault.SeatExited) ↔ IsSome (seat_at self.old seat).last) }
         ensures back { IfErr result (λ (back, _). back ≡ parcel) }
         ensures err { OnErr result (self.new ≡ self.old) }
-        ensures refused { IfErr result (λ (_, fault). IsPutRefusal parcel.value.kind (sum (content_under keyword.now (seat_at self.old seat).slots) parcel.value.content) fault) }
+        ensures refused { IfErr result (λ (_, fault). IsSlotRefusal parcel.value.kind (sum (content_under keyword.now (seat_at self.old seat).slots) parcel.value.content) fault) }
     {
-        self.seats[seat as usize].put(alloc, keyword, parcel)
+        if !self.is_open(seat) {
+            return Err((parcel, SlotFault::SeatExited));
+        }
+        match self.seats[seat as usize].put(alloc, keyword, parcel) {
+            Ok(()) => Ok(()),
+            Err((parcel, fault)) => Err((parcel, SlotFault::Put(fault))),
+        }
     }
 
     /// Takes a part out of the slot of a keyword, also of a closed seat, or leaves it as it was.

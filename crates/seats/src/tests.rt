@@ -6,7 +6,7 @@ ghost use Rattle.proposals.specs.Rows.{amount_under};
 ghost use Rattle.proposals.specs.Slots.{FitsSeat};
 ghost use Rattle.seats.specs.Slots.{slot_at};
 
-use crate::seats::{CloseFault, Seats};
+use crate::seats::{CloseFault, Seats, SlotFault};
 use amount_math::{Amount, Kind, Value};
 use ertp_mint::{Parcel, Stock, Supply};
 use host_text::keyword::Keyword;
@@ -89,6 +89,21 @@ fn put(rt: &impl Abort, alloc: Global, seats: &mut Seats, seat: u32, text: &str,
     assert_meets(rt, &slots, &keyword, &parcel);
     if let Err(_back) = seats.put(alloc, seat, &keyword, parcel) {
         panic!(rt; "within the bound");
+    }
+}
+
+/// Ends the test where a closed seat takes a parcel, or refuses it otherwise.
+fn assert_takes_nothing(rt: &impl Abort, alloc: Global, seats: &mut Seats, seat: u32) {
+    assert!(rt; seat < seats.made());
+    assert!(rt; !seats.is_open(seat));
+    let keyword = keyword(rt, alloc, "Bid");
+    let parcel = parcel(rt, alloc, 4);
+    match seats.put(alloc, seat, &keyword, parcel) {
+        Ok(()) => panic!(rt; "it is closed"),
+        Err((parcel, fault)) => {
+            assert_eq!(rt; units(rt, parcel), Some(4));
+            assert_eq!(rt; fault, SlotFault::SeatExited);
+        }
     }
 }
 
@@ -214,6 +229,8 @@ fn a_closed_seat_keeps_its_allocation(rt: HostRuntime) {
     assert_eq!(rt; (seats.total(0), twin.total(0)), (0, 3));
     assert!(rt; seats.made() == 2 && twin.made() == 2);
     assert!(rt; !seats.is_open(0) && seats.is_open(1) && twin.is_open(0));
+    assert_takes_nothing(&rt, alloc, &mut seats, 0);
+    assert!(rt; seats.made() == 2);
     match seats.close(alloc, 0) {
         Ok(_again) => panic!(rt; "it is closed once"),
         Err(fault) => assert_eq!(rt; fault, CloseFault::SeatExited),
