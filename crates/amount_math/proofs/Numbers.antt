@@ -2,7 +2,7 @@
 use Rattle.std.proofs.Common.{◌≡◌, ◌≢◌, ℕ, ◌+◌, ◌-◌, ◌<◌, ◌≤◌, ℤ, List, [], ◌∷◌, ap, sym, ◌∙◌, subst, arith}
 use Rattle.std.specs.declared.cmp.Ordering.TheVariants.{Less}
 use Rattle.amount_math.specs.declared.Kind.TheVariants as kind
-use Rattle.amount_math.specs.declared.Shape.TheVariants.{Nat}
+use Rattle.amount_math.specs.declared.shape.Shape.TheVariants.{Nat}
 use Rattle.amount_math.specs.declared.TooMuch.{TooMuch}
 use Rattle.amount_math.specs.Content.{Content, key_cmp, unit, count, sum, difference, Contains, of_nat, sum-of_nat, difference-of_nat, Contains-of_nat, le-Contains_of_nat, count-of_nat_unit}
 use Rattle.amount_math.specs.Worth.{Worth, IsNat, IsNumber, PassesBound, nat_bound, with_content}

@@ -1,15 +1,14 @@
--- What a value's shape says of its kind and its content.
-use Rattle.std.proofs.Common.{◌≡◌, ◌≢◌, ℕ, ◌≤◌, refl, ap, sym, ◌∙◌, subst, arith}
-use Rattle.std.specs.FinMap as fin
+-- What a shape says of the kind and the content that it stands for.
+use Rattle.std.proofs.Common.{◌≡◌, ◌≢◌, ℕ, ◌+◌, ◌≤◌, ap, sym, ◌∙◌, subst, arith}
 use Rattle.amount_math.specs.declared.Kind.{Kind}
 use Rattle.amount_math.specs.declared.Kind.TheVariants as kind
-use Rattle.amount_math.specs.declared.Shape.{Shape}
-use Rattle.amount_math.specs.declared.Shape.TheVariants.{Nat, Set, Bag}
-use Rattle.amount_math.specs.Sparse.{empty}
-use Rattle.amount_math.specs.Content.{Content, nothing, of_nat, of_nat_zero, unit, count, count-nothing, count-of_nat_unit, key_cmp, sum, sum-nothing, difference, difference-nothing}
-use Rattle.amount_math.specs.Worth.{Worth, IsKeyed, IsNat, IsValue, with_content}
+use Rattle.amount_math.specs.declared.shape.Shape.{Shape}
+use Rattle.amount_math.specs.declared.shape.Shape.TheVariants.{Nat, Set, Bag}
+use Rattle.amount_math.specs.Content.{Contains, nothing, of_nat, of_nat_zero, unit, count-of_nat_unit, count, sum, sum-of_nat, difference, count-difference}
+use Rattle.amount_math.specs.Worth.{Worth, Fits, HasFew, IsNat, IsOutstanding, IsValue, with_content, nat_bound}
 use Rattle.amount_math.specs.NatLaws.{IsNat-of_nat}
-use Rattle.amount_math.specs.Shapes.{worth, IsShape}
+use Rattle.amount_math.specs.KindLaws.{outstanding_fits, outstanding_part, outstanding_sum, value_of_part, value_of_sum}
+use Rattle.amount_math.specs.Shapes.{worth, IsCounted, IsShape}
 
 pub of_nat-injective : (m n : ℕ) → of_nat m ≡ of_nat n → m ≡ n
 of_nat-injective m n e = sym (count-of_nat_unit m) ∙ ap (λ c. count c unit) e ∙ count-of_nat_unit n
@@ -17,64 +16,86 @@ of_nat-injective m n e = sym (count-of_nat_unit m) ∙ ap (λ c. count c unit) e
 pub nothing-of_nat : (n : ℕ) → of_nat n ≡ nothing → n ≡ 0
 nothing-of_nat n e = of_nat-injective n 0 (e ∙ sym of_nat_zero)
 
-no_keys : fin.len (nothing).held ≤ 4096
-unfolding empty
-no_keys = omega (arith, fin.len-empty key_cmp ℕ)
+number_fits : (n : ℕ) → IsNat (of_nat n) → n ≤ nat_bound
+number_fits n p = omega (arith, p.fits.each unit, count-of_nat_unit n)
 
-nothing_is_keyed : IsKeyed nothing
-nothing_is_keyed = record {
-  filled = count-nothing unit;
-  short = λ k some. absurd (some (count-nothing k));
-  few = no_keys;
-}
+-- ---- values
 
-value_of_shape : (s : Shape) → IsShape s → IsValue (worth s).kind (worth s).content
+pub value_of_shape : (s : Shape) → IsShape s → IsValue (worth s).kind (worth s).content
 value_of_shape (Nat n) h = IsNat-of_nat n h
-value_of_shape Set h = record { keyed = nothing_is_keyed; fits = record { each = λ k. omega (arith, count-nothing k) } }
-value_of_shape Bag h = record { keyed = nothing_is_keyed; fits = record { each = λ k. omega (arith, count-nothing k) } }
+value_of_shape (Set c) h = h
+value_of_shape (Bag c) h = h
+
+pub shape_of_value : (s : Shape) → IsValue (worth s).kind (worth s).content → IsShape s
+shape_of_value (Nat n) h = number_fits n h
+shape_of_value (Set c) h = h
+shape_of_value (Bag c) h = h
 
 -- each value is one of its kind
 pub is_value : (w : Worth) (s : Shape) → worth s ≡ w → IsShape s → IsValue w.kind w.content
 is_value w s e h = subst (λ (v : Worth). IsValue v.kind v.content) e (value_of_shape s h)
 
-pub sum_with_nothing : (w : Worth) (c : Content) → nothing ≡ c → w ≡ with_content w (sum w.content c)
-sum_with_nothing w c e = rw (← e) (ap (λ d. with_content w d) (sym (sum-nothing w.content)))
+pub is_shape : (w : Worth) (s : Shape) → worth s ≡ w → IsValue w.kind w.content → IsShape s
+is_shape w s e h = shape_of_value s (subst (λ (v : Worth). IsValue v.kind v.content) (sym e) h)
 
-pub difference_with_nothing : (w : Worth) (c : Content) → nothing ≡ c → w ≡ with_content w (difference w.content c)
-difference_with_nothing w c e = rw (← e) (ap (λ d. with_content w d) (sym (difference-nothing w.content)))
+-- ---- what is out
 
-pub value_with_nothing : (w : Worth) (c : Content) → IsValue w.kind w.content → nothing ≡ c → IsValue w.kind (sum w.content c)
-value_with_nothing w c h e = subst (λ (v : Worth). IsValue w.kind v.content) (sum_with_nothing w c e) h
+pub outstanding_of_shape : (s : Shape) → IsCounted s → IsOutstanding (worth s).kind (worth s).content
+outstanding_of_shape (Nat n) h = IsNat-of_nat n h
+outstanding_of_shape (Set c) h = h
+outstanding_of_shape (Bag c) h = h
 
-pub is_nat_value : (k : Kind) (c : Content) → k ≡ kind.Nat → IsNat c → IsValue k c
-is_nat_value k c e h = subst (λ (j : Kind). IsValue j c) (sym e) h
+pub shape_of_outstanding : (s : Shape) → IsOutstanding (worth s).kind (worth s).content → IsCounted s
+shape_of_outstanding (Nat n) h = number_fits n h
+shape_of_outstanding (Set c) h = h
+shape_of_outstanding (Bag c) h = h
 
--- one value has one shape
-pub same_shape : (s t : Shape) → worth s ≡ worth t → s ≡ t
-same_shape (Nat m) (Nat n) e = ap Nat (of_nat-injective m n (ap (λ (w : Worth). w.content) e))
-same_shape (Nat m) Set e = absurd (apart (ap (λ (w : Worth). w.kind) e))
-  where
-    apart : kind.Nat ≢ kind.Set
-    apart e = cc
-same_shape (Nat m) Bag e = absurd (apart (ap (λ (w : Worth). w.kind) e))
-  where
-    apart : kind.Nat ≢ kind.Bag
-    apart e = cc
-same_shape Set (Nat n) e = absurd (apart (ap (λ (w : Worth). w.kind) e))
-  where
-    apart : kind.Set ≢ kind.Nat
-    apart e = cc
-same_shape Set Set e = refl
-same_shape Set Bag e = absurd (apart (ap (λ (w : Worth). w.kind) e))
-  where
-    apart : kind.Set ≢ kind.Bag
-    apart e = cc
-same_shape Bag (Nat n) e = absurd (apart (ap (λ (w : Worth). w.kind) e))
-  where
-    apart : kind.Bag ≢ kind.Nat
-    apart e = cc
-same_shape Bag Set e = absurd (apart (ap (λ (w : Worth). w.kind) e))
-  where
-    apart : kind.Bag ≢ kind.Set
-    apart e = cc
-same_shape Bag Bag e = refl
+pub counted_shape : (s : Shape) → IsShape s → IsCounted s
+counted_shape (Nat n) h = h
+counted_shape (Set c) h = record { keys = h.keyed.keys; fits = h.fits }
+counted_shape (Bag c) h = record { keys = h.keyed.keys; fits = h.fits }
+
+module _ (s t u : Shape) (kinds : (worth s).kind ≡ (worth t).kind) where
+  module _ (is : worth u ≡ with_content (worth s) (sum (worth s).content (worth t).content)) (fits : Fits (worth s).kind (sum (worth s).content (worth t).content)) where
+    -- the sum that fits and has few enough keys
+    pub value_sum : IsShape s → IsShape t → HasFew (worth s).kind (sum (worth s).content (worth t).content) → IsValue (worth s).kind (sum (worth s).content (worth t).content)
+    value_sum p q few = value_of_sum (worth s).kind _ _ (value_of_shape s p) (subst (λ (k : Kind). IsValue k (worth t).content) (sym kinds) (value_of_shape t q)) fits few
+
+    pub shape_sum : IsShape s → IsShape t → HasFew (worth s).kind (sum (worth s).content (worth t).content) → IsShape u
+    shape_sum p q few = is_shape _ u is (value_sum p q few)
+
+    pub counted_sum : IsCounted s → IsCounted t → IsCounted u
+    counted_sum p q = shape_of_outstanding u (subst (λ (v : Worth). IsOutstanding v.kind v.content) (sym is)
+        (outstanding_sum (worth s).kind _ _ (outstanding_of_shape s p) (subst (λ (k : Kind). IsOutstanding k (worth t).content) (sym kinds) (outstanding_of_shape t q)) fits))
+
+  module _ (is : worth u ≡ with_content (worth s) (difference (worth s).content (worth t).content)) where
+    within : Contains (worth s).content (difference (worth s).content (worth t).content)
+    within = record { each = λ k. omega (arith, count-difference (worth s).content (worth t).content k) }
+
+    pub shape_difference : IsShape s → IsShape u
+    shape_difference p = is_shape _ u is (value_of_part (worth s).kind _ _ within (value_of_shape s p))
+
+    pub counted_difference : IsCounted s → IsCounted u
+    counted_difference p = shape_of_outstanding u (subst (λ (v : Worth). IsOutstanding v.kind v.content) (sym is) (outstanding_part (worth s).kind _ _ within (outstanding_of_shape s p)))
+
+-- ---- by what a shape stands for
+
+pub counted_is : (w : Worth) (s : Shape) → worth s ≡ w → IsOutstanding w.kind w.content → IsCounted s
+counted_is w s e h = shape_of_outstanding s (subst (λ (v : Worth). IsOutstanding v.kind v.content) (sym e) h)
+
+pub counted_fits : (w : Worth) (s : Shape) → worth s ≡ w → IsCounted s → Fits w.kind w.content
+counted_fits w s e h = subst (λ (v : Worth). Fits v.kind v.content) e (outstanding_fits _ _ (outstanding_of_shape s h))
+
+pub same_worth : (a b : Worth) → a.kind ≡ b.kind → a.content ≡ b.content → a ≡ b
+same_worth a b kinds contents i = record { kind = kinds i; content = contents i }
+
+-- ---- numbers
+
+pub sum_bounded : (m n : ℕ) → Fits kind.Nat (sum (of_nat m) (of_nat n)) → m + n ≤ nat_bound
+sum_bounded m n fits = omega (arith, fits.each unit, ap (λ c. count c unit) (sum-of_nat m n), count-of_nat_unit (m + n))
+
+pub sum_fits : (m n : ℕ) → m + n ≤ nat_bound → Fits kind.Nat (sum (of_nat m) (of_nat n))
+sum_fits m n h = subst (λ c. Fits kind.Nat c) (sym (sum-of_nat m n)) (IsNat-of_nat (m + n) h).fits
+
+pub nat_is_no_set : kind.Nat ≢ kind.Set
+nat_is_no_set e = cc

@@ -10,17 +10,19 @@ use Rattle.amount_math.specs.declared.amounts.CompareFault.TheVariants as compar
 use Rattle.amount_math.specs.declared.amounts.CoerceFault.{CoerceFault}
 use Rattle.amount_math.specs.declared.amounts.CoerceFault.TheVariants as coerce_fault
 use Rattle.amount_math.specs.Content.{sum}
-use Rattle.amount_math.specs.Worth.{PassesBound}
+use Rattle.amount_math.specs.declared.PutFault.TheVariants as put_fault
+use Rattle.amount_math.specs.Worth.{IsPutRefusal}
 
 -- the amount given is of another brand, whose number is shown
 pub record IsWrongBrand (brand : ℕ) (given : Amount) (wrong : WrongBrand) : Type 0 where
   pub shown : wrong.given ≡ given.brand
   pub apart : brand ≢ given.brand
 
--- two brands, or the sum passes the bound, or memory is wanted
+-- two brands, or the sum isn't a value, or memory is wanted
 abbrev pub IsAddRefusal : Amount → Amount → AddFault → Type 0
 IsAddRefusal a b (add_fault.WrongBrand wrong) = IsWrongBrand a.brand b wrong
-IsAddRefusal a b (add_fault.TooMuch over) = (a.brand ≡ b.brand) × PassesBound a.value.kind (sum a.value.content b.value.content) over
+IsAddRefusal a b (add_fault.Overlap key) = (a.brand ≡ b.brand) × IsPutRefusal a.value.kind (sum a.value.content b.value.content) (put_fault.Overlap key)
+IsAddRefusal a b (add_fault.TooMuch over) = (a.brand ≡ b.brand) × IsPutRefusal a.value.kind (sum a.value.content b.value.content) (put_fault.TooMuch over)
 IsAddRefusal a b add_fault.NoMemory = a.brand ≡ b.brand
 
 -- two brands, or what not being enough means there

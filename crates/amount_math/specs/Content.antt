@@ -1,6 +1,6 @@
 -- What a value holds: a finite map from element to a positive count. An element is the bytes of a key; the one element of a nat value, its unit, is the empty list.
 -- A nat value n is n units, a set has each of its keys once, a bag each as often as it counts. Sum, difference and containment go element by element.
-use Rattle.std.specs.Prelude.{◌≡◌, ℕ, zero, suc, ◌+◌, ◌-◌, ◌≤◌, Bool, true, false, cond, List, [], ◌∷◌, Some, unwrap_or, refl}
+use Rattle.std.specs.Prelude.{◌≡◌, ℕ, zero, suc, ◌+◌, ◌-◌, ◌≤◌, Bool, true, false, cond, List, [], ◌∷◌, Some, None, unwrap_or, refl}
 use Rattle.std.proofs.Common.{sym, ◌∙◌, ap, subst, arith}
 use Rattle.std.specs.Ordering.{eq_by_cmp, is_eq, nat_cmp}
 use Rattle.std.specs.declared.cmp.Ordering.{Ordering}
@@ -59,6 +59,10 @@ sum a b = combined (λ m n. m + n) a (entries b)
 pub difference : Content → Content → Content
 difference a b = combined (λ m n. m - n) a (entries b)
 
+-- the content whose entries these are, or at an element that stands there twice the first of them
+pub of_entries : List (List ℕ × ℕ) → Content
+of_entries es = combined (λ m n. m + n) nothing es
+
 -- a has at least what b has, of each element
 pub record Contains (a b : Content) : Type 0 where
   pub each : (k : List ℕ) → count b k ≤ count a k
@@ -70,9 +74,13 @@ unit = []
 unfoldable pub of_nat : ℕ → Content
 of_nat n = put counts nothing unit n
 
+-- an element, once
+unfoldable pub one_of : List ℕ → Content
+one_of k = put counts nothing k 1
+
 -- ---- what each has of an element
 
-count_listed : (c : Content) (k : List ℕ) → count c k ≡ listed (entries c) k
+pub count_listed : (c : Content) (k : List ℕ) → count c k ≡ listed (entries c) k
 count_listed c k = ap (λ o. unwrap_or o 0) (fin.get-entries c.held k)
 
 is_same : (q k : List ℕ) → eq_by_cmp key_cmp q k ≡ true → q ≡ k
@@ -93,6 +101,14 @@ count-combined f zero_right c (e ∷ es) q =
 pub count-nothing : (k : List ℕ) → count nothing k ≡ 0
 count-nothing k = at-empty counts k
 
+pub count-of_entries : (es : List (List ℕ × ℕ)) (k : List ℕ) → count (of_entries es) k ≡ listed es k
+unfolding of_entries
+count-of_entries es k = count-combined (λ m n. m + n) (λ n. omega arith) nothing es k ∙ ap (λ n. n + listed es k) (count-nothing k) ∙ omega arith
+
+pub count-one_of : (k q : List ℕ) → count (one_of k) q ≡ cond (eq_by_cmp key_cmp q k) 1 0
+unfolding one_of
+count-one_of k q = at-put counts nothing k 1 q ∙ ap (cond (eq_by_cmp key_cmp q k) 1) (count-nothing q)
+
 pub count-sum : (a b : Content) (k : List ℕ) → count (sum a b) k ≡ count a k + count b k
 unfolding sum
 count-sum a b k = count-combined (λ m n. m + n) (λ n. omega arith) a (entries b) k ∙ ap (λ n. count a k + n) (sym (count_listed b k))
@@ -108,6 +124,20 @@ count-of_nat n k = at-put counts nothing unit n k ∙ ap (cond (eq_by_cmp key_cm
 pub same_content : (a b : Content) → ((k : List ℕ) → count a k ≡ count b k) → a ≡ b
 same_content a b is = same_sparse counts a b is
 
+pub of_entries-nil : of_entries [] ≡ nothing
+unfolding of_entries
+of_entries-nil = refl
+
+pub of_entries-one : (k : List ℕ) → of_entries ((k, 1) ∷ []) ≡ one_of k
+of_entries-one k = same_content _ _ (λ q. count-of_entries ((k, 1) ∷ []) q ∙ chosen (eq_by_cmp key_cmp q k) ∙ sym (count-one_of k q))
+  where
+    chosen : (b : Bool) → ◌≡◌ {A = ℕ} (unwrap_or (cond b (Some 1) None) 0) (cond b 1 0)
+    chosen true = refl
+    chosen false = refl
+
+pub of_entries-entries : (c : Content) → of_entries (entries c) ≡ c
+of_entries-entries c = same_content _ _ (λ k. count-of_entries (entries c) k ∙ sym (count_listed c k))
+
 -- ---- laws
 
 pub sum-comm : (a b : Content) → sum a b ≡ sum b a
@@ -121,6 +151,12 @@ sum-nothing a = same_content _ _ (λ k. omega (arith, count-sum a nothing k, cou
 
 pub difference-nothing : (a : Content) → difference a nothing ≡ a
 difference-nothing a = same_content _ _ (λ k. omega (arith, count-difference a nothing k, count-nothing k))
+
+pub nothing-sum : (a : Content) → sum nothing a ≡ a
+nothing-sum a = sum-comm nothing a ∙ sum-nothing a
+
+pub nothing-difference : (a : Content) → difference nothing a ≡ nothing
+nothing-difference a = same_content _ _ (λ k. omega (arith, count-difference nothing a k, count-nothing k))
 
 pub difference-sum : (a b : Content) → difference (sum a b) b ≡ a
 difference-sum a b = same_content _ _ (λ k. omega (arith, count-difference (sum a b) b k, count-sum a b k))

@@ -1,9 +1,12 @@
 pub mod Sparse
 pub mod Content
 pub mod Totals
+pub mod Entries
 pub mod Counted
 pub mod Worth
 pub mod Amount
 pub mod Shapes
 pub mod NatLaws
+pub mod KindLaws
+pub mod KindData
 pub mod Brands

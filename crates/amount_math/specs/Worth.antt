@@ -1,5 +1,5 @@
 -- A value as its kind and its content, and which contents are values of a kind.
-use Rattle.std.specs.Prelude.{◌≡◌, ◌≢◌, ℕ, zero, suc, ◌-◌, ◌^◌, ◌<◌, ◌≤◌, List, length, ◌⊎◌, ℤ, pos, refl}
+use Rattle.std.specs.Prelude.{◌≡◌, ◌≢◌, ℕ, zero, suc, ◌-◌, ◌*◌, ◌^◌, ◌<◌, ◌≤◌, List, length, ◌⊎◌, ℤ, pos, refl}
 use Rattle.std.proofs.Common.{arith}
 use Rattle.std.specs.declared.cmp.Ordering.TheVariants.{Less}
 use Rattle.std.specs.Coded.{Coded, code_by, coded×, coded_ℕ}
@@ -31,9 +31,28 @@ bound Nat = nat_bound
 bound Set = 1
 bound Bag = bag_bound
 
+-- the most that a value of a kind counts, all elements together
+abbrev pub most_counted : Kind → ℕ
+most_counted Nat = nat_bound
+most_counted Set = 4096
+most_counted Bag = 4096 * bag_bound
+
+-- how many keys a set or a bag may have
+abbrev pub most_keys : ℕ
+most_keys = 4096
+
+-- how many elements a content has
+abbrev pub keys_of : Content → ℕ
+keys_of c = fin.len c.held
+
 -- no count passes the kind's bound
 pub record Fits (kind : Kind) (c : Content) : Type 0 where
   pub each : (k : List ℕ) → count c k ≤ bound kind
+
+-- an element is the first, in byte order, of which there are more than the most
+pub record IsFirstPast (most : ℕ) (c : Content) (k : List ℕ) : Type 0 where
+  pub passes : most < count c k
+  pub first : (q : List ℕ) → most < count c q → key_cmp q k ≢ Less
 
 -- the sum that is shown is the first count, in byte order of the elements, that passes the kind's bound, which is shown with it
 pub record PassesBound (kind : Kind) (c : Content) (over : TooMuch) : Type 0 where
@@ -43,9 +62,23 @@ pub record PassesBound (kind : Kind) (c : Content) (over : TooMuch) : Type 0 whe
   pub passes : bound kind < count c element
   pub first : (k : List ℕ) → bound kind < count c k → key_cmp k element ≢ Less
 
--- when a value isn't added: memory is wanted, or the sum passes the bound
+-- the number of keys passes its bound, and is shown with it; no count passes the kind's
+pub record PassesKeys (kind : Kind) (c : Content) (over : TooMuch) : Type 0 where
+  pub fits : Fits kind c
+  pub counted : over.sum ≡ keys_of c
+  pub bounded : over.bound ≡ most_keys
+  pub passes : most_keys < keys_of c
+
+-- when a value isn't added to what is out of its brand: memory is wanted, or the two have a key of a set in common, of which the least is shown, or the sum has too much of another kind
+abbrev pub IsIssueRefusal : Kind → Content → PutFault → Type 0
+IsIssueRefusal kind c (put_fault.Overlap key) = (kind ≡ Set) × IsFirstPast 1 c key
+IsIssueRefusal kind c (put_fault.TooMuch over) = (kind ≢ Set) × PassesBound kind c over
+IsIssueRefusal kind c put_fault.NoMemory = Unit {0}
+
+-- when a value isn't added to another: the same, or the sum has too many keys
 abbrev pub IsPutRefusal : Kind → Content → PutFault → Type 0
-IsPutRefusal kind c (put_fault.TooMuch over) = PassesBound kind c over
+IsPutRefusal kind c (put_fault.Overlap key) = (kind ≡ Set) × IsFirstPast 1 c key
+IsPutRefusal kind c (put_fault.TooMuch over) = ((kind ≢ Set) × PassesBound kind c over) ⊎ ((kind ≢ Nat) × PassesKeys kind c over)
 IsPutRefusal kind c put_fault.NoMemory = Unit {0}
 
 -- when a part isn't taken: memory is wanted, or less is held
@@ -53,11 +86,15 @@ abbrev pub IsTakeRefusal : Content → Content → TakeFault → Type 0
 IsTakeRefusal held part take_fault.NotEnough = ¬ Contains held part
 IsTakeRefusal held part take_fault.NoMemory = Unit {0}
 
--- the keys of a set or a bag: each of 1 to 64 bytes, and at most 4,096 of them
-pub record IsKeyed (c : Content) : Type 0 where
+-- each key has 1 to 64 bytes
+pub record HasKeys (c : Content) : Type 0 where
   pub filled : count c unit ≡ 0
   pub short : (k : List ℕ) → count c k ≢ 0 → length k ≤ 64
-  pub few : fin.len c.held ≤ 4096
+
+-- the keys of a set or a bag: each of 1 to 64 bytes, and at most 4,096 of them
+pub record IsKeyed (c : Content) : Type 0 where
+  pub keys : HasKeys c
+  pub few : keys_of c ≤ most_keys
 
 -- a number of units, within the bound
 pub record IsNat (c : Content) : Type 0 where
@@ -71,6 +108,23 @@ pub record IsSet (c : Content) : Type 0 where
 pub record IsBag (c : Content) : Type 0 where
   pub keyed : IsKeyed c
   pub fits : Fits Bag c
+
+-- keys of which no count passes the kind's bound, however many they are
+pub record AreCounted (kind : Kind) (c : Content) : Type 0 where
+  pub keys : HasKeys c
+  pub fits : Fits kind c
+
+-- which contents may be out of a brand of the kind: those of all its values together, so of any number of keys
+abbrev pub IsOutstanding : Kind → Content → Type 0
+IsOutstanding Nat c = IsNat c
+IsOutstanding Set c = AreCounted Set c
+IsOutstanding Bag c = AreCounted Bag c
+
+-- a set or a bag has few enough keys
+abbrev pub HasFew : Kind → Content → Type 0
+HasFew Nat c = Unit {0}
+HasFew Set c = keys_of c ≤ most_keys
+HasFew Bag c = keys_of c ≤ most_keys
 
 -- which contents are values of a kind
 abbrev pub IsValue : Kind → Content → Type 0

@@ -6,7 +6,7 @@ ghost use Rattle.amount_math.specs.Worth.{IsGreatest, IsIncomparable, IsLeast};
 ghost use Rattle.amount_math.specs.Amount.{OneKind, holding};
 ghost use Rattle.amount_math.specs.Brands.{IsAddRefusal, IsCoerceRefusal, IsCompareRefusal, IsWrongBrand};
 
-use crate::{Amount, AmountKind, BadValue, Kind, PutFault, TooMuch, Value};
+use crate::{Amount, AmountKind, Key, Kind, PutFault, TooMuch, Value};
 
 /// Two brands meet: the number of the brand that was given.
 #[derive(Clone, Copy, Debug, PartialEq, Eq)]
@@ -14,10 +14,11 @@ pub struct WrongBrand {
     pub given: u16,
 }
 
-/// Why an amount isn't added to another.
-#[derive(Clone, Copy, Debug, PartialEq, Eq)]
+/// Why an amount isn't added to another: two brands, or as `PutFault`.
+#[derive(Debug, Drop, PartialEq, Eq)]
 pub enum AddFault {
     WrongBrand(WrongBrand),
+    Overlap(Key),
     TooMuch(TooMuch),
     NoMemory,
 }
@@ -36,14 +37,17 @@ pub enum CoerceFault {
     BadValue,
 }
 
-/// The brand's amount of the value that the data stands for, or `BadValue` where it stands for none.
-pub fn make<K: AmountKind>(brand: u16, from: K::Data) -> Result<Amount, BadValue>
+/// The brand's amount of the value that the data stands for, or `BadValue` where it stands for none. Keys
+/// take memory.
+pub fn make<K: AmountKind>(brand: u16, from: K::Data) -> Result<Amount, K::MakeFault>
     ensures ok { IfOk result (λ amount. (amount.brand ≡ brand) × (amount.value.kind ≡ K.own_kind) × K.stands_for from amount.value.content) }
     ensures value { IfOk result (λ amount. K.is_value amount.value.content) }
-    ensures bad_value { IsErr result → (c : Content) → K.is_value c → ¬ K.stands_for from c }
+    ensures bad_value { IfErr result (λ fault. ¬ K.wants_memory fault → (c : Content) → K.is_value c → ¬ K.stands_for from c) }
 {
-    let value = K::make(from)?;
-    Ok(Amount { brand, value })
+    match K::make(from) {
+        Ok(value) => Ok(Amount { brand, value }),
+        Err(fault) => Err(fault),
+    }
 }
 
 /// The alleged amount as one of the brand, whose values are of the kind, or handed back.
@@ -120,6 +124,7 @@ impl Amount {
             Ok(()) => Ok(self),
             Err((value, fault)) => {
                 let fault = match fault {
+                    PutFault::Overlap(key) => AddFault::Overlap(key),
                     PutFault::TooMuch(over) => AddFault::TooMuch(over),
                     PutFault::NoMemory => AddFault::NoMemory,
                 };

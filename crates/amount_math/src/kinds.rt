@@ -5,16 +5,30 @@ ghost use Rattle.amount_math.specs.Content.{Content, Contains, difference, nothi
 ghost use Rattle.amount_math.specs.Worth.{IsGreatest, IsIncomparable, IsLeast};
 ghost use Rattle.amount_math.specs.declared.Kind.{Kind};
 
-use crate::{Kind, NAT_BOUND, TooMuch, Value};
+use crate::keyed::Keyed;
+use crate::made::{each_counted, each_once, within_bound};
+use crate::shape::Shape;
+use crate::{Key, Kind, PutFault, TooMuch, Value};
 
 /// The data isn't a value of the kind.
 #[derive(Clone, Copy, Debug, PartialEq, Eq)]
 pub struct BadValue;
 
+/// Why no value with keys is made: the data isn't a value of the kind (a key twice, a key of 0 or over
+/// 64 bytes, over 4,096 keys, a count of 0 or over the bound), or memory is wanted.
+#[derive(Clone, Copy, Debug, PartialEq, Eq)]
+pub enum MakeFault {
+    BadValue,
+    NoMemory,
+}
+
 /// A kind of value (ERTP's AmountMath, a kind at a time).
 pub trait AmountKind {
     /// What a value is made from.
     type Data;
+
+    /// Why none is made.
+    type MakeFault;
 
     /// Why an add is refused.
     type Fault;
@@ -28,14 +42,17 @@ pub trait AmountKind {
     /// The content that data stands for.
     ghost stands_for: { Self.Data → Content → Type 0 };
 
+    /// That nothing is made for want of memory alone.
+    ghost wants_memory: { Self.MakeFault → Type 0 };
+
     /// That a fault is the one that an add with this sum is refused for.
     ghost is_refusal: { Content → Self.Fault → Type 0 };
 
-    /// The value that the data stands for, or `BadValue` where it stands for none.
-    fn make(from: Self::Data) -> Result<Value, BadValue>
+    /// The value that the data stands for, or `BadValue` where it stands for none. The data is let go.
+    fn make(from: Self::Data) -> Result<Value, Self::MakeFault>
         ensures ok { IfOk result (λ value. (value.kind ≡ own_kind) × stands_for from value.content) }
         ensures value { IfOk result (λ value. is_value value.content) }
-        ensures bad_value { IsErr result → (c : Content) → is_value c → ¬ stands_for from c };
+        ensures bad_value { IfErr result (λ fault. ¬ wants_memory fault → (c : Content) → is_value c → ¬ stands_for from c) };
 
     /// The value as one of the kind, or handed back where it is none (`BadValue`).
     fn coerce(value: Value) -> Result<Value, Value>
@@ -136,6 +153,8 @@ pub struct NatKind;
 impl AmountKind for NatKind {
     type Data = i128;
 
+    type MakeFault = BadValue;
+
     type Fault = TooMuch;
 
     ghost use Rattle.amount_math.specs.Content.{sum-comm, sum-assoc, sum-nothing, difference-sum, Contains-refl, Contains-trans, Contains-antisym};
@@ -147,6 +166,8 @@ impl AmountKind for NatKind {
     ghost is_value = { IsNat };
 
     ghost stands_for = { IsNumber };
+
+    ghost wants_memory = { λ _. ⊥ };
 
     ghost is_refusal = { PassesBound Kind.Nat };
 
@@ -167,13 +188,10 @@ impl AmountKind for NatKind {
     ghost gte_is_transitive = { λ a b c _ _ _. Contains-trans a b c };
 
     fn make(from: i128) -> Result<Value, BadValue> {
-        let Ok(number) = u128::try_from(from) else {
-            return Err(BadValue);
-        };
-        if number > NAT_BOUND {
-            return Err(BadValue);
+        match within_bound(from) {
+            Some(number) => Ok(Value::nat(number)),
+            None => Err(BadValue),
         }
-        Ok(Value::nat(number))
     }
 
     fn coerce(value: Value) -> Result<Value, Value> {
@@ -187,6 +205,142 @@ impl AmountKind for NatKind {
         match left.absorb_nat(right) {
             Ok(()) => Ok(left),
             Err((right, over)) => Err((left, right, over)),
+        }
+    }
+}
+
+/// Sets of keys.
+pub struct SetKind;
+
+impl AmountKind for SetKind {
+    type Data = Vec<Key>;
+
+    type MakeFault = MakeFault;
+
+    type Fault = PutFault;
+
+    ghost use Rattle.amount_math.specs.Content.{sum-comm, sum-assoc, sum-nothing, difference-sum, Contains-refl, Contains-trans, Contains-antisym};
+    ghost use Rattle.amount_math.specs.Worth.{IsPutRefusal, IsSet};
+    ghost use Rattle.amount_math.specs.declared.kinds.MakeFault.TheVariants.{NoMemory};
+    ghost use Rattle.amount_math.specs.KindData.{IsKeysOf};
+    ghost use Rattle.amount_math.specs.KindLaws.{nothing_is_set};
+
+    ghost own_kind = { Kind.Set };
+
+    ghost is_value = { IsSet };
+
+    ghost stands_for = { λ from c. IsKeysOf from.items c };
+
+    ghost wants_memory = { λ fault. fault ≡ NoMemory };
+
+    ghost is_refusal = { IsPutRefusal Kind.Set };
+
+    ghost empty_is_value = { nothing_is_set };
+
+    ghost add_commutes = { λ a b _ _. sum-comm a b };
+
+    ghost add_associates = { λ a b c _ _ _. sum-assoc a b c };
+
+    ghost empty_is_neutral = { λ a _. sum-nothing a };
+
+    ghost subtract_undoes_add = { λ a b _ _. difference-sum a b };
+
+    ghost gte_is_reflexive = { λ a _. Contains-refl a };
+
+    ghost gte_is_antisymmetric = { λ a b _ _. Contains-antisym a b };
+
+    ghost gte_is_transitive = { λ a b c _ _ _. Contains-trans a b c };
+
+    fn make(from: Vec<Key>) -> Result<Value, MakeFault> {
+        let Ok(once) = each_once(from) else {
+            return Err(MakeFault::NoMemory);
+        };
+        match Keyed::of(once) {
+            Some(keyed) => Ok(Value {
+                shape: Shape::Set(keyed),
+            }),
+            None => Err(MakeFault::BadValue),
+        }
+    }
+
+    fn coerce(value: Value) -> Result<Value, Value> {
+        match value.kind() {
+            Kind::Set => Ok(value),
+            Kind::Nat | Kind::Bag => Err(value),
+        }
+    }
+
+    fn add(mut left: Value, right: Value) -> Result<Value, (Value, Value, PutFault)> {
+        match left.absorb(right) {
+            Ok(()) => Ok(left),
+            Err((right, fault)) => Err((left, right, fault)),
+        }
+    }
+}
+
+/// Bags: keys with counts.
+pub struct BagKind;
+
+impl AmountKind for BagKind {
+    type Data = Vec<(Key, i128)>;
+
+    type MakeFault = MakeFault;
+
+    type Fault = PutFault;
+
+    ghost use Rattle.amount_math.specs.Content.{sum-comm, sum-assoc, sum-nothing, difference-sum, Contains-refl, Contains-trans, Contains-antisym};
+    ghost use Rattle.amount_math.specs.Worth.{IsBag, IsPutRefusal};
+    ghost use Rattle.amount_math.specs.declared.kinds.MakeFault.TheVariants.{NoMemory};
+    ghost use Rattle.amount_math.specs.KindData.{IsPairsOf};
+    ghost use Rattle.amount_math.specs.KindLaws.{nothing_is_bag};
+
+    ghost own_kind = { Kind.Bag };
+
+    ghost is_value = { IsBag };
+
+    ghost stands_for = { λ from c. IsPairsOf from.items c };
+
+    ghost wants_memory = { λ fault. fault ≡ NoMemory };
+
+    ghost is_refusal = { IsPutRefusal Kind.Bag };
+
+    ghost empty_is_value = { nothing_is_bag };
+
+    ghost add_commutes = { λ a b _ _. sum-comm a b };
+
+    ghost add_associates = { λ a b c _ _ _. sum-assoc a b c };
+
+    ghost empty_is_neutral = { λ a _. sum-nothing a };
+
+    ghost subtract_undoes_add = { λ a b _ _. difference-sum a b };
+
+    ghost gte_is_reflexive = { λ a _. Contains-refl a };
+
+    ghost gte_is_antisymmetric = { λ a b _ _. Contains-antisym a b };
+
+    ghost gte_is_transitive = { λ a b c _ _ _. Contains-trans a b c };
+
+    fn make(from: Vec<(Key, i128)>) -> Result<Value, MakeFault> {
+        let counted = each_counted(from)?;
+        match Keyed::of(counted) {
+            Some(keyed) => Ok(Value {
+                shape: Shape::Bag(keyed),
+            }),
+            None => Err(MakeFault::BadValue),
+        }
+    }
+
+    fn coerce(value: Value) -> Result<Value, Value> {
+        match value.kind() {
+            Kind::Bag => Ok(value),
+            Kind::Nat | Kind::Set => Err(value),
+        }
+    }
+
+    fn add(mut left: Value, right: Value) -> Result<Value, (Value, Value, PutFault)> {
+        match left.absorb(right) {
+            Ok(()) => Ok(left),
+            Err((right, fault)) => Err((left, right, fault)),
         }
     }
 }

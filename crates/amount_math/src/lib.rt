@@ -3,45 +3,62 @@
 //! its clause names, with everything handed back. It stands on nothing but std.
 #![tactic(auto)]
 
-ghost use Rattle.std.specs.Prelude.{◌≡◌, ◌≢◌, ◌≤◌, ◌↔◌, IsTrue, IsNone, IsOk, IsErr, IfSome, IfOk, IfErr, OnOk, OnErr};
-ghost use Rattle.amount_math.specs.Content.{Contains, difference, nothing, of_nat, sum};
+ghost use Rattle.std.specs.Prelude.{◌≡◌, ◌≢◌, ◌≤◌, ◌↔◌, IsTrue, IsNone, IsOk, IsErr, IsSome, IfSome, IfOk, IfErr, OnOk, OnErr};
+ghost use Rattle.amount_math.specs.Content.{Contains, difference, entries, nothing, of_nat, one_of, sum};
 ghost use Rattle.amount_math.specs.Counted.{counted};
-ghost use Rattle.amount_math.specs.Worth.{IsGreatest, IsIncomparable, IsLeast, IsNat, IsPutRefusal, IsTakeRefusal, IsValue, PassesBound, nat_bound};
+ghost use Rattle.amount_math.specs.Entries.{IsKey};
+ghost use Rattle.amount_math.specs.Worth.{IsGreatest, IsIncomparable, IsLeast, IsNat, IsPutRefusal, IsTakeRefusal, IsValue, PassesBound, most_counted, nat_bound};
 
 mod amounts;
+mod entries;
+mod keyed;
+mod keys;
 mod kinds;
+mod made;
+mod merges;
+mod outstanding;
+mod shape;
 #[cfg(test)]
 mod tests;
 
 pub use amounts::{AddFault, CoerceFault, CompareFault, WrongBrand, coerce, make};
-pub use kinds::{AmountKind, BadValue, NatKind, credit, is_between};
-use std::alloc::AllocError;
+use keyed::Keyed;
+pub use keys::{COUNT_BOUND, Entry, KEY_BYTES, Key};
+pub use kinds::{AmountKind, BadValue, BagKind, MakeFault, NatKind, SetKind, credit, is_between};
+pub use outstanding::Outstanding;
+use shape::{Shape, nat_sum};
+use std::alloc::{AllocError, Global};
 use std::marker::Model;
 
 /// The highest number of a nat value.
 pub const NAT_BOUND: u128 = (1 << 63) - 1;
+
+/// The most keys that a set or a bag may have (own).
+pub const KEYS_BOUND: u128 = 4096;
 
 /// The kind of a brand's values.
 #[derive(Clone, Copy, Debug, PartialEq, Eq)]
 pub enum Kind {
     /// Whole numbers from 0 to the bound.
     Nat,
-    /// Keys, each at most once (ERTP's copySet). So far the empty one alone can be made.
+    /// Keys, each at most once (ERTP's copySet).
     Set,
-    /// Keys with counts (ERTP's copyBag). So far the empty one alone can be made.
+    /// Keys with counts (ERTP's copyBag).
     Bag,
 }
 
-/// A count that would pass its kind's bound: what the sum would be, and the bound.
+/// A count, or a number of keys, that would pass its bound: what the sum would have, and the bound.
 #[derive(Clone, Copy, Debug, PartialEq, Eq)]
 pub struct TooMuch {
     pub sum: u128,
     pub bound: u128,
 }
 
-/// Why a value isn't added to another.
-#[derive(Clone, Copy, Debug, PartialEq, Eq)]
+/// Why a value isn't added to another: the least key that two sets have in common, or the count or the
+/// number of keys that passes its bound (a count is tested first), or memory is wanted.
+#[derive(Debug, Drop, PartialEq, Eq)]
 pub enum PutFault {
+    Overlap(Key),
     TooMuch(TooMuch),
     NoMemory,
 }
@@ -51,13 +68,6 @@ pub enum PutFault {
 pub enum TakeFault {
     NotEnough,
     NoMemory,
-}
-
-#[derive(Debug, Drop, PartialEq, Eq)]
-enum Shape {
-    Nat(u128),
-    Set,
-    Bag,
 }
 
 /// A value of a kind. Contracts see its kind and its content.
@@ -101,10 +111,22 @@ impl Value {
     pub fn empty(kind: Kind) -> Value
         ensures { result ≡ record { kind = kind; content = nothing } }
     {
-        match kind {
-            Kind::Nat => Value::nat(0),
-            Kind::Set => Value { shape: Shape::Set },
-            Kind::Bag => Value { shape: Shape::Bag },
+        Value {
+            shape: Shape::empty(kind),
+        }
+    }
+
+    /// The set of one key, or the key handed back where memory is wanted.
+    pub fn set_of_one(alloc: Global, key: Key) -> Result<Value, Key>
+        requires { IsKey key }
+        ensures ok { IfOk result (λ value. value ≡ record { kind = Kind.Set; content = one_of key }) }
+        ensures back { IfErr result (λ back. back ≡ key) }
+    {
+        match Keyed::one(alloc, key) {
+            Ok(keyed) => Ok(Value {
+                shape: Shape::Set(keyed),
+            }),
+            Err(key) => Err(key),
         }
     }
 
@@ -113,47 +135,48 @@ impl Value {
         ensures kind { result ≡ self.now.kind }
         ensures value { IsValue self.now.kind self.now.content }
     {
-        match &self.shape {
-            Shape::Nat(_) => Kind::Nat,
-            Shape::Set => Kind::Set,
-            Shape::Bag => Kind::Bag,
-        }
+        self.shape.kind()
     }
 
-    /// How many units it is, or `None` if its kind isn't nat, of which the empty value alone can be
-    /// made so far.
+    /// How many units it is, or `None` if its kind isn't nat.
     pub fn number(&self) -> Option<u128>
         ensures number { IfSome result (λ n. self.now ≡ record { kind = Kind.Nat; content = of_nat n }) }
         ensures bounded { IfSome result (λ n. n ≤ nat_bound) }
         ensures none { IsNone result → self.now.kind ≢ Kind.Nat }
-        ensures empty { IsNone result → self.now.content ≡ nothing }
     {
         match &self.shape {
             Shape::Nat(number) => Some(*number),
-            Shape::Set | Shape::Bag => None,
+            Shape::Set(_) | Shape::Bag(_) => None,
+        }
+    }
+
+    /// The keys with their counts, in byte order of the keys, or `None` if its kind is nat. Each count
+    /// of a set is 1.
+    pub fn entries(&self) -> Option<&[Entry]>
+        ensures entries { IfSome result (λ list. list.now ≡ entries self.now.content) }
+        ensures keyed { IsSome result → self.now.kind ≢ Kind.Nat }
+        ensures none { IsNone result → self.now.kind ≡ Kind.Nat }
+    {
+        match &self.shape {
+            Shape::Nat(_) => None,
+            Shape::Set(keyed) => Some(keyed.entries()),
+            Shape::Bag(keyed) => Some(keyed.entries()),
         }
     }
 
     /// The counts of all its elements together.
     pub fn total(&self) -> u128
-        ensures { result ≡ counted self.now.content }
+        ensures total { result ≡ counted self.now.content }
+        ensures bounded { result ≤ most_counted self.now.kind }
     {
-        match &self.shape {
-            Shape::Nat(number) => *number,
-            Shape::Set => 0,
-            Shape::Bag => 0,
-        }
+        self.shape.total()
     }
 
     /// A second one. Keys take memory.
     pub fn copy(&self) -> Result<Value, AllocError>
         ensures { IfOk result (λ copy. copy ≡ self.now) }
     {
-        let shape = match &self.shape {
-            Shape::Nat(number) => Shape::Nat(*number),
-            Shape::Set => Shape::Set,
-            Shape::Bag => Shape::Bag,
-        };
+        let shape = self.shape.copy()?;
         Ok(Value { shape })
     }
 
@@ -162,17 +185,20 @@ impl Value {
         requires { self.now.kind ≡ other.now.kind }
         ensures { IsTrue result ↔ Contains self.now.content other.now.content }
     {
-        match (&self.shape, &other.shape) {
-            (Shape::Nat(left), Shape::Nat(right)) => *left >= *right,
-            _ => true,
-        }
+        self.shape.is_gte(&other.shape)
     }
 
     /// Whether the two are one value: kind and content.
     pub fn is_equal(&self, other: &Value) -> bool
         ensures { IsTrue result ↔ (self.now ≡ other.now) }
     {
-        self.shape == other.shape
+        if self.kind() != other.kind() {
+            return false;
+        }
+        if !self.is_gte(other) {
+            return false;
+        }
+        other.is_gte(self)
     }
 
     /// Whether it has nothing.
@@ -181,7 +207,7 @@ impl Value {
     {
         match &self.shape {
             Shape::Nat(number) => *number == 0,
-            Shape::Set | Shape::Bag => true,
+            Shape::Set(keyed) | Shape::Bag(keyed) => keyed.is_empty(),
         }
     }
 
@@ -194,14 +220,17 @@ impl Value {
         ensures err { OnErr result (self.new ≡ self.old) }
         ensures refused { IfErr result (λ (_, fault). IsPutRefusal self.old.kind (sum self.old.content other.content) fault) }
     {
-        match (&self.shape, &other.shape) {
-            (_, Shape::Nat(_)) => match self.absorb_nat(other) {
-                Ok(()) => Ok(()),
-                Err((back, over)) => Err((back, PutFault::TooMuch(over))),
-            },
-            (_, Shape::Set) => Ok(()),
-            (_, Shape::Bag) => Ok(()),
+        if let Err(fault) = self.shape.check_counts(&other.shape) {
+            return Err((other, fault));
         }
+        if let Err(over) = self.shape.check_keys(&other.shape) {
+            return Err((other, PutFault::TooMuch(over)));
+        }
+        let Value { shape } = other;
+        if let Err(shape) = self.shape.add(shape) {
+            return Err((Value { shape }, PutFault::NoMemory));
+        }
+        Ok(())
     }
 
     /// `absorb` at nat values, which takes no memory.
@@ -233,15 +262,13 @@ impl Value {
     {
         match &mut self.shape {
             Shape::Nat(held) => {
-                let sum = *held + number;
-                if sum > NAT_BOUND {
-                    let bound = NAT_BOUND;
-                    return Err(TooMuch { sum, bound });
+                match nat_sum(*held, number) {
+                    Ok(sum) => *held = sum,
+                    Err(over) => return Err(over),
                 }
-                *held = sum;
                 Ok(())
             }
-            Shape::Set | Shape::Bag => unreachable!(),
+            Shape::Set(_) | Shape::Bag(_) => unreachable!(),
         }
     }
 
@@ -270,22 +297,7 @@ impl Value {
         requires enough { Contains self.old.content part.now.content }
         ensures { self.new ≡ record self.old { content = difference self.old.content part.now.content } }
     {
-        match &part.shape {
-            Shape::Nat(number) => self.lessen_number(*number),
-            Shape::Set => {}
-            Shape::Bag => {}
-        }
-    }
-
-    fn lessen_number(&mut self, number: u128)
-        requires nat { self.old.kind ≡ Kind.Nat }
-        requires enough { Contains self.old.content (of_nat number) }
-        ensures { self.new ≡ record self.old { content = difference self.old.content (of_nat number) } }
-    {
-        match &mut self.shape {
-            Shape::Nat(held) => *held -= number,
-            Shape::Set | Shape::Bag => unreachable!(),
-        }
+        self.shape.lessen(&part.shape);
     }
 
     /// Takes all that it has.

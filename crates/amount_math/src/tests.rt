@@ -1,10 +1,12 @@
 ghost use Rattle.std.specs.Prelude.{◌≡◌};
-ghost use Rattle.amount_math.specs.Worth.{IsNat};
+ghost use Rattle.amount_math.specs.Worth.{IsBag, IsNat, IsSet};
 
 use crate::{
-    AddFault, Amount, AmountKind, BadValue, CoerceFault, CompareFault, Kind, NatKind, PutFault,
-    TakeFault, TooMuch, Value, WrongBrand, coerce, credit, is_between, make,
+    AddFault, Amount, AmountKind, BadValue, BagKind, CoerceFault, CompareFault, Key, Kind,
+    MakeFault, NatKind, Outstanding, PutFault, SetKind, TakeFault, TooMuch, Value, WrongBrand,
+    coerce, credit, is_between, make,
 };
+use std::alloc::Global;
 use std::process::Abort;
 
 const MOST: i128 = 9_223_372_036_854_775_807;
@@ -111,10 +113,10 @@ fn amounts_of_one_brand_are_compared_and_of_two_refused(rt: HostRuntime) {
         ),
         (1, Kind::Bag, Err(CoerceFault::BadValue)),
     ] {
-        let coerced = match coerce(brand, kind, amount(&rt, 1, 5)) {
-            Ok(own) => Ok(own.value.number()),
-            Err((_, fault)) => Err(fault),
-        };
+        let coerced = coerce(brand, kind, amount(&rt, 1, 5));
+        let coerced = coerced
+            .map(|own| own.value.number())
+            .map_err(|(_, fault)| fault);
         assert_eq!(rt; coerced, want, "brand {brand}");
     }
 }
@@ -164,4 +166,242 @@ fn laws_of_a_kind_serve_each_kind(rt: HostRuntime) {
     assert_eq!(rt; credited.map(|both| both.number()).ok(), Some(Some(5)));
     assert!(rt; is_between::<NatKind>(&nat(&rt, 2), &nat(&rt, 3), &nat(&rt, 3)));
     assert!(rt; !is_between::<NatKind>(&nat(&rt, 2), &nat(&rt, 1), &nat(&rt, 3)));
+}
+
+fn key(rt: &impl Abort, alloc: Global, text: &str) -> Key {
+    let text = String::from_str(alloc, text);
+    Key::new(text.expect(rt, "memory for a key"))
+}
+
+fn keys(rt: &impl Abort, alloc: Global, texts: &[&str]) -> Vec<Key> {
+    let mut keys = Vec::new(alloc);
+    for text in texts {
+        assert!(rt; keys.push(key(rt, alloc, text)).is_ok());
+    }
+    keys
+}
+
+fn pairs(rt: &impl Abort, alloc: Global, given: &[(&str, i128)]) -> Vec<(Key, i128)> {
+    let mut pairs = Vec::new(alloc);
+    for (text, count) in given {
+        assert!(rt; pairs.push((key(rt, alloc, text), *count)).is_ok());
+    }
+    pairs
+}
+
+fn set(rt: &impl Abort, alloc: Global, texts: &[&str]) -> Value
+    ensures kind { result.kind ≡ Kind.Set }
+    ensures value { IsSet result.content }
+{
+    SetKind::make(keys(rt, alloc, texts)).expect(rt, "keys of a set")
+}
+
+fn bag(rt: &impl Abort, alloc: Global, given: &[(&str, i128)]) -> Value
+    ensures kind { result.kind ≡ Kind.Bag }
+    ensures value { IsBag result.content }
+{
+    BagKind::make(pairs(rt, alloc, given)).expect(rt, "pairs of a bag")
+}
+
+/// The set of one key.
+fn one(rt: &impl Abort, alloc: Global, text: &str) -> Value
+    ensures { result.kind ≡ Kind.Set }
+{
+    let key = key(rt, alloc, text);
+    assert!(rt; key.is_key());
+    let value = Value::set_of_one(alloc, key);
+    value.ok().expect(rt, "memory for a key")
+}
+
+/// Adds the other, or tells why not.
+fn absorb(held: &mut Value, more: Value) -> Result<(), PutFault>
+    requires { held.old.kind ≡ more.kind }
+    ensures { held.new.kind ≡ held.old.kind }
+{
+    match held.absorb(more) {
+        Ok(()) => Ok(()),
+        Err((_back, fault)) => Err(fault),
+    }
+}
+
+/// Brings a value out, and tells whether it could.
+fn bring(out: &mut Outstanding, value: Value) -> bool
+    requires { out.old.kind ≡ value.kind }
+    ensures { out.new.kind ≡ out.old.kind }
+{
+    match out.absorb(value) {
+        Ok(()) => true,
+        Err((_back, _fault)) => false,
+    }
+}
+
+/// The entries in their order, as a text.
+fn told(rt: &impl Abort, alloc: Global, value: &Value) -> String {
+    let mut text = String::new(alloc);
+    let Some(entries) = value.entries() else {
+        return text;
+    };
+    for entry in entries {
+        let part = format!(in alloc; "{}:{} ", entry.key().as_str(), entry.count());
+        let part = part.expect(rt, "memory for a text");
+        assert!(rt; text.push_str(part.as_str()).is_ok());
+    }
+    text
+}
+
+/// The value that is made, told, or `BadValue`.
+fn made(rt: &impl Abort, alloc: Global, made: Result<Amount, MakeFault>) -> String {
+    match made {
+        Ok(amount) => told(rt, alloc, &amount.value),
+        Err(MakeFault::BadValue) => String::from_str(alloc, "BadValue").expect(rt, "memory"),
+        Err(MakeFault::NoMemory) => panic!(rt; "memory"),
+    }
+}
+
+/// So many keys, which differ.
+fn many(rt: &impl Abort, alloc: Global, count: u32) -> Vec<Key> {
+    let mut keys = Vec::new(alloc);
+    for n in 0..count {
+        let text = format!(in alloc; "{n}").expect(rt, "memory for a text");
+        assert!(rt; keys.push(Key::new(text)).is_ok());
+    }
+    keys
+}
+
+const LONGEST: &str = "xxxxxxxxxxxxxxxxxxxxxxxxxxxxxxxxxxxxxxxxxxxxxxxxxxxxxxxxxxxxxxxx";
+
+const LONGER: &str = "xxxxxxxxxxxxxxxxxxxxxxxxxxxxxxxxxxxxxxxxxxxxxxxxxxxxxxxxxxxxxxxxx";
+
+#[test]
+fn keys_are_made_a_set(rt: HostRuntime) {
+    for (given, want) in [
+        ([].as_slice(), ""),
+        (["b", "a"].as_slice(), "a:1 b:1 "),
+        (["b", "ab", "a"].as_slice(), "a:1 ab:1 b:1 "),
+        (["a", "b", "a"].as_slice(), "BadValue"),
+        ([""].as_slice(), "BadValue"),
+        ([LONGER].as_slice(), "BadValue"),
+    ] {
+        let amount = make::<SetKind>(1, keys(&rt, rt.alloc(), given));
+        assert_eq!(rt; made(&rt, rt.alloc(), amount).as_str(), want);
+    }
+    let longest = SetKind::make(keys(&rt, rt.alloc(), &[LONGEST]));
+    assert!(rt; longest.is_ok_and(|value| value.total() == 1));
+    let most = SetKind::make(many(&rt, rt.alloc(), 4096));
+    assert!(rt; most.is_ok_and(|value| value.total() == 4096));
+    let more = SetKind::make(many(&rt, rt.alloc(), 4097));
+    assert_eq!(rt; more.err(), Some(MakeFault::BadValue));
+}
+
+#[test]
+fn pairs_are_made_a_bag(rt: HostRuntime) {
+    for (given, want) in [
+        ([].as_slice(), ""),
+        ([("b", 1), ("a", 2)].as_slice(), "a:2 b:1 "),
+        ([("a", MOST)].as_slice(), "a:9223372036854775807 "),
+        ([("a", MOST + 1)].as_slice(), "BadValue"),
+        ([("a", 0)].as_slice(), "BadValue"),
+        ([("a", -1)].as_slice(), "BadValue"),
+        ([("a", 1), ("a", 2)].as_slice(), "BadValue"),
+    ] {
+        let amount = make::<BagKind>(1, pairs(&rt, rt.alloc(), given));
+        assert_eq!(rt; made(&rt, rt.alloc(), amount).as_str(), want);
+    }
+}
+
+#[test]
+fn bags_are_worked_key_by_key(rt: HostRuntime) {
+    for (left, right, sum, rest) in [
+        (
+            [("a", 2), ("b", 1)].as_slice(),
+            [("a", 1)].as_slice(),
+            "a:3 b:1 ",
+            Some("a:1 b:1 "),
+        ),
+        (
+            [("b", 2)].as_slice(),
+            [("a", 1), ("c", 1)].as_slice(),
+            "a:1 b:2 c:1 ",
+            None,
+        ),
+        (
+            [("a", 1), ("b", 1)].as_slice(),
+            [("b", 1)].as_slice(),
+            "a:1 b:2 ",
+            Some("a:1 "),
+        ),
+        (
+            [("a", 1)].as_slice(),
+            [("a", 1)].as_slice(),
+            "a:2 ",
+            Some(""),
+        ),
+        ([("a", 1)].as_slice(), [].as_slice(), "a:1 ", Some("a:1 ")),
+    ] {
+        let mut held = bag(&rt, rt.alloc(), left);
+        let more = bag(&rt, rt.alloc(), right);
+        assert_eq!(rt; held.is_gte(&more), rest.is_some());
+        assert!(rt; held.absorb(more).is_ok());
+        assert_eq!(rt; told(&rt, rt.alloc(), &held).as_str(), sum);
+        let held = bag(&rt, rt.alloc(), left);
+        match held.subtract(&bag(&rt, rt.alloc(), right)) {
+            Ok(less) => assert_eq!(rt; Some(told(&rt, rt.alloc(), &less).as_str()), rest),
+            Err(back) => assert_eq!(rt; (back.total() > 0, rest), (true, None)),
+        }
+    }
+}
+
+#[test]
+fn a_sum_that_is_no_value_is_refused(rt: HostRuntime) {
+    let mut held = set(&rt, rt.alloc(), &["a", "k", "m"]);
+    let refused = held.absorb(set(&rt, rt.alloc(), &["b", "k", "m"]));
+    let Err((back, fault)) = refused else {
+        panic!(rt; "two sets with k");
+    };
+    assert_eq!(rt; fault, PutFault::Overlap(key(&rt, rt.alloc(), "k")));
+    assert_eq!(rt; (back.total(), held.total()), (3, 3));
+    let mut held = bag(&rt, rt.alloc(), &[("a", MOST), ("b", MOST)]);
+    let more = bag(&rt, rt.alloc(), &[("b", 1), ("a", 1)]);
+    assert_eq!(rt; absorb(&mut held, more), Err(PutFault::TooMuch(OVER)));
+    let full = SetKind::make(many(&rt, rt.alloc(), 4096));
+    let mut full = full.expect(&rt, "as many keys as a set may have");
+    let (sum, bound) = (4097, 4096);
+    let many = Err(PutFault::TooMuch(TooMuch { sum, bound }));
+    assert_eq!(rt; absorb(&mut full, one(&rt, rt.alloc(), "k")), many);
+    let mut out = Outstanding::empty(Kind::Set);
+    assert!(rt; bring(&mut out, full));
+    assert!(rt; bring(&mut out, one(&rt, rt.alloc(), "k")));
+    assert_eq!(rt;
+        (out.kind(), out.total(), out.number()),
+        (Kind::Set, 4097, None)
+    );
+    out.copy().expect(&rt, "memory for a second one");
+    let k = one(&rt, rt.alloc(), "k");
+    if out.is_gte(&k) {
+        out.lessen(&k);
+    }
+    assert_eq!(rt; out.entries().map(|entries| entries.len()), Some(4096));
+}
+
+#[test]
+fn keyed_values_are_parted_copied_and_compared(rt: HostRuntime) {
+    let mut held = set(&rt, rt.alloc(), &["a", "b"]);
+    let b = one(&rt, rt.alloc(), "b");
+    let taken = held.split(&b);
+    assert!(rt; taken.is_ok_and(|part| part.is_equal(&b)));
+    assert!(rt; held.copy().is_ok_and(|copy| copy.is_equal(&held)));
+    assert!(rt; !held.is_equal(&b) && !held.is_equal(&Value::empty(Kind::Bag)));
+    assert_eq!(rt; (held.number(), held.is_empty()), (None, false));
+    let a = one(&rt, rt.alloc(), "a");
+    assert!(rt; a.is_equal(&held) && a.min(b).is_err());
+    let (few, all) = (&[("a", 1)], &[("a", 2), ("b", 1)]);
+    let least = bag(&rt, rt.alloc(), few).min(bag(&rt, rt.alloc(), all));
+    assert!(rt; least.is_ok_and(|value| value.total() == 1));
+    let greatest = bag(&rt, rt.alloc(), few).max(bag(&rt, rt.alloc(), all));
+    assert!(rt; greatest.is_ok_and(|value| value.total() == 3));
+    let credited = credit::<SetKind>(set(&rt, rt.alloc(), &["a"]), set(&rt, rt.alloc(), &["b"]));
+    assert!(rt; credited.is_ok_and(|both| SetKind::coerce(both).is_ok()));
+    let (low, high) = (bag(&rt, rt.alloc(), few), bag(&rt, rt.alloc(), all));
+    assert!(rt; is_between::<BagKind>(&low, &low, &high));
+    assert!(rt; BagKind::coerce(low).is_ok() && SetKind::coerce(high).is_err());
 }

@@ -3,7 +3,7 @@
 ghost use Rattle.std.specs.Prelude.{◌≡◌, ◌≤◌, IfOk, IfErr, OnOk, OnErr};
 ghost use Rattle.amount_math.specs.Amount.{Meet, holding};
 ghost use Rattle.amount_math.specs.Content.{Contains, difference, nothing, sum};
-ghost use Rattle.amount_math.specs.Worth.{IsPutRefusal, IsTakeRefusal, IsValue, nat_bound};
+ghost use Rattle.amount_math.specs.Worth.{IsPutRefusal, IsTakeRefusal, IsValue, most_counted};
 ghost use Rattle.ertp_mint.specs.Stocks.{counted_in};
 
 use amount_math::{Kind, PutFault, TakeFault, Value};
@@ -138,15 +138,12 @@ impl Stock {
     /// How much it counts of a brand: nothing of any but its own.
     pub fn counted(&self, brand: u16) -> u128
         ensures counted { result ≡ counted_in brand self.now }
-        ensures bounded { result ≤ nat_bound }
+        ensures bounded { result ≤ most_counted self.now.value.kind }
     {
         if self.brand != brand {
             return 0;
         }
-        match self.value.number() {
-            Some(number) => number,
-            None => 0,
-        }
+        self.value.total()
     }
 
     /// Puts a parcel in, or hands it back. Keys take memory.

@@ -3,18 +3,18 @@
 ghost use Rattle.std.specs.Prelude.{[], ◌≡◌, ◌<◌, ◌+◌, ◌^◌, ◌++◌, ◌∷◌, length, slice_set, IfOk, IfErr, OnOk, OnErr};
 ghost use Rattle.amount_math.specs.Content.{Contains, sum};
 ghost use Rattle.amount_math.specs.Counted.{counted};
-ghost use Rattle.amount_math.specs.Worth.{Fits, IsPutRefusal};
+ghost use Rattle.amount_math.specs.Worth.{Fits, IsIssueRefusal};
 ghost use Rattle.ertp_mint.specs.BrandSupply.{AddsUp, issued, new_supply, retired, supply_at};
 
 use crate::Parcel;
-use amount_math::{Kind, PutFault, Value};
+use amount_math::{Kind, Outstanding, PutFault, Value};
 use std::alloc::{AllocError, Global};
 use std::marker::Model;
 
 /// What is out of a brand, and the totals of counts minted and burned.
 #[derive(Debug, Drop)]
 struct Issue {
-    outstanding: Value,
+    outstanding: Outstanding,
     minted: u128,
     burned: u128,
 }
@@ -36,7 +36,7 @@ impl Issue {
         ensures { result ≡ new_supply kind }
     {
         Issue {
-            outstanding: Value::empty(kind),
+            outstanding: Outstanding::empty(kind),
             minted: 0,
             burned: 0,
         }
@@ -48,7 +48,7 @@ impl Issue {
         ensures ok { OnOk result (self.new ≡ issued self.old value.content) }
         ensures fits { OnOk result (Fits value.kind (sum self.old.outstanding.content value.content)) }
         ensures err { OnErr result (self.new ≡ self.old) }
-        ensures refused { IfErr result (IsPutRefusal value.kind (sum self.old.outstanding.content value.content)) }
+        ensures refused { IfErr result (IsIssueRefusal value.kind (sum self.old.outstanding.content value.content)) }
     {
         let total = value.total();
         match self.outstanding.absorb(value) {
@@ -118,7 +118,8 @@ impl Supply {
         Ok(())
     }
 
-    /// Brings a value out as a parcel, or hands it back. Keys take memory.
+    /// Brings a value out as a parcel, or hands it back: `Overlap` where a key of a set is out already,
+    /// `TooMuch` where a count would pass its bound. How many keys are out is not bounded. Keys take memory.
     pub fn issue(&mut self, brand: u16, value: Value) -> Result<Parcel, (Value, PutFault)>
         requires made { brand < length self.old }
         requires kind { (supply_at self.old brand).outstanding.kind ≡ value.kind }
@@ -128,7 +129,7 @@ impl Supply {
         ensures fits { OnOk result (Fits value.kind (sum (supply_at self.old brand).outstanding.content value.content)) }
         ensures back { IfErr result (λ (back, _). back ≡ value) }
         ensures err { OnErr result (self.new ≡ self.old) }
-        ensures refused { IfErr result (λ (_, fault). IsPutRefusal value.kind (sum (supply_at self.old brand).outstanding.content value.content) fault) }
+        ensures refused { IfErr result (λ (_, fault). IsIssueRefusal value.kind (sum (supply_at self.old brand).outstanding.content value.content) fault) }
     {
         let Ok(copy) = value.copy() else {
             return Err((value, PutFault::NoMemory));
@@ -151,7 +152,7 @@ impl Supply {
     }
 
     /// What is out of a brand: minted less burned.
-    pub fn outstanding(&self, brand: u16) -> &Value
+    pub fn outstanding(&self, brand: u16) -> &Outstanding
         requires { brand < length self.now }
         ensures outstanding { result.now ≡ (supply_at self.now brand).outstanding }
         ensures adds_up { AddsUp (supply_at self.now brand) }

@@ -5,7 +5,8 @@ ghost use Rattle.amount_math.specs.Worth.{nat_bound};
 ghost use Rattle.ertp_mint.specs.BrandSupply.{issued, supply_at};
 
 use crate::{Parcel, Stock, Supply};
-use amount_math::{Kind, PutFault, TakeFault, TooMuch, Value};
+use amount_math::{Key, Kind, PutFault, TakeFault, TooMuch, Value};
+use std::alloc::Global;
 use std::process::Abort;
 
 const MOST: u128 = 9_223_372_036_854_775_807;
@@ -33,6 +34,29 @@ fn issue(
     assert!(rt; supply.minted(brand) <= 2 * MOST);
     assert!(rt; value.total() <= MOST);
     supply.issue(brand, value)
+}
+
+/// Issues the set of one key, of a brand of which not many were minted.
+fn issue_key(
+    rt: &impl Abort,
+    alloc: Global,
+    supply: &mut Supply,
+    text: &str,
+) -> Result<Parcel, (Value, PutFault)>
+    requires made { 0 < length supply.old }
+    requires kind { (supply_at supply.old 0).outstanding.kind ≡ Kind.Set }
+    ensures kind { IfOk result (λ parcel. parcel.value.kind ≡ Kind.Set) }
+    ensures brand { IfOk result (λ parcel. parcel.brand ≡ 0) }
+    ensures made { length supply.new ≡ length supply.old }
+    ensures own { (supply_at supply.new 0).outstanding.kind ≡ Kind.Set }
+{
+    let key = Key::new(String::from_str(alloc, text).expect(rt, "memory for a key"));
+    assert!(rt; key.is_key());
+    let value = Value::set_of_one(alloc, key);
+    let value = value.ok().expect(rt, "memory for a key");
+    assert!(rt; supply.minted(0) <= 2 * MOST);
+    assert!(rt; value.total() <= MOST);
+    supply.issue(0, value)
 }
 
 /// Puts a parcel in, or ends the test.
@@ -130,4 +154,25 @@ fn a_supply_counts_what_is_issued_and_retired(rt: HostRuntime) {
             (Some(1), PutFault::TooMuch(OVER))
         ),
     }
+}
+
+#[test]
+fn a_key_that_is_out_is_not_issued_again(rt: HostRuntime) {
+    let mut supply = Supply::new(rt.alloc());
+    supply
+        .add_brand(Kind::Set)
+        .expect(&rt, "memory for a brand");
+    let parcel = issue_key(&rt, rt.alloc(), &mut supply, "k");
+    let stock = stocked(&rt, parcel.expect(&rt, "k isn't out yet"));
+    assert_eq!(rt; (stock.counted(0), stock.counted(1)), (1, 0));
+    match issue_key(&rt, rt.alloc(), &mut supply, "k") {
+        Ok(_parcel) => panic!(rt; "k is out"),
+        Err((back, fault)) => {
+            let key = Key::new(String::from_str(rt.alloc(), "k").expect(&rt, "memory"));
+            assert_eq!(rt; (back.total(), fault), (1, PutFault::Overlap(key)));
+        }
+    }
+    let other = issue_key(&rt, rt.alloc(), &mut supply, "j");
+    let other = stocked(&rt, other.expect(&rt, "j isn't out yet"));
+    assert_eq!(rt; (other.counted(0), supply.outstanding(0).total()), (1, 2));
 }

@@ -18,6 +18,7 @@ use Rattle.rights_model.specs.Supply.{burned, is_outside, minted, moved_where}
 use Rattle.rights_model.specs.Table.{CanMoveAll, Table, given, holds, moved, no_holdings, table_after, taken}
 use Rattle.rights_model.proofs.TableLaws.{CanMoveAll-push, holds-given_other, holds-taken, holds-taken_other, table_after-push}
 use Rattle.host_core.specs.Fair.{is_payment_at, names, names_slot, takes_from}
+use Rattle.host_core.specs.Moved.{IsPassed}
 use Rattle.vault.specs.Vaults.{first_vault, CanGive, CanTake, CanTransfer, PaymentMark, VaultState, after_move, kind_of, mark_of, no_mark, payments_from, payments_to, supplies_from, supplies_to}
 use Rattle.vault.specs.Worlds.{CanDo, CanDoAll, Effect, IsValid, after, after_all, move, new_brand, new_purse}
 use Rattle.rights_model.specs.Totals.{is_slot}
@@ -25,7 +26,7 @@ use Rattle.vault.specs.declared.world.World.{World}
 use Rattle.vault.proofs.EffectsValid.{valid-after}
 use Rattle.vault.proofs.Lists.{get_or-set_seen}
 use Rattle.vault.proofs.Transferred.{has_from, kinds_moved, paid-from}
-use Rattle.host_core.proofs.UnitsMoved.{HoldsUnits, MintUnits, MintsUnits, OnlyUnits, moved_value, units-moved, units_from}
+use Rattle.host_core.proofs.UnitsMoved.{ArePlain, HoldsUnits, IsPlain, OnlyUnits, moved_value, units-moved, units_from}
 
 -- ---- what was minted and burned
 
@@ -152,7 +153,7 @@ idle_from_payment ps t q b c brand whole idle p e not_live = elim (cases_eq p q)
 idle-from : (v : VaultState) (h : Holder) (b : ℕ) (c : Content) → CanTake v h b c → AreIdle v.payments v.table → AreIdle (payments_from v.payments h) (taken v.table h b c)
 idle-from v (Payment q) b c can idle = idle_from_payment v.payments v.table q b c can.brand can.whole idle
 idle-from v (Purse q) b c can idle = λ p e not_live. holds-taken_other v.table b c (Purse q) (Payment p) e (elsewhere (Payment p) (Purse q) e b (λ is. cc)) ∙ idle p e not_live
-idle-from v (Slot seat keyword) b c can idle = absurd can
+idle-from v (Slot seat keyword) b c can idle = λ p e not_live. holds-taken_other v.table b c (Slot seat keyword) (Payment p) e (elsewhere (Payment p) (Slot seat keyword) e b (λ is. cc)) ∙ idle p e not_live
 idle-from v Hand b c can idle = absurd can
 idle-from v Outside b c can idle = λ p e not_live. holds-taken_other v.table b c Outside (Payment p) e (elsewhere (Payment p) Outside e b (λ is. cc)) ∙ idle p e not_live
 
@@ -180,7 +181,7 @@ idle_to_payment ps t q b c next idle p e not_live = elim (cases_eq p q) [
 idle-to : (v : VaultState) (ps : List PaymentMark) (t : Table) (h : Holder) (b : ℕ) (c : Content) → CanGive v h b c → length ps ≡ length v.payments → AreIdle ps t → AreIdle (payments_to ps h b) (given t h b c)
 idle-to v ps t (Payment q) b c can same idle = idle_to_payment ps t q b c (can.next ∙ sym same) idle
 idle-to v ps t (Purse q) b c can same idle = λ p e not_live. holds-given_other t b c (Purse q) (Payment p) e (elsewhere (Payment p) (Purse q) e b (λ is. cc)) ∙ idle p e not_live
-idle-to v ps t (Slot seat keyword) b c can same idle = absurd can
+idle-to v ps t (Slot seat keyword) b c can same idle = λ p e not_live. holds-given_other t b c (Slot seat keyword) (Payment p) e (elsewhere (Payment p) (Slot seat keyword) e b (λ is. cc)) ∙ idle p e not_live
 idle-to v ps t Hand b c can same idle = absurd can
 idle-to v ps t Outside b c can same idle = λ p e not_live. holds-given_other t b c Outside (Payment p) e (elsewhere (Payment p) Outside e b (λ is. cc)) ∙ idle p e not_live
 
@@ -208,19 +209,27 @@ pub record Accounts (ms : List Movement) (v : VaultState) : Type 0 where
 pub or_false : (x y : Bool) → x ≡ false → y ≡ false → (x || y) ≡ false
 or_false x y p q = cc
 
-no_slot_from : (v : VaultState) (h : Holder) (b : ℕ) (c : Content) → CanTake v h b c → is_slot h ≡ false
-no_slot_from v (Purse p) b c can = refl
-no_slot_from v (Payment p) b c can = refl
-no_slot_from v (Slot seat keyword) b c can = absurd can
-no_slot_from v Hand b c can = refl
-no_slot_from v Outside b c can = refl
+-- methods pass nothing from a slot, or to one
+no_slot_from : (from to : Holder) → IsPassed from to → is_slot from ≡ false
+no_slot_from (Purse p) to passed = refl
+no_slot_from (Payment p) to passed = refl
+no_slot_from (Slot seat keyword) to passed = absurd passed
+no_slot_from Hand to passed = refl
+no_slot_from Outside to passed = refl
 
-no_slot_to : (v : VaultState) (h : Holder) (b : ℕ) (c : Content) → CanGive v h b c → is_slot h ≡ false
-no_slot_to v (Purse p) b c can = refl
-no_slot_to v (Payment p) b c can = refl
-no_slot_to v (Slot seat keyword) b c can = absurd can
-no_slot_to v Hand b c can = refl
-no_slot_to v Outside b c can = refl
+pub never_slot : (from : Holder) (seat : ℕ) (keyword : List ℕ) → IsPassed from (Slot seat keyword) → ⊥
+never_slot (Purse p) seat keyword passed = passed
+never_slot (Payment p) seat keyword passed = passed
+never_slot (Slot other name) seat keyword passed = passed
+never_slot Hand seat keyword passed = passed
+never_slot Outside seat keyword passed = passed
+
+no_slot_to : (from to : Holder) → IsPassed from to → is_slot to ≡ false
+no_slot_to from (Purse p) passed = refl
+no_slot_to from (Payment p) passed = refl
+no_slot_to from (Slot seat keyword) passed = absurd (never_slot from seat keyword passed)
+no_slot_to from Hand passed = refl
+no_slot_to from Outside passed = refl
 
 -- what a movement takes from is there, and what it gives to is the next
 apart_from : (v : VaultState) (h : Holder) (b : ℕ) (c : Content) → CanTake v h b c → (p : ℕ) → length v.payments ≤ p → is_payment_at p h ≡ false
@@ -313,8 +322,8 @@ live-moved v m can ms live made p there = by (le_or_lt (length v.payments) p)
         ∙ neither (takes_from p ms) (is_payment_at p m.from)
         ∙ sym (ap not taken_then)
 
-pub accounts-moved : (ms : List Movement) (v : VaultState) (m : Movement) → CanTransfer v m → OnlyUnits m.value.content → IsValue m.value.kind m.value.content → Accounts ms v → Accounts (ms ++ m ∷ []) (after_move v m)
-accounts-moved ms v m can own value so = record {
+pub accounts-moved : (ms : List Movement) (v : VaultState) (m : Movement) → CanTransfer v m → IsPassed m.from m.to → OnlyUnits m.value.content → IsValue m.value.kind m.value.content → Accounts ms v → Accounts (ms ++ m ∷ []) (after_move v m)
+accounts-moved ms v m can passed own value so = record {
   table = ap (λ t. moved t m) so.table ∙ sym (table_after-push no_holdings ms m);
   defined = CanMoveAll-push no_holdings ms m so.defined (record { has = λ inside. subst (λ t. Contains (holds t m.from m.brand) m.value.content) so.table (has_from v m.from m.brand m.value.content can.from inside) });
   minted_are = λ b. omega (arith, minted-to (supplies_from v.supplies m.from m.brand m.value.content) m.to m.brand m.value.content b, minted-from v.supplies m.from m.brand m.value.content b can.brand, so.minted_are b, counted-push (λ n. n.from) ms m b);
@@ -322,7 +331,7 @@ accounts-moved ms v m can own value so = record {
   of_kind = λ b. kinds_moved v m b ∙ so.of_kind b;
   one_kind = All-push (λ (n : Movement). n.value.kind ≡ kinds n.brand) ms m so.one_kind (can.kind ∙ so.of_kind m.brand);
   values = All-push (λ (n : Movement). IsValue n.value.kind n.value.content) ms m so.values value;
-  slotless = All-push (λ (n : Movement). names_slot n ≡ false) ms m so.slotless (or_false _ _ (no_slot_from v m.from m.brand m.value.content can.from) (no_slot_to v m.to m.brand m.value.content can.to));
+  slotless = All-push (λ (n : Movement). names_slot n ≡ false) ms m so.slotless (or_false _ _ (no_slot_from m.from m.to passed) (no_slot_to m.from m.to passed));
   live = λ p made. live-moved v m can ms so.live so.made p made;
   made = λ p past. made-moved v m can ms so.made p past;
   units = units-moved v.table m own so.units;
@@ -439,17 +448,17 @@ either : (x y : Bool) → (x || y) ≡ true → (x ≡ true) ⊎ (y ≡ true)
 either true y h = inl refl
 either false y h = inr h
 
-told-after : (before : List Movement) (w : World) (e : Effect) → IsValid w → CanDo w e → MintsUnits e → AreTold before w → AreTold before (after w e)
-told-after before w (new_brand b) valid can mints told = record {
+told-after : (before : List Movement) (w : World) (e : Effect) → IsValid w → CanDo w e → IsPlain e → AreTold before w → AreTold before (after w e)
+told-after before w (new_brand b) valid can plain told = record {
   accounts = subst (λ (kind : Kind). Accounts (before ++ w.draft.movements) (record w.draft.now { supplies = w.draft.now.supplies ++ new_supply kind ∷ [] })) (sym can.nat) (accounts-added (before ++ w.draft.movements) w.draft.now told.accounts);
   spent = λ p takes. spent_stays w (new_brand b) p (told.spent p takes);
 }
-told-after before w (new_purse b) valid can mints told = record {
+told-after before w (new_purse b) valid can plain told = record {
   accounts = accounts-opened (before ++ w.draft.movements) w.draft.now b told.accounts;
   spent = λ p takes. spent_stays w (new_purse b) p (told.spent p takes);
 }
-told-after before w (move m) valid can mints told = let own = units_from w.draft.now m.from m.brand m.value.content can.from mints told.accounts.units in record {
-  accounts = subst (λ ms. Accounts ms (after_move w.draft.now m)) (append_assoc before w.draft.movements (m ∷ [])) (accounts-moved (before ++ w.draft.movements) w.draft.now m can own (moved_value w m valid can own) told.accounts);
+told-after before w (move m) valid can plain told = let own = units_from w.draft.now m.from m.brand m.value.content can.from plain.units told.accounts.units in record {
+  accounts = subst (λ ms. Accounts ms (after_move w.draft.now m)) (append_assoc before w.draft.movements (m ∷ [])) (accounts-moved (before ++ w.draft.movements) w.draft.now m can plain.passed own (moved_value w m valid can plain.nat own) told.accounts);
   spent = λ p takes. elim (either _ _ (sym (list_any-append (λ (n : Movement). is_payment_at p n.from) w.draft.movements (m ∷ [])) ∙ takes)) [
     | inl earlier ↦ spent_stays w (move m) p (told.spent p earlier)
     | inr now ↦ elim (either _ _ now) [
@@ -459,9 +468,9 @@ told-after before w (move m) valid can mints told = let own = units_from w.draft
   ];
 }
 
-pub told-after_all : (before : List Movement) (w : World) (es : List Effect) → IsValid w → CanDoAll w es → MintUnits es → AreTold before w → AreTold before (after_all w es)
-told-after_all before w [] valid can mints told = told
-told-after_all before w (e ∷ es) valid can mints told = told-after_all before (after w e) es (valid-after w e can.0 valid) can.1 mints.1 (told-after before w e valid can.0 mints.0 told)
+pub told-after_all : (before : List Movement) (w : World) (es : List Effect) → IsValid w → CanDoAll w es → ArePlain es → AreTold before w → AreTold before (after_all w es)
+told-after_all before w [] valid can plain told = told
+told-after_all before w (e ∷ es) valid can plain told = told-after_all before (after w e) es (valid-after w e can.0 valid) can.1 plain.1 (told-after before w e valid can.0 plain.0 told)
 
 -- what was spent is named by no movement, and stays spent
 pub record IsLeft (w : World) (p : ℕ) : Type 0 where

@@ -5,7 +5,7 @@ use Rattle.jessie_tree.specs.Tree.{Tree, Items, items_nesting, listed, object_of
 use Rattle.jessie_tree.specs.declared.data.Obj.{Obj}
 use Rattle.host_core.specs.Deliveries.{addressed, free_label}
 use Rattle.host_core.specs.MessageLines.{CallRead}
-use Rattle.vault.specs.Outcomes.{bind, need, wanted}
+use Rattle.call_data.specs.Outcomes.{bind, need, wanted}
 use Rattle.vault.specs.Parties.{Labels, resolved_all, value_at}
 use Rattle.vault.specs.Parts.{most_deep}
 

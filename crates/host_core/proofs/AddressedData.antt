@@ -8,19 +8,19 @@ use Rattle.jessie_tree.specs.declared.data.Obj.{Obj}
 use Rattle.host_core.specs.CallArguments.{arg}
 use Rattle.host_core.specs.Delivered.{AreGood}
 use Rattle.host_core.specs.Deliveries.{addressed, free_label, given_by}
-use Rattle.host_core.specs.JournalLaws.{InRange, IsData, ItemsInRange}
+use Rattle.journal_text.specs.JournalLaws.{InRange, IsData, ItemsInRange}
 use Rattle.host_core.specs.MessageLines.{CallRead, GiveRead}
 use Rattle.vault.specs.OrderedParts.{OrderedPartItems}
 use Rattle.vault.specs.Parties.{EachLabel, Labels, resolved, resolved_all, resolved_fields, value_at}
 use Rattle.vault.specs.Parts as part
 use Rattle.vault.specs.Parts.{PartFields, PartItems, PartTree}
 use Rattle.vault.specs.Vaults.{VaultState}
-use Rattle.vault.specs.declared.refusals.Refusal.TheVariants.{BadField, NameTaken, UnknownName, WrongObject}
+use Rattle.call_data.specs.declared.refusals.Refusal.TheVariants.{BadField, NameTaken, UnknownName, WrongObject}
 use Rattle.host_core.proofs.GoodLabels.{value_at-good}
 use Rattle.host_core.proofs.RangesRead.{PartItemsInRange, resolved_all-InRange, value_at-InRange}
 use Rattle.host_core.proofs.RefusalData.{Comes, comes_found, comes_last, comes_need, comes_refused, comes_step, comes_wanted, told_number, told_text}
 use Rattle.vault.proofs.Resolved.{resolved_all-Ordered}
-use Rattle.host_core.proofs.RowsWritable.{all_head, all_tail}
+use Rattle.journal_text.proofs.RowsWritable.{all_head, all_tail}
 use Rattle.host_core.proofs.ServedData.{object-InRange}
 
 abbrev Any : {A : Type 0} → A → Type 0

@@ -4,7 +4,7 @@ use Rattle.host_core.specs.Deliveries.{Kept, turn_of}
 use Rattle.host_core.specs.Hosts.{HostState, step_from, step_of}
 use Rattle.host_core.specs.MessageLines.{MessageRead}
 use Rattle.host_core.specs.Queues.{front_of, without_front}
-use Rattle.host_core.specs.Turns.{TurnRecord}
+use Rattle.journal_text.specs.Turns.{TurnRecord}
 
 none_from : (s : HostState) (q : List MessageRead) → front_of q ≡ None → step_from s q ≡ None
 none_from s [] e = refl

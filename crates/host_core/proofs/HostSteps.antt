@@ -1,10 +1,11 @@
 -- What a message's turn does, and that a host's steps keep it valid.
-use Rattle.std.proofs.Common.{◌≡◌, ℕ, zero, suc, ◌+◌, ◌<◌, List, [], ◌∷◌, ◌++◌, Bool, true, false, not, is_some, Option, Some, None, Result, Ok, Err, get_or, refl, sym, ◌∙◌, ap, subst, arith, codes}
+use Rattle.std.proofs.Common.{◌≡◌, ℕ, zero, suc, ◌+◌, ◌<◌, List, [], ◌∷◌, ◌++◌, Bool, true, false, not, is_some, Option, Some, None, Result, Ok, Err, get_or, map, refl, sym, ◌∙◌, ap, subst, arith, codes}
 use Rattle.jessie_tree.specs.Tree as tree
 use Rattle.jessie_tree.specs.Tree.{Tree, Fields, Items, Ordered, field, item, items_nesting, listed, nesting, no_fields, no_items, object_of}
 use Rattle.jessie_tree.specs.declared.data.Obj.{Obj}
 use Rattle.jessie_tree.specs.declared.data.ObjKind.TheVariants.{Purse}
 use Rattle.rights_model.specs.declared.Holder.TheVariants as holders
+use Rattle.rights_model.specs.declared.Movement.{Movement}
 use Rattle.host_core.specs.Delivered.{AreGood, IsFree, IsGood, IsSteady}
 use Rattle.host_core.specs.Deliveries.{Kept, addressed, answered, call_turn, came_to, free_label, give_turn, given_by, labelled, refused, turn_of, world_at}
 use Rattle.host_core.specs.Fair.{IsReading}
@@ -12,24 +13,26 @@ use Rattle.host_core.specs.Hosts.{HostState, IsValidHost, step_from, step_of, tu
 use Rattle.vault.specs.Known.{AllInFields, AllInItems, AllObjects}
 use Rattle.host_core.specs.MessageLines.{CallRead, GiveRead, MessageRead}
 use Rattle.host_core.specs.MessageLines as read
-use Rattle.vault.specs.Outcomes.{bind, need, wanted}
+use Rattle.call_data.specs.Outcomes.{bind, need, wanted}
 use Rattle.vault.specs.Parties.{EachLabel, Labels, bound_to, own}
 use Rattle.host_core.specs.Served.{Grows, IsMade, KnowsArgs}
 use Rattle.host_core.specs.Services.{Outcome, get_current_amount, serve, served}
 use Rattle.vault.specs.Sums.{sums_of}
 use Rattle.rights_model.specs.Totals.{brands_of}
-use Rattle.host_core.specs.Turns.{Delivery, TurnRecord, bad, give, message, service}
-use Rattle.vault.specs.Values.{amount_tree}
+use Rattle.journal_text.specs.Turns as turns
+use Rattle.journal_text.specs.Turns.{Delivery, TurnRecord, bad, give, message, movements_in, service}
+use Rattle.turn_log.specs.Events.{moved, moves_in}
+use Rattle.call_data.specs.Values.{amount_tree}
 use Rattle.vault.specs.Vaults.{VaultState, amount_of}
 use Rattle.vault.specs.Worlds.{CanDoAll, Effect, HasRoom, IsValid, MintedWithin, after_all}
-use Rattle.vault.specs.declared.refusals.Refusal.{Refusal}
+use Rattle.call_data.specs.declared.refusals.Refusal.{Refusal}
 use Rattle.vault.specs.declared.world.World.{World}
 use Rattle.vault.proofs.EffectsValid.{begins_valid, valid-after_all}
 use Rattle.host_core.proofs.GoodLabels.{value_at-good}
 use Rattle.host_core.proofs.Growth.{grows-after_all}
 use Rattle.vault.proofs.Resolved.{OfServices, resolved_all-AllObjects, value_at-AllObjects}
 use Rattle.host_core.proofs.ServedLaws.{serve_can, serve_known, serve_minted, serve_ordered, serve_shallow}
-use Rattle.host_core.proofs.UnitsMoved.{MintUnits, serve_mints}
+use Rattle.host_core.proofs.UnitsMoved.{ArePlain, serve_plain}
 
 -- ---- what a call is addressed to
 
@@ -171,20 +174,29 @@ steady s valid few = record { valid = valid.world; room = within_room s.kept.vau
 
 -- ---- a turn
 
--- A turn has effects that can be had, and notes what they move, with the sums after them. A refused turn moves nothing, and the amount that a purse answers is what it has.
+-- A turn has effects that can be had, and its events are what they move, with the sums after them. In a refused turn nothing happens, and the amount that a purse answers is what it has.
 pub record IsWorked (n : ℕ) (old new : Kept) (t : TurnRecord) : Type 0 where
   pub effects : List Effect
   pub can : CanDoAll (world_at old) effects
-  pub mints : MintUnits effects
+  pub plain : ArePlain effects
   pub vault : new.vault ≡ (after_all (world_at old) effects).draft.now
   pub valid : IsValid (world_at new)
   pub minted : (m : ℕ) → MintedWithin old.vault m → MintedWithin new.vault (m + 1)
   pub labels : AreGood new.vault new.labels
   pub number : t.number ≡ n
-  pub movements : t.movements ≡ (after_all (world_at old) effects).draft.movements
-  pub sums : t.sums ≡ sums_of new.vault t.movements
-  pub refused : (r : Refusal) → t.answer ≡ Err r → t.movements ≡ []
+  pub events : t.events ≡ map moved (after_all (world_at old) effects).draft.movements
+  pub sums : t.sums ≡ sums_of new.vault (movements_in t)
+  pub refused : (r : Refusal) → t.answer ≡ turns.refused r → t.events ≡ []
   pub read : (purse : ℕ) (answer : Tree) → IsReading t purse answer → answer ≡ amount_tree (amount_of old.vault (holders.Purse purse))
+
+-- the movements among events that are those
+pub moves_back : (ms : List Movement) → moves_in (map moved ms) ≡ ms
+moves_back [] = refl
+moves_back (m ∷ ms) = ap (λ rest. m ∷ rest) (moves_back ms)
+
+-- a turn's movements are those of its effects
+pub worked_moves : (n : ℕ) (old new : Kept) (t : TurnRecord) (worked : IsWorked n old new t) → movements_in t ≡ (after_all (world_at old) worked.effects).draft.movements
+worked_moves n old new t worked = ap moves_in worked.events ∙ moves_back _
 
 -- what getCurrentAmount answers
 reads : (w : World) (purse : ℕ) (args : List Tree) → serve w (record { kind = Purse; number = purse }) (codes "getCurrentAmount") args ≡ Ok (amount_tree (amount_of w.draft.now (holders.Purse purse)), [])
@@ -201,12 +213,16 @@ reads_amount w by method on args answer effects purse other others is called =
   where
     called_on : Delivery → Obj
     called_on (service by on method args) = on
+    called_on (turns.start instance) = record { kind = Purse; number = purse }
+    called_on (turns.handler instance seat method given) = record { kind = Purse; number = purse }
     called_on (give by to label given) = record { kind = Purse; number = purse }
     called_on bad = record { kind = Purse; number = purse }
     called_on (message by method) = record { kind = Purse; number = purse }
 
     called_method : Delivery → List ℕ
     called_method (service by on method args) = method
+    called_method (turns.start instance) = []
+    called_method (turns.handler instance seat method given) = []
     called_method (give by to label given) = []
     called_method bad = []
     called_method (message by method) = []
@@ -220,19 +236,19 @@ module _ (n : ℕ) (k : Kept) (steady : IsSteady k) where
   worked_refused d r = record {
     effects = [];
     can = tt;
-    mints = tt;
+    plain = tt;
     vault = refl;
     valid = steady.valid;
     minted = within_more k.vault;
     labels = steady.labels;
     number = refl;
-    movements = refl;
+    events = refl;
     sums = no_sums k.vault;
     refused = λ r is. refl;
-    read = λ purse answer is. absurd (not_both r answer is.answered);
+    read = λ purse answer is. absurd (not_both r answer is.given);
   }
     where
-      not_both : (r : Refusal) (answer : Tree) → Err r ≡ Ok answer → ⊥
+      not_both : (r : Refusal) (answer : Tree) → turns.refused r ≡ turns.answered answer → ⊥
       not_both r answer h = cc
 
   module _ (c : CallRead) (on : Obj) (args : List Tree) (good : IsMade k.vault on × KnowsArgs k.vault args) where
@@ -244,7 +260,7 @@ module _ (n : ℕ) (k : Kept) (steady : IsSteady k) where
         record {
           effects = effects;
           can = can;
-          mints = serve_mints (world_at k) on c.method args answer effects is;
+          plain = serve_plain (world_at k) on c.method args answer effects steady.valid good.0 is;
           vault = refl;
           valid = begins_valid w (valid-after_all (world_at k) effects steady.valid can);
           minted = serve_minted (world_at k) on c.method args answer effects steady.valid steady.room good.0 good.1 is;
@@ -254,14 +270,17 @@ module _ (n : ℕ) (k : Kept) (steady : IsSteady k) where
             shallow = serve_shallow (world_at k) on c.method args answer effects steady.valid steady.room good.0 good.1 is;
           });
           number = refl;
-          movements = refl;
-          sums = refl;
+          events = refl;
+          sums = ap (sums_of w.draft.now) (sym (moves_back w.draft.movements));
           refused = λ r e. absurd (not_refused answer r e);
-          read = λ purse given reading. sym (is_ok answer given reading.answered) ∙ reads_amount (world_at k) c.by c.method on args answer effects purse reading.by reading.arguments is reading.called;
+          read = λ purse given reading. sym (is_answer answer given reading.given) ∙ reads_amount (world_at k) c.by c.method on args answer effects purse reading.by reading.arguments is reading.called;
         }
       where
-        not_refused : (answer : Tree) (r : Refusal) → Ok answer ≡ Err r → ⊥
+        not_refused : (answer : Tree) (r : Refusal) → turns.answered answer ≡ turns.refused r → ⊥
         not_refused answer r h = cc
+
+        is_answer : (x y : Tree) → turns.answered x ≡ turns.answered y → x ≡ y
+        is_answer x y h = cc
 
     worked_served : (outcome : Outcome) → serve (world_at k) on c.method args ≡ outcome
         → let turn = came_to n (service c.by on c.method args) c k (served (world_at k) outcome) in IsWorked n k turn.0 turn.1
@@ -277,19 +296,19 @@ module _ (n : ℕ) (k : Kept) (steady : IsSteady k) where
   worked_given g given good = record {
     effects = [];
     can = tt;
-    mints = tt;
+    plain = tt;
     vault = refl;
     valid = steady.valid;
     minted = within_more k.vault;
     labels = more_labels k.vault k.labels (own g.to g.label) given steady.labels good;
     number = refl;
-    movements = refl;
+    events = refl;
     sums = no_sums k.vault;
     refused = λ r is. absurd (not_refused r is);
     read = λ purse answer is. absurd (no_call purse is.by is.arguments is.called);
   }
     where
-      not_refused : (r : Refusal) → Ok tree.null ≡ Err r → ⊥
+      not_refused : (r : Refusal) → turns.answered tree.null ≡ turns.refused r → ⊥
       not_refused r h = cc
 
       no_call : (purse : ℕ) (by : List ℕ) (args : List Tree) → give g.by g.to g.label given ≡ service by (record { kind = Purse; number = purse }) (codes "getCurrentAmount") args → ⊥

@@ -13,14 +13,7 @@ pub mod ServiceTransfers
 pub mod OutcomeSteps
 pub mod Growth
 pub mod ServedLaws
-pub mod JournalTrees
-pub mod JournalFloats
 pub mod ServedCalls
-pub mod InOrder
-pub mod RowsWritable
-pub mod NamesRead
-pub mod TreesRead
-pub mod JournalRead
 pub mod Addressed
 pub mod HostFronts
 pub mod RunStarts

@@ -11,13 +11,13 @@ use Rattle.serde_json.specs.Find.{as_number, as_u64, get_member}
 use Rattle.serde_json.specs.Read.{read}
 use Rattle.host_core.specs.Hosts.{HostState, first_host, with_message}
 use Rattle.host_core.specs.InputLines.{is_blank, lines_of}
-use Rattle.host_core.specs.JournalLaws.{InRange}
+use Rattle.journal_text.specs.JournalLaws.{InRange}
 use Rattle.host_core.specs.MessageLines.{Meaning, MessageRead, bad, bad_call_label, bad_field, bad_field_line, bad_give_label, bad_label_message, bad_line, blank, call, call_form, call_labelled, call_of, count_of, give, give_form, give_labelled, give_of, has, json_meaning, json_of, meaning_of, members_meaning, message, run, run_form, value_meaning}
 use Rattle.vault.specs.OrderedParts.{OrderedJson, OrderedJsonMembers, OrderedPartItems}
 use Rattle.vault.specs.Parties.{EachLabel}
 use Rattle.vault.specs.Parts.{PartItems, arguments_of, no_items}
 use Rattle.host_core.specs.Runs.{meanings_of}
-use Rattle.vault.specs.declared.refusals.Refusal.TheVariants.{BadField, BadLabel, BadLine}
+use Rattle.call_data.specs.declared.refusals.Refusal.TheVariants.{BadField, BadLabel, BadLine}
 use Rattle.vault.proofs.OrderedRead.{arguments_of-Ordered, get_member-Ordered, read-Ordered}
 use Rattle.host_core.proofs.RangesRead.{JsonIsWide, JsonMembersAreWide, PartItemsInRange, arguments_of-InRange, get_member-IsWide, passed, read-IsWide}
 use Rattle.host_core.proofs.RefusalData.{IsTold, told_nothing, told_text}

@@ -6,9 +6,9 @@ use Rattle.amount_math.specs.Worth.{nat_bound}
 use Rattle.amount_math.specs.declared.Kind.{Kind}
 use Rattle.amount_math.specs.declared.Kind.TheVariants.{Nat, Set, Bag}
 use Rattle.jessie_tree.specs.Tree.{Tree, number_of}
-use Rattle.vault.specs.declared.refusals.Refusal.{Refusal}
-use Rattle.vault.specs.declared.refusals.Refusal.TheVariants.{BadValue}
-use Rattle.vault.specs.Outcomes.{bind, ◌>>=◌, ◌>>◌, need}
+use Rattle.call_data.specs.declared.refusals.Refusal.{Refusal}
+use Rattle.call_data.specs.declared.refusals.Refusal.TheVariants.{BadValue}
+use Rattle.call_data.specs.Outcomes.{bind, ◌>>=◌, ◌>>◌, need}
 use Rattle.host_core.specs.CallArguments.{IsUnits, amount_in, nat_from, nat_value, payment_in, payment_of, value_in}
 use Rattle.host_core.specs.Services.{next_payment}
 use Rattle.vault.specs.Vaults.{VaultState, CanMakePayment, brand_of, mark_of}

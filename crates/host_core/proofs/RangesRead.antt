@@ -18,13 +18,13 @@ use Rattle.json.specs.Lex.{tokens}
 use Rattle.serde_json.specs.Data as json
 use Rattle.serde_json.specs.Find.{as_integer, get_member}
 use Rattle.serde_json.specs.Read.{float_of, is_integer, max_depth, number_from, number_of, of_items, of_json, of_members, read}
-use Rattle.host_core.specs.JournalLaws.{FieldsInRange, InRange, IsWide, ItemsInRange}
-use Rattle.vault.specs.Outcomes.{bind, wanted}
+use Rattle.journal_text.specs.JournalLaws.{FieldsInRange, InRange, IsWide, ItemsInRange}
+use Rattle.call_data.specs.Outcomes.{bind, wanted}
 use Rattle.vault.specs.Parties.{EachLabel, Labels, part_at, place_of, resolved, resolved_all, resolved_fields, value_at}
 use Rattle.vault.specs.Parts as part
 use Rattle.vault.specs.Parts.{PartFields, PartItems, PartTree, arguments_of, is_path, object_part, only_text, part_fields_of, part_of, parts_of, shallow}
-use Rattle.vault.specs.declared.refusals.Refusal.{Refusal}
-use Rattle.vault.specs.declared.refusals.Refusal.TheVariants.{UnknownName}
+use Rattle.call_data.specs.declared.refusals.Refusal.{Refusal}
+use Rattle.call_data.specs.declared.refusals.Refusal.TheVariants.{UnknownName}
 use Rattle.vault.proofs.Resolved.{OfServices, value_at-passes}
 
 -- ---- which JSON and which arguments are in range

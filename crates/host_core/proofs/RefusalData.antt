@@ -5,11 +5,11 @@ use Rattle.amount_math.specs.Worth.{Worth}
 use Rattle.amount_math.specs.declared.Kind.TheVariants.{Nat}
 use Rattle.jessie_tree.specs.Tree.{Items, OrderedItems, array, field, fields, item, items_nesting, no_fields, no_items, text}
 use Rattle.jessie_tree.specs.View.{items_of}
-use Rattle.host_core.specs.JournalLaws.{IsData, ItemsInRange}
-use Rattle.vault.specs.Outcomes.{bind, need, wanted}
-use Rattle.vault.specs.Refusals.{code_of, refusal_tree, shown_by}
-use Rattle.vault.specs.Values.{number_tree, value_tree}
-use Rattle.vault.specs.declared.refusals.Refusal.{Refusal}
+use Rattle.journal_text.specs.JournalLaws.{IsData, ItemsInRange}
+use Rattle.call_data.specs.Outcomes.{bind, need, wanted}
+use Rattle.call_data.specs.Refusals.{code_of, refusal_tree, shown_by}
+use Rattle.call_data.specs.Values.{number_tree, value_tree}
+use Rattle.call_data.specs.declared.refusals.Refusal.{Refusal}
 
 -- ---- refusals as data
 

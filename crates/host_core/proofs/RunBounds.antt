@@ -16,32 +16,35 @@ use Rattle.rights_model.specs.declared.Holder.TheVariants.{Purse, Payment, Slot,
 use Rattle.rights_model.specs.declared.Movement.{Movement}
 use Rattle.rights_model.specs.Supply.{is_inside}
 use Rattle.rights_model.specs.Table.{holds}
-use Rattle.host_core.specs.JournalLaws.{IsHolder, IsMove, IsSum}
-use Rattle.vault.specs.Vaults.{first_vault, CanGive, CanTake, CanTransfer, PaymentMark, VaultState, brand_of, kind_of, payments_from, payments_to, supplies_from, supplies_to}
-use Rattle.host_core.specs.Moved.{IsPassed, IsPassing}
+use Rattle.journal_text.specs.JournalLaws.{IsHolder, IsMove, IsSum}
+use Rattle.vault.specs.Vaults.{first_vault, CanGive, CanTake, CanTransfer, PaymentMark, VaultState, amount_moved, brand_of, payments_from, payments_to, seats_from, seats_to, supplies_from, supplies_to}
+use Rattle.host_core.specs.Moved.{IsPassed}
+use Rattle.seats.specs.Seats.{SeatState, seats_counted}
 use Rattle.ertp_mint.specs.Stocks.{most_made}
 use Rattle.vault.specs.Sums.{sum_of, sums_of}
 use Rattle.rights_model.specs.Totals.{brands_of, placed, held_over, is_payment, is_purse}
 use Rattle.vault.specs.Worlds.{CanDo, CanDoAll, Effect, IsValid, MintedWithin, after, after_all, count_in, in_numbers, move, new_brand, new_purse}
 use Rattle.vault.specs.declared.world.World.{World}
-use Rattle.host_core.proofs.Accounts.{AreTold, told-after_all}
+use Rattle.amount_math.specs.declared.Amount.{Amount}
+use Rattle.host_core.proofs.Accounts.{AreTold, never_slot, told-after_all}
 use Rattle.vault.proofs.EffectsValid.{valid-after}
 use Rattle.host_core.proofs.Growth.{payments-from}
 use Rattle.vault.proofs.Lists.{get_or-set_seen}
 use Rattle.host_core.proofs.RefusalData.{value_is_data}
 use Rattle.host_core.proofs.ServedData.{bound_small, held_small}
-use Rattle.host_core.proofs.RowsWritable.{all_head, all_tail}
-use Rattle.host_core.proofs.UnitsMoved.{HoldsUnits, MintUnits, MintsUnits, OnlyUnits, moved_value, units_from}
+use Rattle.journal_text.proofs.RowsWritable.{all_head, all_tail}
+use Rattle.host_core.proofs.UnitsMoved.{ArePlain, HoldsUnits, IsPlain, OnlyUnits, moved_value, units_from}
 
--- ---- purses and payments are few, and nothing is burned
+-- ---- purses and payments are few, no seat is opened, and nothing is burned
 
 pub record IsBounded (v : VaultState) : Type 0 where
   pub purses : length v.purses ≤ most_made
   pub payments : length v.payments ≤ most_made
+  pub seatless : v.seats ≡ []
   pub unburned : (b : ℕ) → (supply_at v.supplies b).burned ≡ 0
 
 pub first_bounded : IsBounded first_vault
-first_bounded = record { purses = omega arith; payments = omega arith; unburned = none }
+first_bounded = record { purses = omega arith; payments = omega arith; seatless = refl; unburned = none }
   where
     none : (b : ℕ) → (supply_at first_vault.supplies b).burned ≡ 0
     none zero = refl
@@ -74,6 +77,20 @@ unburned-to ss from (Payment p) b c passed = refl
 unburned-to ss from (Slot seat keyword) b c passed = refl
 unburned-to ss from Hand b c passed = refl
 
+seats-from : (ss : List SeatState) (from to : Holder) (c : Content) → IsPassed from to → seats_from ss from c ≡ ss
+seats-from ss Outside to c passed = refl
+seats-from ss (Purse p) to c passed = refl
+seats-from ss (Payment p) to c passed = refl
+seats-from ss (Slot seat keyword) to c passed = absurd passed
+seats-from ss Hand to c passed = refl
+
+seats-to : (ss : List SeatState) (from to : Holder) (a : Amount) → IsPassed from to → seats_to ss to a ≡ ss
+seats-to ss from Outside a passed = refl
+seats-to ss from (Purse p) a passed = refl
+seats-to ss from (Payment p) a passed = refl
+seats-to ss from (Slot seat keyword) a passed = absurd (never_slot from seat keyword passed)
+seats-to ss from Hand a passed = refl
+
 few-to : (v : VaultState) (ps : List PaymentMark) (h : Holder) (b : ℕ) (c : Content) → CanGive v h b c → length ps ≡ length v.payments → length v.payments ≤ most_made → length (payments_to ps h b) ≤ most_made
 few-to v ps (Payment p) b c can same few = omega (arith, can.next, can.room, same, length-append {A = PaymentMark})
 few-to v ps (Purse p) b c can same few = omega (arith, same, few)
@@ -81,46 +98,44 @@ few-to v ps (Slot seat keyword) b c can same few = omega (arith, same, few)
 few-to v ps Hand b c can same few = omega (arith, same, few)
 few-to v ps Outside b c can same few = omega (arith, same, few)
 
-bounded-after : (w : World) (e : Effect) → CanDo w e → IsPassing e → IsBounded w.draft.now → IsBounded (after w e).draft.now
-bounded-after w (new_brand b) can passed bounded = record { purses = bounded.purses; payments = bounded.payments; unburned = unburned-added w.draft.now.supplies b.kind bounded.unburned }
-bounded-after w (new_purse b) can passed bounded = record { purses = omega (arith, can.room, length-append w.draft.now.purses (b ∷ [])); payments = bounded.payments; unburned = bounded.unburned }
-bounded-after w (move m) can passed bounded = record {
+bounded-after : (w : World) (e : Effect) → CanDo w e → IsPlain e → IsBounded w.draft.now → IsBounded (after w e).draft.now
+bounded-after w (new_brand b) can plain bounded = record { purses = bounded.purses; payments = bounded.payments; seatless = bounded.seatless; unburned = unburned-added w.draft.now.supplies b.kind bounded.unburned }
+bounded-after w (new_purse b) can plain bounded = record { purses = omega (arith, can.room, length-append w.draft.now.purses (b ∷ [])); payments = bounded.payments; seatless = bounded.seatless; unburned = bounded.unburned }
+bounded-after w (move m) can plain bounded = record {
   purses = bounded.purses;
   payments = few-to w.draft.now (payments_from w.draft.now.payments m.from) m.to m.brand m.value.content can.to (payments-from w.draft.now.payments m.from) bounded.payments;
-  unburned = λ e. ap (λ ss. (supply_at ss e).burned) (unburned-to (supplies_from w.draft.now.supplies m.from m.brand m.value.content) m.from m.to m.brand m.value.content passed)
+  seatless = seats-to (seats_from w.draft.now.seats m.from m.value.content) m.from m.to (amount_moved m) plain.passed ∙ seats-from w.draft.now.seats m.from m.to m.value.content plain.passed ∙ bounded.seatless;
+  unburned = λ e. ap (λ ss. (supply_at ss e).burned) (unburned-to (supplies_from w.draft.now.supplies m.from m.brand m.value.content) m.from m.to m.brand m.value.content plain.passed)
       ∙ unburned-from w.draft.now.supplies m.from m.brand m.value.content e ∙ bounded.unburned e;
 }
 
 -- ---- what is moved
 
+-- there are no seats
+seat_small : (v : VaultState) (seat : ℕ) → IsBounded v → seat < length v.seats → seat < 2 ^ 32
+seat_small v seat bounded made = omega (arith, made, ap length bounded.seatless)
+
 holder_from : (v : VaultState) (h : Holder) (b : ℕ) (c : Content) → IsBounded v → CanTake v h b c → IsHolder h
 holder_from v (Purse p) b c bounded can = omega (arith, can.made, bounded.purses)
 holder_from v (Payment p) b c bounded can = omega (arith, can.made, bounded.payments)
-holder_from v (Slot seat keyword) b c bounded can = absurd can
+holder_from v (Slot seat keyword) b c bounded can = seat_small v seat bounded can.made
 holder_from v Hand b c bounded can = absurd can
 holder_from v Outside b c bounded can = tt
 
 holder_to : (v : VaultState) (h : Holder) (b : ℕ) (c : Content) → IsBounded v → CanGive v h b c → IsHolder h
 holder_to v (Purse p) b c bounded can = omega (arith, can.made, bounded.purses)
 holder_to v (Payment p) b c bounded can = omega (arith, can.room)
-holder_to v (Slot seat keyword) b c bounded can = absurd can
+holder_to v (Slot seat keyword) b c bounded can = seat_small v seat bounded can.made
 holder_to v Hand b c bounded can = absurd can
 holder_to v Outside b c bounded can = tt
 
-nat_from : (w : World) → IsValid w → (h : Holder) (b : ℕ) (c : Content) → CanTake w.draft.now h b c → kind_of w.draft.now b ≡ Nat
-nat_from w valid (Purse p) b c can = subst (λ e. kind_of w.draft.now e ≡ Nat) can.brand (valid.ordinary.purses p can.made).nat
-nat_from w valid (Payment p) b c can = subst (λ e. kind_of w.draft.now e ≡ Nat) can.brand (valid.ordinary.payments p can.made).nat
-nat_from w valid Outside b c can = can.nat
-nat_from w valid (Slot seat keyword) b c can = absurd can
-nat_from w valid Hand b c can = absurd can
-
-moved_in_range : (w : World) (m : Movement) → IsValid w → IsBounded w.draft.now → CanTransfer w.draft.now m → OnlyUnits m.value.content → IsMove m
-moved_in_range w m valid bounded can own = record {
+moved_in_range : (w : World) (m : Movement) → IsValid w → IsBounded w.draft.now → CanTransfer w.draft.now m → m.value.kind ≡ Nat → OnlyUnits m.value.content → IsMove m
+moved_in_range w m valid bounded can nat own = record {
   brand = omega (arith, can.brand, valid.brands, valid.few);
   from = holder_from w.draft.now m.from m.brand m.value.content bounded can.from;
   to = holder_to w.draft.now m.to m.brand m.value.content bounded can.to;
-  value = value_is_data m.value (can.kind ∙ nat_from w valid m.from m.brand m.value.content can.from)
-      (omega (arith, (fits_from_value m.value.kind m.value.content (moved_value w m valid can own)).each unit, bound_small m.value.kind));
+  value = value_is_data m.value nat
+      (omega (arith, (fits_from_value m.value.kind m.value.content (moved_value w m valid can nat own)).each unit, bound_small m.value.kind));
 }
 
 -- the stores are few, and all movements of the turn so far are in range
@@ -128,23 +143,18 @@ pub record AreNoted (w : World) : Type 0 where
   pub bounded : IsBounded w.draft.now
   pub movements : All IsMove w.draft.movements
 
-noted-after : (before : List Movement) (w : World) (e : Effect) → IsValid w → CanDo w e → IsPassing e → MintsUnits e → AreTold before w → AreNoted w → AreNoted (after w e)
-noted-after before w (new_brand b) valid can passed mints told noted = record { bounded = bounded-after w (new_brand b) can passed noted.bounded; movements = noted.movements }
-noted-after before w (new_purse b) valid can passed mints told noted = record { bounded = bounded-after w (new_purse b) can passed noted.bounded; movements = noted.movements }
-noted-after before w (move m) valid can passed mints told noted = record {
-  bounded = bounded-after w (move m) can passed noted.bounded;
-  movements = All-push IsMove w.draft.movements m noted.movements (moved_in_range w m valid noted.bounded can (units_from w.draft.now m.from m.brand m.value.content can.from mints told.accounts.units));
+noted-after : (before : List Movement) (w : World) (e : Effect) → IsValid w → CanDo w e → IsPlain e → AreTold before w → AreNoted w → AreNoted (after w e)
+noted-after before w (new_brand b) valid can plain told noted = record { bounded = bounded-after w (new_brand b) can plain noted.bounded; movements = noted.movements }
+noted-after before w (new_purse b) valid can plain told noted = record { bounded = bounded-after w (new_purse b) can plain noted.bounded; movements = noted.movements }
+noted-after before w (move m) valid can plain told noted = record {
+  bounded = bounded-after w (move m) can plain noted.bounded;
+  movements = All-push IsMove w.draft.movements m noted.movements (moved_in_range w m valid noted.bounded can plain.nat (units_from w.draft.now m.from m.brand m.value.content can.from plain.units told.accounts.units));
 }
 
--- each effect's movement is one that methods make
-abbrev pub ArePassing : List Effect → Type 0
-ArePassing [] = Unit {0}
-ArePassing (e ∷ es) = IsPassing e × ArePassing es
-
-pub noted-after_all : (before : List Movement) (w : World) (es : List Effect) → IsValid w → CanDoAll w es → ArePassing es → MintUnits es → AreTold before w → AreNoted w → AreNoted (after_all w es)
-noted-after_all before w [] valid can passed mints told noted = noted
-noted-after_all before w (e ∷ es) valid can passed mints told noted =
-    noted-after_all before (after w e) es (valid-after w e can.0 valid) can.1 passed.1 mints.1 (told-after_all before w (e ∷ []) valid (can.0, tt) (mints.0, tt) told) (noted-after before w e valid can.0 passed.0 mints.0 told noted)
+pub noted-after_all : (before : List Movement) (w : World) (es : List Effect) → IsValid w → CanDoAll w es → ArePlain es → AreTold before w → AreNoted w → AreNoted (after_all w es)
+noted-after_all before w [] valid can plain told noted = noted
+noted-after_all before w (e ∷ es) valid can plain told noted =
+    noted-after_all before (after w e) es (valid-after w e can.0 valid) can.1 plain.1 (told-after_all before w (e ∷ []) valid (can.0, tt) (plain.0, tt) told) (noted-after before w e valid can.0 plain.0 told noted)
 
 -- ---- sums
 
@@ -202,7 +212,7 @@ module _ (w : World) (valid : IsValid w) (units : HoldsUnits w.draft.now.table) 
       burned = omega (arith, bounded.unburned b);
       purses = purses_small b;
       payments = payments_small b;
-      slots = omega (arith, valid.ordinary.totals.slots b);
+      slots = omega (arith, valid.ordinary.totals.slots b, ap (seats_counted b) bounded.seatless);
     }
 
     sums_in_range : (bs : List ℕ) → AreSmall bs → All IsSum (map (sum_of w.draft.now) bs)

@@ -1,5 +1,5 @@
 -- The turns of a run are fair.
-use Rattle.std.proofs.Common.{◌≡◌, ℕ, zero, suc, ◌+◌, ◌<◌, ◌≤◌, ◌||◌, true, false, List, [], ◌∷◌, ◌++◌, length, map, Option, Some, None, Err, refl, sym, ◌∙◌, ap, subst, arith, length-append}
+use Rattle.std.proofs.Common.{◌≡◌, ℕ, zero, suc, ◌+◌, ◌<◌, ◌≤◌, ◌||◌, true, false, List, [], ◌∷◌, ◌++◌, length, map, Option, Some, None, refl, sym, ◌∙◌, ap, subst, arith, length-append}
 use Rattle.std.specs.Option.{option_map_or}
 use Rattle.std.proofs.lemmas.Grind.{flat_map-append}
 use Rattle.std.proofs.lemmas.List.{append-nil, append_assoc}
@@ -27,23 +27,24 @@ use Rattle.host_core.specs.MessageLines.{MessageRead}
 use Rattle.host_core.specs.Runs.{AreFairToLimit, after, drained, end_of, meanings_of, turns_in_order, turns_of}
 use Rattle.vault.specs.Sums.{sum_of}
 use Rattle.rights_model.specs.Totals.{brands_of, held_over, is_payment, is_purse, is_slot}
-use Rattle.host_core.specs.Turns.{TurnRecord}
-use Rattle.vault.specs.Values.{amount_tree}
+use Rattle.journal_text.specs.Turns.{TurnRecord, movements_in, refused}
+use Rattle.turn_log.specs.Events.{moved}
+use Rattle.call_data.specs.Values.{amount_tree}
 use Rattle.vault.specs.Worlds.{after_all}
-use Rattle.vault.specs.declared.refusals.Refusal.{Refusal}
+use Rattle.call_data.specs.declared.refusals.Refusal.{Refusal}
 use Rattle.host_core.proofs.Accounts.{Accounts, AreTold, IsLeft, IsSpent, kinds, left-after_all, or_false, spent_has_nothing, told-after_all}
 use Rattle.vault.proofs.EffectsValid.{first_valid}
-use Rattle.host_core.proofs.HostSteps.{IsStepped, step_valid, step_worked}
+use Rattle.host_core.proofs.HostSteps.{IsStepped, step_valid, step_worked, worked_moves}
 use Rattle.host_core.proofs.RunOrder.{after_order, drained_order, first_turns, host_of, kept_after, took_lines, turns_count}
 use Rattle.host_core.proofs.UnitsMoved.{units-none}
 
 -- ---- the movements of turns
 
 moved_then : (first later : List TurnRecord) → movements_of (first ++ later) ≡ movements_of first ++ movements_of later
-moved_then first later = flat_map-append (λ (t : TurnRecord). t.movements) first later
+moved_then first later = flat_map-append movements_in first later
 
-moved_last : (first : List TurnRecord) (t : TurnRecord) → movements_of (first ++ t ∷ []) ≡ movements_of first ++ t.movements
-moved_last first t = moved_then first (t ∷ []) ∙ ap (λ ms. movements_of first ++ ms) (append-nil t.movements)
+moved_last : (first : List TurnRecord) (t : TurnRecord) → movements_of (first ++ t ∷ []) ≡ movements_of first ++ movements_in t
+moved_last first t = moved_then first (t ∷ []) ∙ ap (λ ms. movements_of first ++ ms) (append-nil (movements_in t))
 
 -- ---- what the accounts say
 
@@ -150,10 +151,13 @@ module _ (done : List TurnRecord) (s new : HostState) (t : TurnRecord) (leaves :
   }
 
   told : AreTold (movements_of done) (after_all (world_at s.kept) step.worked.effects)
-  told = told-after_all (movements_of done) (world_at s.kept) step.worked.effects leaves.valid.world step.worked.can step.worked.mints told_first
+  told = told-after_all (movements_of done) (world_at s.kept) step.worked.effects leaves.valid.world step.worked.can step.worked.plain told_first
+
+  moves : movements_in t ≡ (after_all (world_at s.kept) step.worked.effects).draft.movements
+  moves = worked_moves (s.turns + 1) s.kept new.kept t step.worked
 
   told_movements : movements_of (done ++ t ∷ []) ≡ movements_of done ++ (after_all (world_at s.kept) step.worked.effects).draft.movements
-  told_movements = moved_last done t ∙ ap (λ ms. movements_of done ++ ms) step.worked.movements
+  told_movements = moved_last done t ∙ ap (λ ms. movements_of done ++ ms) moves
 
   step_accounts : Accounts (movements_of (done ++ t ∷ [])) new.kept.vault
   step_accounts = subst (λ (v : VaultState). Accounts (movements_of (done ++ t ∷ [])) v) (sym step.worked.vault) (subst (λ ms. Accounts ms (after_all (world_at s.kept) step.worked.effects).draft.now) (sym told_movements) told.accounts)
@@ -169,11 +173,14 @@ module _ (done : List TurnRecord) (s new : HostState) (t : TurnRecord) (leaves :
   pub step_number : t.number ≡ length done + 1
   step_number = step.worked.number ∙ ap (λ n. n + 1) (sym leaves.turns)
 
-  pub step_refused : (r : Refusal) → t.answer ≡ Err r → t.movements ≡ []
+  pub step_moves : t.events ≡ map moved (movements_in t)
+  step_moves = step.worked.events ∙ ap (map moved) (sym moves)
+
+  pub step_refused : (r : Refusal) → t.answer ≡ refused r → t.events ≡ []
   step_refused = step.worked.refused
 
-  pub step_spent : (p : ℕ) → takes_from p t.movements ≡ true → IsSpent new.kept.vault p
-  step_spent p takes = subst (λ (v : VaultState). IsSpent v p) (sym step.worked.vault) (told.spent p (subst (λ ms. takes_from p ms ≡ true) step.worked.movements takes))
+  pub step_spent : (p : ℕ) → takes_from p (movements_in t) ≡ true → IsSpent new.kept.vault p
+  step_spent p takes = subst (λ (v : VaultState). IsSpent v p) (sym step.worked.vault) (told.spent p (subst (λ ms. takes_from p ms ≡ true) moves takes))
 
   left : (p : ℕ) → IsSpent s.kept.vault p → IsLeft (after_all (world_at s.kept) step.worked.effects) p
   left p spent = left-after_all (world_at s.kept) step.worked.effects p step.worked.can (record { spent = spent; unnamed = refl })
@@ -181,11 +188,11 @@ module _ (done : List TurnRecord) (s new : HostState) (t : TurnRecord) (leaves :
   pub step_left : (p : ℕ) → IsSpent s.kept.vault p → IsSpent new.kept.vault p
   step_left p spent = subst (λ (v : VaultState). IsSpent v p) (sym step.worked.vault) (left p spent).spent
 
-  pub step_unnamed : (p : ℕ) → IsSpent s.kept.vault p → names p t.movements ≡ false
-  step_unnamed p spent = subst (λ ms. names p ms ≡ false) (sym step.worked.movements) (left p spent).unnamed
+  pub step_unnamed : (p : ℕ) → IsSpent s.kept.vault p → names p (movements_in t) ≡ false
+  step_unnamed p spent = subst (λ ms. names p ms ≡ false) (sym moves) (left p spent).unnamed
 
-  pub step_sums : t.sums ≡ map (sum_by (done ++ t ∷ [])) (brands_of t.movements)
-  step_sums = step.worked.sums ∙ sums_are (done ++ t ∷ []) new.kept.vault step_accounts (brands_of t.movements)
+  pub step_sums : t.sums ≡ map (sum_by (done ++ t ∷ [])) (brands_of (movements_in t))
+  step_sums = step.worked.sums ∙ sums_are (done ++ t ∷ []) new.kept.vault step_accounts (brands_of (movements_in t))
 
   pub step_read : (purse : ℕ) (answer : Tree) → IsReading t purse answer → IsAmountAt (table_by done) kinds purse answer
   step_read purse answer reading =
@@ -256,7 +263,7 @@ never_named n s first leaves few p spent [] is = refl
 never_named n s first leaves few p spent (t ∷ later) is =
     let one = steps n s first t later leaves few (sym is) in
     let unnamed = step_unnamed first s one.end t one.leaves one.few one.is p spent in
-    list_any-append (λ (m : Movement). is_payment_at p m.from || is_payment_at p m.to) t.movements (movements_of later)
+    list_any-append (λ (m : Movement). is_payment_at p m.from || is_payment_at p m.to) (movements_in t) (movements_of later)
     ∙ or_false _ _ unnamed (never_named one.fuel one.end (first ++ t ∷ []) (leaves_step first s one.end t one.leaves one.few one.is) one.enough p (step_left first s one.end t one.leaves one.few one.is p spent) later one.rest)
 
 drained_fair : (n : ℕ) (s : HostState) → Leads [] s → s.turns + n ≤ 4000000000 → AreFair (drained n s)
@@ -264,6 +271,7 @@ drained_fair n s start few = record {
   kinds = kinds;
   one_kind = all.leaves.accounts.one_kind;
   values = all.leaves.accounts.values;
+  moves_alone = λ first later t is. let host = (upto first (t ∷ later) is).host in let one = at first later t is in step_moves first host one.end t one.leaves one.few one.is;
   slotless = all.leaves.accounts.slotless;
   numbered = λ first later t is. let host = (upto first (t ∷ later) is).host in let one = at first later t is in step_number first host one.end t one.leaves one.few one.is;
   defined = all.leaves.accounts.defined;

@@ -11,30 +11,31 @@ use Rattle.host_core.specs.Deliveries.{Kept, addressed, answered, call_turn, cam
 use Rattle.host_core.specs.Fair.{movements_of}
 use Rattle.host_core.specs.Hosts.{HostState, first_host, step_from, step_of, turned}
 use Rattle.host_core.specs.InputLines.{lines_of}
-use Rattle.host_core.specs.JournalLaws.{InRange, IsData, IsDelivery, IsJournal, IsMove, IsSum, IsTurn, answer_tree, written}
+use Rattle.journal_text.specs.JournalLaws.{InRange, IsAnswer, IsData, IsDelivery, IsEvent, IsJournal, IsMove, IsSum, IsTurn, written}
 use Rattle.host_core.specs.MessageLines as read
 use Rattle.host_core.specs.MessageLines.{CallRead, GiveRead, Meaning, MessageRead, meaning_of}
-use Rattle.host_core.specs.Moved.{Moves}
 use Rattle.vault.specs.Parties.{EachLabel, Labels}
 use Rattle.host_core.specs.Runs.{drained, end_of, journal_of, left_of, meanings_of, messages_of, turns_in_order, turns_of}
 use Rattle.host_core.specs.Served.{IsMade, KnowsArgs}
 use Rattle.host_core.specs.Services.{Outcome, serve, served}
-use Rattle.host_core.specs.Turns.{Delivery, TurnRecord, bad, message, service}
+use Rattle.journal_text.specs.Turns.{Delivery, TurnRecord, bad, message, movements_in, service}
+use Rattle.turn_log.specs.Events.{moved}
 use Rattle.vault.specs.Worlds.{Effect, after_all}
-use Rattle.vault.specs.declared.refusals.Refusal.{Refusal}
+use Rattle.call_data.specs.declared.refusals.Refusal.{Refusal}
 use Rattle.host_core.proofs.Accounts.{Accounts, AreTold}
 use Rattle.host_core.proofs.AddressedData.{IsAddressed, addressed_told, arg_in_range, given_told, good_ordered}
-use Rattle.host_core.proofs.HostSteps.{addressed_good, steady, step_worked}
-use Rattle.host_core.proofs.JournalRead.{one_text}
+use Rattle.host_core.proofs.HostSteps.{addressed_good, moves_back, steady, step_worked}
+use Rattle.journal_text.proofs.JournalRead.{one_text}
 use Rattle.host_core.proofs.LinesData.{AreMessages, IsMeaning, IsMessage, IsReadied, meaning_told, meanings_few}
 use Rattle.host_core.proofs.RefusalData.{Comes, IsTold}
 use Rattle.vault.proofs.Resolved.{EachLabel-with_label}
-use Rattle.host_core.proofs.RunBounds.{ArePassing, IsBounded, first_bounded, noted-after_all, sum_told}
+use Rattle.host_core.proofs.RunBounds.{IsBounded, first_bounded, noted-after_all, sum_told}
 use Rattle.host_core.proofs.RunFair.{Leads, leads_first, leaves_step}
 use Rattle.host_core.proofs.RunOrder.{drained_order, host_of, took_lines, turns_count}
 use Rattle.host_core.proofs.ServedData.{serve_told}
 use Rattle.host_core.proofs.ServedLaws.{serve_answers}
-use Rattle.host_core.proofs.UnitsMoved.{serve_mints}
+use Rattle.host_core.proofs.UnitsMoved.{serve_plain}
+use Rattle.journal_text.proofs.RowsWritable.{all_head, all_tail}
 
 -- ---- a turn
 
@@ -43,13 +44,14 @@ record IsTurnTold (new : Kept) (t : TurnRecord) : Type 0 where
   bounded : IsBounded new.vault
   labels : EachLabel InRange new.labels
   delivery : IsDelivery t.delivery
-  answer : IsData (answer_tree t.answer)
-  movements : All IsMove t.movements
+  answer : IsAnswer t.answer
+  events : All IsEvent t.events
+  movements : All IsMove (movements_in t)
 
-passing : (es : List Effect) → Moves es → ArePassing es
-passing [] moves = tt
-passing (e ∷ []) moves = (moves, tt)
-passing (e ∷ f ∷ es) moves = absurd moves
+-- movements in range are events in range
+moves_told : (ms : List Movement) → All IsMove ms → All IsEvent (map moved ms)
+moves_told [] told = All-nil IsEvent
+moves_told (m ∷ ms) told = All-cons IsEvent (moved m) (map moved ms) (all_head IsMove m ms told) (moves_told ms (all_tail IsMove m ms told))
 
 labelled_in_range : (ls : Labels) (by : List ℕ) (label : Option (List ℕ)) (t : Tree) → EachLabel InRange ls → InRange t → EachLabel InRange (labelled ls by label t)
 labelled_in_range ls by None t ranges one = ranges
@@ -57,20 +59,21 @@ labelled_in_range ls by (Some label) t ranges one = EachLabel-with_label InRange
 
 module _ (n : ℕ) (before : List Movement) (k : Kept) (steady : IsSteady k) (told : AreTold before (world_at k)) (bounded : IsBounded k.vault) (ranges : EachLabel InRange k.labels) where
   told_refused : (d : Delivery) (r : Refusal) → IsDelivery d → IsTold r → IsTurnTold (refused n d r k).0 (refused n d r k).1
-  told_refused d r delivery answer = record { bounded = bounded; labels = ranges; delivery = delivery; answer = answer; movements = All-nil IsMove }
+  told_refused d r delivery answer = record { bounded = bounded; labels = ranges; delivery = delivery; answer = answer; events = All-nil IsEvent; movements = All-nil IsMove }
 
   module _ (c : CallRead) (on : Obj) (args : List Tree) (good : IsMade k.vault on × KnowsArgs k.vault args) (addressed : IsAddressed on args) where
     told_answered : (answer : Tree) (effects : List Effect) → serve (world_at k) on c.method args ≡ Ok (answer, effects) → InRange answer
         → let turn = answered n (service c.by on c.method args) c.by c.label k.labels (answer, after_all (world_at k) effects) in IsTurnTold turn.0 turn.1
     told_answered answer effects is range =
         let so = serve_answers (world_at k) on c.method args answer effects steady.valid steady.room good.0 good.1 is in
-        let noted = noted-after_all before (world_at k) effects steady.valid so.can (passing effects so.moves) (serve_mints (world_at k) on c.method args answer effects is) told (record { bounded = bounded; movements = All-nil IsMove }) in
+        let noted = noted-after_all before (world_at k) effects steady.valid so.can (serve_plain (world_at k) on c.method args answer effects steady.valid good.0 is) told (record { bounded = bounded; movements = All-nil IsMove }) in
         record {
           bounded = noted.bounded;
           labels = labelled_in_range k.labels c.by c.label answer ranges range;
           delivery = (addressed.target, addressed.arguments);
           answer = record { ranges = range; ordered = so.ordered; shallow = so.shallow };
-          movements = noted.movements;
+          events = moves_told _ noted.movements;
+          movements = subst (All IsMove) (sym (moves_back _)) noted.movements;
         }
 
     told_served : (outcome : Outcome) → serve (world_at k) on c.method args ≡ outcome → Comes (λ d. InRange d.0) outcome
@@ -91,6 +94,7 @@ module _ (n : ℕ) (before : List Movement) (k : Kept) (steady : IsSteady k) (to
     labels = EachLabel-with_label InRange k.labels g.to g.label given ranges data_given.ranges;
     delivery = data_given;
     answer = record { ranges = tt; ordered = tt; shallow = omega arith };
+    events = All-nil IsEvent;
     movements = All-nil IsMove;
   }
 
@@ -146,8 +150,8 @@ module _ (done : List TurnRecord) (s new : HostState) (t : TurnRecord) (leaves :
         number = omega (arith, worked.worked.number, few);
         delivery = stepped.turn.delivery;
         answer = stepped.turn.answer;
-        movements = stepped.turn.movements;
-        sums = subst (All IsSum) (sym worked.worked.sums) (sum_told (world_at new.kept) next.valid.world next.accounts.units stepped.turn.bounded new.turns next.valid.minted (omega (arith, worked.turns, few)) t.movements stepped.turn.movements);
+        events = stepped.turn.events;
+        sums = subst (All IsSum) (sym worked.worked.sums) (sum_told (world_at new.kept) next.valid.world next.accounts.units stepped.turn.bounded new.turns next.valid.minted (omega (arith, worked.turns, few)) (movements_in t) stepped.turn.movements);
       }
 
 -- ---- a run

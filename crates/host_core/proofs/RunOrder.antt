@@ -5,7 +5,7 @@ use Rattle.host_core.specs.Deliveries.{Kept, turn_of}
 use Rattle.host_core.specs.Hosts.{HostState, first_host, step_from, step_of, turned, with_message}
 use Rattle.host_core.specs.MessageLines.{Meaning, MessageRead, blank, message, run}
 use Rattle.host_core.specs.Runs.{AreInOrder, after, drained, end_of, left_of, line_host, line_turns, lines_host, lines_turns, meanings_of, messages_of, turns_in_order, turns_of}
-use Rattle.host_core.specs.Turns.{TurnRecord}
+use Rattle.journal_text.specs.Turns.{TurnRecord}
 
 -- ---- messages that are delivered one after another
 

@@ -19,14 +19,14 @@ use Rattle.rights_model.specs.Table.{holds}
 use Rattle.rights_model.proofs.SupplyLaws.{count-le-total}
 use Rattle.vault.specs.Brands.{most_brands}
 use Rattle.host_core.specs.CallArguments.{amount_fields, amount_in, arg, brand_number, has_two, is_brand, is_payment, nat_from, optional_amount, payment_in, payment_number, payment_of, payment_seen, value_in}
-use Rattle.host_core.specs.JournalLaws.{InRange}
+use Rattle.journal_text.specs.JournalLaws.{InRange}
 use Rattle.ertp_mint.specs.Stocks.{most_made}
 use Rattle.host_core.specs.Served.{made_as}
 use Rattle.host_core.specs.Services.{Outcome, deposit, get_current_amount, is_live, make_empty_purse, make_issuer_kit, mint_payment, next_payment, of_kind, serve, withdraw}
-use Rattle.vault.specs.Values.{amount_tree}
+use Rattle.call_data.specs.Values.{amount_tree}
 use Rattle.vault.specs.Vaults.{amount_of, brand_of, held_by, kind_of, no_mark, out_of}
 use Rattle.vault.specs.Worlds.{IsValid}
-use Rattle.vault.specs.declared.refusals.Refusal.TheVariants.{BadArgs, BadValue, DeadPayment, Limit, NoMethod, NotEnough, TooMuch, WrongAmount, WrongBrand, WrongObject}
+use Rattle.call_data.specs.declared.refusals.Refusal.TheVariants.{BadArgs, BadValue, DeadPayment, Limit, NoMethod, NotEnough, TooMuch, WrongAmount, WrongBrand, WrongObject}
 use Rattle.vault.specs.declared.world.World.{World}
 use Rattle.host_core.proofs.OutcomeSteps.{amount_in_has, ok_has, payment_in_has}
 use Rattle.host_core.proofs.RangesRead.{chained, get-InRange, is_some, passed, passed_some}
@@ -158,7 +158,7 @@ module _ (w : World) (valid : IsValid w) where
       comes_need Any _ (DeadPayment p) _ (told_number (DeadPayment p) p refl (omega (arith, few))) (λ live. tt))
 
   next_told : Comes (λ p. p < most_made) (next_payment w.draft.now)
-  next_told = comes_need _ _ (Limit most_made) _ (told_number (Limit most_made) most_made refl (omega arith)) (λ room. ltb-true _ _ room)
+  next_told = comes_need _ _ (Limit most_made) _ (told_number (Limit most_made) most_made refl (omega arith)) (λ room. let few = ltb-true _ _ room in omega (arith, few))
 
   next_small : (p : ℕ) → next_payment w.draft.now ≡ Ok p → p < 2 ^ 32
   next_small p is = let small : p < most_made = subst (Comes (λ p. p < most_made)) is next_told in omega (arith, small)

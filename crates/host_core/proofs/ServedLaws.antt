@@ -22,10 +22,10 @@ use Rattle.vault.specs.Known.{AllObjects}
 use Rattle.host_core.specs.Moved.{IsPassed, Moves}
 use Rattle.host_core.specs.Served.{IsBrand, IsMade, KnowsArgs, made_as}
 use Rattle.host_core.specs.Services.{Outcome, deposit, get_current_amount, is_live, make_empty_purse, make_issuer_kit, mint_payment, of_kind, serve, served, withdraw}
-use Rattle.vault.specs.Values.{amount_tree, brand_tree, number_tree, object_tree, value_tree}
+use Rattle.call_data.specs.Values.{amount_tree, brand_tree, number_tree, object_tree, value_tree}
 use Rattle.vault.specs.Vaults.{VaultState, CanMakePayment, CanTransfer, PaymentMark, amount_of, brand_of, kind_of, no_mark, payments_from}
 use Rattle.vault.specs.Worlds.{CanDoAll, Effect, HasRoom, IsAsset, IsValid, MintedWithin, after, after_all, move, new_brand, new_purse}
-use Rattle.vault.specs.declared.refusals.Refusal.{Refusal}
+use Rattle.call_data.specs.declared.refusals.Refusal.{Refusal}
 use Rattle.vault.specs.declared.world.World.{World}
 use Rattle.host_core.proofs.Growth.{grows-after_all, kept-after_all, start-after_all, minted-added, minted-moved, minted_less, payments-from}
 use Rattle.host_core.proofs.OutcomeSteps.{after_check, after_need, after_step, amount_in_has, next_payment_has, ok_has, payment_in_has}
@@ -147,9 +147,9 @@ deposit_so w p args valid made =
     let there = live_made v.payments q paid.live in
     let a = amount_of v (Payment q) in
     let can = deposit_transfer w valid p q b a.value refl refl made (record { made = there; brand = paid.brand; live = paid.live }) in
-    let asset = valid.ordinary.payments q there in
-    let shown = shown_amount (after w (move (movement b (Payment q) (Purse p) a.value))).draft.now a asset.nat
-    ((grows-after_all w (move (movement b (Payment q) (Purse p) a.value) ∷ [])).each (record { kind = kinds.Brand a.value.kind; number = a.brand }) (record { made = asset.made; kind_is = refl })) in
+    let nat : a.value.kind ≡ Nat = ap (kind_of v) paid.brand ∙ (valid.ordinary.purses p made).nat in
+    let shown = shown_amount (after w (move (movement b (Payment q) (Purse p) a.value))).draft.now a nat
+    ((grows-after_all w (move (movement b (Payment q) (Purse p) a.value) ∷ [])).each (record { kind = kinds.Brand a.value.kind; number = a.brand }) (record { made = valid.draft.payments q there; kind_is = refl })) in
     record {
       can = (can, tt);
       moves = tt;

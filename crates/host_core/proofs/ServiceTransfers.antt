@@ -99,7 +99,6 @@ module _ (w : World) (valid : IsValid w) where
         brand = asset.made;
         kind = own.kind_is ∙ is_kind;
         from = record {
-          nat = asset.nat;
           fits = subst (λ x. Fits x (sum (out_of w.draft.now b) value.content)) (sym asset.nat) (units_fit _ value kind own fits small);
           room = omega (arith, room.each b, units_counted value kind own);
         };

@@ -1,5 +1,5 @@
--- All that is minted is whole units, and so is all that is held and moved.
-use Rattle.std.proofs.Common.{◌≡◌, ◌≢◌, ℕ, Bool, true, false, List, [], ◌∷◌, Ok, IfOk, if◌then◌else◌, codes, inl, inr, refl, sym, ◌∙◌, ap, subst, arith}
+-- All that methods move is of brands of whole numbers, and all that is minted is whole units, and so is all that is held and moved.
+use Rattle.std.proofs.Common.{◌≡◌, ◌≢◌, ℕ, ◌<◌, Bool, true, false, List, [], ◌∷◌, length, Ok, IfOk, if◌then◌else◌, codes, inl, inr, refl, sym, ◌∙◌, ap, subst, arith}
 use Rattle.std.specs.Str.{bytes_eq}
 use Rattle.amount_math.specs.Content.{Content, Contains, count, count-difference, count-nothing, count-of_nat, count-of_nat_unit, count-sum, difference, of_nat, same_content, sum, unit}
 use Rattle.amount_math.specs.Sparse.{at-empty}
@@ -19,11 +19,13 @@ use Rattle.rights_model.specs.Table.{Table, given, holdings, holds, moved, no_ho
 use Rattle.rights_model.proofs.SupplyLaws.{count-le-total}
 use Rattle.rights_model.proofs.TableLaws.{given_outside, holds-given, holds-given_other, holds-taken, holds-taken_other, same_place, taken_outside}
 use Rattle.host_core.specs.CallArguments.{IsUnits, arg}
+use Rattle.host_core.specs.Moved.{IsPassed}
+use Rattle.host_core.specs.Served.{IsMade, made_as}
 use Rattle.host_core.specs.Services.{Outcome, deposit, get_current_amount, is_live, make_empty_purse, make_issuer_kit, mint_payment, of_kind, serve, withdraw}
-use Rattle.vault.specs.Vaults.{CanTake, CanTransfer, VaultState, kind_of, out_of}
-use Rattle.vault.specs.Worlds.{Effect, IsValid, move, new_brand, new_purse}
+use Rattle.vault.specs.Vaults.{CanTake, CanTransfer, VaultState, amount_of, brand_of, kind_of, out_of}
+use Rattle.vault.specs.Worlds.{Effect, IsAsset, IsValid, move, new_brand, new_purse}
 use Rattle.vault.specs.declared.world.World.{World}
-use Rattle.host_core.proofs.OutcomeSteps.{after_check, after_need, after_step, amount_in_has, ok_has}
+use Rattle.host_core.proofs.OutcomeSteps.{after_check, after_need, after_step, amount_in_has, ok_has, payment_in_has}
 use Rattle.vault.proofs.Transferred.{has_from}
 
 -- it has nothing but units
@@ -40,7 +42,7 @@ only_units_are c only = same_content c (of_nat (count c unit)) at
 
 -- ---- what is minted
 
--- what comes from outside
+-- what comes from outside is units
 abbrev IsUnitsFrom : Holder → Content → Type 0
 IsUnitsFrom Outside c = OnlyUnits c
 IsUnitsFrom (Purse p) c = Unit {0}
@@ -48,82 +50,99 @@ IsUnitsFrom (Payment p) c = Unit {0}
 IsUnitsFrom (Slot seat keyword) c = Unit {0}
 IsUnitsFrom Hand c = Unit {0}
 
-abbrev pub MintsUnits : Effect → Type 0
-MintsUnits (new_brand b) = Unit {0}
-MintsUnits (new_purse b) = Unit {0}
-MintsUnits (move m) = IsUnitsFrom m.from m.value.content
+-- a value of whole numbers that methods pass on
+pub record IsPlainMove (m : Movement) : Type 0 where
+  pub passed : IsPassed m.from m.to
+  pub nat : m.value.kind ≡ Nat
+  pub units : IsUnitsFrom m.from m.value.content
 
-abbrev pub MintUnits : List Effect → Type 0
-MintUnits [] = Unit {0}
-MintUnits (e ∷ es) = MintsUnits e × MintUnits es
+abbrev pub IsPlain : Effect → Type 0
+IsPlain (new_brand b) = Unit {0}
+IsPlain (new_purse b) = Unit {0}
+IsPlain (move m) = IsPlainMove m
 
-abbrev MintsSo : Outcome → Type 0
-MintsSo row = IfOk row (λ d. MintUnits d.1)
+abbrev pub ArePlain : List Effect → Type 0
+ArePlain [] = Unit {0}
+ArePlain (e ∷ es) = IsPlain e × ArePlain es
+
+abbrev MovesPlainly : Outcome → Type 0
+MovesPlainly row = IfOk row (λ d. ArePlain d.1)
 
 units_of : (kind : Kind) (w : Worth) → IsUnits kind w → OnlyUnits w.content
 units_of kind w own = record { each = λ x k. ap (λ c. count c (x ∷ k)) own.only_units ∙ count-of_nat (count w.content unit) (x ∷ k) }
 
-make_issuer_kit_mints : (w : World) (args : List Tree) → MintsSo (make_issuer_kit w args)
+make_issuer_kit_plain : (w : World) (args : List Tree) → MovesPlainly (make_issuer_kit w args)
 unfolding make_issuer_kit
-make_issuer_kit_mints w args = after_step _ _ _ (λ name is. after_need _ _ _ _ (λ short. after_need _ _ _ _ (λ kind. after_need _ _ _ _ (λ room. (tt, tt)))))
+make_issuer_kit_plain w args = after_step _ _ _ (λ name is. after_need _ _ _ _ (λ short. after_need _ _ _ _ (λ kind. after_need _ _ _ _ (λ room. (tt, tt)))))
 
-mint_payment_mints : (w : World) (b : ℕ) (args : List Tree) → MintsSo (mint_payment w b args)
+mint_payment_plain : (w : World) (b : ℕ) (args : List Tree) → IsAsset w.draft.now b → MovesPlainly (mint_payment w b args)
 unfolding mint_payment
-mint_payment_mints w b args = after_step _ _ _ (λ value is. after_need _ _ _ _ (λ fits. after_step _ _ _ (λ payment got.
-    (units_of _ value (ok_has _ _ value is (amount_in_has (arg 1 args) 1 b (kind_of w.draft.now b))), tt))))
+mint_payment_plain w b args asset = after_step _ _ _ (λ value is. after_need _ _ _ _ (λ fits. after_step _ _ _ (λ payment got.
+    let own = ok_has _ _ value is (amount_in_has (arg 1 args) 1 b (kind_of w.draft.now b)) in
+    (record { passed = tt; nat = own.kind_is ∙ asset.nat; units = units_of _ value own }, tt))))
 
-make_empty_purse_mints : (w : World) (b : ℕ) → MintsSo (make_empty_purse w b)
+make_empty_purse_plain : (w : World) (b : ℕ) → MovesPlainly (make_empty_purse w b)
 unfolding make_empty_purse
-make_empty_purse_mints w b = after_need _ _ _ _ (λ room. (tt, tt))
+make_empty_purse_plain w b = after_need _ _ _ _ (λ room. (tt, tt))
 
-is_live_mints : (w : World) (b : ℕ) (args : List Tree) → MintsSo (is_live w b args)
+is_live_plain : (w : World) (b : ℕ) (args : List Tree) → MovesPlainly (is_live w b args)
 unfolding is_live
-is_live_mints w b args = after_step _ _ _ (λ payment is. tt)
+is_live_plain w b args = after_step _ _ _ (λ payment is. tt)
 
-get_current_amount_mints : (w : World) (p : ℕ) → MintsSo (get_current_amount w p)
+get_current_amount_plain : (w : World) (p : ℕ) → MovesPlainly (get_current_amount w p)
 unfolding get_current_amount
-get_current_amount_mints w p = tt
+get_current_amount_plain w p = tt
 
-deposit_mints : (w : World) (p : ℕ) (args : List Tree) → MintsSo (deposit w p args)
+deposit_plain : (w : World) (p : ℕ) (args : List Tree) → IsValid w → p < length w.draft.now.purses → MovesPlainly (deposit w p args)
 unfolding deposit
-deposit_mints w p args = after_step _ _ _ (λ q is. after_check _ _ _ (after_need _ _ _ _ (λ fits. (tt, tt))))
+deposit_plain w p args valid made =
+    let v = w.draft.now in
+    let b = brand_of v (Purse p) in
+    after_step _ _ _ (λ q is. after_check _ _ _ (after_need _ _ _ _ (λ fits.
+    let paid = ok_has _ _ q is (payment_in_has v (arg 1 args) 1 b) in
+    (record { passed = tt; nat = ap (kind_of v) paid.brand ∙ (valid.ordinary.purses p made).nat; units = tt }, tt))))
 
-withdraw_mints : (w : World) (p : ℕ) (args : List Tree) → MintsSo (withdraw w p args)
+withdraw_plain : (w : World) (p : ℕ) (args : List Tree) → IsValid w → p < length w.draft.now.purses → MovesPlainly (withdraw w p args)
 unfolding withdraw
-withdraw_mints w p args = after_step _ _ _ (λ value is. after_need _ _ _ _ (λ enough. after_step _ _ _ (λ payment got. (tt, tt))))
+withdraw_plain w p args valid made =
+    let a = amount_of w.draft.now (Purse p) in
+    after_step _ _ _ (λ value is. after_need _ _ _ _ (λ enough. after_step _ _ _ (λ payment got.
+    let own = ok_has _ _ value is (amount_in_has (arg 1 args) 1 a.brand a.value.kind) in
+    (record { passed = tt; nat = own.kind_is ∙ (valid.ordinary.purses p made).nat; units = tt }, tt))))
 
-by_test : (b : Bool) (x y : Outcome) → MintsSo x → MintsSo y → MintsSo (if b then x else y)
+by_test : (b : Bool) (x y : Outcome) → MovesPlainly x → MovesPlainly y → MovesPlainly (if b then x else y)
 by_test true x y h k = h
 by_test false x y h k = k
 
-kind_mints : (w : World) (k : ObjKind) (n : ℕ) (m : List ℕ) (args : List Tree) → MintsSo (of_kind w k n m args)
-kind_mints w kinds.Ertp n m args = by_test (bytes_eq m (codes "makeIssuerKit")) _ _ (make_issuer_kit_mints w args) tt
-kind_mints w kinds.Mint n m args = by_test (bytes_eq m (codes "mintPayment")) _ _ (mint_payment_mints w n args) tt
-kind_mints w kinds.Issuer n m args =
-    by_test (bytes_eq m (codes "makeEmptyPurse")) _ _ (make_empty_purse_mints w n)
-    (by_test (bytes_eq m (codes "isLive")) _ _ (is_live_mints w n args) tt)
-kind_mints w kinds.Purse n m args =
-    by_test (bytes_eq m (codes "getCurrentAmount")) _ _ (get_current_amount_mints w n)
-    (by_test (bytes_eq m (codes "deposit")) _ _ (deposit_mints w n args)
-    (by_test (bytes_eq m (codes "withdraw")) _ _ (withdraw_mints w n args) tt))
-kind_mints w kinds.Zoe n m args = tt
-kind_mints w kinds.Timer n m args = tt
-kind_mints w (kinds.Brand kind) n m args = tt
-kind_mints w kinds.Deposit n m args = tt
-kind_mints w kinds.Payment n m args = tt
-kind_mints w kinds.Installation n m args = tt
-kind_mints w kinds.Instance n m args = tt
-kind_mints w kinds.Zcf n m args = tt
-kind_mints w kinds.Seat n m args = tt
-kind_mints w kinds.Zseat n m args = tt
-kind_mints w kinds.Zmint n m args = tt
-kind_mints w kinds.Facet n m args = tt
-kind_mints w kinds.Promise n m args = tt
+kind_plain : (w : World) → IsValid w → (k : ObjKind) (n : ℕ) (m : List ℕ) (args : List Tree) → made_as w.draft.now k n → MovesPlainly (of_kind w k n m args)
+kind_plain w valid kinds.Ertp n m args made = by_test (bytes_eq m (codes "makeIssuerKit")) _ _ (make_issuer_kit_plain w args) tt
+kind_plain w valid kinds.Mint n m args made = by_test (bytes_eq m (codes "mintPayment")) _ _ (mint_payment_plain w n args made) tt
+kind_plain w valid kinds.Issuer n m args made =
+    by_test (bytes_eq m (codes "makeEmptyPurse")) _ _ (make_empty_purse_plain w n)
+    (by_test (bytes_eq m (codes "isLive")) _ _ (is_live_plain w n args) tt)
+kind_plain w valid kinds.Purse n m args made =
+    by_test (bytes_eq m (codes "getCurrentAmount")) _ _ (get_current_amount_plain w n)
+    (by_test (bytes_eq m (codes "deposit")) _ _ (deposit_plain w n args valid made)
+    (by_test (bytes_eq m (codes "withdraw")) _ _ (withdraw_plain w n args valid made) tt))
+kind_plain w valid kinds.Zoe n m args made = tt
+kind_plain w valid kinds.Timer n m args made = tt
+kind_plain w valid (kinds.Brand kind) n m args made = tt
+kind_plain w valid kinds.Deposit n m args made = tt
+kind_plain w valid kinds.Payment n m args made = tt
+kind_plain w valid kinds.Installation n m args made = tt
+kind_plain w valid kinds.Instance n m args made = tt
+kind_plain w valid kinds.Zcf n m args made = tt
+kind_plain w valid kinds.Seat n m args made = tt
+kind_plain w valid kinds.Zseat n m args made = tt
+kind_plain w valid kinds.Zmint n m args made = tt
+kind_plain w valid kinds.Facet n m args made = tt
+kind_plain w valid kinds.Promise n m args made = tt
 
--- whatever is called mints whole units alone
-pub serve_mints : (w : World) (target : Obj) (method : List ℕ) (args : List Tree) (answer : Tree) (effects : List Effect) → serve w target method args ≡ Ok (answer, effects) → MintUnits effects
+-- whatever is called passes whole numbers on, and mints whole units alone
+pub serve_plain : (w : World) (target : Obj) (method : List ℕ) (args : List Tree) (answer : Tree) (effects : List Effect) → IsValid w → IsMade w.draft.now target → serve w target method args ≡ Ok (answer, effects) → ArePlain effects
 unfolding serve
-serve_mints w target method args answer effects is = ok_has (λ d. MintUnits d.1) (serve w target method args) (answer, effects) is (kind_mints w target.kind target.number method args)
+serve_plain w target method args answer effects valid made is =
+    ok_has (λ d. ArePlain d.1) (serve w target method args) (answer, effects) is (kind_plain w valid target.kind target.number method args made)
 
 -- ---- what is held
 
@@ -181,15 +200,8 @@ pub units_from : (v : VaultState) (h : Holder) (b : ℕ) (c : Content) → CanTa
 units_from v Outside b c can own units = own
 units_from v (Purse p) b c can own units = units_contained (holds v.table (Purse p) b) c (has_from v (Purse p) b c can (λ is. cc)) (units.at (Purse p) b)
 units_from v (Payment p) b c can own units = units_contained (holds v.table (Payment p) b) c (has_from v (Payment p) b c can (λ is. cc)) (units.at (Payment p) b)
-units_from v (Slot seat keyword) b c can own units = absurd can
+units_from v (Slot seat keyword) b c can own units = units_contained (holds v.table (Slot seat keyword) b) c (has_from v (Slot seat keyword) b c can (λ is. cc)) (units.at (Slot seat keyword) b)
 units_from v Hand b c can own units = absurd can
-
-nat_from : (w : World) → IsValid w → (h : Holder) (b : ℕ) (c : Content) → CanTake w.draft.now h b c → kind_of w.draft.now b ≡ Nat
-nat_from w valid (Purse p) b c can = subst (λ e. kind_of w.draft.now e ≡ Nat) can.brand (valid.ordinary.purses p can.made).nat
-nat_from w valid (Payment p) b c can = subst (λ e. kind_of w.draft.now e ≡ Nat) can.brand (valid.ordinary.payments p can.made).nat
-nat_from w valid Outside b c can = can.nat
-nat_from w valid (Slot seat keyword) b c can = absurd can
-nat_from w valid Hand b c can = absurd can
 
 -- no store has more than is out
 fits_held : (w : World) → IsValid w → (h : Holder) (b : ℕ) (c : Content) → is_inside h ≡ true → Contains (holds w.draft.now.table h b) c → Fits (kind_of w.draft.now b) c
@@ -207,15 +219,14 @@ fits_taken : (w : World) → IsValid w → (h : Holder) (b : ℕ) (c : Content) 
 fits_taken w valid (Purse p) b c can = fits_held w valid (Purse p) b c refl (has_from w.draft.now (Purse p) b c can (λ is. cc))
 fits_taken w valid (Payment p) b c can = fits_held w valid (Payment p) b c refl (has_from w.draft.now (Payment p) b c can (λ is. cc))
 fits_taken w valid Outside b c can = record { each = λ k. omega (arith, can.fits.each k, count-sum (out_of w.draft.now b) c k) }
-fits_taken w valid (Slot seat keyword) b c can = absurd can
+fits_taken w valid (Slot seat keyword) b c can = fits_held w valid (Slot seat keyword) b c refl (has_from w.draft.now (Slot seat keyword) b c can (λ is. cc))
 fits_taken w valid Hand b c can = absurd can
 
 -- what is moved is a value of its kind
-pub moved_value : (w : World) (m : Movement) → IsValid w → CanTransfer w.draft.now m → OnlyUnits m.value.content → IsValue m.value.kind m.value.content
-moved_value w m valid can own =
-    let nat = nat_from w valid m.from m.brand m.value.content can.from in
+pub moved_value : (w : World) (m : Movement) → IsValid w → CanTransfer w.draft.now m → m.value.kind ≡ Nat → OnlyUnits m.value.content → IsValue m.value.kind m.value.content
+moved_value w m valid can nat own =
     let fits = fits_taken w valid m.from m.brand m.value.content can.from in
-    subst (λ (kind : Kind). IsValue kind m.value.content) (sym (can.kind ∙ nat)) (record {
+    subst (λ (kind : Kind). IsValue kind m.value.content) (sym nat) (record {
       only_units = only_units_are m.value.content own;
-      fits = subst (λ (kind : Kind). Fits kind m.value.content) nat fits;
+      fits = subst (λ (kind : Kind). Fits kind m.value.content) (sym can.kind ∙ nat) fits;
     })

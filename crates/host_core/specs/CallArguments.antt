@@ -12,10 +12,10 @@ use Rattle.jessie_tree.specs.declared.data.Obj.{Obj}
 use Rattle.jessie_tree.specs.declared.data.ObjKind.{ObjKind}
 use Rattle.jessie_tree.specs.declared.data.ObjKind.TheVariants as kinds
 use Rattle.rights_model.specs.declared.Holder.TheVariants.{Payment}
-use Rattle.vault.specs.Outcomes.{◌>>=◌, ◌>>◌, need, wanted}
+use Rattle.call_data.specs.Outcomes.{◌>>=◌, ◌>>◌, need, wanted}
 use Rattle.vault.specs.Vaults.{VaultState, brand_of, mark_of}
-use Rattle.vault.specs.declared.refusals.Refusal.{Refusal}
-use Rattle.vault.specs.declared.refusals.Refusal.TheVariants.{BadArgs, BadValue, DeadPayment, WrongAmount, WrongBrand, WrongObject}
+use Rattle.call_data.specs.declared.refusals.Refusal.{Refusal}
+use Rattle.call_data.specs.declared.refusals.Refusal.TheVariants.{BadArgs, BadValue, DeadPayment, WrongAmount, WrongBrand, WrongObject}
 
 -- what an argument is, null where it is missing
 abbrev pub seen : Option (Bor Data) → Tree

@@ -1,5 +1,5 @@
 -- When the turns of a journal are fair. It is said of the turns alone: of what their rows tell.
-use Rattle.std.specs.Prelude.{◌≡◌, ◌<◌, ℕ, ◌+◌, ◌==◌, ◌||◌, Bool, true, false, List, [], ◌∷◌, ◌++◌, All, length, map, Ok, Err, codes}
+use Rattle.std.specs.Prelude.{◌≡◌, ◌<◌, ℕ, ◌+◌, ◌==◌, ◌||◌, Bool, true, false, List, [], ◌∷◌, ◌++◌, All, length, map, codes}
 use Rattle.std.specs.List.{flat_map, list_any}
 use Rattle.amount_math.specs.Content.{nothing}
 use Rattle.amount_math.specs.Counted.{counted}
@@ -13,14 +13,15 @@ use Rattle.rights_model.specs.declared.Movement.{Movement}
 use Rattle.rights_model.specs.Supply.{Balanced, burned, minted, supply}
 use Rattle.rights_model.specs.Table.{CanMoveAll, Table, holds, no_holdings, table_after}
 use Rattle.rights_model.specs.Totals.{brands_of, held_over, is_payment, is_purse, is_slot}
-use Rattle.host_core.specs.Turns.{TurnRecord, service}
-use Rattle.vault.specs.Values.{amount_tree}
-use Rattle.vault.specs.declared.refusals.Refusal.{Refusal}
+use Rattle.journal_text.specs.Turns.{TurnRecord, answered, movements_in, refused, service}
+use Rattle.turn_log.specs.Events.{moved}
+use Rattle.call_data.specs.Values.{amount_tree}
+use Rattle.call_data.specs.declared.refusals.Refusal.{Refusal}
 use Rattle.rights_model.specs.declared.Sum.{Sum}
 
 -- the movements of all turns, in order
 abbrev pub movements_of : List TurnRecord → List Movement
-movements_of ts = flat_map (λ t. t.movements) ts
+movements_of ts = flat_map movements_in ts
 
 -- who holds what after these turns, of which the first began with nothing
 abbrev pub table_by : List TurnRecord → Table
@@ -72,7 +73,7 @@ pub record IsReading (t : TurnRecord) (purse : ℕ) (answer : Tree) : Type 0 whe
   pub by : List ℕ
   pub arguments : List Tree
   pub called : t.delivery ≡ service by (record { kind = Purse; number = purse }) (codes "getCurrentAmount") arguments
-  pub answered : t.answer ≡ Ok answer
+  pub given : t.answer ≡ answered answer
 
 pub record AreFair (ts : List TurnRecord) : Type 0 where
   -- each brand's values are of one kind
@@ -80,7 +81,8 @@ pub record AreFair (ts : List TurnRecord) : Type 0 where
   pub one_kind : All (λ m. m.value.kind ≡ kinds m.brand) (movements_of ts)
   -- each value moved is one of its kind, so that its row tells all of it
   pub values : All (λ m. IsValue m.value.kind m.value.content) (movements_of ts)
-  -- no seat is opened, so no movement names a slot
+  -- all that happens is that values are moved, and no movement names a slot
+  pub moves_alone : (first later : List TurnRecord) (t : TurnRecord) → ts ≡ first ++ t ∷ later → t.events ≡ map moved (movements_in t)
   pub slotless : All (λ m. names_slot m ≡ false) (movements_of ts)
   -- turns are numbered from 1
   pub numbered : (first later : List TurnRecord) (t : TurnRecord) → ts ≡ first ++ t ∷ later → t.number ≡ length first + 1
@@ -89,11 +91,11 @@ pub record AreFair (ts : List TurnRecord) : Type 0 where
   -- after each turn each brand's purses, live payments and slots add up to minted less burned
   pub balanced : (first later : List TurnRecord) → ts ≡ first ++ later → Balanced (table_by first) kinds (supply (movements_of first))
   -- a turn has one sum for each brand that its movements name, with that brand's totals
-  pub summed : (first later : List TurnRecord) (t : TurnRecord) → ts ≡ first ++ t ∷ later → t.sums ≡ map (sum_by (first ++ t ∷ [])) (brands_of t.movements)
-  -- a refused turn moves nothing
-  pub refused : (first later : List TurnRecord) (t : TurnRecord) (r : Refusal) → ts ≡ first ++ t ∷ later → t.answer ≡ Err r → t.movements ≡ []
+  pub summed : (first later : List TurnRecord) (t : TurnRecord) → ts ≡ first ++ t ∷ later → t.sums ≡ map (sum_by (first ++ t ∷ [])) (brands_of (movements_in t))
+  -- in a refused turn nothing happens
+  pub refused : (first later : List TurnRecord) (t : TurnRecord) (r : Refusal) → ts ≡ first ++ t ∷ later → t.answer ≡ refused r → t.events ≡ []
   -- a payment that a turn takes from is empty at the turn's end, and is named by no later movement
-  pub spent : (first later : List TurnRecord) (t : TurnRecord) (p b : ℕ) → ts ≡ first ++ t ∷ later → takes_from p t.movements ≡ true → holds (table_by (first ++ t ∷ [])) (holders.Payment p) b ≡ nothing
-  pub dead : (first later : List TurnRecord) (t : TurnRecord) (p : ℕ) → ts ≡ first ++ t ∷ later → takes_from p t.movements ≡ true → names p (movements_of later) ≡ false
+  pub spent : (first later : List TurnRecord) (t : TurnRecord) (p b : ℕ) → ts ≡ first ++ t ∷ later → takes_from p (movements_in t) ≡ true → holds (table_by (first ++ t ∷ [])) (holders.Payment p) b ≡ nothing
+  pub dead : (first later : List TurnRecord) (t : TurnRecord) (p : ℕ) → ts ≡ first ++ t ∷ later → takes_from p (movements_in t) ≡ true → names p (movements_of later) ≡ false
   -- each amount that a purse answers is what it has by the table
   pub read : (first later : List TurnRecord) (t : TurnRecord) (purse : ℕ) (answer : Tree) → ts ≡ first ++ t ∷ later → IsReading t purse answer → IsAmountAt (table_by first) kinds purse answer

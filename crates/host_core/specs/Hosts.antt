@@ -7,7 +7,7 @@ use Rattle.host_core.specs.MessageLines.{Meaning, MessageRead, blank, meaning_of
 use Rattle.vault.specs.Parties.{Labels, labels_of}
 use Rattle.host_core.specs.Queues.{waiting}
 use Rattle.host_core.specs.Delivered.{AreGood}
-use Rattle.host_core.specs.Turns.{TurnRecord, turn_view}
+use Rattle.journal_text.specs.Turns.{TurnRecord, turn_view}
 use Rattle.vault.specs.Vaults.{VaultState, first_vault}
 use Rattle.vault.specs.Worlds.{resting_of, IsValid, MintedWithin}
 use Rattle.vault.specs.declared.brands.Brand.{Brand}
@@ -16,7 +16,7 @@ use Rattle.host_core.specs.declared.host.StepFault.{StepFault}
 use Rattle.host_core.specs.declared.host.StepFault.TheVariants as faults
 use Rattle.host_core.specs.declared.host.Submitted.{Submitted}
 use Rattle.host_core.specs.declared.host.Submitted.TheVariants as submitted
-use Rattle.host_core.specs.declared.turns.Turn.{Turn}
+use Rattle.journal_text.specs.declared.turns.Turn.{Turn}
 
 pub record HostState : Type 0 where
   pub kept : Kept

@@ -5,7 +5,7 @@ use Rattle.rights_model.specs.Supply.{burned, minted, supply}
 use Rattle.ertp_mint.specs.BrandSupply.{supply_at}
 use Rattle.host_core.specs.Fair.{movements_of, names, table_by, takes_from}
 use Rattle.host_core.specs.Hosts.{HostState}
-use Rattle.host_core.specs.Turns.{TurnRecord}
+use Rattle.journal_text.specs.Turns.{TurnRecord}
 use Rattle.vault.specs.Vaults.{kind_of, mark_of, out_of}
 
 pub record Leaves (ts : List TurnRecord) (s : HostState) : Type 0 where

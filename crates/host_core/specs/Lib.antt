@@ -7,12 +7,9 @@ pub mod Services
 pub mod Served
 pub mod Moved
 pub mod Answered
-pub mod Turns
 pub mod Deliveries
 pub mod Delivered
 pub mod Hosts
-pub mod Journal
 pub mod Runs
 pub mod Fair
 pub mod Leaves
-pub mod JournalLaws

@@ -18,8 +18,8 @@ use Rattle.host_core.specs.declared.message_lines.Message.{Message}
 use Rattle.host_core.specs.declared.message_lines.Message.TheVariants as sent
 use Rattle.host_core.specs.declared.message_lines.Line.{Line}
 use Rattle.host_core.specs.declared.message_lines.Line.TheVariants as line
-use Rattle.vault.specs.declared.refusals.Refusal.{Refusal}
-use Rattle.vault.specs.declared.refusals.Refusal.TheVariants.{BadLine, BadField, BadLabel}
+use Rattle.call_data.specs.declared.refusals.Refusal.{Refusal}
+use Rattle.call_data.specs.declared.refusals.Refusal.TheVariants.{BadLine, BadField, BadLabel}
 
 -- a call that a party asks for: who, the target's path, the method, the arguments, and the label for the answer
 pub record CallRead : Type 0 where

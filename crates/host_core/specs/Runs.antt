@@ -6,9 +6,9 @@ use Rattle.host_core.specs.Deliveries.{Kept, turn_of}
 use Rattle.host_core.specs.Fair.{AreFair}
 use Rattle.host_core.specs.Hosts.{HostState, first_host, most_turns, step_of, with_message}
 use Rattle.host_core.specs.InputLines.{lines_of}
-use Rattle.host_core.specs.Journal.{close_text, journal_text, turn_texts}
+use Rattle.journal_text.specs.Journal.{close_text, journal_text, turn_texts}
 use Rattle.host_core.specs.MessageLines.{Meaning, MessageRead, blank, message, meaning_of, run}
-use Rattle.host_core.specs.Turns.{TurnRecord}
+use Rattle.journal_text.specs.Turns.{TurnRecord}
 
 -- the turns of at most n deliveries, each of the message in front
 unfoldable pub drained : ℕ → HostState → List TurnRecord

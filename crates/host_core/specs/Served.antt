@@ -12,8 +12,8 @@ use Rattle.host_core.specs.CallArguments.{arg}
 use Rattle.host_core.specs.Services.{Outcome, served}
 use Rattle.vault.specs.Vaults.{VaultState, kind_of}
 use Rattle.vault.specs.Worlds.{IsAsset}
-use Rattle.vault.specs.declared.refusals.Stop.{Stop}
-use Rattle.vault.specs.declared.refusals.Stop.TheVariants.{NoMemory, Refused}
+use Rattle.call_data.specs.declared.refusals.Stop.{Stop}
+use Rattle.call_data.specs.declared.refusals.Stop.TheVariants.{NoMemory, Refused}
 use Rattle.vault.specs.declared.world.World.{World}
 
 -- What a method did is what is said of it, unless memory ran out, when the world may be half changed. A refusal leaves the world as it was.

@@ -1,5 +1,5 @@
 -- The methods of the host's own objects: of each call the first refusal, or the answer and the effects.
-use Rattle.std.specs.Prelude.{ℕ, pos, ◌||◌, ◌&&◌, nat_le, nat_lt, List, [], ◌∷◌, length, Bool, false, Option, Some, None, Result, Ok, Err, if◌then◌else◌, codes}
+use Rattle.std.specs.Prelude.{ℕ, pos, ◌+◌, ◌||◌, ◌&&◌, nat_le, nat_lt, List, [], ◌∷◌, length, Bool, false, Option, Some, None, Result, Ok, Err, if◌then◌else◌, codes}
 use Rattle.std.specs.Str.{bytes_eq}
 use Rattle.amount_math.specs.Content.{Content, count, sum, unit}
 use Rattle.amount_math.specs.Worth.{nat_bound}
@@ -12,13 +12,14 @@ use Rattle.rights_model.specs.Table.{movement}
 use Rattle.rights_model.specs.declared.Holder.TheVariants.{Purse, Payment, Outside}
 use Rattle.vault.specs.Brands.{most_brands}
 use Rattle.ertp_mint.specs.Stocks.{most_made}
-use Rattle.vault.specs.Outcomes.{◌>>=◌, ◌>>◌, need, wanted}
-use Rattle.vault.specs.Values.{amount_tree, brand_tree, object_tree}
+use Rattle.call_data.specs.Outcomes.{◌>>=◌, ◌>>◌, need, wanted}
+use Rattle.call_data.specs.Values.{amount_tree, brand_tree, object_tree}
 use Rattle.vault.specs.Vaults.{VaultState, amount_of, brand_of, held_by, kind_of, mark_of, out_of}
 use Rattle.host_core.specs.CallArguments.{amount_in, arg, optional_amount, payment_in, payment_of}
+use Rattle.seats.specs.Seats.{open_slots}
 use Rattle.vault.specs.Worlds.{Effect, after_all, move, new_brand, new_purse}
-use Rattle.vault.specs.declared.refusals.Refusal.{Refusal}
-use Rattle.vault.specs.declared.refusals.Refusal.TheVariants.{BadArgs, Limit, NoMethod, NotEnough, TooMuch}
+use Rattle.call_data.specs.declared.refusals.Refusal.{Refusal}
+use Rattle.call_data.specs.declared.refusals.Refusal.TheVariants.{BadArgs, Limit, NoMethod, NotEnough, TooMuch}
 use Rattle.vault.specs.declared.world.World.{World}
 
 -- the answer and the effects, or the refusal
@@ -32,10 +33,10 @@ served w (Err r) = Err r
 
 -- ---- tests that several methods make
 
--- the number of the next payment
+-- the number of the next payment; for each slot of an open seat one is left
 abbrev pub next_payment : VaultState → Result ℕ Refusal
 next_payment v = do
-  need (nat_lt (length v.payments) most_made) (Limit most_made)
+  need (nat_lt (length v.payments + open_slots v.seats) most_made) (Limit most_made)
   Ok (length v.payments)
 
 -- a sum is within the bound of whole numbers

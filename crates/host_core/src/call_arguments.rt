@@ -5,23 +5,23 @@ ghost use Rattle.std.specs.Prelude.{◌≡◌, ◌<◌, ◌≤◌, IfOk, option_
 ghost use Rattle.jessie_tree.specs.Tree.{is_null, text_of};
 ghost use Rattle.jessie_tree.specs.View.{tree, trees};
 ghost use Rattle.host_core.specs.CallArguments.{IsLive, IsUnits, amount_fields, amount_in, arg, brand_number, nat_from, optional_amount, payment_in, payment_of, payment_seen, same_value, seen, value_in};
-ghost use Rattle.vault.specs.Outcomes.{Gives, Refuses, need, wanted};
+ghost use Rattle.call_data.specs.Outcomes.{Gives, Refuses, need, wanted};
 ghost use Rattle.host_core.specs.Served.{KnowsArgs};
 ghost use Rattle.rights_model.specs.declared.Holder.TheVariants.{Payment};
 ghost use Rattle.vault.specs.Vaults.{brand_of};
-ghost use Rattle.vault.specs.declared.refusals.Refusal.TheVariants as refusals;
+ghost use Rattle.call_data.specs.declared.refusals.Refusal.TheVariants as refusals;
 ghost use Rattle.amount_math.specs.Content.{count, unit};
 ghost use Rattle.amount_math.specs.Worth.{nat_bound};
 ghost use Rattle.amount_math.specs.declared.Kind.TheVariants.{Nat};
 
 use crate::holdings::{is_live, payment_brand};
 use amount_math::{Kind, NAT_BOUND, Value};
+use call_data::refusals::{Refusal, Stop};
 use jessie_tree::data::{Data, Obj, ObjKind};
-use vault::refusals::{Refusal, Stop};
 use vault::world::World;
 
 /// The refusal where a test fails.
-#[tactic(auto, unfolding(vault::specs::Outcomes::need))]
+#[tactic(auto, unfolding(call_data::specs::Outcomes::need))]
 pub fn need(holds: bool, refusal: Refusal) -> Result<(), Stop>
     ensures { Gives (λ _. tt) result (need holds refusal) }
 {
@@ -93,7 +93,7 @@ fn amount_fields(given: &Data) -> Option<(u32, &Data)>
 }
 
 /// An amount of the brand, of which the values are of the kind.
-#[tactic(auto, unfolding(crate::specs::CallArguments::amount_in, vault::specs::Outcomes::bind, vault::specs::Outcomes::need, vault::specs::Outcomes::wanted))]
+#[tactic(auto, unfolding(crate::specs::CallArguments::amount_in, call_data::specs::Outcomes::bind, call_data::specs::Outcomes::need, call_data::specs::Outcomes::wanted))]
 pub fn amount(given: Option<&Data>, place: u32, brand: u16, kind: Kind) -> Result<Value, Stop>
     ensures gives { Gives (λ value. value) result (amount_in (seen given.entry) place brand kind) }
     ensures own { IfOk result (IsUnits kind) }
@@ -109,7 +109,7 @@ pub fn amount(given: Option<&Data>, place: u32, brand: u16, kind: Kind) -> Resul
 }
 
 /// Null, or the amount that is held.
-#[tactic(auto, unfolding(crate::specs::CallArguments::optional_amount, vault::specs::Outcomes::bind, vault::specs::Outcomes::need, vault::specs::Outcomes::wanted))]
+#[tactic(auto, unfolding(crate::specs::CallArguments::optional_amount, call_data::specs::Outcomes::bind, call_data::specs::Outcomes::need, call_data::specs::Outcomes::wanted))]
 pub fn optional_amount(
     given: Option<&Data>,
     place: u32,
@@ -146,14 +146,14 @@ fn same_value(held: &Value, named: &Value) -> bool
 }
 
 /// How many units a value has. One of another kind has none.
-#[tactic(auto, using(crate::proofs::Units::units_of_number, crate::proofs::Units::units_of_nothing))]
+#[tactic(auto, using(crate::proofs::Units::units_of_nat, crate::proofs::Units::units_of_keys))]
 pub fn units(value: &Value) -> u128
     ensures units { result ≡ count value.now.content unit }
     ensures bounded { result ≤ nat_bound }
 {
-    match value.number() {
-        Some(number) => number,
-        None => 0,
+    match value.kind() {
+        Kind::Nat => value.total(),
+        Kind::Set | Kind::Bag => 0,
     }
 }
 
@@ -170,7 +170,7 @@ fn wrong_amount(held: &Value, named: &Value) -> Stop
 // ---- payments
 
 /// A payment of the brand, live or spent.
-#[tactic(auto, unfolding(crate::specs::CallArguments::payment_of, vault::specs::Outcomes::bind, vault::specs::Outcomes::need, vault::specs::Outcomes::wanted))]
+#[tactic(auto, unfolding(crate::specs::CallArguments::payment_of, call_data::specs::Outcomes::bind, call_data::specs::Outcomes::need, call_data::specs::Outcomes::wanted))]
 pub fn brand_payment(world: &World, args: &[Data], place: u32, brand: u16) -> Result<u32, Stop>
     requires place { 1 ≤ place }
     requires known { KnowsArgs world.now.draft.now (trees args.now) }
@@ -185,7 +185,7 @@ pub fn brand_payment(world: &World, args: &[Data], place: u32, brand: u16) -> Re
 }
 
 /// A live payment of the brand.
-#[tactic(auto, unfolding(crate::specs::CallArguments::payment_in, vault::specs::Outcomes::bind, vault::specs::Outcomes::need, vault::specs::Outcomes::wanted))]
+#[tactic(auto, unfolding(crate::specs::CallArguments::payment_in, call_data::specs::Outcomes::bind, call_data::specs::Outcomes::need, call_data::specs::Outcomes::wanted))]
 pub fn payment(world: &World, args: &[Data], place: u32, brand: u16) -> Result<u32, Stop>
     requires place { 1 ≤ place }
     requires known { KnowsArgs world.now.draft.now (trees args.now) }
@@ -198,7 +198,7 @@ pub fn payment(world: &World, args: &[Data], place: u32, brand: u16) -> Result<u
 }
 
 /// The number of a payment, live or spent.
-#[tactic(auto, unfolding(vault::specs::Outcomes::wanted))]
+#[tactic(auto, unfolding(call_data::specs::Outcomes::wanted))]
 fn any_payment(world: &World, args: &[Data], place: u32) -> Result<u32, Stop>
     requires place { 1 ≤ place }
     requires known { KnowsArgs world.now.draft.now (trees args.now) }

@@ -2,38 +2,41 @@
 //! turn's record is made. Its one contract is `turn_of`'s: the turn and what is kept after it are those
 //! that the message has by definition, or, for want of memory, all is as before.
 
-ghost use Rattle.std.specs.Prelude.{◌≡◌, ◌<◌, [], All, length, Some, Err, Ok, IfErr, IfOk, OnErr, OnOk};
+ghost use Rattle.std.specs.Prelude.{◌≡◌, ◌<◌, [], All, length, map, Some, IfErr, IfOk, OnErr, OnOk};
 ghost use Rattle.jessie_tree.specs.View.{tree, trees};
 ghost use Rattle.host_core.specs.Deliveries as deliveries;
 ghost use Rattle.jessie_tree.specs.Tree.{null};
 ghost use Rattle.host_core.specs.Deliveries.{addressed, came_to, free_label, kept_of, labelled, world_at};
 ghost use Rattle.host_core.specs.Delivered.{IsFree, IsReady, IsSteady, kept_with};
 ghost use Rattle.host_core.specs.MessageLines.{call_view, give_view, message_view};
-ghost use Rattle.vault.specs.Outcomes.{Gives};
+ghost use Rattle.call_data.specs.Outcomes.{Gives};
 ghost use Rattle.vault.specs.Parties.{labels_of, with_label};
 ghost use Rattle.host_core.specs.Services as services;
 ghost use Rattle.host_core.specs.Services.{served};
-ghost use Rattle.host_core.specs.Turns as turns;
-ghost use Rattle.host_core.specs.Turns.{delivery_of, message, service, turn_view};
+ghost use Rattle.journal_text.specs.Turns as turns;
+ghost use Rattle.journal_text.specs.Turns.{delivery_of, message, service, turn_view};
 ghost use Rattle.vault.specs.Sums.{sums_of};
 ghost use Rattle.vault.specs.Worlds.{IsValid, Keeps};
-ghost use Rattle.host_core.specs.declared.turns.Delivered;
+ghost use Rattle.turn_log.specs.Events.{event_views, moved};
+ghost use Rattle.journal_text.specs.declared.turns.Delivered;
 
 use crate::message_lines::{Call, Give, Message};
 use crate::services::serve;
-use crate::turns::{Answer, Delivered, GivenName, ServiceCall, Turn};
+use call_data::refusals::{Refusal, Stop};
 use host_text::text::Text;
 use jessie_tree::data::{self, Data, Obj};
+use journal_text::turns::{Answer, Delivered, GivenName, ServiceCall, Turn};
+use rights_model::Movement;
 use std::alloc::{AllocError, Global};
+use turn_log::events::Event;
 use vault::parties::Parties;
-use vault::refusals::{Refusal, Stop};
 use vault::world::{Resting, World};
 
 /// The most that data nests.
 const MOST_DEEP: u32 = 32;
 
 /// The refusal where a label that a party is to have is bound already.
-#[tactic(auto, unfolding(vault::specs::Outcomes::bind, vault::specs::Outcomes::need, vault::specs::Outcomes::wanted))]
+#[tactic(auto, unfolding(call_data::specs::Outcomes::bind, call_data::specs::Outcomes::need, call_data::specs::Outcomes::wanted))]
 fn free_label(alloc: Global, parties: &Parties, party: &Text, label: &Text) -> Result<(), Stop>
     ensures { Gives (λ _. tt) result (deliveries.free_label (labels_of parties.now) party.now (Some label.now)) }
 {
@@ -44,7 +47,7 @@ fn free_label(alloc: Global, parties: &Parties, party: &Text, label: &Text) -> R
 }
 
 /// The refusal where the label for the answer is bound already.
-#[tactic(auto, unfolding(vault::specs::Outcomes::bind, vault::specs::Outcomes::need, vault::specs::Outcomes::wanted))]
+#[tactic(auto, unfolding(call_data::specs::Outcomes::bind, call_data::specs::Outcomes::need, call_data::specs::Outcomes::wanted))]
 fn free_answer(alloc: Global, parties: &Parties, call: &Call) -> Result<(), Stop>
     ensures { Gives (λ _. tt) result (free_label (labels_of parties.now) call.now.by call.now.label) }
 {
@@ -55,7 +58,7 @@ fn free_answer(alloc: Global, parties: &Parties, call: &Call) -> Result<(), Stop
 }
 
 /// The target and the arguments, once all paths are resolved.
-#[tactic(auto, unfolding(crate::specs::Deliveries::addressed, vault::specs::Outcomes::bind, vault::specs::Outcomes::need, vault::specs::Outcomes::wanted))]
+#[tactic(auto, unfolding(crate::specs::Deliveries::addressed, call_data::specs::Outcomes::bind, call_data::specs::Outcomes::need, call_data::specs::Outcomes::wanted))]
 fn address(alloc: Global, parties: &Parties, call: &Call) -> Result<(Obj, Vec<Data>), Stop>
     ensures { Gives (λ (on, arguments). (on, trees arguments.items)) result (addressed (labels_of parties.now) (call_view call.now)) }
 {
@@ -75,13 +78,13 @@ fn address(alloc: Global, parties: &Parties, call: &Call) -> Result<(Obj, Vec<Da
 
 /// The turn of a call that is refused.
 fn refused_turn(alloc: Global, number: u32, delivered: Delivered, refusal: Refusal) -> Turn
-    ensures { turn_view result ≡ record { number = number; delivery = delivery_of delivered; answer = Err refusal; movements = []; sums = [] } }
+    ensures { turn_view result ≡ record { number = number; delivery = delivery_of delivered; answer = turns.refused refusal; events = []; sums = [] } }
 {
     Turn {
         number,
         delivered,
         answer: Answer::Refused(refusal),
-        movements: Vec::new(alloc),
+        events: Vec::new(alloc),
         sums: Vec::new(alloc),
     }
 }
@@ -94,7 +97,7 @@ fn message_turn(
     refusal: Refusal,
     number: u32,
 ) -> Result<Turn, AllocError>
-    ensures { IfOk result (λ turn. turn_view turn ≡ record { number = number; delivery = message by.now method.now; answer = Err refusal; movements = []; sums = [] }) }
+    ensures { IfOk result (λ turn. turn_view turn ≡ record { number = number; delivery = message by.now method.now; answer = turns.refused refusal; events = []; sums = [] }) }
 {
     let by = by.copy(alloc)?;
     let method = method.copy(alloc)?;
@@ -122,6 +125,17 @@ fn bind_answer(
     }
 }
 
+/// Movements as events, in order.
+fn move_events(alloc: Global, movements: Vec<Movement>) -> Result<Vec<Event>, AllocError>
+    ensures { IfOk result (λ events. event_views events.items ≡ map moved movements.items) }
+{
+    let mut events = Vec::new(alloc);
+    for movement in movements {
+        events.push(Event::Moved(movement))?;
+    }
+    Ok(events)
+}
+
 /// The turn of a call that was answered. The label for the answer is bound last.
 fn answered_turn(
     alloc: Global,
@@ -135,18 +149,19 @@ fn answered_turn(
     requires valid { IsValid world.now }
     requires made { All (λ m. m.brand < length world.now.draft.now.supplies) world.now.draft.movements }
     requires free { IsFree (labels_of parties.old) call.now.by call.now.label }
-    ensures turn { IfOk result (λ turn. turn_view turn ≡ record { number = number; delivery = delivery_of delivered; answer = Ok (tree answer); movements = world.now.draft.movements; sums = sums_of world.now.draft.now world.now.draft.movements }) }
+    ensures turn { IfOk result (λ turn. turn_view turn ≡ record { number = number; delivery = delivery_of delivered; answer = turns.answered (tree answer); events = map moved world.now.draft.movements; sums = sums_of world.now.draft.now world.now.draft.movements }) }
     ensures labels { OnOk result (labels_of parties.new ≡ labelled (labels_of parties.old) call.now.by call.now.label (tree answer)) }
     ensures err { OnErr result (labels_of parties.new ≡ labels_of parties.old) }
 {
     let movements = world.movements(alloc)?;
     let sums = world.sums(alloc, &movements)?;
+    let events = move_events(alloc, movements)?;
     bind_answer(alloc, parties, call, &answer)?;
     Ok(Turn {
         number,
         delivered,
         answer: Answer::Given(answer),
-        movements,
+        events,
         sums,
     })
 }
@@ -256,7 +271,7 @@ fn call_turn(
 }
 
 /// What a give gives: the receiver's label is free, and something stands at the giver's path.
-#[tactic(auto, unfolding(crate::specs::Deliveries::given_by, vault::specs::Outcomes::bind, vault::specs::Outcomes::need, vault::specs::Outcomes::wanted))]
+#[tactic(auto, unfolding(crate::specs::Deliveries::given_by, call_data::specs::Outcomes::bind, call_data::specs::Outcomes::need, call_data::specs::Outcomes::wanted))]
 fn given_by(alloc: Global, parties: &Parties, give: &Give) -> Result<Data, Stop>
     ensures { Gives (λ given. tree given) result (deliveries.given_by (labels_of parties.now) (give_view give.now)) }
 {
@@ -289,7 +304,7 @@ fn given_turn(
     number: u32,
 ) -> Result<Turn, AllocError>
     requires { IsFree (labels_of parties.old) give.now.to (Some give.now.label) }
-    ensures turn { IfOk result (λ turn. turn_view turn ≡ record { number = number; delivery = turns.give give.now.by give.now.to give.now.label (tree given); answer = Ok null; movements = []; sums = [] }) }
+    ensures turn { IfOk result (λ turn. turn_view turn ≡ record { number = number; delivery = turns.give give.now.by give.now.to give.now.label (tree given); answer = turns.answered null; events = []; sums = [] }) }
     ensures labels { OnOk result (labels_of parties.new ≡ with_label (labels_of parties.old) give.now.to give.now.label (tree given)) }
     ensures err { OnErr result (labels_of parties.new ≡ labels_of parties.old) }
 {
@@ -300,7 +315,7 @@ fn given_turn(
         number,
         delivered,
         answer: Answer::Given(Data::Null),
-        movements: Vec::new(alloc),
+        events: Vec::new(alloc),
         sums: Vec::new(alloc),
     })
 }

@@ -6,7 +6,7 @@ ghost use Rattle.rights_model.specs.declared.Holder.TheVariants.{Purse, Payment}
 ghost use Rattle.vault.specs.Vaults.{amount_of, brand_of, mark_of};
 ghost use Rattle.ertp_mint.specs.BrandSupply.{supply_at};
 
-use amount_math::Value;
+use amount_math::{Outstanding, Value};
 use vault::world::World;
 
 /// How many purses were made: the number that the next one gets.
@@ -83,7 +83,7 @@ pub fn payment_value(world: &World, payment: u32) -> &Value
 }
 
 /// What is out of a brand.
-pub fn value_out(world: &World, brand: u16) -> &Value
+pub fn value_out(world: &World, brand: u16) -> &Outstanding
     requires { brand < length world.now.draft.now.supplies }
     ensures { result.now ≡ (supply_at world.now.draft.now.supplies brand).outstanding }
 {

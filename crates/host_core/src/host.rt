@@ -6,7 +6,7 @@ ghost use Rattle.std.specs.Prelude.{◌≡◌, ◌<◌, ◌≤◌, ◌+◌, IsTr
 use crate::deliveries::turn_of;
 use crate::message_lines::{Line, read_line};
 use crate::turn_queue::TurnQueue;
-use crate::turns::Turn;
+use journal_text::turns::Turn;
 use std::alloc::{AllocError, Global};
 use thiserror::Error;
 use vault::parties::Parties;

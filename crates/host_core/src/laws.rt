@@ -6,11 +6,11 @@ ghost use Rattle.std.specs.List.{list_any};
 ghost use Rattle.rights_model.specs.declared.Movement.{Movement};
 ghost use Rattle.host_core.specs.Fair.{IsRising};
 ghost use Rattle.host_core.specs.Hosts.{HostState, IsValidHost, most_turns, step_of};
-ghost use Rattle.host_core.specs.JournalLaws.{IsJournal, written};
+ghost use Rattle.journal_text.specs.JournalLaws.{IsJournal, written};
 ghost use Rattle.host_core.specs.Leaves.{Leaves};
 ghost use Rattle.host_core.specs.Runs.{AreFairToLimit, AreInOrder, end_of, journal_of, left_of, meanings_of, messages_of, turns_of};
 ghost use Rattle.rights_model.specs.Totals.{brands_of};
-ghost use Rattle.host_core.specs.Turns.{TurnRecord};
+ghost use Rattle.journal_text.specs.Turns.{TurnRecord};
 
 /// Whatever input is read, and however many deliveries its run lines and its end ask for, the turns are
 /// fair, as far as they can be run: the movements are all defined, after each turn every brand's purses

@@ -17,13 +17,13 @@ ghost use Rattle.vault.specs.Parts.{arguments_of, no_items};
 ghost use Rattle.vault.specs.PartViews.{items_of, part_trees};
 
 use crate::lines::is_blank;
+use call_data::refusals::Refusal;
 use host_text::label::Label;
 use host_text::text::Text;
 use serde_json::{Map, Value};
 use std::alloc::{AllocError, Global};
 use std::cmp::Ordering;
 use vault::parts::{Part, is_path, member, read_arguments};
-use vault::refusals::Refusal;
 
 /// A call that a party asks for.
 #[derive(Debug, Drop)]

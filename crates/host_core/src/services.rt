@@ -1,18 +1,18 @@
 //! The methods of the host's own objects, each as its definition says: the tests in their order, and
 //! then the effects. Its one contract is `serve`'s.
 
-ghost use Rattle.std.specs.Prelude.{◌≡◌, ◌<◌, ◌≤◌, IfOk, length};
+ghost use Rattle.std.specs.Prelude.{◌≡◌, ◌*◌, ◌<◌, ◌≤◌, IfOk, length, nat_le, pos};
 ghost use Rattle.amount_math.specs.Content.{count, sum, unit};
 ghost use Rattle.amount_math.specs.Worth.{nat_bound};
 ghost use Rattle.jessie_tree.specs.Tree.{text_of};
 ghost use Rattle.jessie_tree.specs.View.{tree, trees};
 ghost use Rattle.host_core.specs.CallArguments.{seen};
-ghost use Rattle.vault.specs.Outcomes.{Gives, Refuses, wanted};
+ghost use Rattle.call_data.specs.Outcomes.{Gives, Refuses, need, wanted};
 ghost use Rattle.host_core.specs.Served.{IsMade, KnowsArgs, Serves};
 ghost use Rattle.host_core.specs.Services as services;
 ghost use Rattle.vault.specs.Vaults.{CanMakePayment};
 ghost use Rattle.vault.specs.Worlds.{HasRoom, IsAsset, IsValid, Keeps};
-ghost use Rattle.vault.specs.declared.refusals.Refusal.TheVariants as refusals;
+ghost use Rattle.call_data.specs.declared.refusals.Refusal.TheVariants as refusals;
 
 use crate::call_arguments::{
     amount, argument, brand_payment, need, optional_amount, payment, units,
@@ -20,41 +20,63 @@ use crate::call_arguments::{
 use crate::holdings::{
     self, payment_value, payments_made, purse_brand, purse_value, purses_made, value_out,
 };
-use amount_math::{Kind, NAT_BOUND, Value};
+use amount_math::{Kind, NAT_BOUND, Outstanding, Value};
+use call_data::refusals::{Refusal, Stop};
+use call_data::values::{amount_data, object_data};
 use host_text::text::Text;
 use jessie_tree::data::{Data, Obj, ObjKind};
 use rights_model::{Holder, Movement};
 use std::alloc::{AllocError, Global};
 use vault::brands::Brand;
-use vault::refusals::{Refusal, Stop};
-use vault::values::{amount_data, object_data};
 use vault::world::World;
 
 // ---- tests that several methods make
 
 /// The number of the next payment.
-#[tactic(auto, unfolding(vault::specs::Outcomes::bind, vault::specs::Outcomes::need))]
+#[tactic(auto, unfolding(call_data::specs::Outcomes::bind, call_data::specs::Outcomes::need))]
 fn next_payment(world: &World) -> Result<u32, Stop>
     ensures gives { Gives (λ payment. payment) result (services.next_payment world.now.draft.now) }
     ensures can { IfOk result (CanMakePayment world.now.draft.now) }
 {
-    let payment = payments_made(world);
-    need(payment < u32::MAX, Refusal::Limit(u32::MAX))?;
-    Ok(payment)
+    let left = world.draft.left();
+    need(left > 0, Refusal::Limit(u32::MAX))?;
+    Ok(payments_made(world))
 }
 
-/// The sum of two values is within the bound of whole numbers.
-#[tactic(auto, unfolding(vault::specs::Outcomes::need), using(crate::proofs::Units::units_of_sum))]
-fn within(held: &Value, given: &Value) -> Result<(), Stop>
-    ensures gives { Gives (λ _. tt) result (services.within (sum held.now.content given.now.content)) }
-    ensures fits { IfOk result (λ _. count (sum held.now.content given.now.content) unit ≤ nat_bound) }
+/// So many units are within the bound of whole numbers.
+#[tactic(auto, unfolding(call_data::specs::Outcomes::need))]
+fn within_bound(sum: u128) -> Result<(), Stop>
+    requires { sum ≤ 2 * nat_bound }
+    ensures gives { Gives (λ _. tt) result (need (nat_le sum nat_bound) (refusals.TooMuch (pos sum) (pos nat_bound))) }
+    ensures fits { IfOk result (λ _. sum ≤ nat_bound) }
 {
-    let sum = units(held) + units(given);
     if sum > NAT_BOUND {
         let refusal = Refusal::TooMuch(sum as i128, NAT_BOUND as i128);
         return Err(Stop::Refused(refusal));
     }
     Ok(())
+}
+
+/// The sum of two values is within the bound of whole numbers.
+#[tactic(auto, using(crate::proofs::Units::units_of_sum))]
+fn within(held: &Value, given: &Value) -> Result<(), Stop>
+    ensures gives { Gives (λ _. tt) result (services.within (sum held.now.content given.now.content)) }
+    ensures fits { IfOk result (λ _. count (sum held.now.content given.now.content) unit ≤ nat_bound) }
+{
+    within_bound(units(held) + units(given))
+}
+
+/// A value and what is out of its brand are together within the bound of whole numbers.
+#[tactic(auto, using(crate::proofs::Units::units_of_sum, crate::proofs::Units::units_of_number))]
+fn within_out(out: &Outstanding, given: &Value) -> Result<(), Stop>
+    requires { out.now.kind ≡ Kind.Nat }
+    ensures gives { Gives (λ _. tt) result (services.within (sum out.now.content given.now.content)) }
+    ensures fits { IfOk result (λ _. count (sum out.now.content given.now.content) unit ≤ nat_bound) }
+{
+    let Some(number) = out.number() else {
+        unreachable!()
+    };
+    within_bound(number + units(given))
 }
 
 /// The refusal, of which the values take memory.
@@ -79,7 +101,7 @@ fn no_method(alloc: Global, method: &str) -> Stop
 
 // ---- makeIssuerKit
 
-#[tactic(auto, unfolding(vault::specs::Outcomes::wanted))]
+#[tactic(auto, unfolding(call_data::specs::Outcomes::wanted))]
 fn name_text(given: Option<&Data>) -> Result<&Text, Stop>
     ensures { Gives (λ name. name.now) result (wanted (text_of (seen given.entry)) (refusals.BadArgs 1)) }
 {
@@ -122,7 +144,7 @@ fn kit_data(alloc: Global, brand: u32) -> Result<Data, AllocError>
 }
 
 /// ertp.makeIssuerKit(name, kind)
-#[tactic(auto, unfolding(crate::specs::Services::make_issuer_kit, vault::specs::Outcomes::bind, vault::specs::Outcomes::need, vault::specs::Outcomes::wanted))]
+#[tactic(auto, unfolding(crate::specs::Services::make_issuer_kit, call_data::specs::Outcomes::bind, call_data::specs::Outcomes::need, call_data::specs::Outcomes::wanted))]
 fn make_issuer_kit(alloc: Global, world: &mut World, args: &[Data]) -> Result<Data, Stop>
     requires valid { IsValid world.old }
     ensures row { Serves world.old world.new result (services.make_issuer_kit world.old (trees args.now)) }
@@ -143,7 +165,7 @@ fn make_issuer_kit(alloc: Global, world: &mut World, args: &[Data]) -> Result<Da
 // ---- the methods of mints, issuers and purses
 
 /// mint.mintPayment(amount)
-#[tactic(auto, unfolding(crate::specs::Services::mint_payment, vault::specs::Outcomes::bind, vault::specs::Outcomes::need, vault::specs::Outcomes::wanted))]
+#[tactic(auto, unfolding(crate::specs::Services::mint_payment, call_data::specs::Outcomes::bind, call_data::specs::Outcomes::need, call_data::specs::Outcomes::wanted))]
 fn mint_payment(world: &mut World, brand: u16, args: &[Data]) -> Result<Data, Stop>
     requires valid { IsValid world.old }
     requires room { HasRoom world.old.draft.now }
@@ -153,7 +175,7 @@ fn mint_payment(world: &mut World, brand: u16, args: &[Data]) -> Result<Data, St
 {
     let out = value_out(world, brand);
     let value = amount(argument(args, 1), 1, brand, out.kind())?;
-    within(out, &value)?;
+    within_out(out, &value)?;
     let payment = next_payment(world)?;
     world.transfer(&Movement {
         brand,
@@ -165,7 +187,7 @@ fn mint_payment(world: &mut World, brand: u16, args: &[Data]) -> Result<Data, St
 }
 
 /// issuer.makeEmptyPurse()
-#[tactic(auto, unfolding(crate::specs::Services::make_empty_purse, vault::specs::Outcomes::bind, vault::specs::Outcomes::need))]
+#[tactic(auto, unfolding(crate::specs::Services::make_empty_purse, call_data::specs::Outcomes::bind, call_data::specs::Outcomes::need))]
 fn make_empty_purse(world: &mut World, brand: u16) -> Result<Data, Stop>
     requires asset { IsAsset world.old.draft.now brand }
     ensures row { Serves world.old world.new result (services.make_empty_purse world.old brand) }
@@ -178,7 +200,7 @@ fn make_empty_purse(world: &mut World, brand: u16) -> Result<Data, Stop>
 }
 
 /// issuer.isLive(payment)
-#[tactic(auto, unfolding(crate::specs::Services::is_live, vault::specs::Outcomes::bind, vault::specs::Outcomes::need, vault::specs::Outcomes::wanted))]
+#[tactic(auto, unfolding(crate::specs::Services::is_live, call_data::specs::Outcomes::bind, call_data::specs::Outcomes::need, call_data::specs::Outcomes::wanted))]
 fn is_live(world: &World, brand: u16, args: &[Data]) -> Result<Data, Stop>
     requires valid { IsValid world.now }
     requires known { KnowsArgs world.now.draft.now (trees args.now) }
@@ -199,7 +221,7 @@ fn get_current_amount(alloc: Global, world: &World, purse: u32) -> Result<Data, 
 }
 
 /// purse.deposit(payment, amount)
-#[tactic(auto, unfolding(crate::specs::Services::deposit, vault::specs::Outcomes::bind, vault::specs::Outcomes::need, vault::specs::Outcomes::wanted))]
+#[tactic(auto, unfolding(crate::specs::Services::deposit, call_data::specs::Outcomes::bind, call_data::specs::Outcomes::need, call_data::specs::Outcomes::wanted))]
 fn deposit(alloc: Global, world: &mut World, purse: u32, args: &[Data]) -> Result<Data, Stop>
     requires valid { IsValid world.old }
     requires known { KnowsArgs world.old.draft.now (trees args.now) }
@@ -224,7 +246,7 @@ fn deposit(alloc: Global, world: &mut World, purse: u32, args: &[Data]) -> Resul
 }
 
 /// purse.withdraw(amount)
-#[tactic(auto, unfolding(crate::specs::Services::withdraw, vault::specs::Outcomes::bind, vault::specs::Outcomes::need, vault::specs::Outcomes::wanted))]
+#[tactic(auto, unfolding(crate::specs::Services::withdraw, call_data::specs::Outcomes::bind, call_data::specs::Outcomes::need, call_data::specs::Outcomes::wanted))]
 fn withdraw(world: &mut World, purse: u32, args: &[Data]) -> Result<Data, Stop>
     requires valid { IsValid world.old }
     requires made { purse < length world.old.draft.now.purses }

@@ -1,4 +1,4 @@
-//! Promises by number, as the code of contracts sees them (E's): a promise is pending until it is
+//! Promises by number, as the code of contracts sees them (eventual send): a promise is pending until it is
 //! settled, once, with data or broken with data, and none is settled with another promise. It stands on
 //! the data of the contract language. Its one contract: each call gives the whole new list of states,
 //! and a turn that goes back leaves the list as it was at its start, whatever it made and settled.
@@ -12,7 +12,7 @@ ghost use Rattle.promises.specs.States.{is_final, is_flat, most_made, pending, s
 use jessie_tree::data::{Data, ObjKind};
 use std::alloc::{AllocError, Global};
 
-/// What a promise is settled with (E's: it is fulfilled, or it is broken and the data is the reason).
+/// What a promise is settled with (eventual send: it is fulfilled, or it is broken and the data is the reason).
 #[derive(Debug, Drop)]
 pub enum Settlement {
     /// The data is no promise: one that is resolved to another waits for that one, and isn't settled.
@@ -101,7 +101,7 @@ impl Promises {
         }
     }
 
-    /// Settles a pending promise for good (E's), or hands the settlement back, and all is as before.
+    /// Settles a pending promise for good (eventual send), or hands the settlement back, and all is as before.
     pub fn settle(
         &mut self,
         promise: u32,

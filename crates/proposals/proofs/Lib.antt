@@ -2,3 +2,8 @@ pub mod RowLists
 pub mod SlotLists
 pub mod Coverings
 pub mod IssuerLists
+pub mod Keywords
+pub mod Brands
+pub mod NamesAt
+pub mod ValuesRead
+pub mod OffersRead

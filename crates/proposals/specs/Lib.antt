@@ -3,3 +3,4 @@ pub mod Slots
 pub mod Proposals
 pub mod OfferSafety
 pub mod IssuerRecords
+pub mod Reading

@@ -9,5 +9,6 @@ pub mod allocations;
 pub mod issuer_records;
 pub mod offer_safety;
 pub mod offers;
+pub mod reading;
 #[cfg(test)]
 mod tests;

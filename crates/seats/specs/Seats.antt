@@ -1,5 +1,5 @@
 -- Seats by number: what each was opened for, what its slots have, and what they had when it was closed (Zoe).
-use Rattle.std.specs.Prelude.{ℕ, List, [], Option, None, Some, IsNone, map, slice_index_or, sum_by, unwrap_or, refl}
+use Rattle.std.specs.Prelude.{ℕ, List, [], Option, None, Some, IsNone, if◌then◌else◌, is_none, length, map, slice_index_or, sum_by, unwrap_or, refl}
 use Rattle.std.specs.Coded.{Coded, code_by, coded×, coded_list, coded_option, coded_ℕ}
 use Rattle.amount_math.specs.Content.{Content}
 use Rattle.amount_math.specs.Worth.{IsPutRefusal}
@@ -69,3 +69,10 @@ slots_counted b slots = sum_by (λ r. counted_in b r.amount) slots
 
 abbrev pub seats_counted : ℕ → List SeatState → ℕ
 seats_counted b seats = sum_by (λ s. slots_counted b s.slots) seats
+
+-- how many slots a seat has while it is open, each of which is to be paid out
+abbrev pub open_slots_in : SeatState → ℕ
+open_slots_in seat = if is_none seat.last then length seat.slots else 0
+
+abbrev pub open_slots : List SeatState → ℕ
+open_slots seats = sum_by open_slots_in seats

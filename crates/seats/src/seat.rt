@@ -1,11 +1,11 @@
 // One seat.
-ghost use Rattle.std.specs.Prelude.{◌≡◌, ◌<◌, ◌≤◌, ◌*◌, ◌↔◌, None, length, is_none, IfErr, IfOk, IsOk, IsSome, OnErr, OnOk};
+ghost use Rattle.std.specs.Prelude.{◌≡◌, ◌<◌, ◌≤◌, ◌*◌, ◌↔◌, None, length, is_none, IfErr, IfOk, IsOk, IsSome, OnErr, OnOk, option_map};
 ghost use Rattle.amount_math.specs.Amount.{Meet};
 ghost use Rattle.amount_math.specs.Content.{Contains, sum};
-ghost use Rattle.amount_math.specs.Worth.{IsPutRefusal, IsTakeRefusal, IsValue, nat_bound};
+ghost use Rattle.amount_math.specs.Worth.{IsPutRefusal, IsTakeRefusal, IsValue, bag_bound};
 ghost use Rattle.proposals.specs.Rows.{amount_under, content_under, most_rows};
 ghost use Rattle.proposals.specs.Slots.{FitsSeat};
-ghost use Rattle.seats.specs.Seats.{IsOpen, allocation_of, closed, opened, put_in, slots_counted, taken_from};
+ghost use Rattle.seats.specs.Seats.{IsOpen, allocation_of, closed, open_slots_in, opened, put_in, slots_counted, taken_from};
 ghost use Rattle.seats.specs.Slots.{slot_at};
 
 use crate::seats::CloseFault;
@@ -75,6 +75,23 @@ impl Seat {
         self.last.is_none()
     }
 
+    pub(crate) fn brand(&self, keyword: &Keyword) -> Option<u16>
+        ensures { result ≡ option_map (λ slot. slot.brand) (amount_under keyword.now self.now.slots) }
+    {
+        self.slots.brand(keyword)
+    }
+
+    /// How many slots are to be paid out: none once it is closed.
+    pub(crate) fn open_slots(&self) -> usize
+        ensures slots { result ≡ open_slots_in self.now }
+        ensures few { result ≤ most_rows }
+    {
+        match self.last {
+            Some(_) => 0,
+            None => self.slots.len(),
+        }
+    }
+
     pub(crate) fn put(
         &mut self,
         alloc: Global,
@@ -135,7 +152,7 @@ impl Seat {
 
     pub(crate) fn counted(&self, brand: u16) -> u128
         ensures counted { result ≡ slots_counted brand self.now.slots }
-        ensures bounded { result ≤ most_rows * nat_bound }
+        ensures bounded { result ≤ most_rows * (4096 * bag_bound) }
     {
         self.slots.counted(brand)
     }

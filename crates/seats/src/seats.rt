@@ -1,14 +1,14 @@
 //! Seats by number (Zoe). An opened seat stays for good. Once it is closed it keeps the allocation that
 //! it had, while its slots are paid out.
 
-ghost use Rattle.std.specs.Prelude.{◌≡◌, ◌<◌, ◌↔◌, ◌++◌, ◌∷◌, [], None, length, is_none, slice_set, IfErr, IfOk, IsOk, IsSome, OnErr, OnOk};
+ghost use Rattle.std.specs.Prelude.{◌≡◌, ◌<◌, ◌↔◌, ◌++◌, ◌∷◌, [], None, length, is_none, slice_set, IfErr, IfOk, IsOk, IsSome, OnErr, OnOk, option_map};
 ghost use Rattle.amount_math.specs.Amount.{Meet};
 ghost use Rattle.amount_math.specs.Content.{Contains, sum};
 ghost use Rattle.amount_math.specs.Worth.{IsTakeRefusal, IsValue};
 ghost use Rattle.ertp_mint.specs.Stocks.{most_made};
 ghost use Rattle.proposals.specs.Rows.{amount_under, content_under, most_rows};
 ghost use Rattle.proposals.specs.Slots.{FitsSeat};
-ghost use Rattle.seats.specs.Seats.{IsOpen, IsSlotRefusal, allocation_of, closed, opened, put_in, seat_at, seats_counted, taken_from};
+ghost use Rattle.seats.specs.Seats.{IsOpen, IsSlotRefusal, allocation_of, closed, open_slots, opened, put_in, seat_at, seats_counted, taken_from};
 ghost use Rattle.seats.specs.Slots.{slot_at};
 
 use crate::seat::Seat;
@@ -37,7 +37,7 @@ pub enum CloseFault {
 }
 
 /// Why a parcel is not put in a slot.
-#[derive(Clone, Copy, Debug, PartialEq, Eq)]
+#[derive(Debug, PartialEq, Eq, Drop)]
 pub enum SlotFault {
     /// The seat was closed before (Zoe: what has exited takes nothing more).
     SeatExited,
@@ -130,6 +130,14 @@ impl Seats {
         self.seats[seat as usize].proposal()
     }
 
+    /// The brand of the slot of a keyword, or `None` exactly where it has none.
+    pub fn brand(&self, seat: u32, keyword: &Keyword) -> Option<u16>
+        requires { seat < length self.now }
+        ensures { result ≡ option_map (λ slot. slot.brand) (amount_under keyword.now (seat_at self.now seat).slots) }
+    {
+        self.seats[seat as usize].brand(keyword)
+    }
+
     /// Whether a seat wasn't closed yet.
     pub fn is_open(&self, seat: u32) -> bool
         requires { seat < length self.now }
@@ -212,6 +220,17 @@ impl Seats {
             total += seat.counted(brand);
         }
         total
+    }
+
+    /// How many slots the open seats have together.
+    pub fn open_slots(&self) -> u64
+        ensures { result ≡ open_slots self.now }
+    {
+        let mut slots = 0;
+        for seat in &self.seats {
+            slots += seat.open_slots() as u64;
+        }
+        slots
     }
 
     /// A second one, which undoing keeps.

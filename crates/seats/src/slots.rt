@@ -1,8 +1,8 @@
 // The slots of one seat: a stock under each of at most 64 keywords, in the order of opening.
-ghost use Rattle.std.specs.Prelude.{◌≡◌, ◌<◌, ◌≤◌, ◌*◌, ◌++◌, ◌∷◌, [], None, length, map, IfErr, IfOk, IsSome, OnErr, OnOk};
+ghost use Rattle.std.specs.Prelude.{◌≡◌, ◌<◌, ◌≤◌, ◌*◌, ◌++◌, ◌∷◌, [], None, length, map, IfErr, IfOk, IsSome, OnErr, OnOk, option_map};
 ghost use Rattle.amount_math.specs.Amount.{Meet};
 ghost use Rattle.amount_math.specs.Content.{Contains, nothing, sum};
-ghost use Rattle.amount_math.specs.Worth.{IsPutRefusal, IsTakeRefusal, IsValue, nat_bound};
+ghost use Rattle.amount_math.specs.Worth.{IsPutRefusal, IsTakeRefusal, IsValue, bag_bound};
 ghost use Rattle.ertp_mint.specs.Stocks.{counted_in};
 ghost use Rattle.proposals.specs.Rows.{AreRows, amount_under, content_under, most_rows, row_of};
 ghost use Rattle.proposals.specs.Slots.{emptied};
@@ -58,7 +58,7 @@ impl Slot {
 
     fn counted(&self, brand: u16) -> u128
         ensures counted { result ≡ counted_in brand self.now.amount }
-        ensures bounded { result ≤ nat_bound }
+        ensures bounded { result ≤ 4096 * bag_bound }
     {
         self.stock.counted(brand)
     }
@@ -97,7 +97,32 @@ impl Model for Slots {
     ghost invariant = { λ a. AreRows a.slots.items };
 }
 
+/// The brand of the slot of a keyword.
+fn brand_under(slots: &[Slot], keyword: &Keyword) -> Option<u16>
+    ensures { result ≡ option_map (λ slot. slot.brand) (amount_under keyword.now slots.now) }
+{
+    for slot in slots {
+        if keyword.is(&slot.keyword) {
+            return Some(slot.stock.brand());
+        }
+    }
+    None
+}
+
 impl Slots {
+    pub(crate) fn brand(&self, keyword: &Keyword) -> Option<u16>
+        ensures { result ≡ option_map (λ slot. slot.brand) (amount_under keyword.now self.now) }
+    {
+        brand_under(self.slots.as_slice(), keyword)
+    }
+
+    pub(crate) fn len(&self) -> usize
+        ensures slots { result ≡ length self.now }
+        ensures few { result ≤ most_rows }
+    {
+        self.slots.len()
+    }
+
     /// A slot for each row, with nothing of its brand.
     pub(crate) fn empty(alloc: Global, rows: &[Row]) -> Result<Slots, AllocError>
         requires { AreRows rows.now }
@@ -193,7 +218,7 @@ impl Slots {
     /// How much of a brand they have together.
     pub(crate) fn counted(&self, brand: u16) -> u128
         ensures counted { result ≡ slots_counted brand self.now }
-        ensures bounded { result ≤ most_rows * nat_bound }
+        ensures bounded { result ≤ most_rows * (4096 * bag_bound) }
     {
         let mut total = 0;
         for slot in &self.slots {

@@ -24,22 +24,22 @@ fn keyword(rt: &impl Abort, alloc: Global, text: &str) -> Keyword {
     }
 }
 
-/// A row of so many units of brand 0.
-fn coins(rt: &impl Abort, alloc: Global, text: &str, number: u32) -> Allocation {
+/// A row of so many units of a brand.
+fn coins(rt: &impl Abort, alloc: Global, text: &str, brand: u16, number: u32) -> Allocation {
     let mut made = Allocation::new(alloc);
     let value = Value::nat(u128::from(number));
-    made.push(keyword(rt, alloc, text), Amount { brand: 0, value })
+    made.push(keyword(rt, alloc, text), Amount { brand, value })
         .expect(rt, "memory for a row");
     made
 }
 
-/// Gives 5 as Bid and wants 2 as Asset, both of brand 0.
+/// Gives 5 of brand 0 as Bid and wants 2 of brand 1 as Asset.
 fn bid(rt: &impl Abort, alloc: Global) -> Proposal
     ensures { FitsSeat result }
 {
     let proposal = Proposal {
-        give: coins(rt, alloc, "Bid", 5),
-        want: coins(rt, alloc, "Asset", 2),
+        give: coins(rt, alloc, "Bid", 0, 5),
+        want: coins(rt, alloc, "Asset", 1, 2),
         exit: Exit::Waived,
     };
     assert!(rt; proposal.fits_seat());
@@ -235,4 +235,22 @@ fn a_closed_seat_keeps_its_allocation(rt: HostRuntime) {
         Ok(_again) => panic!(rt; "it is closed once"),
         Err(fault) => assert_eq!(rt; fault, CloseFault::SeatExited),
     }
+}
+
+#[test]
+fn slots_of_open_seats_are_counted(rt: HostRuntime) {
+    let alloc = rt.alloc();
+    let mut seats = two_seats(&rt, alloc);
+    for (text, wanted) in [("Bid", Some(0)), ("Asset", Some(1)), ("Extra", None)] {
+        let brand = seats.brand(1, &keyword(&rt, alloc, text));
+        assert_eq!(rt; brand, wanted, "{text}");
+    }
+    assert_eq!(rt; seats.open_slots(), 4);
+    put(&rt, alloc, &mut seats, 1, "Extra", 3);
+    assert_eq!(rt; seats.open_slots(), 5);
+    assert!(rt; seats.made() == 2);
+    if let Err(_fault) = seats.close(alloc, 1) {
+        panic!(rt; "it is open");
+    }
+    assert_eq!(rt; seats.open_slots(), 2);
 }

@@ -1,5 +1,5 @@
 -- What each store has, and that it agrees with a table, after a movement.
-use Rattle.std.proofs.Common.{◌≡◌, ◌≢◌, ℕ, ◌<◌, ◌≤◌, Bool, true, false, cond, eqb, [], ◌∷◌, ◌++◌, length, get_or, set, inl, inr, refl, sym, ◌∙◌, ap, subst, arith, get_or-set_same, get_or-set_other, length-append}
+use Rattle.std.proofs.Common.{◌≡◌, ◌≢◌, ℕ, ◌<◌, ◌≤◌, Bool, true, false, List, [], ◌∷◌, ◌++◌, length, get_or, set, inl, inr, refl, sym, ◌∙◌, ap, subst, arith, get_or-set_same, get_or-set_other, length-append}
 use Rattle.std.proofs.lemmas.List.{get_or_past, get_or_push, get_or_append_left}
 use Rattle.std.proofs.lemmas.Bool.{cases_eq, cases_order, ne_eqb, eq-eqb}
 use Rattle.amount_math.specs.Amount.{holding}
@@ -11,22 +11,18 @@ use Rattle.rights_model.specs.declared.Holder.TheVariants.{Purse, Payment, Slot,
 use Rattle.rights_model.specs.Place.{Place, place}
 use Rattle.rights_model.specs.Table.{Table, holds, taken, given}
 use Rattle.rights_model.specs.Supply.{is_store}
+use Rattle.rights_model.specs.Totals.{is_slot}
 use Rattle.rights_model.proofs.TableLaws.{same_place, holds-taken, holds-taken_other, holds-given, holds-given_other, taken_outside, given_outside}
 use Rattle.vault.specs.declared.stores.Stores.{Stores}
 use Rattle.vault.specs.Purses.{amount_at}
 use Rattle.ertp_mint.specs.Stocks.{no_amount}
 use Rattle.vault.specs.Payments.{PaymentState, no_payment, payment_at, live_with, spent}
-use Rattle.vault.specs.Stored.{in_brand, content_in, Agrees, stores_from, stores_to}
+use Rattle.seats.specs.Seats.{SeatState}
+use Rattle.vault.specs.Vaults.{in_brand, seats_from, seats_to, slot_of}
+use Rattle.vault.specs.Stored.{content_in, Agrees, stores_from, stores_to}
 use Rattle.vault.specs.Moves.{CanLeave, Had}
-
-pub at_brand : (a : Amount) → in_brand a a.brand ≡ a.value.content
-at_brand a = ap (λ x. cond x a.value.content nothing) (eq-eqb a.brand a.brand refl)
-
-pub off_brand : (a : Amount) (e : ℕ) → a.brand ≢ e → in_brand a e ≡ nothing
-off_brand a e differs = ap (λ x. cond x a.value.content nothing) (ne_eqb a.brand e differs)
-
-pub in_no_amount : (b : ℕ) → in_brand no_amount b ≡ nothing
-in_no_amount b = elim (eqb 0 b) as (λ (x : Bool). cond x nothing nothing ≡ nothing) [ true ↦ refl | false ↦ refl ]
+use Rattle.vault.proofs.SlotRows.{at_brand, in_none, off_brand}
+use Rattle.vault.proofs.SlotMoves.{IsSlot, Meets, SeatsAgree, agree-given, agree-taken}
 
 pub less_itself : (c : Content) → difference c c ≡ nothing
 less_itself c = same_content _ _ (λ k. omega (arith, count-difference c c k, count-nothing k))
@@ -84,7 +80,7 @@ changes_spent s p made =
 
 -- a payment that wasn't made has nothing
 pub unmade : (s : Stores) (p b : ℕ) → length s.payments ≤ p → content_in s (Payment p) b ≡ nothing
-unmade s p b past = ap (λ (y : PaymentState). in_brand y.amount b) (get_or_past s.payments p no_payment past) ∙ in_no_amount b
+unmade s p b past = ap (λ (y : PaymentState). in_brand y.amount b) (get_or_past s.payments p no_payment past) ∙ in_none b
 
 -- the next payment is made
 pub changes_made : (s : Stores) (a : Amount) → Changes s (record s { payments = s.payments ++ live_with a ∷ [] }) (Payment (length s.payments)) a.brand a.value.content
@@ -101,7 +97,7 @@ changes_made s a = record {
           (ap (λ (y : PaymentState). in_brand y.amount e) (get_or_push s.payments (live_with a) no_payment (length s.payments) refl) ∙ off_brand a e differs ∙ sym (unmade s (length s.payments) e (omega arith)))
       | inr (inl below) ↦ ap (λ (y : PaymentState). in_brand y.amount e) (get_or_append_left s.payments (live_with a ∷ []) no_payment q below)
       | inr (inr above) ↦
-          ap (λ (y : PaymentState). in_brand y.amount e) (get_or_past (s.payments ++ live_with a ∷ []) q no_payment (omega (arith, length-append {A = PaymentState}))) ∙ in_no_amount e ∙ sym (unmade s q e (omega arith))
+          ap (λ (y : PaymentState). in_brand y.amount e) (get_or_past (s.payments ++ live_with a ∷ []) q no_payment (omega (arith, length-append {A = PaymentState}))) ∙ in_none e ∙ sym (unmade s q e (omega arith))
     ]
     elsewhere (Purse q) e apart = refl
     elsewhere (Slot seat keyword) e apart = refl
@@ -133,18 +129,29 @@ came s s' t h b c store agrees changes = record {
 }
 
 -- the supply is no store
-pub same_but_supply : (s s' : Stores) → s'.purses ≡ s.purses → s'.payments ≡ s.payments → (h : Holder) (e : ℕ) → content_in s' h e ≡ content_in s h e
-same_but_supply s s' p q (Purse n) e = ap (λ xs. in_brand (amount_at xs n) e) p
-same_but_supply s s' p q (Payment n) e = ap (λ xs. in_brand (payment_at xs n).amount e) q
-same_but_supply s s' p q (Slot seat keyword) e = refl
-same_but_supply s s' p q Hand e = refl
-same_but_supply s s' p q Outside e = refl
+pub same_but_supply : (s s' : Stores) → s'.purses ≡ s.purses → s'.payments ≡ s.payments → s'.seats ≡ s.seats → (h : Holder) (e : ℕ) → content_in s' h e ≡ content_in s h e
+same_but_supply s s' p q r (Purse n) e = ap (λ xs. in_brand (amount_at xs n) e) p
+same_but_supply s s' p q r (Payment n) e = ap (λ xs. in_brand (payment_at xs n).amount e) q
+same_but_supply s s' p q r (Slot seat keyword) e = ap (λ (xs : List SeatState). in_brand (slot_of xs seat keyword) e) r
+same_but_supply s s' p q r Hand e = refl
+same_but_supply s s' p q r Outside e = refl
+
+-- a slot is no other holder
+pub not_slot : (h : Holder) (n : ℕ) (k : List ℕ) (e b : ℕ) → (is_slot h ≡ false) → place h e ≢ place (Slot n k) b
+not_slot h n k e b other is =
+    let at : h ≡ Slot n k = ap (λ (p : Place). p.0) is in
+    let clash : is_slot h ≡ true = ap is_slot at in
+    let both : false ≡ true = sym other ∙ clash in
+    cc
+
+slots_agree : (s : Stores) (t : Table) → Agrees s t → SeatsAgree t s.seats
+slots_agree s t agrees = record { each = λ n k b. agrees.each (Slot n k) b refl }
 
 -- a value leaves a store, or the hand, or comes from outside
 abbrev pub Leaves : Stores → Holder → ℕ → Worth → Type 0
 Leaves s (Purse p) b w = CanLeave s (Purse p) b w
 Leaves s (Payment p) b w = CanLeave s (Payment p) b w
-Leaves s (Slot seat keyword) b w = ⊥
+Leaves s (Slot seat keyword) b w = CanLeave s (Slot seat keyword) b w
 Leaves s Hand b w = Unit {0}
 Leaves s Outside b w = CanLeave s Outside b w
 
@@ -161,17 +168,27 @@ Agrees-from s t (Payment p) b w agrees leaves =
     subst (λ e. Agrees (stores_from s (Payment p) b w.content) (taken t (Payment p) e w.content)) (ap (λ (y : Amount). y.brand) leaves.whole)
     (left s (stores_from s (Payment p) b w.content) t (Payment p) a.amount.brand w.content refl agrees
     (subst (Changes s (stores_from s (Payment p) b w.content) (Payment p) a.amount.brand) (sym (ap (λ y. difference y w.content) had ∙ less_itself w.content)) (changes_spent s p leaves.made)))
-Agrees-from s t (Slot seat keyword) b w agrees leaves = absurd leaves
+Agrees-from s t (Slot seat keyword) b w agrees leaves = record { each = at }
+  where
+    seats : SeatsAgree (taken t (Slot seat keyword) b w.content) (seats_from s.seats (Slot seat keyword) w.content)
+    seats = agree-taken t s.seats seat keyword b w.content (record { made = leaves.made; there = leaves.there; brand = leaves.brand }) (slots_agree s t agrees)
+
+    at : (g : Holder) (e : ℕ) → is_store g ≡ true → holds (taken t (Slot seat keyword) b w.content) g e ≡ content_in (stores_from s (Slot seat keyword) b w.content) g e
+    at (Purse p) e is = holds-taken_other t b w.content (Slot seat keyword) (Purse p) e (not_slot (Purse p) seat keyword e b refl) ∙ agrees.each (Purse p) e is
+    at (Payment p) e is = holds-taken_other t b w.content (Slot seat keyword) (Payment p) e (not_slot (Payment p) seat keyword e b refl) ∙ agrees.each (Payment p) e is
+    at (Slot n k) e is = seats.each n k e
+    at Hand e is = absurd (cc is)
+    at Outside e is = absurd (cc is)
 Agrees-from s t Hand b w agrees leaves = record { each = λ g e is. holds-taken_other t b w.content Hand g e (not_hand g e b is) ∙ agrees.each g e is }
 Agrees-from s t Outside b w agrees leaves = record {
-  each = λ g e is. ap (λ u. holds u g e) (taken_outside t b w.content) ∙ agrees.each g e is ∙ sym (same_but_supply s (stores_from s Outside b w.content) refl refl g e);
+  each = λ g e is. ap (λ u. holds u g e) (taken_outside t b w.content) ∙ agrees.each g e is ∙ sym (same_but_supply s (stores_from s Outside b w.content) refl refl refl g e);
 }
 
 -- a parcel comes to a store, or the hand, or goes outside
 abbrev pub Comes : Stores → Holder → Amount → Type 0
 Comes s (Purse p) a = (p < length s.purses) × ((amount_at s.purses p).brand ≡ a.brand)
 Comes s (Payment p) a = p ≡ length s.payments
-Comes s (Slot seat keyword) a = ⊥
+Comes s (Slot seat keyword) a = Meets s.seats seat keyword a.brand
 Comes s Hand a = Unit {0}
 Comes s Outside a = Unit {0}
 
@@ -188,10 +205,20 @@ Agrees-to s t (Payment p) a agrees comes =
     subst (λ n. Agrees (stores_to s (Payment n) a) (given t (Payment n) a.brand a.value.content)) (sym comes)
     (came s (stores_to s (Payment next) a) t (Payment next) a.brand a.value.content refl agrees
     (subst (Changes s (stores_to s (Payment next) a) (Payment next) a.brand) (sym (ap (λ y. sum y a.value.content) none ∙ sum-comm nothing a.value.content ∙ sum-nothing a.value.content)) (changes_made s a)))
-Agrees-to s t (Slot seat keyword) a agrees comes = absurd comes
+Agrees-to s t (Slot seat keyword) a agrees comes = record { each = at }
+  where
+    seats : SeatsAgree (given t (Slot seat keyword) a.brand a.value.content) (seats_to s.seats (Slot seat keyword) a)
+    seats = agree-given t s.seats seat keyword a comes (slots_agree s t agrees)
+
+    at : (g : Holder) (e : ℕ) → is_store g ≡ true → holds (given t (Slot seat keyword) a.brand a.value.content) g e ≡ content_in (stores_to s (Slot seat keyword) a) g e
+    at (Purse p) e is = holds-given_other t a.brand a.value.content (Slot seat keyword) (Purse p) e (not_slot (Purse p) seat keyword e a.brand refl) ∙ agrees.each (Purse p) e is
+    at (Payment p) e is = holds-given_other t a.brand a.value.content (Slot seat keyword) (Payment p) e (not_slot (Payment p) seat keyword e a.brand refl) ∙ agrees.each (Payment p) e is
+    at (Slot n k) e is = seats.each n k e
+    at Hand e is = absurd (cc is)
+    at Outside e is = absurd (cc is)
 Agrees-to s t Hand a agrees comes = record { each = λ g e is. holds-given_other t a.brand a.value.content Hand g e (not_hand g e a.brand is) ∙ agrees.each g e is }
 Agrees-to s t Outside a agrees comes = record {
-  each = λ g e is. ap (λ u. holds u g e) (given_outside t a.brand a.value.content) ∙ agrees.each g e is ∙ sym (same_but_supply s (stores_to s Outside a) refl refl g e);
+  each = λ g e is. ap (λ u. holds u g e) (given_outside t a.brand a.value.content) ∙ agrees.each g e is ∙ sym (same_but_supply s (stores_to s Outside a) refl refl refl g e);
 }
 
 -- what leaves a holder inside was there
@@ -204,6 +231,9 @@ Contains-leaves s t (Payment p) b w agrees leaves had inside =
     let a = (payment_at s.payments p).amount in
     let there : holds t (Payment p) b ≡ w.content = agrees.each (Payment p) b refl ∙ ap (λ y. in_brand y b) leaves.whole ∙ at_brand (record { brand = b; value = w }) in
     subst (λ x. Contains x w.content) (sym there) (Contains-refl w.content)
-Contains-leaves s t (Slot seat keyword) b w agrees leaves had inside = absurd leaves
+Contains-leaves s t (Slot seat keyword) b w agrees leaves had inside =
+    let a = slot_of s.seats seat keyword in
+    let there : holds t (Slot seat keyword) b ≡ a.value.content = agrees.each (Slot seat keyword) b refl ∙ ap (in_brand a) (sym leaves.brand) ∙ at_brand a in
+    subst (λ x. Contains x w.content) (sym there) had
 Contains-leaves s t Hand b w agrees leaves had inside = absurd leaves
 Contains-leaves s t Outside b w agrees leaves had inside = absurd (inside refl)

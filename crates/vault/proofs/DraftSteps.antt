@@ -13,11 +13,12 @@ use Rattle.rights_model.proofs.TableLaws.{same_table, outside_after}
 use Rattle.rights_model.proofs.SupplyLaws.{stores_hold_all}
 use Rattle.vault.specs.declared.stores.Stores.{Stores}
 use Rattle.vault.specs.Vaults.{VaultState, kind_of, out_of}
-use Rattle.vault.specs.Drafts.{HandIsEmpty}
+use Rattle.vault.specs.Drafts.{HandIsEmpty, mark}
 use Rattle.vault.specs.Stored.{content_in, state_of, table_of, IsVaultInside, IsDraftInside}
-use Rattle.vault.proofs.Contents.{in_no_amount}
+use Rattle.vault.proofs.SlotRows.{in_none}
 use Rattle.vault.proofs.Supplies.{out_at}
-use Rattle.vault.proofs.KindsKept.{purses_made, payments_made}
+use Rattle.std.proofs.lemmas.List.{length-map}
+use Rattle.vault.proofs.KindsKept.{purses_made, payments_made, seats_are}
 use Rattle.vault.proofs.Covered.{holds-table_of}
 use Rattle.vault.proofs.Movings.{draft_of}
 
@@ -38,6 +39,7 @@ begins s is = record {
     unspoiled = λ _ b k. omega (arith, all_out s is b k);
     purses = is.sound.purses;
     payments = is.sound.payments;
+    seats = is.sound.seats;
   };
   agrees = record { each = λ h b store. holds-table_of s h b };
   kinds = is.kinds;
@@ -62,8 +64,8 @@ module _ (v : VaultState) (s : Stores) (ms : List Movement) (u : Bool) (is : IsD
       at (Purse n) b = sym (is.agrees.each (Purse n) b refl)
       at (Payment n) b = sym (is.agrees.each (Payment n) b refl)
       at (Slot seat keyword) b = sym (is.agrees.each (Slot seat keyword) b refl)
-      at Hand b = in_no_amount b ∙ sym (hand_is_nothing b)
-      at Outside b = in_no_amount b ∙ sym (outside_after v.table ms b ∙ is.draft.sound.outside b)
+      at Hand b = in_none b ∙ sym (hand_is_nothing b)
+      at Outside b = in_none b ∙ sym (outside_after v.table ms b ∙ is.draft.sound.outside b)
 
   pub commits : IsVaultInside s
   commits = record {
@@ -73,9 +75,10 @@ module _ (v : VaultState) (s : Stores) (ms : List Movement) (u : Bool) (is : IsD
         hand_empty = hand_is_nothing;
         bounded = is.draft.bounded;
       });
-      outside = λ b. holds-table_of s Outside b ∙ in_no_amount b;
+      outside = λ b. holds-table_of s Outside b ∙ in_none b;
       purses = purses_made s (table_of s) is.kinds;
       payments = payments_made s (table_of s) is.kinds;
+      seats = seats_are s (table_of s) (record { each = λ h b store. holds-table_of s h b }) is.kinds (omega (arith, is.draft.seats.payouts, length-map s.payments mark));
     };
     kinds = is.kinds;
   }
@@ -85,7 +88,7 @@ module _ (v : VaultState) (s : Stores) (ms : List Movement) (u : Bool) (is : IsD
 
 -- ---- a vault with nothing
 
-pub new_stores : IsVaultInside (record { supply = []; purses = []; payments = [] })
+pub new_stores : IsVaultInside (record { supply = []; purses = []; payments = []; seats = [] })
 new_stores = record {
   sound = record {
     balanced = record {
@@ -96,6 +99,7 @@ new_stores = record {
     outside = λ b. at-empty holdings (place Outside b);
     purses = λ p made. absurd (omega arith);
     payments = λ p made. absurd (omega arith);
+    seats = record { table = λ n k b. at-empty holdings (place (Slot n k) b) ∙ sym (in_none b); kinds = λ n made. absurd (omega arith); payouts = omega arith };
   };
-  kinds = record { purses = λ p made. absurd (omega arith); payments = λ p made. absurd (omega arith) };
+  kinds = record { purses = λ p made. absurd (omega arith); payments = λ p made. absurd (omega arith); seats = λ n made. absurd (omega arith) };
 }

@@ -7,7 +7,7 @@ use Rattle.amount_math.specs.Totals.{total-empty}
 use Rattle.amount_math.specs.declared.Kind.{Kind}
 use Rattle.amount_math.specs.declared.Kind.TheVariants.{Set}
 use Rattle.ertp_mint.specs.BrandSupply.{BrandSupply, new_supply}
-use Rattle.rights_model.specs.declared.Holder.TheVariants.{Purse, Payment, Hand, Outside}
+use Rattle.rights_model.specs.declared.Holder.TheVariants.{Purse, Payment, Slot, Hand, Outside}
 use Rattle.rights_model.specs.declared.Movement.{Movement}
 use Rattle.rights_model.specs.Place.{place}
 use Rattle.rights_model.specs.Table.{holdings, holds}
@@ -15,7 +15,8 @@ use Rattle.rights_model.specs.Supply.{is_inside, is_store, share_of, total_of}
 use Rattle.rights_model.proofs.SupplyLaws.{stores_hold_all}
 use Rattle.rights_model.proofs.TableLaws.{outside_after}
 use Rattle.vault.specs.Brands.{first_brands, most_brands}
-use Rattle.vault.specs.Vaults.{first_vault, VaultState, out_of, IsSound}
+use Rattle.amount_math.specs.declared.Amount.{Amount}
+use Rattle.vault.specs.Vaults.{first_vault, VaultState, out_of, IsOfKind, IsSound}
 use Rattle.vault.specs.Drafts.{DraftState, HandIsEmpty, IsDraft, begun, with_brand, with_purse}
 use Rattle.vault.specs.Worlds.{CanAdd, CanDo, CanDoAll, CanOpen, Effect, IsOrdinary, IsValid, after, after_all, begins, move, new_brand, new_purse}
 use Rattle.rights_model.specs.Totals.{is_payment, is_purse, is_slot}
@@ -23,7 +24,9 @@ use Rattle.vault.specs.declared.brands.Brand.{Brand}
 use Rattle.vault.specs.declared.world.World.{World}
 use Rattle.vault.proofs.Numbered.{held-empty}
 use Rattle.vault.proofs.OrdinaryKept.{IsOrdinary-added, IsOrdinary-moved, IsOrdinary-opened, each_push}
-use Rattle.vault.proofs.Supplies.{out_at-added, Fits-added}
+use Rattle.vault.proofs.SlotRows.{in_none}
+use Rattle.vault.proofs.SlotMoves.{of_kind-supplies}
+use Rattle.vault.proofs.Supplies.{out_at-added, Fits-added, kind_at-added}
 use Rattle.vault.proofs.Transferred.{HandIsEmpty-stepped, IsDraft-stepped, brands_made}
 
 -- ---- a purse is opened, a brand is added
@@ -39,6 +42,7 @@ IsDraft-opened d b made is = record {
   unspoiled = is.unspoiled;
   purses = each_push (λ e. e < length d.now.supplies) d.now.purses b is.purses made;
   payments = is.payments;
+  seats = record { table = is.seats.table; kinds = is.seats.kinds; payouts = is.seats.payouts };
 }
 
 IsDraft-added : (d : DraftState) (kind : Kind) → IsDraft d → IsDraft (with_brand d kind)
@@ -52,7 +56,15 @@ IsDraft-added d kind is = record {
   unspoiled = λ whole b k. omega (arith, is.unspoiled whole b k, ap (λ c. count c k) (out_at-added d.now.supplies kind b));
   purses = λ p made. omega (arith, is.purses p made, length-append {A = BrandSupply});
   payments = λ p made. omega (arith, is.payments p made, length-append {A = BrandSupply});
+  seats = record {
+    table = is.seats.table;
+    kinds = (of_kind-supplies d.now.supplies (d.now.supplies ++ new_supply kind ∷ []) d.now.seats of_kind (record { each = is.seats.kinds })).each;
+    payouts = is.seats.payouts;
+  };
 }
+  where
+    of_kind : (a : Amount) → IsOfKind d.now.supplies a → IsOfKind (d.now.supplies ++ new_supply kind ∷ []) a
+    of_kind a one = record { made = omega (arith, one.made, length-append {A = BrandSupply}); kind = one.kind ∙ sym (kind_at-added d.now.supplies kind a.brand one.made) }
 
 -- ---- an effect
 
@@ -83,7 +95,7 @@ valid-move w m can valid = record {
   unspoiled = valid.unspoiled;
   brands = valid.brands ∙ sym (brands_made w.draft.now m);
   few = valid.few;
-  ordinary = IsOrdinary-moved w.draft.now m can valid.ordinary;
+  ordinary = IsOrdinary-moved w.draft.now m can valid.draft.seats valid.ordinary;
 }
 
 pub valid-after : (w : World) (e : Effect) → CanDo w e → IsValid w → IsValid (after w e)
@@ -133,6 +145,7 @@ IsDraft-begun v is = record {
   unspoiled = λ _ b k. omega (arith, all_out b k);
   purses = is.purses;
   payments = is.payments;
+  seats = is.seats;
 }
   where
     all_out : (b : ℕ) (k : List ℕ) → count (out_of v b) k ≡ total_of is_inside v.table b k
@@ -165,6 +178,7 @@ sound_at_end d is empty whole = record {
   outside = λ b. ap (λ t. holds t Outside b) is.follows ∙ outside_after d.kept.table d.movements b ∙ is.sound.outside b;
   purses = is.purses;
   payments = is.payments;
+  seats = is.seats;
 }
   where
     hand_is_nothing : (b : ℕ) → holds d.now.table Hand b ≡ nothing
@@ -188,12 +202,12 @@ first_sound = record {
   outside = λ b. at-empty holdings (place Outside b);
   purses = λ p made. absurd (omega arith);
   payments = λ p made. absurd (omega arith);
+  seats = record { table = λ n k b. at-empty holdings (place (Slot n k) b) ∙ sym (in_none b); kinds = λ n made. absurd (omega arith); payouts = omega arith };
 }
 
 first_ordinary : IsOrdinary first_vault
 first_ordinary = record {
   purses = λ p made. absurd (omega arith);
-  payments = λ p made. absurd (omega arith);
   fresh = record {
     purses = λ p b past. at-empty holdings (place (Purse p) b);
     payments = λ p b past. at-empty holdings (place (Payment p) b);

@@ -1,5 +1,5 @@
 -- After a movement each purse and payment is still of a brand that was made, and of its kind.
-use Rattle.std.proofs.Common.{◌≡◌, ℕ, ◌<◌, List, [], ◌∷◌, ◌++◌, length, inl, inr, refl, sym, ◌∙◌, ap, subst, arith, length-append}
+use Rattle.std.proofs.Common.{◌≡◌, ℕ, ◌<◌, ◌≤◌, ◌+◌, List, [], ◌∷◌, ◌++◌, length, inl, inr, refl, sym, ◌∙◌, ap, subst, arith, length-append}
 use Rattle.std.proofs.lemmas.Bool.{cases_order}
 use Rattle.std.proofs.lemmas.List.{length-set, get_or_push, get_or_append_left, length-map}
 use Rattle.std.proofs.Math.ListN.{get_or-map}
@@ -15,11 +15,22 @@ use Rattle.vault.specs.declared.stores.Stores.{Stores}
 use Rattle.vault.specs.Purses.{amount_at}
 use Rattle.ertp_mint.specs.Stocks.{no_amount}
 use Rattle.vault.specs.Payments.{PaymentState, no_payment, payment_at, live_with, spent}
-use Rattle.vault.specs.Vaults.{PaymentMark, brand_of}
+use Rattle.ertp_mint.specs.Stocks.{most_made}
+use Rattle.seats.specs.Seats.{open_slots}
+use Rattle.vault.specs.Vaults.{PaymentMark, brand_of, AreSeats, IsOfKind}
 use Rattle.vault.specs.Drafts.{mark}
-use Rattle.vault.specs.Stored.{state_of, IsOfKind, AreOfKind, stores_from, stores_to}
+use Rattle.vault.specs.Stored.{state_of, Agrees, AreOfKind, stores_from, stores_to}
 use Rattle.vault.proofs.Lists.{get_or-set_seen}
+use Rattle.vault.proofs.SlotMoves.{SeatsOfKind, of_kind-given, of_kind-supplies, of_kind-taken}
 use Rattle.vault.proofs.Supplies.{kind_at, kind_at-from, kind_at-to}
+
+-- the seat of a slot was made
+abbrev pub SlotMade : Stores → Holder → Type 0
+SlotMade s (Slot seat keyword) = seat < length s.seats
+SlotMade s (Purse p) = Unit {0}
+SlotMade s (Payment p) = Unit {0}
+SlotMade s Hand = Unit {0}
+SlotMade s Outside = Unit {0}
 
 -- what f sees of each purse is as before, where it doesn't see the content
 module _ {Y : Type 0} (f : Amount → Y) (blind : (a : Amount) (c : Content) → f (holding a c) ≡ f a) where
@@ -107,12 +118,37 @@ kind_in a = a.value.kind
 abbrev pub brand_in : Amount → ℕ
 brand_in a = a.brand
 
-pub AreOfKind-from : (s : Stores) (h : Holder) (b : ℕ) (c : Content) → AreOfKind s → AreOfKind (stores_from s h b c)
-AreOfKind-from s h b c are = record {
+-- the slots of seats
+abbrev kept_kinds : Stores → Stores → Type 0
+kept_kinds s s' = (a : Amount) → IsOfKind s.supply a → IsOfKind s'.supply a
+
+kinds_stay-from : (s : Stores) (h : Holder) (b : ℕ) (c : Content) → kept_kinds s (stores_from s h b c)
+kinds_stay-from s h b c a is = of_kind s.supply (stores_from s h b c).supply a a (brands_made-from s h b c) (kinds-from s h b c) refl refl is
+
+kinds_stay-to : (s : Stores) (h : Holder) (a : Amount) → kept_kinds s (stores_to s h a)
+kinds_stay-to s h a x is = of_kind s.supply (stores_to s h a).supply x x (brands_made-to s h a) (kinds-to s h a) refl refl is
+
+slots-from : (s : Stores) (h : Holder) (b : ℕ) (c : Content) → SlotMade s h → SeatsOfKind s.supply s.seats → SeatsOfKind s.supply (stores_from s h b c).seats
+slots-from s (Slot n k) b c made are = of_kind-taken s.supply s.seats n k c made are
+slots-from s (Purse p) b c made are = are
+slots-from s (Payment p) b c made are = are
+slots-from s Hand b c made are = are
+slots-from s Outside b c made are = are
+
+slots-to : (s : Stores) (h : Holder) (a : Amount) → SlotMade s h → IsOfKind s.supply a → SeatsOfKind s.supply s.seats → SeatsOfKind s.supply (stores_to s h a).seats
+slots-to s (Slot n k) a made is are = of_kind-given s.supply s.seats n k a made is are
+slots-to s (Purse p) a made is are = are
+slots-to s (Payment p) a made is are = are
+slots-to s Hand a made is are = are
+slots-to s Outside a made is are = are
+
+pub AreOfKind-from : (s : Stores) (h : Holder) (b : ℕ) (c : Content) → SlotMade s h → AreOfKind s → AreOfKind (stores_from s h b c)
+AreOfKind-from s h b c slot are = record {
   purses = λ p made. of_kind s.supply (stores_from s h b c).supply (amount_at s.purses p) (amount_at (stores_from s h b c).purses p) (brands_made-from s h b c) (kinds-from s h b c)
       (purse-from brand_in (λ _ _. refl) s h b c p) (purse-from kind_in (λ _ _. refl) s h b c p) (are.purses p (omega (arith, purses_made-from s h b c)));
   payments = λ p made. of_kind s.supply (stores_from s h b c).supply (payment_at s.payments p).amount (payment_at (stores_from s h b c).payments p).amount (brands_made-from s h b c) (kinds-from s h b c)
       (payment-from brand_in (λ _ _. refl) s h b c p) (payment-from kind_in (λ _ _. refl) s h b c p) (are.payments p (omega (arith, payments_made-from s h b c)));
+  seats = (of_kind-supplies s.supply (stores_from s h b c).supply (stores_from s h b c).seats (kinds_stay-from s h b c) (slots-from s h b c slot (record { each = are.seats }))).each;
 }
 
 payments-to : (s : Stores) (h : Holder) (a : Amount) → AreOfKind s → IsOfKind s.supply a → (p : ℕ) → p < length (stores_to s h a).payments → IsOfKind (stores_to s h a).supply (payment_at (stores_to s h a).payments p).amount
@@ -127,11 +163,20 @@ payments-to s Hand a are is p made = are.payments p made
 payments-to s Outside a are is p made =
     of_kind s.supply (stores_to s Outside a).supply (payment_at s.payments p).amount (payment_at s.payments p).amount (brands_made-to s Outside a) (kinds-to s Outside a) refl refl (are.payments p made)
 
-pub AreOfKind-to : (s : Stores) (h : Holder) (a : Amount) → AreOfKind s → IsOfKind s.supply a → AreOfKind (stores_to s h a)
-AreOfKind-to s h a are is = record {
+pub AreOfKind-to : (s : Stores) (h : Holder) (a : Amount) → SlotMade s h → AreOfKind s → IsOfKind s.supply a → AreOfKind (stores_to s h a)
+AreOfKind-to s h a slot are is = record {
   purses = λ p made. of_kind s.supply (stores_to s h a).supply (amount_at s.purses p) (amount_at (stores_to s h a).purses p) (brands_made-to s h a) (kinds-to s h a)
       (purse-to brand_in (λ _ _. refl) s h a p) (purse-to kind_in (λ _ _. refl) s h a p) (are.purses p (omega (arith, purses_made-to s h a)));
   payments = payments-to s h a are is;
+  seats = (of_kind-supplies s.supply (stores_to s h a).supply (stores_to s h a).seats (kinds_stay-to s h a) (slots-to s h a slot is (record { each = are.seats }))).each;
+}
+
+-- what holds of the seats of a vault
+pub seats_are : (s : Stores) (t : Table) → Agrees s t → AreOfKind s → length s.payments + open_slots s.seats ≤ most_made → AreSeats (state_of s t)
+seats_are s t agrees kinds left = record {
+  table = λ n k b. agrees.each (Slot n k) b refl;
+  kinds = kinds.seats;
+  payouts = omega (arith, left, length-map s.payments mark);
 }
 
 -- so their brands were made

@@ -1,4 +1,6 @@
 pub mod Lists
+pub mod SlotRows
+pub mod SlotMoves
 pub mod Contents
 pub mod Supplies
 pub mod KindsKept
@@ -19,12 +21,9 @@ pub mod Placed
 pub mod Totalled
 pub mod Numbered
 pub mod Transferred
+pub mod SeatSteps
 pub mod OrdinaryKept
 pub mod EffectsValid
 pub mod LabelsApart
-pub mod ValueTrees
 pub mod StoreReads
-pub mod Feeds
-pub mod ReadBack
-pub mod Writable
 pub mod OrderedRead

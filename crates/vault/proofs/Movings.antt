@@ -20,11 +20,13 @@ use Rattle.vault.specs.declared.stores.Stores.{Stores}
 use Rattle.vault.specs.Purses.{amount_at}
 use Rattle.ertp_mint.specs.Stocks.{no_amount}
 use Rattle.vault.specs.Payments.{no_payment, payment_at, live_with, spent}
-use Rattle.vault.specs.Vaults.{VaultState, PaymentMark, supplies_from, supplies_to, payments_from, payments_to, after_move}
+use Rattle.ertp_mint.specs.Stocks.{most_made}
+use Rattle.seats.specs.Seats.{open_slots}
+use Rattle.vault.specs.Vaults.{VaultState, PaymentMark, amount_moved, seats_from, seats_to, supplies_from, supplies_to, payments_from, payments_to, after_move}
 use Rattle.vault.specs.Drafts.{DraftState, in_hand, given_up, stepped, mark}
 use Rattle.vault.specs.Stored.{state_of, Agrees, IsDraftInside, stores_from, stores_to}
 use Rattle.vault.proofs.Contents.{Leaves, Comes, Agrees-from, Agrees-to}
-use Rattle.vault.proofs.KindsKept.{brand_in, AreOfKind-from, AreOfKind-to, brands_made-from, kinds-from, purses_made, payments_made}
+use Rattle.vault.proofs.KindsKept.{SlotMade, brand_in, AreOfKind-from, AreOfKind-to, brands_made-from, kinds-from, purses_made, payments_made, seats_are}
 use Rattle.vault.proofs.Supplies.{out_at, kind_at, out_at-from, out_at-to, Fits-from, Fits-to}
 
 -- ---- the lists that a vault is
@@ -59,6 +61,20 @@ payments-to s (Slot seat keyword) a = refl
 payments-to s Hand a = refl
 payments-to s Outside a = refl
 
+pub seats-from : (s : Stores) (h : Holder) (b : ℕ) (c : Content) → (stores_from s h b c).seats ≡ seats_from s.seats h c
+seats-from s (Purse p) b c = refl
+seats-from s (Payment p) b c = refl
+seats-from s (Slot seat keyword) b c = refl
+seats-from s Hand b c = refl
+seats-from s Outside b c = refl
+
+pub seats-to : (s : Stores) (h : Holder) (a : Amount) → (stores_to s h a).seats ≡ seats_to s.seats h a
+seats-to s (Purse p) a = refl
+seats-to s (Payment p) a = refl
+seats-to s (Slot seat keyword) a = refl
+seats-to s Hand a = refl
+seats-to s Outside a = refl
+
 pub supply-from : (s : Stores) (h : Holder) (b : ℕ) (c : Content) → (stores_from s h b c).supply ≡ supplies_from s.supply h b c
 supply-from s (Purse p) b c = refl
 supply-from s (Payment p) b c = refl
@@ -73,10 +89,6 @@ supply-to s (Slot seat keyword) a = refl
 supply-to s Hand a = refl
 supply-to s Outside a = refl
 
--- what is moved
-abbrev pub amount_moved : Movement → Amount
-amount_moved m = record { brand = m.brand; value = m.value }
-
 -- the stores after a movement
 abbrev pub stores_moved : Stores → Movement → Stores
 stores_moved s m = stores_to (stores_from s m.from m.brand m.value.content) m.to (amount_moved m)
@@ -86,8 +98,25 @@ state_of-moved s t m = λ i. record {
   supplies = (supply-to (stores_from s m.from m.brand m.value.content) m.to (amount_moved m) ∙ ap (λ ss. supplies_to ss m.to m.brand m.value.content) (supply-from s m.from m.brand m.value.content)) i;
   purses = (purses-to (stores_from s m.from m.brand m.value.content) m.to (amount_moved m) ∙ purses-from s m.from m.brand m.value.content) i;
   payments = (payments-to (stores_from s m.from m.brand m.value.content) m.to (amount_moved m) ∙ ap (λ ps. payments_to ps m.to m.brand) (payments-from s m.from m.brand m.value.content)) i;
+  seats = (seats-to (stores_from s m.from m.brand m.value.content) m.to (amount_moved m) ∙ ap (λ ss. seats_to ss m.to (amount_moved m)) (seats-from s m.from m.brand m.value.content)) i;
   table = moved t m;
 }
+
+-- ---- the seats of slots
+
+leaves_made : (s : Stores) (h : Holder) (b : ℕ) (w : Worth) → Leaves s h b w → SlotMade s h
+leaves_made s (Purse p) b w leaves = tt
+leaves_made s (Payment p) b w leaves = tt
+leaves_made s (Slot seat keyword) b w leaves = leaves.made
+leaves_made s Hand b w leaves = tt
+leaves_made s Outside b w leaves = tt
+
+comes_made : (s : Stores) (h : Holder) (a : Amount) → Comes s h a → SlotMade s h
+comes_made s (Purse p) a comes = tt
+comes_made s (Payment p) a comes = tt
+comes_made s (Slot seat keyword) a comes = comes.made
+comes_made s Hand a comes = tt
+comes_made s Outside a comes = tt
 
 -- ---- a draft, by its stores
 
@@ -105,7 +134,7 @@ fits_leaves : (s : Stores) (h : Holder) (b : ℕ) (w : Worth) → w.kind ≡ kin
 fits_leaves s Outside b w kind leaves is = subst (λ (k : Kind). Fits k (sum (out_at s.supply b) w.content)) kind leaves.fits
 fits_leaves s (Purse p) b w kind leaves is = absurd (cc is)
 fits_leaves s (Payment p) b w kind leaves is = absurd (cc is)
-fits_leaves s (Slot seat keyword) b w kind leaves is = absurd leaves
+fits_leaves s (Slot seat keyword) b w kind leaves is = absurd (cc is)
 fits_leaves s Hand b w kind leaves is = absurd (cc is)
 
 -- what a movement needs of the stores and the hand
@@ -116,6 +145,7 @@ pub record CanStep (v : VaultState) (s : Stores) (ms : List Movement) (u : Bool)
   pub leaves : Leaves s m.from m.brand m.value
   pub comes : Comes (stores_from s m.from m.brand m.value.content) m.to (amount_moved m)
   pub out : m.to ≡ Outside → Contains (out_at (supplies_from s.supply m.from m.brand m.value.content) m.brand) m.value.content
+  pub left : length (stores_moved s m).payments + open_slots (stores_moved s m).seats ≤ most_made
   pub hand : (b : ℕ) (k : List ℕ) → share_of is_hand b k (place m.from m.brand) m.value.content + given_up (draft_of v s ms u) b k ≤ count (in_hand (draft_of v s ms u) b) k
 
 module _ (v : VaultState) (s : Stores) (ms : List Movement) (u : Bool) (m : Movement) (is : IsDraftInside s (draft_of v s ms u)) (step : CanStep v s ms u m) where
@@ -150,10 +180,14 @@ module _ (v : VaultState) (s : Stores) (ms : List Movement) (u : Bool) (m : Move
 
   pub step_keeps : IsDraftInside (stores_moved s m) (draft_of v (stores_moved s m) (ms ++ m ∷ []) u)
   step_keeps =
-      let kinds = AreOfKind-to (stores_from s m.from m.brand m.value.content) m.to (amount_moved m) (AreOfKind-from s m.from m.brand m.value.content is.kinds) (record {
+      let kinds = AreOfKind-to (stores_from s m.from m.brand m.value.content) m.to (amount_moved m) (comes_made (stores_from s m.from m.brand m.value.content) m.to (amount_moved m) step.comes)
+      (AreOfKind-from s m.from m.brand m.value.content (leaves_made s m.from m.brand m.value step.leaves) is.kinds) (record {
         made = subst (λ ss. m.brand < length ss) (sym (supply-from s m.from m.brand m.value.content)) made_from;
         kind = step.kind ∙ sym (kinds-from s m.from m.brand m.value.content m.brand);
       }) in
+      let agrees : Agrees (stores_moved s m) (table_after v.table (ms ++ m ∷ [])) = subst (Agrees (stores_moved s m)) (sym (table_after-push v.table ms m))
+      (Agrees-to (stores_from s m.from m.brand m.value.content) (taken (table_after v.table ms) m.from m.brand m.value.content) m.to (amount_moved m)
+      (Agrees-from s (table_after v.table ms) m.from m.brand m.value is.agrees step.leaves) step.comes) in
       record {
         draft = record {
           sound = is.draft.sound;
@@ -174,9 +208,8 @@ module _ (v : VaultState) (s : Stores) (ms : List Movement) (u : Bool) (m : Move
           unspoiled = λ whole b k. given_up_moved b k ∙ is.draft.unspoiled whole b k;
           purses = purses_made (stores_moved s m) (table_after v.table (ms ++ m ∷ [])) kinds;
           payments = payments_made (stores_moved s m) (table_after v.table (ms ++ m ∷ [])) kinds;
+          seats = seats_are (stores_moved s m) (table_after v.table (ms ++ m ∷ [])) agrees kinds step.left;
         };
-        agrees = subst (Agrees (stores_moved s m)) (sym (table_after-push v.table ms m))
-            (Agrees-to (stores_from s m.from m.brand m.value.content) (taken (table_after v.table ms) m.from m.brand m.value.content) m.to (amount_moved m)
-            (Agrees-from s (table_after v.table ms) m.from m.brand m.value is.agrees step.leaves) step.comes);
+        agrees = agrees;
         kinds = kinds;
       }

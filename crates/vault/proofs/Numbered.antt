@@ -44,6 +44,10 @@ full_weight is h b e x one = ap (λ y. cond (y && (eqb b e)) (counted x) 0) one
 pub held-put_elsewhere : (is : Holder → Bool) (t : Table) (h : Holder) (b : ℕ) (x : Content) (e : ℕ) → is h ≡ false → held_over is (put holdings t (h, b) x) e ≡ held_over is t e
 held-put_elsewhere is t h b x e other = omega (arith, held-put is t h b x e, no_weight is h b e (holds t h b) other, no_weight is h b e x other)
 
+-- and one of these has what is put in place of what it had
+pub held-put_here : (is : Holder → Bool) (t : Table) (h : Holder) (b : ℕ) (x : Content) (e : ℕ) → is h ≡ true → held_over is (put holdings t (h, b) x) e + cond (eqb b e) (counted (holds t h b)) 0 ≡ held_over is t e + cond (eqb b e) (counted x) 0
+held-put_here is t h b x e one = omega (arith, held-put is t h b x e, full_weight is h b e (holds t h b) one, full_weight is h b e x one)
+
 -- an empty table has nothing
 pub held-empty : (is : Holder → Bool) (e : ℕ) → held_over is no_holdings e ≡ 0
 unfolding held_over

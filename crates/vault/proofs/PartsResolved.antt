@@ -5,16 +5,16 @@ use Rattle.std.specs.Result.{IsErrAnd}
 use Rattle.jessie_tree.specs.Tree.{Tree, array, fields, Items, item, no_items, Fields, field, no_fields}
 use Rattle.jessie_tree.specs.declared.data.Data.{Data}
 use Rattle.jessie_tree.specs.View as views
-use Rattle.vault.specs.Outcomes.{Fails, Gives, bind}
+use Rattle.call_data.specs.Outcomes.{Fails, Gives, bind}
 use Rattle.vault.specs.Parties.{Labels, resolved, resolved_all, resolved_fields}
 use Rattle.vault.specs.Parts as part
 use Rattle.vault.specs.Parts.{PartTree, PartItems, PartFields}
 use Rattle.vault.specs.PartViews.{fields_of, items_of, named_part_trees, part_tree, part_trees}
 use Rattle.vault.specs.declared.parts.Part.{Part}
 use Rattle.vault.specs.declared.parts.Part as P
-use Rattle.vault.specs.declared.refusals.Refusal.{Refusal}
-use Rattle.vault.specs.declared.refusals.Stop.{Stop}
-use Rattle.vault.specs.declared.refusals.Stop.TheVariants.{NoMemory, Refused}
+use Rattle.call_data.specs.declared.refusals.Refusal.{Refusal}
+use Rattle.call_data.specs.declared.refusals.Stop.{Stop}
+use Rattle.call_data.specs.declared.refusals.Stop.TheVariants.{NoMemory, Refused}
 
 -- the items behind those that are there
 abbrev before : List Tree → Items → Items

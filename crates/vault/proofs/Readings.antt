@@ -15,13 +15,16 @@ use Rattle.vault.specs.declared.stores.Stores.{Stores}
 use Rattle.vault.specs.Purses.{amount_at}
 use Rattle.ertp_mint.specs.Stocks.{no_amount, empty_amount}
 use Rattle.vault.specs.Payments.{no_payment, payment_at}
-use Rattle.vault.specs.Vaults.{VaultState, PaymentMark, amount_of}
+use Rattle.vault.specs.Vaults.{VaultState, PaymentMark, amount_of, in_brand, slot_of, AreSeats, IsOfKind}
 use Rattle.vault.specs.Drafts.{DraftState, ArePurses, ArePayments, KeepsHand, with_purse, with_brand, mark}
-use Rattle.vault.specs.Stored.{in_brand, content_in, state_of, table_of, Agrees, IsOfKind, AreOfKind, IsDraftInside}
-use Rattle.vault.proofs.Contents.{at_brand, in_no_amount, same_but_supply}
+use Rattle.vault.specs.Stored.{content_in, state_of, table_of, Agrees, AreOfKind, IsDraftInside}
+use Rattle.seats.specs.Seats.{IsOpen, SeatState, closed, no_seat, open_slots, open_slots_in, opened as seat_opened, seat_at}
+use Rattle.vault.proofs.Contents.{same_but_supply}
+use Rattle.vault.proofs.SlotRows.{at_brand, in_none}
 use Rattle.vault.proofs.Supplies.{kind_at, out_at-added, kind_at-added, Fits-added}
 use Rattle.vault.proofs.KindsKept.{brand_in, purses_made, payments_made}
 use Rattle.vault.proofs.Covered.{holds-table_of}
+use Rattle.vault.proofs.SlotMoves.{of_kind-supplies}
 use Rattle.vault.proofs.Movings.{draft_of}
 
 module _ (s : Stores) (t : Table) (agrees : Agrees s t) (kinds : AreOfKind s) where
@@ -57,7 +60,7 @@ module _ (v : VaultState) (s : Stores) (ms : List Movement) (u : Bool) (b : ℕ)
   opened = record s { purses = s.purses ++ empty_amount b kind ∷ [] }
 
   pub draft_of-opened : draft_of v (record s { purses = s.purses ++ empty_amount b kind ∷ [] }) ms u ≡ with_purse (draft_of v s ms u) b
-  draft_of-opened = ap (λ ps. record { kept = v; now = record { supplies = s.supply; purses = ps; payments = map mark s.payments; table = table_after v.table ms }; movements = ms; spoiled = u }) (map-append brand_in s.purses (empty_amount b kind ∷ []))
+  draft_of-opened = ap (λ ps. record { kept = v; now = record { supplies = s.supply; purses = ps; payments = map mark s.payments; seats = s.seats; table = table_after v.table ms }; movements = ms; spoiled = u }) (map-append brand_in s.purses (empty_amount b kind ∷ []))
 
   pub opened_keeps_hand : KeepsHand (draft_of v s ms u) (draft_of v (record s { purses = s.purses ++ empty_amount b kind ∷ [] }) ms u)
   opened_keeps_hand = record { each = λ e k. omega arith }
@@ -69,7 +72,7 @@ module _ (v : VaultState) (s : Stores) (ms : List Movement) (u : Bool) (b : ℕ)
   same_contents (Purse p) c = elim (cases_order p (length s.purses)) [
     | inl same ↦ subst (λ n. in_brand (amount_at (s.purses ++ empty_amount b kind ∷ []) n) c ≡ in_brand (amount_at s.purses n) c) (sym same)
         (ap (λ a. in_brand a c) (get_or_push s.purses (empty_amount b kind) no_amount (length s.purses) refl) ∙ empty_in c
-        ∙ sym (ap (λ a. in_brand a c) (get_or_past s.purses (length s.purses) no_amount (omega arith)) ∙ in_no_amount c))
+        ∙ sym (ap (λ a. in_brand a c) (get_or_past s.purses (length s.purses) no_amount (omega arith)) ∙ in_none c))
     | inr (inl below) ↦ ap (λ a. in_brand a c) (get_or_append_left s.purses (empty_amount b kind ∷ []) no_amount p below)
     | inr (inr above) ↦ ap (λ a. in_brand a c) (get_or_past (s.purses ++ empty_amount b kind ∷ []) p no_amount (omega (arith, length-append {A = Amount})) ∙ sym (get_or_past s.purses p no_amount (omega arith)))
   ]
@@ -79,7 +82,7 @@ module _ (v : VaultState) (s : Stores) (ms : List Movement) (u : Bool) (b : ℕ)
   same_contents Outside c = refl
 
   opened_kinds : AreOfKind s → b < length s.supply → kind ≡ kind_at s.supply b → AreOfKind (record s { purses = s.purses ++ empty_amount b kind ∷ [] })
-  opened_kinds are made is = record { purses = at; payments = are.payments }
+  opened_kinds are made is = record { purses = at; payments = are.payments; seats = are.seats }
     where
       at : (p : ℕ) → p < length (s.purses ++ empty_amount b kind ∷ []) → IsOfKind s.supply (amount_at (s.purses ++ empty_amount b kind ∷ []) p)
       at p within = elim (cases_order p (length s.purses)) [
@@ -103,6 +106,7 @@ module _ (v : VaultState) (s : Stores) (ms : List Movement) (u : Bool) (b : ℕ)
           unspoiled = is.draft.unspoiled;
           purses = purses_made (record s { purses = s.purses ++ empty_amount b kind ∷ [] }) (table_after v.table ms) kinds;
           payments = is.draft.payments;
+          seats = record { table = is.draft.seats.table; kinds = is.draft.seats.kinds; payouts = is.draft.seats.payouts };
         };
         agrees = record { each = λ h c store. is.agrees.each h c store ∙ sym (same_contents h c) };
         kinds = kinds;
@@ -125,7 +129,11 @@ module _ (v : VaultState) (s : Stores) (ms : List Movement) (u : Bool) (kind : K
 
   pub adds_brand : IsDraftInside s (draft_of v s ms u) → IsDraftInside (record s { supply = s.supply ++ new_supply kind ∷ [] }) (draft_of v (record s { supply = s.supply ++ new_supply kind ∷ [] }) ms u)
   adds_brand is =
-      let kinds : AreOfKind (record s { supply = s.supply ++ new_supply kind ∷ [] }) = record { purses = λ p made. kept_kind _ (is.kinds.purses p made); payments = λ p made. kept_kind _ (is.kinds.payments p made) } in
+      let kinds : AreOfKind (record s { supply = s.supply ++ new_supply kind ∷ [] }) = record {
+        purses = λ p made. kept_kind _ (is.kinds.purses p made);
+        payments = λ p made. kept_kind _ (is.kinds.payments p made);
+        seats = (of_kind-supplies s.supply (s.supply ++ new_supply kind ∷ []) s.seats kept_kind (record { each = is.kinds.seats })).each;
+      } in
       record {
         draft = record {
           sound = is.draft.sound;
@@ -137,8 +145,9 @@ module _ (v : VaultState) (s : Stores) (ms : List Movement) (u : Bool) (kind : K
           unspoiled = λ whole b k. omega (arith, is.draft.unspoiled whole b k, ap (λ c. count c k) (out_at-added s.supply kind b));
           purses = purses_made (record s { supply = s.supply ++ new_supply kind ∷ [] }) (table_after v.table ms) kinds;
           payments = payments_made (record s { supply = s.supply ++ new_supply kind ∷ [] }) (table_after v.table ms) kinds;
+          seats = record { table = is.draft.seats.table; kinds = kinds.seats; payouts = is.draft.seats.payouts };
         };
-        agrees = record { each = λ h c store. is.agrees.each h c store ∙ sym (same_but_supply s (record s { supply = s.supply ++ new_supply kind ∷ [] }) refl refl h c) };
+        agrees = record { each = λ h c store. is.agrees.each h c store ∙ sym (same_but_supply s (record s { supply = s.supply ++ new_supply kind ∷ [] }) refl refl refl h c) };
         kinds = kinds;
       }
 

@@ -11,12 +11,12 @@ use Rattle.jessie_tree.specs.declared.data.ObjKind.{ObjKind}
 use Rattle.jessie_tree.specs.declared.data.ObjKind.TheVariants.{Ertp, Timer, Zoe}
 use Rattle.vault.specs.Known.{AllInFields, AllInItems, AllObjects}
 use Rattle.vault.specs.OrderedParts.{BeforeParts, OrderedPart, OrderedPartFields, OrderedPartItems}
-use Rattle.vault.specs.Outcomes.{bind, wanted}
+use Rattle.call_data.specs.Outcomes.{bind, wanted}
 use Rattle.vault.specs.Parties.{EachLabel, Labels, bound_to, label_in, own, part_at, place_of, resolved, resolved_all, resolved_fields, service_of, value_at, walked, walked_from, with_label}
 use Rattle.vault.specs.Parts as part
 use Rattle.vault.specs.Parts.{PartFields, PartItems, PartTree, steps_of}
-use Rattle.vault.specs.declared.refusals.Refusal.{Refusal}
-use Rattle.vault.specs.declared.refusals.Refusal.TheVariants.{UnknownName}
+use Rattle.call_data.specs.declared.refusals.Refusal.{Refusal}
+use Rattle.call_data.specs.declared.refusals.Refusal.TheVariants.{UnknownName}
 
 -- ---- steps that came to an answer
 

@@ -1,13 +1,10 @@
 -- What all purses or payments of a brand have together, by their lists and by the table.
 use Rattle.std.proofs.Common.{◌≡◌, ℕ, zero, suc, ◌<◌, ◌≤◌, ◌+◌, cond, eqb, List, length, get_or, take, sum_by, inl, inr, refl, sym, ◌∙◌, ap, subst, arith}
-use Rattle.std.proofs.lemmas.Bool.{cases_eq, eq-eqb, ne_eqb}
+use Rattle.std.proofs.lemmas.Bool.{cases_eq, ne_eqb}
 use Rattle.std.proofs.lemmas.List.{take_all, length-map}
 use Rattle.std.proofs.lemmas.List.Sums.{sum_by_more}
-use Rattle.amount_math.specs.Content.{nothing, of_nat}
-use Rattle.amount_math.specs.Counted.{counted, counted-nothing, counted-of_nat}
-use Rattle.amount_math.specs.Worth.{Worth}
+use Rattle.amount_math.specs.Counted.{counted}
 use Rattle.amount_math.specs.declared.Amount.{Amount}
-use Rattle.amount_math.specs.declared.Kind.TheVariants.{Nat}
 use Rattle.rights_model.specs.declared.Holder.{Holder}
 use Rattle.rights_model.specs.Table.{holds}
 use Rattle.rights_model.specs.declared.Holder.TheVariants.{Purse, Payment}

@@ -1,5 +1,6 @@
 -- A movement from a store, or Outside, to another: whole, or half and given up.
-use Rattle.std.proofs.Common.{◌≡◌, ℕ, ◌<◌, Bool, true, false, List, [], ◌∷◌, ◌++◌, length, refl, sym, ◌∙◌, ap, subst, arith}
+use Rattle.std.specs.Option.{is_some}
+use Rattle.std.proofs.Common.{◌≡◌, ℕ, ◌<◌, ◌≤◌, ◌+◌, Bool, true, false, List, [], ◌∷◌, ◌++◌, length, IsSome, length-append, refl, sym, ◌∙◌, ap, subst, arith}
 use Rattle.std.proofs.lemmas.List.{length-map}
 use Rattle.std.proofs.Math.ListN.{get_or-map}
 use Rattle.amount_math.specs.Content.{Content, sum, Contains}
@@ -14,16 +15,22 @@ use Rattle.rights_model.specs.Supply.{is_hand}
 use Rattle.vault.specs.declared.stores.Stores.{Stores}
 use Rattle.vault.specs.Purses.{amount_at}
 use Rattle.ertp_mint.specs.Stocks.{no_amount}
-use Rattle.vault.specs.Payments.{no_payment, payment_at}
-use Rattle.vault.specs.Vaults.{VaultState, PaymentMark, CanTake, CanGive, CanTransfer}
+use Rattle.vault.specs.Payments.{PaymentState, no_payment, payment_at}
+use Rattle.amount_math.specs.Amount.{holding}
+use Rattle.ertp_mint.specs.Stocks.{most_made}
+use Rattle.proposals.specs.Rows.{amount_under}
+use Rattle.seats.specs.Seats.{SeatState, open_slots, seat_at}
+use Rattle.vault.specs.Vaults.{VaultState, PaymentMark, amount_moved, in_brand, slot_of, CanTake, CanGive, CanTransfer}
 use Rattle.vault.specs.Drafts.{KeepsHand, mark}
-use Rattle.vault.specs.Stored.{in_brand, state_of, Agrees, AreOfKind, IsDraftInside, stores_from, stores_to}
+use Rattle.vault.specs.Stored.{state_of, Agrees, AreOfKind, IsDraftInside, stores_from, stores_to}
 use Rattle.vault.specs.Moves.{CanLeave, CanCome, Had}
-use Rattle.vault.proofs.Contents.{Comes, at_brand, Contains-leaves}
+use Rattle.vault.proofs.SlotRows.{Under, at_brand, missing, none_also, there, under}
+use Rattle.vault.proofs.SlotMoves.{few_left, last_left, length_left, open-given_more, open-given_there, slot_left, some_left}
+use Rattle.vault.proofs.Contents.{Comes, Contains-leaves}
 use Rattle.vault.proofs.Supplies.{out_at, kind_at}
 use Rattle.vault.proofs.KindsKept.{brand_in, kind_in, purse-from, purses_made-from, payments_made-from, brands_made-from, kinds-from}
-use Rattle.vault.proofs.Movings.{draft_of, stores_moved, amount_moved, supply-from, CanStep, hand_moved, given_up_moved, step_keeps}
-use Rattle.vault.proofs.Hands.{no_share, leaves, leaves_no_hand, can_take, hand_has_taken, hand_is_out, given_up_more, give_up_keeps}
+use Rattle.vault.proofs.Movings.{draft_of, stores_moved, seats-from, supply-from, CanStep, hand_moved, given_up_moved, step_keeps}
+use Rattle.vault.proofs.Hands.{no_share, left-from, leaves, open-from, slot_kind, leaves_no_hand, can_take, hand_has_taken, hand_is_out, given_up_more, give_up_keeps}
 
 -- what can be taken can leave its store
 pub can_leave : (s : Stores) (t : Table) (h : Holder) (b : ℕ) (w : Worth) → AreOfKind s → Agrees s t → b < length s.supply → w.kind ≡ kind_at s.supply b → CanTake (state_of s t) h b w.content → CanLeave s h b w
@@ -39,7 +46,12 @@ can_leave s t (Payment p) b w are agrees made kind can =
     let of_kind : a.value.kind ≡ w.kind = (are.payments p within).kind ∙ ap (kind_at s.supply) brand ∙ sym kind in
     let content : a.value.content ≡ w.content = sym (agrees.each (Payment p) b refl ∙ ap (in_brand a) (sym brand) ∙ at_brand a) ∙ can.whole in
     record { made = within; live = seen; whole = λ i. record { brand = brand i; value = record { kind = of_kind i; content = content i } } }
-can_leave s t (Slot seat keyword) b w are agrees made kind can = can
+can_leave s t (Slot seat keyword) b w are agrees made kind can = record {
+  made = can.made;
+  there = can.there;
+  brand = can.brand;
+  kind = (slot_kind s seat keyword are can.made can.there).kind ∙ ap (kind_at s.supply) can.brand ∙ sym kind;
+}
 can_leave s t Hand b w are agrees made kind can = can
 can_leave s t Outside b w are agrees made kind can = record {
   made = made;
@@ -54,7 +66,10 @@ had s t (Purse p) b w agrees leaves can =
     let there : holds t (Purse p) b ≡ (amount_at s.purses p).value.content = agrees.each (Purse p) b refl ∙ ap (in_brand (amount_at s.purses p)) (sym leaves.brand) ∙ at_brand (amount_at s.purses p) in
     subst (λ x. Contains x w.content) there can.has
 had s t (Payment p) b w agrees leaves can = tt
-had s t (Slot seat keyword) b w agrees leaves can = tt
+had s t (Slot seat keyword) b w agrees leaves can =
+    let a = slot_of s.seats seat keyword in
+    let there : holds t (Slot seat keyword) b ≡ a.value.content = agrees.each (Slot seat keyword) b refl ∙ ap (in_brand a) (sym leaves.brand) ∙ at_brand a in
+    subst (λ x. Contains x w.content) there can.has
 had s t Hand b w agrees leaves can = tt
 had s t Outside b w agrees leaves can = tt
 
@@ -64,6 +79,31 @@ gives_no_hand v (Payment p) b c can = refl
 gives_no_hand v (Slot seat keyword) b c can = refl
 gives_no_hand v Hand b c can = absurd can
 gives_no_hand v Outside b c can = refl
+
+some_stays : (s : Stores) (from : Holder) (b : ℕ) (c : Content) (seat : ℕ) (keyword : List ℕ) → is_some (amount_under keyword (seat_at (stores_from s from b c).seats seat).slots) ≡ is_some (amount_under keyword (seat_at s.seats seat).slots)
+some_stays s from b c seat keyword = ap (λ (ss : List SeatState). is_some (amount_under keyword (seat_at ss seat).slots)) (seats-from s from b c) ∙ some_left s.seats c keyword from seat
+
+-- a payment is left for each slot of an open seat once the value came
+to_left : (s s' : Stores) (t : Table) (h : Holder) (b : ℕ) (w : Worth) → CanGive (state_of s t) h b w.content → length s'.payments ≡ length s.payments → length s'.seats ≡ length s.seats → open_slots s'.seats ≡ open_slots s.seats
+    → ((n : ℕ) (k : List ℕ) → is_some (amount_under k (seat_at s'.seats n).slots) ≡ is_some (amount_under k (seat_at s.seats n).slots)) → length s'.payments + open_slots s'.seats ≤ most_made
+    → length (stores_to s' h (record { brand = b; value = w })).payments + open_slots (stores_to s' h (record { brand = b; value = w })).seats ≤ most_made
+to_left s s' t (Purse p) b w can paid made slots same left = left
+to_left s s' t (Payment p) b w can paid made slots same left = omega (arith, can.room, can.next, length-map s.payments mark, paid, slots, length-append {A = PaymentState})
+to_left s s' t (Slot n k) b w can paid made slots same left =
+    let within : n < length s'.seats = omega (arith, can.made, made) in
+    elim (under k (seat_at s'.seats n).slots) [
+      | there a some at ↦ omega (arith, left, open-given_there s'.seats n k (record { brand = b; value = w }) a within some)
+      | missing none at ↦ omega (
+        arith,
+        (can.further (none_also (amount_under k (seat_at s'.seats n).slots) (amount_under k (seat_at s.seats n).slots) (same n k) none)).room,
+        length-map s.payments mark,
+        paid,
+        slots,
+        open-given_more s'.seats n k (record { brand = b; value = w }) within none,
+      )
+    ]
+to_left s s' t Hand b w can paid made slots same left = absurd can
+to_left s s' t Outside b w can paid made slots same left = left
 
 -- what can be given can come, once the value left another store
 pub can_come : (s : Stores) (t : Table) (from : Holder) (h : Holder) (b : ℕ) (w : Worth) → AreOfKind s → b < length s.supply → w.kind ≡ kind_at s.supply b → CanGive (state_of s t) h b w.content
@@ -78,9 +118,27 @@ can_come s t from (Purse p) b w are made kind can out =
     }
 can_come s t from (Payment p) b w are made kind can out = record {
   next = can.next ∙ length-map s.payments mark ∙ sym (payments_made-from s from b w.content);
-  room = can.room;
+  room = omega (arith, can.room);
 }
-can_come s t from (Slot seat keyword) b w are made kind can out = can
+can_come s t from (Slot seat keyword) b w are made kind can out = record {
+  made = omega (arith, can.made, length_left s.seats w.content from, ap length (seats-from s from b w.content));
+  is_open = ap (λ (ss : List SeatState). is_some (seat_at ss seat).last) (seats-from s from b w.content) ∙ last_left s.seats w.content from seat ∙ can.is_open;
+  meet = λ some.
+      let was : IsSome (amount_under keyword (seat_at s.seats seat).slots) = sym (some_stays s from b w.content seat keyword) ∙ some in
+      record {
+        brand = slot_stays brand_in (λ _ _. refl) ∙ can.brand was;
+        kind = slot_stays kind_in (λ _ _. refl) ∙ (slot_kind s seat keyword are can.made was).kind ∙ ap (kind_at s.supply) (can.brand was) ∙ sym kind;
+      };
+  few = λ none. omega (
+    arith,
+    (can.further (none_also (amount_under keyword (seat_at (stores_from s from b w.content).seats seat).slots) (amount_under keyword (seat_at s.seats seat).slots) (some_stays s from b w.content seat keyword) none)).few,
+    ap (λ (ss : List SeatState). length (seat_at ss seat).slots) (seats-from s from b w.content),
+    few_left s.seats w.content from seat,
+  );
+}
+  where
+    slot_stays : {Y : Type 0} (f : Amount → Y) → ((a : Amount) (x : Content) → f (holding a x) ≡ f a) → f (slot_of (stores_from s from b w.content).seats seat keyword) ≡ f (slot_of s.seats seat keyword)
+    slot_stays f blind = ap (λ (ss : List SeatState). f (slot_of ss seat keyword)) (seats-from s from b w.content) ∙ slot_left s.seats w.content f blind keyword from seat
 can_come s t from Hand b w are made kind can out = can
 can_come s t from Outside b w are made kind can out = record {
   made = omega (arith, made, brands_made-from s from b w.content);
@@ -91,7 +149,7 @@ can_come s t from Outside b w are made kind can out = record {
 come : (s : Stores) (h : Holder) (a : Amount) → CanCome s h a → Comes s h a
 come s (Purse p) a can = (can.made, can.brand)
 come s (Payment p) a can = can.next
-come s (Slot seat keyword) a can = can
+come s (Slot seat keyword) a can = record { made = can.made; brand = λ some. (can.meet some).brand }
 come s Hand a can = tt
 come s Outside a can = tt
 
@@ -123,6 +181,12 @@ module _ (v : VaultState) (s : Stores) (ms : List Movement) (u : Bool) (m : Move
     leaves = leaves s m.from m.brand m.value from_can_leave;
     comes = come (stores_from s m.from m.brand m.value.content) m.to (amount_moved m) to_can_come;
     out = λ outside. subst (λ ss. Contains (out_at ss m.brand) m.value.content) (supply-from s m.from m.brand m.value.content) half_out;
+    left = to_left s (stores_from s m.from m.brand m.value.content) (table_after v.table ms) m.to m.brand m.value can.to
+        (payments_made-from s m.from m.brand m.value.content)
+        (ap length (seats-from s m.from m.brand m.value.content) ∙ length_left s.seats m.value.content m.from)
+        (open-from s m.from m.brand m.value (leaves s m.from m.brand m.value from_can_leave))
+        (some_stays s m.from m.brand m.value.content)
+        (left-from v s ms u is m.from m.brand m.value (leaves s m.from m.brand m.value from_can_leave));
     hand = λ b k. omega (arith, no_share m.from m.brand b m.value.content k (leaves_no_hand s m.from m.brand m.value from_can_leave), is.draft.given_up_in_hand b k);
   }
 

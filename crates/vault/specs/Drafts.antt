@@ -1,5 +1,5 @@
 -- A turn's draft of a vault: the vault as it was kept, as it is now, and the movements between.
-use Rattle.std.specs.Prelude.{◌≡◌, ◌≤◌, ◌<◌, ◌+◌, ◌-◌, ◌==◌, if◌then◌else◌, ℕ, Bool, true, false, List, [], ◌∷◌, ◌++◌, length, map, refl}
+use Rattle.std.specs.Prelude.{◌≡◌, ◌≤◌, ◌<◌, ◌+◌, ◌-◌, ◌==◌, ◌⊎◌, if◌then◌else◌, ℕ, suc, Bool, true, false, List, [], ◌∷◌, ◌++◌, All, None, IsSome, length, map, slice_set, refl}
 use Rattle.std.specs.Coded.{Coded, code_by, coded×, coded_bool, coded_list}
 use Rattle.amount_math.specs.Content.{Content, count}
 use Rattle.amount_math.specs.Worth.{Worth, Fits}
@@ -9,12 +9,17 @@ use Rattle.ertp_mint.specs.BrandSupply.{new_supply}
 use Rattle.rights_model.specs.declared.Holder.{Holder}
 use Rattle.rights_model.specs.declared.Holder.TheVariants.{Purse, Payment, Slot, Hand, Outside}
 use Rattle.rights_model.specs.declared.Movement.{Movement}
-use Rattle.rights_model.specs.Table.{coded_movement, holds, table_after, CanMoveAll}
+use Rattle.rights_model.specs.Table.{coded_movement, holds, movement, table_after, CanMoveAll}
 use Rattle.rights_model.specs.Supply.{is_inside, total_of}
 use Rattle.vault.specs.Payments.{PaymentState, payment_at}
 use Rattle.vault.specs.Purses.{amount_at}
 use Rattle.ertp_mint.specs.Stocks.{most_made}
-use Rattle.vault.specs.Vaults.{VaultState, PaymentMark, coded_vault, mark_of, brand_of, kind_of, out_of, amount_of, supplies_to, after_move, IsSound}
+use Rattle.proposals.specs.Rows.{amount_under}
+use Rattle.proposals.specs.declared.allocations.Row.{Row}
+use Rattle.proposals.specs.declared.offers.Proposal.{Proposal}
+use Rattle.seats.specs.Seats.{IsOpen, closed, open_slots, opened, seat_at}
+use Rattle.turn_log.specs.declared.events.Payout.{Payout}
+use Rattle.vault.specs.Vaults.{VaultState, PaymentMark, coded_vault, mark_of, brand_of, kind_of, out_of, amount_of, supplies_to, after_move, AreSeats, CanOpenSlot, IsOfKind, IsSound}
 
 pub record DraftState : Type 0 where
   pub kept : VaultState
@@ -57,6 +62,7 @@ pub record IsDraft (d : DraftState) : Type 0 where
   pub unspoiled : d.spoiled ≡ false → (b : ℕ) (k : List ℕ) → given_up d b k ≡ 0
   pub purses : (p : ℕ) → p < length d.now.purses → brand_of d.now (Purse p) < length d.now.supplies
   pub payments : (p : ℕ) → p < length d.now.payments → brand_of d.now (Payment p) < length d.now.supplies
+  pub seats : AreSeats d.now
 
 -- ---- what the calls make of a draft
 
@@ -79,13 +85,54 @@ with_purse d b = record d { now = record d.now { purses = d.now.purses ++ b ∷ 
 abbrev pub with_brand : DraftState → Kind → DraftState
 with_brand d kind = record d { now = record d.now { supplies = d.now.supplies ++ new_supply kind ∷ [] } }
 
+-- a seat is opened for a proposal
+abbrev pub with_seat : DraftState → ℕ → Proposal → DraftState
+with_seat d instance proposal = record d { now = record d.now { seats = d.now.seats ++ opened instance proposal ∷ [] } }
+
+-- a seat is closed, and keeps the allocation that it had
+abbrev pub with_closed : DraftState → ℕ → DraftState
+with_closed d seat = record d { now = record d.now { seats = slice_set d.now.seats seat (closed (seat_at d.now.seats seat)) } }
+
+-- the movements that pay slots out, each whole to the next payment, the first of which has the number
+abbrev pub payout_move : ℕ → ℕ → Row → Movement
+payout_move seat payment r = movement r.amount.brand (Slot seat r.keyword) (Payment payment) r.amount.value
+
+abbrev pub payout_moves : ℕ → ℕ → List Row → List Movement
+payout_moves seat payment [] = []
+payout_moves seat payment (r ∷ rs) = payout_move seat payment r ∷ payout_moves seat (suc payment) rs
+
+-- the payments that slots are paid out with
+abbrev pub payout_of : ℕ → Row → Payout
+payout_of payment r = record { keyword = r.keyword; payment = payment }
+
+abbrev pub payouts_of : ℕ → List Row → List Payout
+payouts_of payment [] = []
+payouts_of payment (r ∷ rs) = payout_of payment r ∷ payouts_of (suc payment) rs
+
+abbrev pub stepped_all : DraftState → List Movement → DraftState
+stepped_all d [] = d
+stepped_all d (m ∷ ms) = stepped_all (stepped d m) ms
+
+-- a seat is closed, and each of its slots is paid out
+abbrev pub paid_out : DraftState → ℕ → DraftState
+paid_out d seat = stepped_all (with_closed d seat) (payout_moves seat (length d.now.payments) (seat_at d.now.seats seat).slots)
+
+-- all that a proposal gives and wants is of brands that were made
+pub record IsOffered (v : VaultState) (p : Proposal) : Type 0 where
+  pub give : All (λ r. IsOfKind v.supplies r.amount) p.give
+  pub want : All (λ r. IsOfKind v.supplies r.amount) p.want
+
+-- no seat can be opened for the proposal: all were made, or too few payments are left for its slots
+abbrev pub IsFull : VaultState → Proposal → Type 0
+IsFull v p = (length v.seats ≡ most_made) ⊎ (most_made < length v.payments + open_slots v.seats + (length p.give + length p.want))
+
 -- the draft of a turn that begins
 abbrev pub begun : VaultState → DraftState
 begun v = record { kept = v; now = v; movements = []; spoiled = false }
 
 -- ---- where parcels are taken and put
 
--- a purse, or a live payment that is taken whole
+-- a purse, a live payment that is taken whole, or a slot
 pub record IsTakenPurse (v : VaultState) (p : ℕ) (w : Worth) : Type 0 where
   pub made : p < length v.purses
   pub kind : w.kind ≡ kind_of v (brand_of v (Purse p))
@@ -95,26 +142,37 @@ pub record IsTakenPayment (v : VaultState) (p : ℕ) (w : Worth) : Type 0 where
   pub live : (mark_of v p).is_live ≡ true
   pub whole : (amount_of v (Payment p)).value ≡ w
 
+pub record IsTakenSlot (v : VaultState) (seat : ℕ) (keyword : List ℕ) (w : Worth) : Type 0 where
+  pub made : seat < length v.seats
+  pub there : IsSome (amount_under keyword (seat_at v.seats seat).slots)
+  pub kind : w.kind ≡ kind_of v (brand_of v (Slot seat keyword))
+
 abbrev pub IsTaken : VaultState → Holder → Worth → Type 0
 IsTaken v (Purse p) w = IsTakenPurse v p w
 IsTaken v (Payment p) w = IsTakenPayment v p w
-IsTaken v (Slot seat keyword) w = ⊥
+IsTaken v (Slot seat keyword) w = IsTakenSlot v seat keyword w
 IsTaken v Hand w = ⊥
 IsTaken v Outside w = ⊥
 
--- a purse of the parcel's brand, or the next payment, which is made by it
+-- a purse of the parcel's brand, the next payment, which is made by it, or a slot of an open seat
 pub record IsGivenPurse (v : VaultState) (p b : ℕ) : Type 0 where
   pub made : p < length v.purses
   pub brand : brand_of v (Purse p) ≡ b
 
 pub record IsGivenPayment (v : VaultState) (p : ℕ) : Type 0 where
   pub next : p ≡ length v.payments
-  pub room : p < most_made
+  pub room : p + open_slots v.seats < most_made
+
+pub record IsGivenSlot (v : VaultState) (seat : ℕ) (keyword : List ℕ) (b : ℕ) : Type 0 where
+  pub made : seat < length v.seats
+  pub is_open : IsOpen (seat_at v.seats seat)
+  pub brand : IsSome (amount_under keyword (seat_at v.seats seat).slots) → brand_of v (Slot seat keyword) ≡ b
+  pub further : amount_under keyword (seat_at v.seats seat).slots ≡ None → CanOpenSlot v seat
 
 abbrev pub IsGiven : VaultState → Holder → ℕ → Type 0
 IsGiven v (Purse p) b = IsGivenPurse v p b
 IsGiven v (Payment p) b = IsGivenPayment v p
-IsGiven v (Slot seat keyword) b = ⊥
+IsGiven v (Slot seat keyword) b = IsGivenSlot v seat keyword b
 IsGiven v Hand b = ⊥
 IsGiven v Outside b = ⊥
 

@@ -4,9 +4,6 @@ pub mod Vaults
 pub mod Drafts
 pub mod Stored
 pub mod Moves
-pub mod Values
-pub mod Refusals
-pub mod Outcomes
 pub mod Parts
 pub mod PartViews
 pub mod Parties

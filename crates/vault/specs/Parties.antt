@@ -10,10 +10,10 @@ use Rattle.jessie_tree.specs.declared.data.Obj.{Obj}
 use Rattle.jessie_tree.specs.declared.data.ObjKind.TheVariants.{Ertp, Zoe, Timer}
 use Rattle.vault.specs.Parts.{PartTree, PartItems, PartFields, steps_of}
 use Rattle.vault.specs.Parts as part
-use Rattle.vault.specs.Outcomes.{◌>>=◌, wanted}
+use Rattle.call_data.specs.Outcomes.{◌>>=◌, wanted}
 use Rattle.vault.specs.declared.parties.Parties.{Parties}
-use Rattle.vault.specs.declared.refusals.Refusal.{Refusal}
-use Rattle.vault.specs.declared.refusals.Refusal.TheVariants.{UnknownName}
+use Rattle.call_data.specs.declared.refusals.Refusal.{Refusal}
+use Rattle.call_data.specs.declared.refusals.Refusal.TheVariants.{UnknownName}
 
 -- a label of a party, with what it was bound to
 abbrev pub Labels : Type 0

@@ -9,6 +9,7 @@ use Rattle.rights_model.specs.declared.Holder.TheVariants.{Purse, Payment}
 use Rattle.rights_model.specs.declared.Movement.{Movement}
 use Rattle.rights_model.specs.Totals.{held_over, is_payment, is_purse, is_slot}
 use Rattle.rights_model.specs.Table.{holds}
+use Rattle.seats.specs.Seats.{seats_counted}
 use Rattle.vault.specs.Brands.{first_brands, most_brands}
 use Rattle.ertp_mint.specs.Stocks.{most_made}
 use Rattle.vault.specs.Vaults.{VaultState, CanTransfer, brand_of, first_vault, kind_of}
@@ -67,7 +68,7 @@ CanDoAll w (e ∷ es) = CanDo w e × CanDoAll (after w e) es
 
 -- ---- what holds of the world between calls
 
--- the purses of a brand, one after the other, have what all of them have by the table, and so have payments; there are no slots yet
+-- the purses of a brand, one after the other, have what all of them have by the table, and so have payments and slots
 abbrev pub in_numbers : (ℕ → ℕ) → ℕ → ℕ
 in_numbers f zero = 0
 in_numbers f (suc n) = in_numbers f n + f n
@@ -79,17 +80,16 @@ count_in v who b n = if brand_of v (who n) == b then counted (holds v.table (who
 pub record AreTotals (v : VaultState) : Type 0 where
   pub purses : (b : ℕ) → held_over is_purse v.table b ≡ in_numbers (count_in v Purse b) (length v.purses)
   pub payments : (b : ℕ) → held_over is_payment v.table b ≡ in_numbers (count_in v Payment b) (length v.payments)
-  pub slots : (b : ℕ) → held_over is_slot v.table b ≡ 0
+  pub slots : (b : ℕ) → held_over is_slot v.table b ≡ seats_counted b v.seats
 
 -- what isn't made yet holds nothing
 pub record AreFresh (v : VaultState) : Type 0 where
   pub purses : (p b : ℕ) → length v.purses ≤ p → holds v.table (Purse p) b ≡ nothing
   pub payments : (p b : ℕ) → length v.payments ≤ p → holds v.table (Payment p) b ≡ nothing
 
--- what holds of a vault between calls: each purse and payment is of a brand of whole numbers, and what isn't made holds nothing
+-- what holds of a vault between calls: each purse is of a brand of whole numbers, and what isn't made holds nothing
 pub record IsOrdinary (v : VaultState) : Type 0 where
   pub purses : (p : ℕ) → p < length v.purses → IsAsset v (brand_of v (Purse p))
-  pub payments : (p : ℕ) → p < length v.payments → IsAsset v (brand_of v (Payment p))
   pub fresh : AreFresh v
   pub totals : AreTotals v
 

@@ -1,28 +1,35 @@
-//! The vault, which is the supply, the purses and the payments as one, and a turn's draft of it.
+//! The vault, which is the supply, the purses, the payments and the seats as one, and a turn's draft of
+//! it.
 //!
-//! Contracts see a vault as the table of who holds what, with the brands of purses and payments and
-//! what is out of each brand. Each change of a draft is one movement, applied as rights_model defines
-//! it, so that the table of a draft is the kept one after the draft's movements. Whatever calls are
-//! made, each brand's purses and live payments add up to what is out of it.
+//! Contracts see a vault as the table of who holds what, with the brands of purses and payments, the
+//! seats, and what is out of each brand. Each change of a draft is one movement, applied as rights_model
+//! defines it, so that the table of a draft is the kept one after the draft's movements. Whatever calls
+//! are made, each brand's purses, live payments and slots add up to what is out of it.
 
-ghost use Rattle.std.specs.Prelude.{◌≡◌, ◌<◌, ◌+◌, ◌^◌, ◌↔◌, [], false, length, IsOk, IfErr, IfOk, OnErr, OnOk};
+ghost use Rattle.std.specs.Prelude.{◌≡◌, ◌<◌, ◌≤◌, ◌+◌, ◌^◌, ◌↔◌, [], false, length, IsOk, IfErr, IfOk, OnErr, OnOk};
 ghost use Rattle.amount_math.specs.Content.{Contains, sum};
-ghost use Rattle.amount_math.specs.Worth.{IsPutRefusal, IsTakeRefusal};
+ghost use Rattle.amount_math.specs.Worth.{IsIssueRefusal, IsPutRefusal, IsTakeRefusal};
 ghost use Rattle.ertp_mint.specs.BrandSupply.{supply_at};
 ghost use Rattle.amount_math.specs.Counted.{counted};
 ghost use Rattle.rights_model.specs.Table.{movement, no_holdings};
 ghost use Rattle.ertp_mint.specs.Stocks.{most_made};
+ghost use Rattle.proposals.specs.Slots.{FitsSeat};
+ghost use Rattle.seats.specs.Seats.{IsOpen, open_slots, seat_at};
 ghost use Rattle.vault.specs.Vaults.{CanTransfer, IsSound, brand_of, held_by, kind_of, out_of};
-ghost use Rattle.vault.specs.Drafts.{ArePayments, ArePurses, HandGains, HandHas, HandIsEmpty, IsDraft, IsGiven, IsTaken, KeepsHand, begun, stepped, with_brand, with_purse, without};
+ghost use Rattle.vault.specs.Drafts.{ArePayments, ArePurses, HandGains, HandHas, HandIsEmpty, IsDraft, IsFull, IsGiven, IsOffered, IsTaken, KeepsHand, begun, paid_out, payout_move, payout_of, payouts_of, stepped, with_brand, with_closed, with_purse, with_seat, without};
 
 use crate::payments::Payments;
 use crate::purses::{OpenFault, Purses};
 use crate::stores::Stores;
 use amount_math::{Kind, PutFault, TakeFault, Value};
 use ertp_mint::{Parcel, Supply};
+use proposals::allocations::{Allocation, Row};
+use proposals::offers::Proposal;
 use rights_model::{Holder, Movement};
+use seats::seats::{OpenFault as SeatFault, Seats};
 use std::alloc::{AllocError, Global};
 use std::marker::Model;
+use turn_log::events::Payout;
 
 /// All rights between turns.
 #[derive(Debug, Drop)]
@@ -69,17 +76,19 @@ impl Model for Draft {
 }
 
 impl Vault {
-    /// A vault without brands, purses and payments.
+    /// A vault without brands, purses, payments and seats.
     pub fn new(alloc: Global) -> Vault
-        ensures { result ≡ record { supplies = []; purses = []; payments = []; table = no_holdings } }
+        ensures { result ≡ record { supplies = []; purses = []; payments = []; seats = []; table = no_holdings } }
     {
         let supply = Supply::new(alloc);
         let purses = Purses::new(alloc);
         let payments = Payments::new(alloc);
+        let seats = Seats::new(alloc);
         let stores = Stores {
             supply,
             purses,
             payments,
+            seats,
         };
         Vault { alloc, stores }
     }
@@ -122,6 +131,12 @@ impl Vault {
     {
         &self.stores.payments
     }
+
+    pub fn seats(&self) -> &Seats
+        ensures { result.now ≡ self.now.seats }
+    {
+        &self.stores.seats
+    }
 }
 
 /// A movement of a copy of the value between copies of the holders.
@@ -141,6 +156,9 @@ fn step(
         value: value.copy()?,
     })
 }
+
+/// Lets a movement that wasn't made go.
+fn discard(_unmade: Movement) {}
 
 impl Draft {
     /// Ends the turn, and keeps what it did.
@@ -207,8 +225,23 @@ impl Draft {
         &self.stores.payments
     }
 
-    /// Moves a value whole from one holder to another. After the error, which is want of memory, all
-    /// is as before but for the hand's inside: the draft may be spoiled, and can be undone.
+    pub fn seats(&self) -> &Seats
+        ensures { result.now ≡ self.now.now.seats }
+    {
+        &self.stores.seats
+    }
+
+    /// How many payments may still be made, beside those that the slots of open seats are paid out with.
+    pub fn left(&self) -> u32
+        ensures { result + length self.now.now.payments + open_slots self.now.now.seats ≡ most_made }
+    {
+        let made = u64::from(self.stores.payments.made()) + self.stores.seats.open_slots();
+        (u64::from(u32::MAX) - made) as u32
+    }
+
+    /// Moves a value whole from one holder to another. After the error, which is want of memory, the
+    /// draft may be half changed and spoiled: it is sound, its hand and what was kept are as before, and
+    /// it is to be undone.
     pub fn transfer(&mut self, step: &Movement) -> Result<(), AllocError>
         requires { CanTransfer self.old.now step.now }
         ensures ok { OnOk result (self.new ≡ stepped self.old step.now) }
@@ -221,12 +254,12 @@ impl Draft {
         let Ok(parcel) = self.stores.leave(&step.from, step.brand, &step.value) else {
             return Err(AllocError);
         };
-        match self.stores.come(&step.to, parcel) {
+        match self.stores.bring(self.alloc, &step.to, parcel) {
             Ok(()) => {
                 self.movements.push_reserved(noted);
                 Ok(())
             }
-            Err((parcel, _)) => {
+            Err(parcel) => {
                 noted.to = Holder::Hand;
                 self.movements.push_reserved(noted);
                 self.stores.supply.retire(parcel);
@@ -236,7 +269,7 @@ impl Draft {
         }
     }
 
-    /// Takes a part of a purse, or a whole payment, in the hand. On an error all is as before.
+    /// Takes a part of a purse or a slot, or a whole payment, in the hand. On an error all is as before.
     pub fn take(&mut self, holder: &Holder, value: &Value) -> Result<Parcel, TakeFault>
         requires { IsTaken self.old.now holder.now value.now }
         ensures ok { OnOk result (self.new ≡ stepped self.old (movement (brand_of self.old.now holder.now) holder.now Holder.Hand value.now)) }
@@ -260,11 +293,15 @@ impl Draft {
                 self.movements.push_reserved(noted);
                 Ok(parcel)
             }
-            Err(fault) => Err(fault),
+            Err(fault) => {
+                discard(noted);
+                Err(fault)
+            }
         }
     }
 
-    /// Puts a parcel of the hand in a purse, or makes the next payment of it. On an error the parcel
+    /// Puts a parcel of the hand in a purse or a slot of an open seat, or makes the next payment of it. A
+    /// slot that isn't there is opened by that (Zoe; that it stands last is our own). On an error the parcel
     /// is handed back and all is as before.
     pub fn put(&mut self, holder: &Holder, parcel: Parcel) -> Result<(), (Parcel, PutFault)>
         requires holder { IsGiven self.old.now holder.now parcel.brand }
@@ -290,12 +327,15 @@ impl Draft {
         if self.movements.reserve(1).is_err() {
             return Err((parcel, PutFault::NoMemory));
         }
-        match self.stores.come(holder, parcel) {
+        match self.stores.come(self.alloc, holder, parcel) {
             Ok(()) => {
                 self.movements.push_reserved(noted);
                 Ok(())
             }
-            Err(refused) => Err(refused),
+            Err(refused) => {
+                discard(noted);
+                Err(refused)
+            }
         }
     }
 
@@ -311,7 +351,7 @@ impl Draft {
         ensures valid { IsDraft self.new }
         ensures back { IfErr result (λ (back, _). back ≡ value) }
         ensures err { OnErr result (self.new ≡ self.old) }
-        ensures refused { IfErr result (λ (_, fault). IsPutRefusal value.kind (sum (out_of self.old.now brand) value.content) fault) }
+        ensures refused { IfErr result (λ (_, fault). IsIssueRefusal value.kind (sum (out_of self.old.now brand) value.content) fault) }
     {
         let Ok(noted) = step(self.alloc, brand, &Holder::Outside, &Holder::Hand, &value) else {
             return Err((value, PutFault::NoMemory));
@@ -324,7 +364,10 @@ impl Draft {
                 self.movements.push_reserved(noted);
                 Ok(parcel)
             }
-            Err(refused) => Err(refused),
+            Err(refused) => {
+                discard(noted);
+                Err(refused)
+            }
         }
     }
 
@@ -393,6 +436,92 @@ impl Draft {
         ensures err { OnErr result (self.new ≡ self.old) }
     {
         self.stores.supply.add_brand(kind)
+    }
+
+    /// Opens a seat of an instance for a proposal, with a slot for each of its rows and nothing in them,
+    /// and answers its number, or hands the proposal back (Zoe's escrow seat). On an error all is as
+    /// before. The limit is met where all seats were made, or too few payments are left to pay the slots
+    /// out.
+    pub fn open_seat(
+        &mut self,
+        instance: u32,
+        proposal: Proposal,
+    ) -> Result<u32, (Proposal, SeatFault)>
+        requires fits { FitsSeat proposal }
+        requires offered { IsOffered self.old.now proposal }
+        ensures ok { OnOk result (self.new ≡ with_seat self.old instance proposal) }
+        ensures number { IfOk result (λ seat. seat ≡ length self.old.now.seats) }
+        ensures room { IsOk result → ¬ IsFull self.old.now proposal }
+        ensures limit { IfErr result (λ (_, fault). (fault ≡ SeatFault.Limit) ↔ IsFull self.old.now proposal) }
+        ensures hand { KeepsHand self.old self.new }
+        ensures valid { IsDraft self.new }
+        ensures back { IfErr result (λ (back, _). back ≡ proposal) }
+        ensures err { OnErr result (self.new ≡ self.old) }
+    {
+        let slots = proposal.give.len() + proposal.want.len();
+        if slots as u64 > u64::from(self.left()) {
+            return Err((proposal, SeatFault::Limit));
+        }
+        self.stores.seats.open(self.alloc, instance, proposal)
+    }
+
+    /// Closes an open seat, which keeps its allocation, and pays each of its slots out whole, empty ones
+    /// too, to a payment of its own (Zoe). It answers the payments, in the order of slots. After the
+    /// error, which is want of memory, the draft may be half changed and spoiled: it is sound, its hand
+    /// and what was kept are as before, and it is to be undone.
+    pub fn close_seat(&mut self, seat: u32) -> Result<Vec<Payout>, AllocError>
+        requires made { seat < length self.old.now.seats }
+        requires is_open { IsOpen (seat_at self.old.now.seats seat) }
+        ensures ok { OnOk result (self.new ≡ paid_out self.old seat) }
+        ensures payouts { IfOk result (λ payouts. payouts.items ≡ payouts_of (length self.old.now.payments) (seat_at self.old.now.seats seat).slots) }
+        ensures hand { KeepsHand self.old self.new }
+        ensures valid { IsDraft self.new }
+        ensures kept { self.new.kept ≡ self.old.kept }
+    {
+        let slots = self.mark_closed(seat)?;
+        let mut payouts = Vec::new(self.alloc);
+        for slot in slots.rows() {
+            payouts.push(self.pay_out(seat, slot)?)?;
+        }
+        Ok(payouts)
+    }
+
+    /// Closes a seat, and answers what its slots have.
+    fn mark_closed(&mut self, seat: u32) -> Result<Allocation, AllocError>
+        requires made { seat < length self.old.now.seats }
+        requires is_open { IsOpen (seat_at self.old.now.seats seat) }
+        ensures ok { OnOk result (self.new ≡ with_closed self.old seat) }
+        ensures slots { IfOk result (λ slots. slots ≡ (seat_at self.old.now.seats seat).slots) }
+        ensures left { IfOk result (λ slots. length self.new.now.payments + open_slots self.new.now.seats + length slots ≤ most_made) }
+        ensures valid { IsDraft self.new }
+        ensures hand { KeepsHand self.old self.new }
+        ensures err { OnErr result (self.new ≡ self.old) }
+    {
+        match self.stores.seats.close(self.alloc, seat) {
+            Ok(slots) => Ok(slots),
+            Err(_) => Err(AllocError),
+        }
+    }
+
+    /// Pays a slot out to the next payment.
+    fn pay_out(&mut self, seat: u32, slot: &Row) -> Result<Payout, AllocError>
+        requires { CanTransfer self.old.now (payout_move seat (length self.old.now.payments) slot.now) }
+        ensures ok { OnOk result (self.new ≡ stepped self.old (payout_move seat (length self.old.now.payments) slot.now)) }
+        ensures payout { IfOk result (λ payout. payout ≡ payout_of (length self.old.now.payments) slot.now) }
+        ensures valid { IsDraft self.new }
+        ensures kept { self.new.kept ≡ self.old.kept }
+        ensures hand { KeepsHand self.old self.new }
+    {
+        let payment = self.stores.payments.made();
+        let step = Movement {
+            brand: slot.amount.brand,
+            from: Holder::Slot(seat, slot.keyword.copy(self.alloc)?),
+            to: Holder::Payment(payment),
+            value: slot.amount.value.copy()?,
+        };
+        self.transfer(&step)?;
+        let keyword = slot.keyword.copy(self.alloc)?;
+        Ok(Payout { keyword, payment })
     }
 }
 

@@ -5,14 +5,14 @@
 ghost use Rattle.std.specs.Prelude.{◌≡◌, ◌∷◌, [], map, option_map, is_some, string_bytes, IfOk, OnErr, OnOk, None};
 ghost use Rattle.jessie_tree.specs.View.{tree, trees, named_trees};
 ghost use Rattle.jessie_tree.specs.View as views;
-ghost use Rattle.vault.specs.Outcomes.{Gives, wanted};
+ghost use Rattle.call_data.specs.Outcomes.{Gives, wanted};
 ghost use Rattle.vault.specs.Parties.{bound_to, item_at, label_in, labels_of, own, part_at, resolved, resolved_all, resolved_fields, service_of, value_at, walked, walked_from, with_label};
 ghost use Rattle.vault.specs.Parts.{steps_of};
 ghost use Rattle.vault.specs.PartViews.{fields_of, items_of, named_part_trees, part_tree, part_trees};
-ghost use Rattle.vault.specs.declared.refusals.Refusal.TheVariants.{UnknownName};
+ghost use Rattle.call_data.specs.declared.refusals.Refusal.TheVariants.{UnknownName};
 
 use crate::parts::Part;
-use crate::refusals::{Refusal, Stop};
+use call_data::refusals::{Refusal, Stop};
 use host_text::number::read_number;
 use host_text::text::Text;
 use indexmap::IndexMap;
@@ -231,7 +231,7 @@ fn resolve_part(alloc: Global, parties: &Parties, party: &Text, part: &Part) -> 
 }
 
 /// A copy of what stands at the path, or its refusal.
-#[tactic(auto, unfolding(crate::specs::Outcomes::wanted))]
+#[tactic(auto, unfolding(call_data::specs::Outcomes::wanted))]
 fn resolve_path(alloc: Global, parties: &Parties, party: &Text, path: &Text) -> Result<Data, Stop>
     ensures { Gives (λ made. tree made) result (wanted (value_at (labels_of parties.now) party.now path.now) (UnknownName path.now)) }
 {

@@ -1,16 +1,18 @@
-//! The stores inside a vault: the supply, the purses and the payments. A value leaves one, or the
-//! outside, as a parcel, and comes to another, or goes outside.
+//! The stores inside a vault: the supply, the purses, the payments and the seats. A value leaves one, or
+//! the outside, as a parcel, and comes to another, or goes outside.
 
 ghost use Rattle.std.specs.Prelude.{◌≡◌, ◌<◌, IfErr, IfOk, IsTrue, OnErr, OnOk, length, slice_set};
 ghost use Rattle.vault.specs.Payments.{payment_at, spent};
 ghost use Rattle.vault.specs.Stored.{amount_in, stores_from, stores_to};
-ghost use Rattle.vault.specs.Moves.{CanCome, CanLeave, Had, IsComeRefusal, IsIssued, IsLeaveRefusal, IsMade};
+ghost use Rattle.vault.specs.Moves.{CanCome, CanLeave, Had, IsComeRefusal, IsIssued, IsLeaveRefusal, IsMade, IsToSlot};
 
 use crate::payments::{PaymentRef, Payments};
 use crate::purses::Purses;
 use amount_math::{PutFault, TakeFault, Value};
 use ertp_mint::{Parcel, Supply};
+use host_text::keyword::Keyword;
 use rights_model::Holder;
+use seats::seats::{Seats, SlotFault};
 use std::alloc::{AllocError, Global};
 
 #[derive(Debug, Drop)]
@@ -18,6 +20,7 @@ pub(crate) struct Stores {
     pub(crate) supply: Supply,
     pub(crate) purses: Purses,
     pub(crate) payments: Payments,
+    pub(crate) seats: Seats,
 }
 
 impl Stores {
@@ -29,10 +32,11 @@ impl Stores {
             supply: self.supply.twin(alloc)?,
             purses: self.purses.twin(alloc)?,
             payments: self.payments.twin(alloc)?,
+            seats: self.seats.twin(alloc)?,
         })
     }
 
-    /// The brand of a purse or a payment.
+    /// The brand of a purse, a payment or a slot.
     pub(crate) fn brand(&self, holder: &Holder) -> u16
         requires { IsMade self.now holder.now }
         ensures { result ≡ (amount_in self.now holder.now).brand }
@@ -43,7 +47,11 @@ impl Stores {
                 Some(payment) => self.payments.brand(payment),
                 None => unreachable!(),
             },
-            Holder::Slot(_, _) | Holder::Hand | Holder::Outside => unreachable!(),
+            Holder::Slot(seat, keyword) => match self.seats.brand(*seat, keyword) {
+                Some(brand) => brand,
+                None => unreachable!(),
+            },
+            Holder::Hand | Holder::Outside => unreachable!(),
         }
     }
 
@@ -64,8 +72,9 @@ impl Stores {
         match from {
             Holder::Purse(purse) => self.purses.take(*purse, value),
             Holder::Payment(payment) => Ok(self.spend(*payment)),
+            Holder::Slot(seat, keyword) => self.seats.take(*seat, keyword, value),
             Holder::Outside => self.issue(brand, value),
-            Holder::Slot(_, _) | Holder::Hand => unreachable!(),
+            Holder::Hand => unreachable!(),
         }
     }
 
@@ -97,12 +106,17 @@ impl Stores {
         match self.supply.issue(brand, value) {
             Ok(parcel) => Ok(parcel),
             Err((_, PutFault::NoMemory)) => Err(TakeFault::NoMemory),
-            Err((_, PutFault::TooMuch(_))) => unreachable!(),
+            Err((_, PutFault::Overlap(_) | PutFault::TooMuch(_))) => unreachable!(),
         }
     }
 
     /// Lets a parcel come to the holder, or hands it back and leaves all as before.
-    pub(crate) fn come(&mut self, to: &Holder, parcel: Parcel) -> Result<(), (Parcel, PutFault)>
+    pub(crate) fn come(
+        &mut self,
+        alloc: Global,
+        to: &Holder,
+        parcel: Parcel,
+    ) -> Result<(), (Parcel, PutFault)>
         requires { CanCome self.old to.now parcel }
         ensures ok { OnOk result (self.new ≡ stores_to self.old to.now parcel) }
         ensures back { IfErr result (λ (back, _). back ≡ parcel) }
@@ -115,11 +129,47 @@ impl Stores {
                 Ok(_) => Ok(()),
                 Err((parcel, _)) => Err((parcel, PutFault::NoMemory)),
             },
+            Holder::Slot(seat, keyword) => self.come_to_slot(alloc, *seat, keyword, parcel),
             Holder::Outside => {
                 self.supply.retire(parcel);
                 Ok(())
             }
-            Holder::Slot(_, _) | Holder::Hand => unreachable!(),
+            Holder::Hand => unreachable!(),
+        }
+    }
+
+    fn come_to_slot(
+        &mut self,
+        alloc: Global,
+        seat: u32,
+        keyword: &Keyword,
+        parcel: Parcel,
+    ) -> Result<(), (Parcel, PutFault)>
+        requires { IsToSlot self.old seat keyword.now parcel }
+        ensures ok { OnOk result (self.new ≡ stores_to self.old (Holder.Slot seat keyword.now) parcel) }
+        ensures back { IfErr result (λ (back, _). back ≡ parcel) }
+        ensures err { OnErr result (self.new ≡ self.old) }
+        ensures refused { IfErr result (λ (_, fault). IsComeRefusal self.old (Holder.Slot seat keyword.now) parcel fault) }
+    {
+        match self.seats.put(alloc, seat, keyword, parcel) {
+            Ok(()) => Ok(()),
+            Err((parcel, fault)) => match fault {
+                SlotFault::Put(fault) => Err((parcel, fault)),
+                SlotFault::SeatExited => unreachable!(),
+            },
+        }
+    }
+
+    /// `come`, for a caller to whom every fault is the same.
+    pub(crate) fn bring(&mut self, alloc: Global, to: &Holder, parcel: Parcel) -> Result<(), Parcel>
+        requires { CanCome self.old to.now parcel }
+        ensures ok { OnOk result (self.new ≡ stores_to self.old to.now parcel) }
+        ensures back { IfErr result (λ back. back ≡ parcel) }
+        ensures err { OnErr result (self.new ≡ self.old) }
+    {
+        match self.come(alloc, to, parcel) {
+            Ok(()) => Ok(()),
+            Err((parcel, _)) => Err(parcel),
         }
     }
 }

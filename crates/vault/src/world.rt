@@ -162,7 +162,7 @@ impl World {
             burned: supply.burned(brand),
             purses: self.draft.purses().total(brand),
             payments: self.draft.payments().total(brand),
-            slots: 0,
+            slots: self.draft.seats().total(brand),
         }
     }
 

@@ -3,13 +3,13 @@ use Rattle.std.proofs.Common.{◌≡◌, ℕ, zero, suc, ◌<◌, ◌≤◌, Lis
 use Rattle.std.specs.Io.KnownBytes.{Appends}
 use Rattle.std.specs.Option.{option_map_or}
 use Rattle.host_core.specs.Hosts.{HostState, IsAtLimit, IsStep, most_turns, step_from, step_of}
-use Rattle.host_core.specs.Journal.{turn_text, turn_texts}
+use Rattle.journal_text.specs.Journal.{turn_text, turn_texts}
 use Rattle.host_core.specs.MessageLines.{MessageRead}
 use Rattle.host_core.specs.Runs.{AppendsToLimit, after, drained}
-use Rattle.host_core.specs.Turns.{TurnRecord, turn_view}
+use Rattle.journal_text.specs.Turns.{TurnRecord, turn_view}
 use Rattle.host_core.specs.declared.host.StepFault.{StepFault}
 use Rattle.host_core.specs.declared.host.StepFault.TheVariants as step
-use Rattle.host_core.specs.declared.turns.Turn.{Turn}
+use Rattle.journal_text.specs.declared.turns.Turn.{Turn}
 use Rattle.host_core.proofs.RunOrder.{step_count}
 use Rattle.zoe_run.specs.Faults.{run_fault}
 use Rattle.zoe_run.specs.Fronts.{AppendsFront}

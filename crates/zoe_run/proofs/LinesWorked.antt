@@ -2,10 +2,10 @@
 use Rattle.std.proofs.Common.{◌≡◌, ℕ, List, ◌∷◌, ◌++◌, Option, ap, sym, subst, ◌∙◌}
 use Rattle.std.specs.Io.KnownBytes.{Appends}
 use Rattle.host_core.specs.Hosts.{HostState}
-use Rattle.host_core.specs.Journal.{turn_texts}
+use Rattle.journal_text.specs.Journal.{turn_texts}
 use Rattle.host_core.specs.MessageLines.{Meaning}
 use Rattle.host_core.specs.Runs.{line_host, line_turns, lines_host, lines_turns}
-use Rattle.host_core.specs.Turns.{TurnRecord}
+use Rattle.journal_text.specs.Turns.{TurnRecord}
 use Rattle.host_core.proofs.RunOrder.{line_count}
 use Rattle.zoe_run.proofs.TurnsWritten.{Written, written_more}
 

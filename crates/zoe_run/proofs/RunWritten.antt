@@ -5,7 +5,7 @@ use Rattle.std.specs.Io.KnownBytes.{Appends, Keeps}
 use Rattle.zoe_run.specs.Fronts.{AppendsFront}
 use Rattle.host_core.specs.Hosts.{HostState, first_host, most_turns}
 use Rattle.host_core.specs.InputLines.{lines_of}
-use Rattle.host_core.specs.Journal.{close_text, turn_texts}
+use Rattle.journal_text.specs.Journal.{close_text, turn_texts}
 use Rattle.host_core.specs.MessageLines.{Meaning, meaning_of, run}
 use Rattle.host_core.specs.Runs.{AppendsTurns, after, closes, drained, end_of, journal_of, left_of, line_host, line_turns, lines_host, lines_turns, meanings_of, turns_of}
 use Rattle.host_core.proofs.RunOrder.{lines_count}

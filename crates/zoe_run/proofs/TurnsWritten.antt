@@ -4,9 +4,9 @@ use Rattle.std.proofs.lemmas.Grind.{flat_map-append}
 use Rattle.std.proofs.KnownBytes.{Appends-nil, Appends-trans}
 use Rattle.std.specs.Io.KnownBytes.{Appends}
 use Rattle.host_core.specs.Hosts.{most_turns}
-use Rattle.host_core.specs.Journal.{turn_text, turn_texts}
+use Rattle.journal_text.specs.Journal.{turn_text, turn_texts}
 use Rattle.host_core.specs.Runs.{AppendsToLimit, AppendsTurns}
-use Rattle.host_core.specs.Turns.{TurnRecord}
+use Rattle.journal_text.specs.Turns.{TurnRecord}
 use Rattle.zoe_run.specs.Fronts.{AppendsFront}
 
 -- of all the turns, those before the ones that are left were written, and counted on from a number

@@ -9,14 +9,14 @@ ghost use Rattle.zoe_run.specs.Causes.{Rose};
 ghost use Rattle.zoe_run.specs.Fronts.{AppendsFront};
 ghost use Rattle.host_core.specs.Hosts.{IsValidHost, host_view, most_turns};
 ghost use Rattle.host_core.specs.InputLines.{lines_of};
-ghost use Rattle.host_core.specs.Journal.{turn_texts};
+ghost use Rattle.journal_text.specs.Journal.{turn_texts};
 ghost use Rattle.host_core.specs.MessageLines.{meaning_of};
 ghost use Rattle.host_core.specs.Runs.{AppendsToLimit, AppendsTurns, after, closes, drained, journal_of, line_host, line_turns, lines_host, lines_turns, turns_of};
 
 use crate::host_io::{Failed, Sink, write_all};
 use host_core::host::{Host, StepFault, Submitted};
-use host_core::journal_text::{write_close, write_turn};
 use host_core::lines::Lines;
+use journal_text::rows::{write_close, write_turn};
 use std::alloc::Global;
 
 /// Why a run ends before its journal is whole.

@@ -1,7 +1,7 @@
 ghost use Rattle.host_core.specs.Hosts.{IsValidHost, host_view};
 
 use super::{Host, Submitted};
-use crate::journal_text::write_turn;
+use journal_text::rows::write_turn;
 use std::alloc::Global;
 use std::process::Abort;
 

@@ -1,10 +1,10 @@
 //! Lines with what they mean, from the rules of the input.
 
 use super::{Call, Give, Line, Message, read_line};
+use call_data::refusals::Refusal;
 use std::alloc::{AllocError, Global};
 use std::process::Abort;
 use std::test::Fail;
-use vault::refusals::Refusal;
 
 /// What a line is read as, and the line.
 const LINES: &str = r##"BadLine | [1]

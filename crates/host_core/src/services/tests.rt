@@ -9,11 +9,11 @@ use super::serve;
 use crate::call_arguments::argument;
 use crate::holdings::{payments_made, purses_made, value_out};
 use amount_math::Kind;
+use call_data::refusals::{Refusal, Stop};
 use host_text::text::Text;
 use jessie_tree::data::{Data, Obj, ObjKind};
 use std::alloc::Global;
 use std::process::Abort;
-use vault::refusals::{Refusal, Stop};
 use vault::world::{Resting, World};
 
 /// The world of a first turn.

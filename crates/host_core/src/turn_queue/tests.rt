@@ -1,7 +1,7 @@
 use super::TurnQueue;
 use crate::message_lines::Message;
+use call_data::refusals::Refusal;
 use std::test::Fail;
-use vault::refusals::Refusal;
 
 #[test]
 fn messages_come_first_in_first_out(rt: HostRuntime) -> Result<(), Fail> {

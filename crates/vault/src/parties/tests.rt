@@ -2,7 +2,7 @@ ghost use Rattle.std.specs.Prelude.{◌≡◌};
 
 use super::Parties;
 use crate::parts::Part;
-use crate::refusals::{Refusal, Stop};
+use call_data::refusals::{Refusal, Stop};
 use host_text::text::Text;
 use jessie_tree::data::{Data, ObjKind};
 use std::alloc::{AllocError, Global};

@@ -1,19 +1,13 @@
-use Rattle.std.proofs.Common.{◌∙◌, sym, ap}
-use Rattle.amount_math.specs.Worth.{Worth}
-use Rattle.amount_math.proofs.Shapes.{is_value, is_nat_value, sum_with_nothing, value_with_nothing}
+use Rattle.std.proofs.Common.{refl}
+use Rattle.amount_math.proofs.Shapes.{shape_sum, value_sum}
 use Rattle.amount_math.proofs.Value.absorb.Goals as goal
 
-pub returns-in-Ok-clause-value : goal.returns-in-Ok-clause-value
-returns-in-Ok-clause-value c = is_nat_value _ _ (c.requires ∙ sym (ap (λ (w : Worth). w.kind) (rw c.in_default-Nat.is-1 at c.other.view_is))) (rw c.in-Ok.is at c.absorb_nat.ensures.value)
+pub invariant_of-self-2 : goal.invariant_of-self-2
+invariant_of-self-2 c =
+    let kinds = rw (← c.self.view_is, ← c.other.view_is) at c.requires in
+    shape_sum c.self.inside.shape c.other.inside.shape c.add.new.self kinds c.in_default-add.ensures.ok (c.in_default.ensures.ok refl) c.self.invariant c.other.invariant (c.in_default-check_keys.ensures.ok refl)
 
-pub returns-in_default-Set-clause-ok : goal.returns-in_default-Set-clause-ok
-returns-in_default-Set-clause-ok c = sum_with_nothing _ _ (ap (λ (w : Worth). w.content) (rw c.in_default-Set.is-1 at c.other.view_is))
-
-pub returns-in_default-Set-clause-value : goal.returns-in_default-Set-clause-value
-returns-in_default-Set-clause-value c = value_with_nothing _ _ (is_value _ _ c.self.view_is c.self.invariant) (ap (λ (w : Worth). w.content) (rw c.in_default-Set.is-1 at c.other.view_is))
-
-pub returns-in_default-Bag-clause-ok : goal.returns-in_default-Bag-clause-ok
-returns-in_default-Bag-clause-ok c = sum_with_nothing _ _ (ap (λ (w : Worth). w.content) (rw c.in_default-Bag.is-1 at c.other.view_is))
-
-pub returns-in_default-Bag-clause-value : goal.returns-in_default-Bag-clause-value
-returns-in_default-Bag-clause-value c = value_with_nothing _ _ (is_value _ _ c.self.view_is c.self.invariant) (ap (λ (w : Worth). w.content) (rw c.in_default-Bag.is-1 at c.other.view_is))
+pub returns-clause-value : goal.returns-clause-value
+returns-clause-value c =
+    let kinds = rw (← c.self.view_is, ← c.other.view_is) at c.requires in
+    rw (← c.self.view_is, ← c.other.view_is) (value_sum c.self.inside.shape c.other.inside.shape c.add.new.self kinds c.in_default-add.ensures.ok (c.in_default.ensures.ok refl) c.self.invariant c.other.invariant (c.in_default-check_keys.ensures.ok refl))

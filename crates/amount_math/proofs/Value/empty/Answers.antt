@@ -1,7 +1,6 @@
-use Rattle.std.proofs.Common.{◌∙◌, ap}
-use Rattle.amount_math.specs.declared.Kind.TheVariants.{Nat}
-use Rattle.amount_math.specs.Content.{Content, of_nat_zero}
+use Rattle.amount_math.specs.KindLaws.{nothing_is_value}
+use Rattle.amount_math.proofs.Shapes.{is_shape}
 use Rattle.amount_math.proofs.Value.empty.Goals as goal
 
-pub returns-in-Nat : goal.returns-in-Nat
-returns-in-Nat c = rw c.in-Nat.is (c.nat.ensures ∙ ap (λ (x : Content). record { kind = Nat; content = x }) of_nat_zero)
+pub invariant_of-result : goal.invariant_of-result
+invariant_of-result c = is_shape _ c.empty.result c.empty.ensures (nothing_is_value c.args.kind)

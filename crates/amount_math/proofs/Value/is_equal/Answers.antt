@@ -1,10 +1,12 @@
-use Rattle.std.proofs.Common.{◌≡◌, ◌∙◌, sym, ap, IsTrue, rules}
-use Rattle.amount_math.specs.Shapes.{worth}
-use Rattle.amount_math.proofs.Shapes.{same_shape}
+use Rattle.std.proofs.Common.{◌≡◌, refl, subst, rules}
+use Rattle.amount_math.specs.Content.{Contains, Contains-antisym, Contains-refl}
+use Rattle.amount_math.specs.Worth.{Worth}
+use Rattle.amount_math.proofs.Shapes.{same_worth}
 use Rattle.amount_math.proofs.Value.is_equal.Goals as goal
 
 pub returns : goal.returns
 returns c =
-    let to_shapes : IsTrue c.eq.result → c.self.inside.shape ≡ c.other.inside.shape = search rules in
-    let from_shapes : c.self.inside.shape ≡ c.other.inside.shape → IsTrue c.eq.result = search rules in
-    (λ is. sym c.self.view_is ∙ ap worth (to_shapes is) ∙ c.other.view_is, λ same. from_shapes (same_shape _ _ (c.self.view_is ∙ same ∙ sym c.other.view_is)))
+    let kinds : c.args.self.now.kind ≡ c.args.other.now.kind = search rules in (
+      λ is. same_worth _ _ kinds (Contains-antisym _ _ (c.if-not-is_gte.ensures.0 refl) (c.is_gte-2.ensures.0 is)),
+      λ e. c.is_gte-2.ensures.1 (subst (λ (w : Worth). Contains w.content c.args.self.now.content) e (Contains-refl c.args.self.now.content)),
+    )

@@ -1,7 +1,9 @@
-use Rattle.std.proofs.Common.{◌≡◌, ◌+◌, ◌-◌, suc, sym, ◌∙◌, arith}
+use Rattle.std.proofs.Common.{◌≡◌, ◌+◌, ◌-◌, suc, refl, sym, ◌∙◌, arith}
 use Rattle.std.proofs.lemmas.Result.{err_from_is_err_and}
 use Rattle.host_core.proofs.RunOrder.{step_count}
 use Rattle.zoe_run.proofs.Drained.{after_turn, drain_empty, drain_failed, drain_limit, drain_over, drain_turn, stepped_limit, stepped_none, stepped_some}
+use Rattle.zoe_run.specs.declared.run.RunFault.{RunFault}
+use Rattle.zoe_run.specs.declared.run.RunFault.TheVariants.{Failed, NoMemory, TurnLimit}
 use Rattle.zoe_run.proofs.run.drain.Goals as goal
 
 pub returns-in_err-turn-clause-limit : goal.returns-in_err-turn-clause-limit
@@ -27,6 +29,18 @@ returns-in_err-write-clause-failed g c =
     let stepped = stepped_some _ _ _ _ c.in-Some.is c.in_ok-turn.ensures.step in
     λ e. drain_failed _ _ _ _ _ _ c.loop.invariant.worked _ left _ _ stepped.0 _
     (rw (c.as_str.ensures.value, c.in-Ok.ensures) at (c.in_err-write.ensures.failed (cc (p.1, p.2, e))))
+
+-- a write has no other fault
+only_failed : (fault : RunFault) → (fault ≡ NoMemory → ⊥) → (fault ≡ TurnLimit → ⊥) → fault ≡ Failed
+only_failed Failed memory limit = refl
+only_failed NoMemory memory limit = absurd (memory refl)
+only_failed TurnLimit memory limit = absurd (limit refl)
+
+pub returns-in_err-write-clause-quiet : goal.returns-in_err-write-clause-quiet
+returns-in_err-write-clause-quiet g c =
+    let p = err_from_is_err_and c.from_residual-in_err-write.result c.from_residual-in_err-write.ensures.1 in
+    let failed = only_failed c.in_err-write.field-0.0 (λ is. c.in_err-write.ensures.memory (cc is)) (λ is. c.in_err-write.ensures.limit (cc is)) in
+    λ others. absurd (others (cc (p.1, p.2, failed)))
 
 pub loop-preserved : goal.loop-preserved
 loop-preserved g c =

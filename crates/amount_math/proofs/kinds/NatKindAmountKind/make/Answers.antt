@@ -1,16 +1,11 @@
-use Rattle.std.proofs.Common.{◌≡◌, ◌∙◌, ap, arith}
-use Rattle.std.proofs.Math.IntN.{nat_abs}
+use Rattle.std.proofs.Common.{◌∙◌, arith, refl}
 use Rattle.std.proofs.Math.Facts.{to_z-of_z}
 use Rattle.amount_math.specs.NatLaws.{IsNat-of_nat}
 use Rattle.amount_math.proofs.Numbers.{number_is_within}
 use Rattle.amount_math.proofs.kinds.NatKindAmountKind.make.Goals as goal
 
-pub returns-then-number-gt-NAT_BOUND-clause-bad_value :
-    goal.returns-then-number-gt-NAT_BOUND-clause-bad_value
-returns-then-number-gt-NAT_BOUND-clause-bad_value c = λ _ d value stands.
-    let within = number_is_within c.args.from d value stands in
-    let whole : c.in-Ok.number ≡ stands.number = c.in-Ok.ensures.1 ∙ ap nat_abs (to_z-of_z c.ranges.from ∙ stands.whole) in
-    omega arith
+pub returns-in-None-clause-bad_value : goal.returns-in-None-clause-bad_value
+returns-in-None-clause-bad_value c = λ _ d value stands. omega (arith, number_is_within c.args.from d value stands, c.in-None.ensures.none refl stands.number (to_z-of_z c.ranges.from ∙ stands.whole))
 
-pub returns-clause-value : goal.returns-clause-value
-returns-clause-value c = rw c.nat.ensures (IsNat-of_nat _ (omega arith))
+pub returns-in-Some-clause-value : goal.returns-in-Some-clause-value
+returns-in-Some-clause-value c = rw c.nat.ensures (IsNat-of_nat _ c.in-Some.ensures.some.1)

@@ -6,7 +6,7 @@ use Rattle.vault.specs.Worlds.{resting_of}
 use Rattle.host_core.specs.MessageLines.{message_view}
 use Rattle.vault.specs.Parties.{labels_of}
 use Rattle.host_core.specs.Queues.{front_of, waiting}
-use Rattle.host_core.specs.Turns.{turn_view}
+use Rattle.journal_text.specs.Turns.{turn_view}
 use Rattle.host_core.proofs.HostFronts.{no_step, step_is}
 use Rattle.host_core.proofs.HostSteps.{step_valid}
 use Rattle.host_core.proofs.host.Host.step.Goals as goal

@@ -11,7 +11,7 @@ use Rattle.vault.proofs.drafts.Draft.open_purse.Goals as goal
 pub invariant_of-self : goal.invariant_of-self
 invariant_of-self c =
     let d = c.self.inside in
-    let inside = λ (ps : List Amount). IsDraftInside (record { supply = d.stores.supply; purses = ps; payments = d.stores.payments }) (draft_of d.kept (record { supply = d.stores.supply; purses = ps; payments = d.stores.payments }) d.movements.items d.is_spoiled) in
+    let inside = λ (ps : List Amount). IsDraftInside (record { supply = d.stores.supply; purses = ps; payments = d.stores.payments; seats = d.stores.seats }) (draft_of d.kept (record { supply = d.stores.supply; purses = ps; payments = d.stores.payments; seats = d.stores.seats }) d.movements.items d.is_spoiled) in
     settled inside c.open.result d.stores.purses (d.stores.purses ++ empty_amount c.args.brand c.args.kind ∷ []) c.open.new.self c.open.ensures.ok c.open.ensures.err
     (opens d.kept d.stores d.movements.items d.is_spoiled c.args.brand c.args.kind c.self.invariant (rw (← c.self.view_is) at c.requires.made) (rw (← c.self.view_is) at c.requires.kind))
     c.self.invariant
@@ -19,7 +19,7 @@ invariant_of-self c =
 pub returns-clause-hand : goal.returns-clause-hand
 returns-clause-hand c =
     let d = c.self.inside in
-    let kept = λ (ps : List Amount). KeepsHand (draft_of d.kept d.stores d.movements.items d.is_spoiled) (draft_of d.kept (record { supply = d.stores.supply; purses = ps; payments = d.stores.payments }) d.movements.items d.is_spoiled) in
+    let kept = λ (ps : List Amount). KeepsHand (draft_of d.kept d.stores d.movements.items d.is_spoiled) (draft_of d.kept (record { supply = d.stores.supply; purses = ps; payments = d.stores.payments; seats = d.stores.seats }) d.movements.items d.is_spoiled) in
     rw (← c.self.view_is)
     (settled kept c.open.result d.stores.purses (d.stores.purses ++ empty_amount c.args.brand c.args.kind ∷ []) c.open.new.self c.open.ensures.ok c.open.ensures.err
     (opened_keeps_hand d.kept d.stores d.movements.items d.is_spoiled c.args.brand c.args.kind)

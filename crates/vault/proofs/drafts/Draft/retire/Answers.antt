@@ -3,7 +3,7 @@ use Rattle.rights_model.specs.declared.Holder.TheVariants.{Hand, Outside}
 use Rattle.rights_model.specs.Table.{movement}
 use Rattle.vault.specs.Drafts.{DraftState, stepped}
 use Rattle.vault.proofs.Movings.{step_keeps, draft_of-moved}
-use Rattle.vault.proofs.Hands.{can_put, hand_is_out, loses_put}
+use Rattle.vault.proofs.Hands.{can_put, hand_is_out, left_inside, loses_put}
 use Rattle.vault.proofs.drafts.Draft.retire.Goals as goal
 
 pub retire-requires-clause-out : goal.retire-requires-clause-out
@@ -17,7 +17,7 @@ invariant_of-self-2 c =
       made = rw (← c.self.view_is) at c.requires.made;
       kind = sym (rw (← c.self.view_is) at c.requires.kind);
       out = hand_is_out _ _ _ _ c.self.invariant _ _ (rw (← c.self.view_is) at c.requires.hand);
-    }) (rw (← c.self.view_is) at c.requires.made) (rw (← c.self.view_is) at c.requires.kind) (rw (← c.self.view_is) at c.requires.hand)))
+    }) (left_inside _ _ _ _ c.self.invariant) (rw (← c.self.view_is) at c.requires.made) (rw (← c.self.view_is) at c.requires.kind) (rw (← c.self.view_is) at c.requires.hand)))
 
 pub returns-clause-ok : goal.returns-clause-ok
 returns-clause-ok c =
@@ -32,7 +32,7 @@ returns-clause-valid c =
       made = rw (← c.self.view_is) at c.requires.made;
       kind = sym (rw (← c.self.view_is) at c.requires.kind);
       out = hand_is_out _ _ _ _ c.self.invariant _ _ (rw (← c.self.view_is) at c.requires.hand);
-    }) (rw (← c.self.view_is) at c.requires.made) (rw (← c.self.view_is) at c.requires.kind) (rw (← c.self.view_is) at c.requires.hand))).draft
+    }) (left_inside _ _ _ _ c.self.invariant) (rw (← c.self.view_is) at c.requires.made) (rw (← c.self.view_is) at c.requires.kind) (rw (← c.self.view_is) at c.requires.hand))).draft
 
 pub returns-clause-loses : goal.returns-clause-loses
 returns-clause-loses c =
@@ -41,4 +41,4 @@ returns-clause-loses c =
       made = rw (← c.self.view_is) at c.requires.made;
       kind = sym (rw (← c.self.view_is) at c.requires.kind);
       out = hand_is_out _ _ _ _ c.self.invariant _ _ (rw (← c.self.view_is) at c.requires.hand);
-    }) (rw (← c.self.view_is) at c.requires.made) (rw (← c.self.view_is) at c.requires.kind) (rw (← c.self.view_is) at c.requires.hand))
+    }) (left_inside _ _ _ _ c.self.invariant) (rw (← c.self.view_is) at c.requires.made) (rw (← c.self.view_is) at c.requires.kind) (rw (← c.self.view_is) at c.requires.hand))

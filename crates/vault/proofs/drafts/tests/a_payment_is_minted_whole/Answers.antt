@@ -12,7 +12,6 @@ transfer-requires g c =
       brand = omega arith;
       kind = refl;
       from = record {
-        nat = refl;
         fits = subst (Fits Nat) (sym (sum-comm nothing (of_nat 10) ∙ sum-nothing (of_nat 10))) (IsNat-of_nat 10 (omega arith)).fits;
         room = omega (arith, counted-of_nat 10);
       };

@@ -1,5 +1,6 @@
 use Rattle.std.proofs.Common.{◌∙◌, sym, ap}
 use Rattle.ertp_mint.specs.BrandSupply.{supply_at}
+use Rattle.seats.specs.Seats.{seats_counted}
 use Rattle.vault.specs.Sums.{sum_of}
 use Rattle.vault.proofs.Totalled.{purses_total, payments_total}
 use Rattle.vault.proofs.world.World.sum.Goals as goal
@@ -16,5 +17,5 @@ returns c =
       burned = (c.burned.ensures ∙ ap (λ ss. (supply_at ss b).burned) c.supply-supply.ensures.supply) i;
       purses = (c.total.ensures ∙ purses_total v c.purses.result.now b c.purses.ensures totals) i;
       payments = (c.total-2.ensures ∙ payments_total v c.payments.result.now b c.payments.ensures totals) i;
-      slots = sym (totals.slots b) i;
+      slots = (c.total-3.ensures ∙ ap (seats_counted b) c.seats.ensures ∙ sym (totals.slots b)) i;
     }

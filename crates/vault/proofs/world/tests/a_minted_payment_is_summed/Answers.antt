@@ -26,7 +26,6 @@ can_mint name = record {
   brand = omega arith;
   kind = refl;
   from = record {
-    nat = refl;
     fits = subst (Fits Nat) (sym (sum-comm nothing (of_nat 5) ∙ sum-nothing (of_nat 5))) (IsNat-of_nat 5 (omega arith)).fits;
     room = omega (arith, counted-of_nat 5);
   };

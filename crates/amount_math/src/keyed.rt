@@ -1,0 +1,203 @@
+//! Keyed contents: what a set or a bag has.
+
+ghost use Rattle.std.specs.Prelude.{◌≡◌, ◌<◌, ◌≤◌, ◌↔◌, ℕ, List, IfOk, IfErr, IfSome, IsErr, IsNone, IsOk, OnOk, OnErr, IsTrue};
+ghost use Rattle.std.specs.List.Sorted.{IsPermutation};
+ghost use Rattle.amount_math.specs.Content.{Contains, Content, count, difference, entries, nothing, of_entries, one_of, sum};
+ghost use Rattle.amount_math.specs.Counted.{counted};
+ghost use Rattle.amount_math.specs.Entries.{AreEntries, IsKey, most_of_key};
+ghost use Rattle.amount_math.specs.Worth.{Fits, IsBag, IsIssueRefusal, PassesBound, keys_of, most_keys};
+ghost use Rattle.amount_math.specs.declared.Kind.{Kind};
+
+use crate::made::{are_all, first_unordered};
+use crate::merges::{copied, lessen, merge};
+use crate::{COUNT_BOUND, Entry, KEYS_BOUND, Key, PutFault, TooMuch, entries};
+use std::alloc::{AllocError, Global};
+use std::marker::Model;
+
+/// Keys with their counts, as entries in byte order of the keys. It is `None` where nothing was ever
+/// put in, so that an empty one wants no allocator.
+#[derive(Debug, Drop)]
+pub(crate) struct Keyed {
+    entries: Option<Vec<Entry>>,
+}
+
+impl Model for Keyed {
+    ghost use Rattle.amount_math.specs.Content.{Content, coded_content, of_entries};
+    ghost use Rattle.amount_math.specs.Entries.{AreEntries, listing};
+
+    ghost Value = { Content };
+
+    ghost coded = { coded_content };
+
+    ghost view = { λ a. of_entries (listing a.entries) };
+
+    ghost invariant = { λ a. AreEntries (listing a.entries) };
+}
+
+impl Keyed {
+    pub fn empty() -> Keyed
+        ensures { result ≡ nothing }
+    {
+        Keyed { entries: None }
+    }
+
+    /// One key, once, or the key handed back where memory is wanted.
+    pub fn one(alloc: Global, key: Key) -> Result<Keyed, Key>
+        requires { IsKey key }
+        ensures ok { IfOk result (λ one. one ≡ one_of key) }
+        ensures back { IfErr result (λ back. back ≡ key) }
+    {
+        let mut entries = Vec::new(alloc);
+        match entries.push(Entry::new(key, 1)) {
+            Ok(()) => Ok(Keyed {
+                entries: Some(entries),
+            }),
+            Err(failed) => Err(failed.value.into_key()),
+        }
+    }
+
+    /// The content of entries in any order, or `None` where they are those of no bag.
+    pub fn of(mut given: Vec<Entry>) -> Option<Keyed>
+        ensures some { IfSome result (λ keyed. IsPermutation given.items (entries keyed)) }
+        ensures value { IfSome result IsBag }
+        ensures none { IsNone result → (c : Content) → IsBag c → ¬ IsPermutation given.items (entries c) }
+    {
+        if given.len() > KEYS_BOUND as usize {
+            return None;
+        }
+        if !are_all(&given) {
+            return None;
+        }
+        given.sort_unstable_by(|left, right| left.order(right));
+        match first_unordered(&given) {
+            Some(_) => None,
+            None => Some(Keyed {
+                entries: Some(given),
+            }),
+        }
+    }
+
+    /// The entries, in byte order of their keys.
+    pub fn entries(&self) -> &[Entry]
+        ensures list { result.now ≡ entries self.now }
+        ensures entries { AreEntries result.now }
+        ensures content { of_entries result.now ≡ self.now }
+    {
+        match &self.entries {
+            Some(entries) => entries,
+            None => &[],
+        }
+    }
+
+    /// A second one, which takes memory where there is a key.
+    pub fn copy(&self) -> Result<Keyed, AllocError>
+        ensures { IfOk result (λ copy. copy ≡ self.now) }
+    {
+        let entries = match &self.entries {
+            Some(entries) => Some(copied(entries)?),
+            None => None,
+        };
+        Ok(Keyed { entries })
+    }
+
+    pub fn is_empty(&self) -> bool
+        ensures { IsTrue result ↔ (self.now ≡ nothing) }
+    {
+        self.entries().is_empty()
+    }
+
+    pub fn total(&self) -> u128
+        ensures { result ≡ counted self.now }
+    {
+        entries::total(self.entries())
+    }
+
+    pub fn contains(&self, part: &Keyed) -> bool
+        ensures { IsTrue result ↔ Contains self.now part.now }
+    {
+        entries::contains(self.entries(), part.entries())
+    }
+
+    /// That both have no key in common, or the least that they have.
+    pub fn overlap(&self, more: &Keyed) -> Result<(), PutFault>
+        requires { Fits Kind.Set self.now }
+        ensures ok { IsOk result → Fits Kind.Set (sum self.now more.now) }
+        ensures refused { IfErr result (IsIssueRefusal Kind.Set (sum self.now more.now)) }
+    {
+        let others = more.entries();
+        let Some(at) = entries::first_past(self.entries(), others, 1) else {
+            return Ok(());
+        };
+        match others[at].key().copy() {
+            Ok(key) => Err(PutFault::Overlap(key)),
+            Err(_) => Err(PutFault::NoMemory),
+        }
+    }
+
+    /// That no count of both together passes a bag's bound, or the first that does.
+    pub fn excess(&self, more: &Keyed) -> Result<(), TooMuch>
+        requires { Fits Kind.Bag self.now }
+        ensures ok { IsOk result → Fits Kind.Bag (sum self.now more.now) }
+        ensures too_much { IfErr result (PassesBound Kind.Bag (sum self.now more.now)) }
+    {
+        let held = self.entries();
+        let others = more.entries();
+        let Some(at) = entries::first_past(held, others, COUNT_BOUND) else {
+            return Ok(());
+        };
+        let entry = &others[at];
+        let sum = u128::from(entries::count_of(held, entry.key())) + u128::from(entry.count());
+        let bound = u128::from(COUNT_BOUND);
+        Err(TooMuch { sum, bound })
+    }
+
+    /// That both together have few enough keys, or how many they have.
+    pub fn few_with(&self, more: &Keyed) -> Result<(), TooMuch>
+        ensures ok { IsOk result → keys_of (sum self.now more.now) ≤ most_keys }
+        ensures too_many { IfErr result (λ over. over ≡ record { sum = keys_of (sum self.now more.now); bound = most_keys }) }
+        ensures past { IsErr result → most_keys < keys_of (sum self.now more.now) }
+    {
+        let sum = entries::keys_together(self.entries(), more.entries());
+        if sum > KEYS_BOUND {
+            let bound = KEYS_BOUND;
+            return Err(TooMuch { sum, bound });
+        }
+        Ok(())
+    }
+
+    /// Puts the other's entries in, or hands it back and stays as it was.
+    pub fn absorb(&mut self, other: Keyed) -> Result<(), Keyed>
+        requires { (k : List ℕ) → count (sum self.old other) k ≤ most_of_key }
+        ensures ok { OnOk result (self.new ≡ sum self.old other) }
+        ensures back { IfErr result (λ back. back ≡ other) }
+        ensures err { OnErr result (self.new ≡ self.old) }
+    {
+        let Keyed { entries } = other;
+        let Some(more) = entries else {
+            return Ok(());
+        };
+        match &mut self.entries {
+            None => {
+                self.entries = Some(more);
+                Ok(())
+            }
+            Some(held) => match merge(held, more) {
+                Ok(()) => Ok(()),
+                Err(back) => Err(Keyed {
+                    entries: Some(back),
+                }),
+            },
+        }
+    }
+
+    /// Takes away what it is known to contain, which takes no memory.
+    pub fn lessen(&mut self, part: &Keyed)
+        requires { Contains self.old part.now }
+        ensures { self.new ≡ difference self.old part.now }
+    {
+        let Some(entries) = &mut self.entries else {
+            return;
+        };
+        lessen(entries, part.entries());
+    }
+}

@@ -1,0 +1,126 @@
+//! What is out of a brand: the values of all its holders together.
+
+ghost use Rattle.std.specs.Prelude.{◌≡◌, ◌≢◌, ◌≤◌, ◌↔◌, IfSome, IfErr, IfOk, IsNone, IsSome, IsTrue, OnErr, OnOk};
+ghost use Rattle.amount_math.specs.Content.{Contains, difference, entries, nothing, of_nat, sum};
+ghost use Rattle.amount_math.specs.Counted.{counted};
+ghost use Rattle.amount_math.specs.Worth.{Fits, IsIssueRefusal, nat_bound};
+
+use crate::shape::Shape;
+use crate::{Entry, Kind, PutFault, Value};
+use std::alloc::AllocError;
+use std::marker::Model;
+
+/// What is out of a brand. It is as a value of the kind, but of any number of keys, since each holder
+/// may have as many as a value may. Contracts see its kind and its content.
+#[derive(Debug, Drop)]
+pub struct Outstanding {
+    shape: Shape,
+}
+
+impl Model for Outstanding {
+    ghost use Rattle.amount_math.specs.Worth.{Worth, coded_worth};
+    ghost use Rattle.amount_math.specs.Shapes.{IsCounted, worth};
+
+    ghost Value = { Worth };
+
+    ghost coded = { coded_worth };
+
+    ghost view = { λ a. worth a.shape };
+
+    ghost invariant = { λ a. IsCounted a.shape };
+}
+
+impl Outstanding {
+    /// Nothing of a kind.
+    pub fn empty(kind: Kind) -> Outstanding
+        ensures { result ≡ record { kind = kind; content = nothing } }
+    {
+        Outstanding {
+            shape: Shape::empty(kind),
+        }
+    }
+
+    /// The kind of the brand's values, and that no count passes its bound.
+    pub fn kind(&self) -> Kind
+        ensures kind { result ≡ self.now.kind }
+        ensures fits { Fits self.now.kind self.now.content }
+    {
+        self.shape.kind()
+    }
+
+    /// How many units are out, or `None` if the kind isn't nat.
+    pub fn number(&self) -> Option<u128>
+        ensures number { IfSome result (λ n. self.now ≡ record { kind = Kind.Nat; content = of_nat n }) }
+        ensures bounded { IfSome result (λ n. n ≤ nat_bound) }
+        ensures none { IsNone result → self.now.kind ≢ Kind.Nat }
+    {
+        match &self.shape {
+            Shape::Nat(number) => Some(*number),
+            Shape::Set(_) | Shape::Bag(_) => None,
+        }
+    }
+
+    /// The keys that are out with their counts, in byte order of the keys, or `None` if the kind is nat.
+    pub fn entries(&self) -> Option<&[Entry]>
+        ensures entries { IfSome result (λ list. list.now ≡ entries self.now.content) }
+        ensures keyed { IsSome result → self.now.kind ≢ Kind.Nat }
+        ensures none { IsNone result → self.now.kind ≡ Kind.Nat }
+    {
+        match &self.shape {
+            Shape::Nat(_) => None,
+            Shape::Set(keyed) => Some(keyed.entries()),
+            Shape::Bag(keyed) => Some(keyed.entries()),
+        }
+    }
+
+    /// The counts of all elements together.
+    pub fn total(&self) -> u128
+        ensures { result ≡ counted self.now.content }
+    {
+        self.shape.total()
+    }
+
+    /// Whether at least the value is out, of each element.
+    pub fn is_gte(&self, value: &Value) -> bool
+        requires { self.now.kind ≡ value.now.kind }
+        ensures { IsTrue result ↔ Contains self.now.content value.now.content }
+    {
+        self.shape.is_gte(&value.shape)
+    }
+
+    /// A second one. Keys take memory.
+    pub fn copy(&self) -> Result<Outstanding, AllocError>
+        ensures { IfOk result (λ copy. copy ≡ self.now) }
+    {
+        let shape = self.shape.copy()?;
+        Ok(Outstanding { shape })
+    }
+
+    /// Adds a value to what is out, or hands it back and stays as it was. Keys take memory.
+    pub fn absorb(&mut self, value: Value) -> Result<(), (Value, PutFault)>
+        requires { self.old.kind ≡ value.kind }
+        ensures ok { OnOk result (self.new ≡ record self.old { content = sum self.old.content value.content }) }
+        ensures fits { OnOk result (Fits self.old.kind (sum self.old.content value.content)) }
+        ensures back { IfErr result (λ (back, _). back ≡ value) }
+        ensures err { OnErr result (self.new ≡ self.old) }
+        ensures refused { IfErr result (λ (_, fault). IsIssueRefusal self.old.kind (sum self.old.content value.content) fault) }
+    {
+        if let Err(fault) = self.shape.check_counts(&value.shape) {
+            return Err((value, fault));
+        }
+        let Value { shape } = value;
+        if let Err(shape) = self.shape.add(shape) {
+            return Err((Value { shape }, PutFault::NoMemory));
+        }
+        Ok(())
+    }
+
+    /// Takes away what it is known to contain.
+    pub fn lessen(&mut self, part: &Value)
+        requires kind { self.old.kind ≡ part.now.kind }
+        requires enough { Contains self.old.content part.now.content }
+        ensures { self.new ≡ record self.old { content = difference self.old.content part.now.content } }
+    {
+        self.shape.lessen(&part.shape);
+    }
+}

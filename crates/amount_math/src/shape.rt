@@ -1,0 +1,177 @@
+//! What a value has, by its kind. It doesn't know how many keys a value may have.
+
+ghost use Rattle.std.specs.Prelude.{◌≡◌, ◌≢◌, ◌<◌, ◌≤◌, ◌+◌, ◌↔◌, IfOk, IfErr, IsErr, IsOk, OnOk, OnErr, IsTrue};
+ghost use Rattle.amount_math.specs.Content.{Contains, difference, nothing, sum};
+ghost use Rattle.amount_math.specs.Counted.{counted};
+ghost use Rattle.amount_math.specs.Shapes.{IsCounted, worth};
+ghost use Rattle.amount_math.specs.Worth.{Fits, HasFew, IsIssueRefusal, IsNat, PassesBound, PassesKeys, nat_bound, with_content};
+
+use crate::keyed::Keyed;
+use crate::{Kind, NAT_BOUND, PutFault, TooMuch};
+use std::alloc::AllocError;
+
+#[derive(Debug, Drop)]
+pub(crate) enum Shape {
+    Nat(u128),
+    Set(Keyed),
+    Bag(Keyed),
+}
+
+/// The sum of two numbers within the bound, if it is within too.
+pub(crate) fn nat_sum(held: u128, more: u128) -> Result<u128, TooMuch>
+    requires held { held ≤ nat_bound }
+    requires more { more ≤ nat_bound }
+    ensures ok { IfOk result (λ sum. (sum ≡ held + more) × (sum ≤ nat_bound)) }
+    ensures too_much { IfErr result (λ over. (over ≡ record { sum = held + more; bound = nat_bound }) × (nat_bound < held + more)) }
+{
+    let sum = held + more;
+    if sum > NAT_BOUND {
+        let bound = NAT_BOUND;
+        return Err(TooMuch { sum, bound });
+    }
+    Ok(sum)
+}
+
+impl Shape {
+    pub(crate) fn empty(kind: Kind) -> Shape
+        ensures { worth result ≡ record { kind = kind; content = nothing } }
+    {
+        match kind {
+            Kind::Nat => Shape::Nat(0),
+            Kind::Set => Shape::Set(Keyed::empty()),
+            Kind::Bag => Shape::Bag(Keyed::empty()),
+        }
+    }
+
+    pub(crate) fn kind(&self) -> Kind
+        ensures { result ≡ (worth self.now).kind }
+    {
+        match self {
+            Shape::Nat(_) => Kind::Nat,
+            Shape::Set(_) => Kind::Set,
+            Shape::Bag(_) => Kind::Bag,
+        }
+    }
+
+    pub(crate) fn total(&self) -> u128
+        ensures { result ≡ counted (worth self.now).content }
+    {
+        match self {
+            Shape::Nat(number) => *number,
+            Shape::Set(keyed) | Shape::Bag(keyed) => keyed.total(),
+        }
+    }
+
+    pub(crate) fn copy(&self) -> Result<Shape, AllocError>
+        ensures { IfOk result (λ copy. copy ≡ self.now) }
+    {
+        Ok(match self {
+            Shape::Nat(number) => Shape::Nat(*number),
+            Shape::Set(keyed) => Shape::Set(keyed.copy()?),
+            Shape::Bag(keyed) => Shape::Bag(keyed.copy()?),
+        })
+    }
+
+    pub(crate) fn is_gte(&self, part: &Shape) -> bool
+        requires { (worth self.now).kind ≡ (worth part.now).kind }
+        ensures { IsTrue result ↔ Contains (worth self.now).content (worth part.now).content }
+    {
+        match (self, part) {
+            (Shape::Nat(held), Shape::Nat(number)) => *held >= *number,
+            (Shape::Set(held), Shape::Set(part)) => held.contains(part),
+            (Shape::Bag(held), Shape::Bag(part)) => held.contains(part),
+            _ => unreachable!(),
+        }
+    }
+
+    /// Whether no count of the sum passes the kind's bound.
+    pub(crate) fn check_counts(&self, more: &Shape) -> Result<(), PutFault>
+        requires kinds { (worth self.now).kind ≡ (worth more.now).kind }
+        requires held { IsCounted self.now }
+        requires more { IsCounted more.now }
+        ensures ok { IsOk result → Fits (worth self.now).kind (sum (worth self.now).content (worth more.now).content) }
+        ensures refused { IfErr result (IsIssueRefusal (worth self.now).kind (sum (worth self.now).content (worth more.now).content)) }
+    {
+        match (self, more) {
+            (Shape::Nat(held), Shape::Nat(number)) => match nat_sum(*held, *number) {
+                Ok(_) => Ok(()),
+                Err(over) => Err(PutFault::TooMuch(over)),
+            },
+            (Shape::Set(held), Shape::Set(more)) => held.overlap(more),
+            (Shape::Bag(held), Shape::Bag(more)) => match held.excess(more) {
+                Ok(()) => Ok(()),
+                Err(over) => Err(PutFault::TooMuch(over)),
+            },
+            _ => unreachable!(),
+        }
+    }
+
+    /// Whether the sum has few enough keys.
+    pub(crate) fn check_keys(&self, more: &Shape) -> Result<(), TooMuch>
+        requires kinds { (worth self.now).kind ≡ (worth more.now).kind }
+        requires fits { Fits (worth self.now).kind (sum (worth self.now).content (worth more.now).content) }
+        ensures ok { IsOk result → HasFew (worth self.now).kind (sum (worth self.now).content (worth more.now).content) }
+        ensures too_many { IfErr result (PassesKeys (worth self.now).kind (sum (worth self.now).content (worth more.now).content)) }
+        ensures keyed { IsErr result → (worth self.now).kind ≢ Kind.Nat }
+    {
+        match (self, more) {
+            (Shape::Nat(_), Shape::Nat(_)) => Ok(()),
+            (Shape::Set(held), Shape::Set(more)) => held.few_with(more),
+            (Shape::Bag(held), Shape::Bag(more)) => held.few_with(more),
+            _ => unreachable!(),
+        }
+    }
+
+    /// Puts the other in, or hands it back and stays as it was.
+    pub(crate) fn add(&mut self, more: Shape) -> Result<(), Shape>
+        requires kinds { (worth self.old).kind ≡ (worth more).kind }
+        requires fits { Fits (worth self.old).kind (sum (worth self.old).content (worth more).content) }
+        ensures ok { OnOk result (worth self.new ≡ with_content (worth self.old) (sum (worth self.old).content (worth more).content)) }
+        ensures back { IfErr result (λ back. back ≡ more) }
+        ensures err { OnErr result (self.new ≡ self.old) }
+    {
+        match self {
+            Shape::Nat(held) => {
+                let Shape::Nat(number) = more else {
+                    unreachable!()
+                };
+                *held += number;
+                Ok(())
+            }
+            Shape::Set(held) => {
+                let Shape::Set(more) = more else {
+                    unreachable!()
+                };
+                match held.absorb(more) {
+                    Ok(()) => Ok(()),
+                    Err(back) => Err(Shape::Set(back)),
+                }
+            }
+            Shape::Bag(held) => {
+                let Shape::Bag(more) = more else {
+                    unreachable!()
+                };
+                match held.absorb(more) {
+                    Ok(()) => Ok(()),
+                    Err(back) => Err(Shape::Bag(back)),
+                }
+            }
+        }
+    }
+
+    /// Takes away what it is known to contain.
+    pub(crate) fn lessen(&mut self, part: &Shape)
+        requires kinds { (worth self.old).kind ≡ (worth part.now).kind }
+        requires enough { Contains (worth self.old).content (worth part.now).content }
+        ensures { worth self.new ≡ with_content (worth self.old) (difference (worth self.old).content (worth part.now).content) }
+    {
+        match (self, part) {
+            (Shape::Nat(held), Shape::Nat(number)) => {
+                *held -= *number;
+            }
+            (Shape::Set(held), Shape::Set(part)) => held.lessen(part),
+            (Shape::Bag(held), Shape::Bag(part)) => held.lessen(part),
+            _ => unreachable!(),
+        }
+    }
+}

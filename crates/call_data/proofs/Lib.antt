@@ -1,0 +1,4 @@
+pub mod ValueTrees
+pub mod KeyedData
+pub mod ReadLists
+pub mod ValuesRead

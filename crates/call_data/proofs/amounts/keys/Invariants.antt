@@ -1,0 +1,7 @@
+use Rattle.jessie_tree.specs.Tree.{text_of}
+use Rattle.jessie_tree.specs.View.{tree}
+use Rattle.call_data.proofs.ReadLists.{IsRead}
+use Rattle.call_data.proofs.amounts.keys.Given as goal
+
+abbrev pub invariant-loop-item : goal.invariant-loop-item
+invariant-loop-item l = IsRead text_of tree l.items l.item-index l.keys.items

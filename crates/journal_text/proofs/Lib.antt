@@ -1,0 +1,12 @@
+pub mod Writable
+pub mod Feeds
+pub mod ReadBack
+pub mod JournalTrees
+pub mod JournalFloats
+pub mod InOrder
+pub mod Sorted
+pub mod Apart
+pub mod RowsWritable
+pub mod NamesRead
+pub mod TreesRead
+pub mod JournalRead

@@ -1,0 +1,17 @@
+-- The least of numbers.
+use Rattle.std.proofs.Common.{◌≡◌, ℕ, min, Bool, true, false, cond, not, Option, Some, None, List, [], ◌∷◌, ◌++◌, map, refl, sym, ap, ◌∙◌, arith}
+use Rattle.std.specs.List.{filter}
+use Rattle.proposals.specs.Reading.{RowData, is_known, least, least_of, least_strange}
+use Rattle.proposals.specs.declared.issuer_records.Issuer.{Issuer}
+
+pub least_of_three : (a b c : Option ℕ) → least_of a (least_of b c) ≡ least_of (least_of a b) c
+least_of_three None b c = refl
+least_of_three (Some n) None c = refl
+least_of_three (Some n) (Some m) None = refl
+least_of_three (Some n) (Some m) (Some l) = ap Some (omega arith)
+
+pub least_of_none : (a b : Option ℕ) → least_of a b ≡ None → (a ≡ None) × (b ≡ None)
+least_of_none None None h = (refl, refl)
+least_of_none None (Some m) h = absurd (cc)
+least_of_none (Some n) None h = absurd (cc)
+least_of_none (Some n) (Some m) h = absurd (cc)
