@@ -18,15 +18,14 @@ use Rattle.rights_model.specs.Supply.{burned, is_outside, minted, moved_where}
 use Rattle.rights_model.specs.Table.{CanMoveAll, Table, given, holds, moved, no_holdings, table_after, taken}
 use Rattle.rights_model.proofs.TableLaws.{CanMoveAll-push, holds-given_other, holds-taken, holds-taken_other, table_after-push}
 use Rattle.host_core.specs.Fair.{is_payment_at, names, names_slot, takes_from}
-use Rattle.host_core.specs.Moved.{IsPassed}
+use Rattle.zoe_service.specs.Moved.{IsPassed}
 use Rattle.vault.specs.Vaults.{first_vault, CanGive, CanTake, CanTransfer, PaymentMark, VaultState, after_move, kind_of, mark_of, no_mark, payments_from, payments_to, supplies_from, supplies_to}
-use Rattle.vault.specs.Worlds.{CanDo, CanDoAll, Effect, IsValid, after, after_all, move, new_brand, new_purse}
+use Rattle.vault.specs.Worlds.{CanDo, CanDoAll, Effect, IsValid, WorldState, after, after_all, install, move, new_brand, new_purse}
 use Rattle.rights_model.specs.Totals.{is_slot}
-use Rattle.vault.specs.declared.world.World.{World}
 use Rattle.vault.proofs.EffectsValid.{valid-after}
 use Rattle.vault.proofs.Lists.{get_or-set_seen}
 use Rattle.vault.proofs.Transferred.{has_from, kinds_moved, paid-from}
-use Rattle.host_core.proofs.UnitsMoved.{ArePlain, HoldsUnits, IsPlain, OnlyUnits, moved_value, units-moved, units_from}
+use Rattle.zoe_service.proofs.UnitsMoved.{ArePlain, HoldsUnits, IsPlain, OnlyUnits, moved_value, units-moved, units_from}
 
 -- ---- what was minted and burned
 
@@ -404,10 +403,12 @@ spent-moved v m p made dead = record {
 }
 
 -- it stays so
-spent_stays : (w : World) (e : Effect) (p : ℕ) → IsSpent w.draft.now p → IsSpent (after w e).draft.now p
-spent_stays w (new_brand b) p spent = record { made = spent.made; dead = spent.dead }
-spent_stays w (new_purse b) p spent = record { made = spent.made; dead = spent.dead }
-spent_stays w (move m) p spent = spent-moved w.draft.now m p spent.made (dead-from w.draft.now.payments m.from p spent.dead)
+spent_stays : (w : WorldState) (e : Effect) (p : ℕ) → IsPlain e → IsSpent w.draft.now p → IsSpent (after w e).draft.now p
+spent_stays w (new_brand b) p plain spent = record { made = spent.made; dead = spent.dead }
+spent_stays w (new_purse b) p plain spent = record { made = spent.made; dead = spent.dead }
+spent_stays w (move m) p plain spent = spent-moved w.draft.now m p spent.made (dead-from w.draft.now.payments m.from p spent.dead)
+spent_stays w (install m) p plain spent = spent
+spent_stays w _ p plain spent = absurd plain
 
 -- a movement that takes from a payment leaves it spent
 spent_by : (v : VaultState) (m : Movement) (p : ℕ) (h : Holder) → m.from ≡ h → CanTake v h m.brand m.value.content → is_payment_at p h ≡ true → IsSpent (after_move v m) p
@@ -440,7 +441,7 @@ not_to v p Outside b c spent can = refl
 -- ---- effects
 
 -- the accounts of the movements before, and of those of the turn so far; and each payment that the turn took from is spent
-pub record AreTold (before : List Movement) (w : World) : Type 0 where
+pub record AreTold (before : List Movement) (w : WorldState) : Type 0 where
   pub accounts : Accounts (before ++ w.draft.movements) w.draft.now
   pub spent : (p : ℕ) → takes_from p w.draft.movements ≡ true → IsSpent w.draft.now p
 
@@ -448,44 +449,48 @@ either : (x y : Bool) → (x || y) ≡ true → (x ≡ true) ⊎ (y ≡ true)
 either true y h = inl refl
 either false y h = inr h
 
-told-after : (before : List Movement) (w : World) (e : Effect) → IsValid w → CanDo w e → IsPlain e → AreTold before w → AreTold before (after w e)
+told-after : (before : List Movement) (w : WorldState) (e : Effect) → IsValid w → CanDo w e → IsPlain e → AreTold before w → AreTold before (after w e)
 told-after before w (new_brand b) valid can plain told = record {
   accounts = subst (λ (kind : Kind). Accounts (before ++ w.draft.movements) (record w.draft.now { supplies = w.draft.now.supplies ++ new_supply kind ∷ [] })) (sym can.nat) (accounts-added (before ++ w.draft.movements) w.draft.now told.accounts);
-  spent = λ p takes. spent_stays w (new_brand b) p (told.spent p takes);
+  spent = λ p takes. spent_stays w (new_brand b) p plain (told.spent p takes);
 }
 told-after before w (new_purse b) valid can plain told = record {
   accounts = accounts-opened (before ++ w.draft.movements) w.draft.now b told.accounts;
-  spent = λ p takes. spent_stays w (new_purse b) p (told.spent p takes);
+  spent = λ p takes. spent_stays w (new_purse b) p plain (told.spent p takes);
 }
-told-after before w (move m) valid can plain told = let own = units_from w.draft.now m.from m.brand m.value.content can.from plain.units told.accounts.units in record {
-  accounts = subst (λ ms. Accounts ms (after_move w.draft.now m)) (append_assoc before w.draft.movements (m ∷ [])) (accounts-moved (before ++ w.draft.movements) w.draft.now m can plain.passed own (moved_value w m valid can plain.nat own) told.accounts);
+told-after before w (move m) valid can plain told = let own = units_from w.draft.now m.from m.brand m.value.content can.transfer.from plain.units told.accounts.units in record {
+  accounts = subst (λ ms. Accounts ms (after_move w.draft.now m)) (append_assoc before w.draft.movements (m ∷ [])) (accounts-moved (before ++ w.draft.movements) w.draft.now m can.transfer plain.passed own (moved_value w m valid can.transfer plain.nat own) told.accounts);
   spent = λ p takes. elim (either _ _ (sym (list_any-append (λ (n : Movement). is_payment_at p n.from) w.draft.movements (m ∷ [])) ∙ takes)) [
-    | inl earlier ↦ spent_stays w (move m) p (told.spent p earlier)
+    | inl earlier ↦ spent_stays w (move m) p plain (told.spent p earlier)
     | inr now ↦ elim (either _ _ now) [
-      | inl at ↦ spent_by w.draft.now m p m.from refl can.from at
+      | inl at ↦ spent_by w.draft.now m p m.from refl can.transfer.from at
       | inr none ↦ absurd (cc)
     ]
   ];
 }
+told-after before w (install m) valid can plain told = record { accounts = told.accounts; spent = told.spent }
+told-after before w _ valid can plain told = absurd plain
 
-pub told-after_all : (before : List Movement) (w : World) (es : List Effect) → IsValid w → CanDoAll w es → ArePlain es → AreTold before w → AreTold before (after_all w es)
+pub told-after_all : (before : List Movement) (w : WorldState) (es : List Effect) → IsValid w → CanDoAll w es → ArePlain es → AreTold before w → AreTold before (after_all w es)
 told-after_all before w [] valid can plain told = told
 told-after_all before w (e ∷ es) valid can plain told = told-after_all before (after w e) es (valid-after w e can.0 valid) can.1 plain.1 (told-after before w e valid can.0 plain.0 told)
 
 -- what was spent is named by no movement, and stays spent
-pub record IsLeft (w : World) (p : ℕ) : Type 0 where
+pub record IsLeft (w : WorldState) (p : ℕ) : Type 0 where
   pub spent : IsSpent w.draft.now p
   pub unnamed : names p w.draft.movements ≡ false
 
-left-after : (w : World) (e : Effect) (p : ℕ) → CanDo w e → IsLeft w p → IsLeft (after w e) p
-left-after w (new_brand b) p can left = record { spent = spent_stays w (new_brand b) p left.spent; unnamed = left.unnamed }
-left-after w (new_purse b) p can left = record { spent = spent_stays w (new_purse b) p left.spent; unnamed = left.unnamed }
-left-after w (move m) p can left = record {
-  spent = spent_stays w (move m) p left.spent;
+left-after : (w : WorldState) (e : Effect) (p : ℕ) → CanDo w e → IsPlain e → IsLeft w p → IsLeft (after w e) p
+left-after w (new_brand b) p can plain left = record { spent = spent_stays w (new_brand b) p plain left.spent; unnamed = left.unnamed }
+left-after w (new_purse b) p can plain left = record { spent = spent_stays w (new_purse b) p plain left.spent; unnamed = left.unnamed }
+left-after w (move m) p can plain left = record {
+  spent = spent_stays w (move m) p plain left.spent;
   unnamed = list_any-append (λ (n : Movement). is_payment_at p n.from || is_payment_at p n.to) w.draft.movements (m ∷ [])
-      ∙ or_false _ _ left.unnamed (or_false _ _ (or_false _ _ (not_from w.draft.now p m.from m.brand m.value.content left.spent can.from) (not_to w.draft.now p m.to m.brand m.value.content left.spent can.to)) refl);
+      ∙ or_false _ _ left.unnamed (or_false _ _ (or_false _ _ (not_from w.draft.now p m.from m.brand m.value.content left.spent can.transfer.from) (not_to w.draft.now p m.to m.brand m.value.content left.spent can.transfer.to)) refl);
 }
+left-after w (install m) p can plain left = record { spent = left.spent; unnamed = left.unnamed }
+left-after w _ p can plain left = absurd plain
 
-pub left-after_all : (w : World) (es : List Effect) (p : ℕ) → CanDoAll w es → IsLeft w p → IsLeft (after_all w es) p
-left-after_all w [] p can left = left
-left-after_all w (e ∷ es) p can left = left-after_all (after w e) es p can.1 (left-after w e p can.0 left)
+pub left-after_all : (w : WorldState) (es : List Effect) (p : ℕ) → CanDoAll w es → ArePlain es → IsLeft w p → IsLeft (after_all w es) p
+left-after_all w [] p can plain left = left
+left-after_all w (e ∷ es) p can plain left = left-after_all (after w e) es p can.1 plain.1 (left-after w e p can.0 plain.0 left)

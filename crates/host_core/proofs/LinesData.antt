@@ -4,6 +4,7 @@ use Rattle.std.proofs.lemmas.Bool.{ltb-true}
 use Rattle.std.specs.Option.{option_map_or}
 use Rattle.std.specs.Str.{is_utf8}
 use Rattle.std.proofs.lemmas.List.{length-map}
+use Rattle.std.proofs.lemmas.List.Elements.{All-nil}
 use Rattle.std.proofs.lemmas.List.Splits.{length-slice_split}
 use Rattle.std.proofs.lemmas.List.Sums.{count_by-le-length}
 use Rattle.serde_json.specs.Data as json
@@ -11,16 +12,19 @@ use Rattle.serde_json.specs.Find.{as_number, as_u64, get_member}
 use Rattle.serde_json.specs.Read.{read}
 use Rattle.host_core.specs.Hosts.{HostState, first_host, with_message}
 use Rattle.host_core.specs.InputLines.{is_blank, lines_of}
+use Rattle.jessie_tree.specs.Tree.{Tree}
+use Rattle.promises.specs.States.{most_made}
 use Rattle.journal_text.specs.JournalLaws.{InRange}
 use Rattle.host_core.specs.MessageLines.{Meaning, MessageRead, bad, bad_call_label, bad_field, bad_field_line, bad_give_label, bad_label_message, bad_line, blank, call, call_form, call_labelled, call_of, count_of, give, give_form, give_labelled, give_of, has, json_meaning, json_of, meaning_of, members_meaning, message, run, run_form, value_meaning}
 use Rattle.vault.specs.OrderedParts.{OrderedJson, OrderedJsonMembers, OrderedPartItems}
-use Rattle.vault.specs.Parties.{EachLabel}
+use Rattle.vault.specs.Parties.{EachFulfilled, EachLabel, StatePasses}
 use Rattle.vault.specs.Parts.{PartItems, arguments_of, no_items}
 use Rattle.host_core.specs.Runs.{meanings_of}
 use Rattle.call_data.specs.declared.refusals.Refusal.TheVariants.{BadField, BadLabel, BadLine}
 use Rattle.vault.proofs.OrderedRead.{arguments_of-Ordered, get_member-Ordered, read-Ordered}
-use Rattle.host_core.proofs.RangesRead.{JsonIsWide, JsonMembersAreWide, PartItemsInRange, arguments_of-InRange, get_member-IsWide, passed, read-IsWide}
-use Rattle.host_core.proofs.RefusalData.{IsTold, told_nothing, told_text}
+use Rattle.host_core.proofs.RangesRead.{JsonIsWide, JsonMembersAreWide, PartItemsInRange, arguments_of-InRange, get_member-IsWide, read-IsWide}
+use Rattle.zoe_service.proofs.Chained.{passed}
+use Rattle.zoe_service.proofs.RefusalData.{IsTold, told_nothing, told_text}
 use Rattle.host_core.proofs.RunBounds.{IsBounded, first_bounded}
 
 -- ---- messages
@@ -145,17 +149,22 @@ messages_push : (ms : List MessageRead) (m : MessageRead) → AreMessages ms →
 messages_push [] m h one = (one, tt)
 messages_push (n ∷ ms) m h one = (h.0, messages_push ms m h.1 one)
 
--- what was made is few, what labels were bound to is in range, and so is what waits
+-- what was made is few, and what labels were bound to and promises were fulfilled with is in range, and so is what waits
 pub record IsReadied (s : HostState) : Type 0 where
-  pub bounded : IsBounded s.kept.vault
+  pub bounded : IsBounded s.kept.rested.vault
   pub labels : EachLabel InRange s.kept.labels
+  pub fulfilled : EachFulfilled InRange s.kept.rested.promises
+  pub few : length s.kept.rested.promises ≤ most_made
   pub queue : AreMessages s.queue
 
+pub none_fulfilled : (P : Tree → Type 0) → EachFulfilled P []
+none_fulfilled P = All-nil (StatePasses P)
+
 pub first_readied : IsReadied first_host
-first_readied = record { bounded = first_bounded; labels = tt; queue = tt }
+first_readied = record { bounded = first_bounded; labels = tt; fulfilled = none_fulfilled InRange; few = omega arith; queue = tt }
 
 pub message_readied : (s : HostState) (m : MessageRead) → IsMessage m → IsReadied s → IsReadied (with_message s m)
-message_readied s m told ready = record { bounded = ready.bounded; labels = ready.labels; queue = messages_push s.queue m ready.queue told }
+message_readied s m told ready = record { bounded = ready.bounded; labels = ready.labels; fulfilled = ready.fulfilled; few = ready.few; queue = messages_push s.queue m ready.queue told }
 
 pub message_waits : (s : HostState) (m : MessageRead) → length (with_message s m).queue ≡ length s.queue + 1
 message_waits s m = length-append s.queue (m ∷ [])

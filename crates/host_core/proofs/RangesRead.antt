@@ -1,31 +1,31 @@
 -- What is read from a text has numbers of at most 128 bits, and so have the arguments that it stands for and what they are resolved to.
 use Rattle.std.specs.Float.Numeral.{scan_numeral}
 use Rattle.std.specs.Prelude.{neg_ℤ, slice_index, drop, ◌==◌}
-use Rattle.std.proofs.Common.{◌≡◌, ℕ, zero, suc, ℤ, pos, negsuc, ◌^◌, ◌<◌, ◌≤◌, ◌&&◌, List, Bool, true, false, nat_lt, nat_le, Option, Some, None, option_map, option_and_then, slice_get, if◌then◌else◌, codes, Result, Ok, Err, refl, subst, arith}
+use Rattle.std.proofs.Common.{◌≡◌, ℕ, zero, suc, ℤ, pos, negsuc, ◌^◌, ◌<◌, ◌≤◌, ◌&&◌, List, Bool, true, false, nat_lt, nat_le, Option, Some, None, option_map, option_and_then, slice_get, if◌then◌else◌, codes, Ok, refl, subst, arith}
 use Rattle.std.proofs.lemmas.Bool.{leb-true, ltb-true}
 use Rattle.std.proofs.lemmas.Option.{option_and_then_some}
 use Rattle.std.specs.Cmp.Lexicographic.{slice_cmp}
 use Rattle.std.specs.Ordering.{match_ordering, nat_cmp}
-use Rattle.std.specs.Str.{bytes_eq}
 use Rattle.std.specs.declared.cmp.Ordering.{Ordering}
 use Rattle.std.specs.declared.cmp.Ordering.TheVariants.{Equal, Greater, Less}
 use Rattle.host_text.specs.Numbers.{fits, is_number, number_in, value_of}
 use Rattle.host_text.specs.Words.{is_field_name}
 use Rattle.jessie_tree.specs.Tree as tree
-use Rattle.jessie_tree.specs.Tree.{Tree, Items, item, no_items, Fields, field, no_fields, get, listed}
+use Rattle.jessie_tree.specs.Tree.{Tree, Items, item, no_items, Fields, field, no_fields, listed}
 use Rattle.json.specs.Json as text
 use Rattle.json.specs.Lex.{tokens}
 use Rattle.serde_json.specs.Data as json
 use Rattle.serde_json.specs.Find.{as_integer, get_member}
 use Rattle.serde_json.specs.Read.{float_of, is_integer, max_depth, number_from, number_of, of_items, of_json, of_members, read}
 use Rattle.journal_text.specs.JournalLaws.{FieldsInRange, InRange, IsWide, ItemsInRange}
-use Rattle.call_data.specs.Outcomes.{bind, wanted}
-use Rattle.vault.specs.Parties.{EachLabel, Labels, part_at, place_of, resolved, resolved_all, resolved_fields, value_at}
+use Rattle.call_data.specs.Outcomes.{bind}
+use Rattle.promises.specs.States.{StateView}
+use Rattle.vault.specs.Parties.{EachFulfilled, EachLabel, Labels, part_at, place_of, resolved, resolved_all, resolved_fields, value_at}
 use Rattle.vault.specs.Parts as part
 use Rattle.vault.specs.Parts.{PartFields, PartItems, PartTree, arguments_of, is_path, object_part, only_text, part_fields_of, part_of, parts_of, shallow}
-use Rattle.call_data.specs.declared.refusals.Refusal.{Refusal}
-use Rattle.call_data.specs.declared.refusals.Refusal.TheVariants.{UnknownName}
+use Rattle.vault.proofs.Gave.{bind-gave, is_ok}
 use Rattle.vault.proofs.Resolved.{OfServices, value_at-passes}
+use Rattle.zoe_service.proofs.Chained.{chained, get-InRange, is_some, mapped, passed, passed_some}
 
 -- ---- which JSON and which arguments are in range
 
@@ -64,27 +64,6 @@ abbrev mutual
   pub PartFieldsInRange : PartFields → Type 0
   PartFieldsInRange part.no_fields = Unit {0}
   PartFieldsInRange (part.field name t fs) = (is_field_name name ≡ true) × PartInRange t × PartFieldsInRange fs
-
--- ---- steps that came to something
-
-pub is_some : {A : Type 0} (x y : A) → Some x ≡ Some y → x ≡ y
-is_some x y h = cc
-
-pub mapped : {A B : Type 0} (f : A → B) (o : Option A) (y : B) → option_map f o ≡ Some y → (x : A) × (o ≡ Some x) × (f x ≡ y)
-mapped f None y h = absurd (cc)
-mapped f (Some x) y h = (x, refl, is_some (f x) y h)
-
-pub chained : {A B : Type 0} (f : A → Option B) (o : Option A) (y : B) → option_and_then f o ≡ Some y → (x : A) × (o ≡ Some x) × (f x ≡ Some y)
-chained f None y h = absurd (cc)
-chained f (Some x) y h = (x, refl, h)
-
-pub passed : {A : Type 0} (b : Bool) (o : Option A) (y : A) → (if b then o else None) ≡ Some y → (b ≡ true) × (o ≡ Some y)
-passed true o y h = (refl, h)
-passed false o y h = absurd (cc)
-
-pub passed_some : {A : Type 0} (b : Bool) (x y : A) → (if b then Some x else None) ≡ Some y → x ≡ y
-passed_some true x y h = is_some x y h
-passed_some false x y h = absurd (cc)
 
 -- ---- numbers
 
@@ -232,20 +211,12 @@ arguments_of-InRange (json.object ms) ts wide h = absurd (cc)
 
 -- ---- what stands at a path
 
-pub get-InRange : (name : List ℕ) (fs : Fields) (t : Tree) → FieldsInRange fs → get name fs ≡ Some t → InRange t
-get-InRange name no_fields t h e = absurd (cc)
-get-InRange name (field next u fs) t h e = by (bytes_eq next name) (get-InRange name fs t h.2) e
-  where
-    by : (b : Bool) → (get name fs ≡ Some t → InRange t) → (if b then Some u else get name fs) ≡ Some t → InRange t
-    by true later e = subst InRange (is_some u t e) h.1
-    by false later e = later e
-
 listed-InRange : (ts : Items) (n : ℕ) (t : Tree) → ItemsInRange ts → slice_get (listed ts) n ≡ Some t → InRange t
 listed-InRange no_items n t h e = absurd (cc)
 listed-InRange (item u ts) zero t h e = subst InRange (is_some u t e) h.0
 listed-InRange (item u ts) (suc n) t h e = listed-InRange ts n t h.1 e
 
-part_at-InRange : (t : Tree) (s : List ℕ) (u : Tree) → InRange t → part_at t s ≡ Some u → InRange u
+pub part_at-InRange : (t : Tree) (s : List ℕ) (u : Tree) → InRange t → part_at t s ≡ Some u → InRange u
 part_at-InRange (tree.fields fs) s u h e = get-InRange s fs u h e
 part_at-InRange (tree.array ts) s u h e = option_and_then_some (λ n. slice_get (listed ts) n) (option_and_then place_of (number_in s)) u e (λ n at found. listed-InRange ts n u h found)
 part_at-InRange tree.null s u h e = absurd (cc)
@@ -255,59 +226,39 @@ part_at-InRange (tree.text x) s u h e = absurd (cc)
 part_at-InRange (tree.object o) s u h e = absurd (cc)
 part_at-InRange (tree.function x) s u h e = absurd (cc)
 
--- ---- what arguments are resolved to
+-- ---- what arguments are resolved to, where promises are in these states
 
--- the answer is that one
-abbrev Gave : {A : Type 0} → Result A Refusal → A → Type 0
-Gave r x = r ≡ Ok x
-
-is_ok : {A : Type 0} (x y : A) → Gave (Ok x) y → x ≡ y
-is_ok x y h = cc
-
-bind-gave : {A B : Type 0} (r : Result A Refusal) (f : A → Result B Refusal) (y : B) → Gave (bind r f) y → (x : A) × Gave r x × Gave (f x) y
-unfolding bind
-bind-gave (Ok x) f y h = (x, refl, h)
-bind-gave (Err e) f y h = absurd (cc)
-
-wanted-gave : {A : Type 0} (o : Option A) (r : Refusal) (x : A) → Gave (wanted o r) x → o ≡ Some x
-unfolding wanted
-wanted-gave (Some y) r x h = cc
-wanted-gave None r x h = absurd (cc)
-
-module _ (ls : Labels) (party : List ℕ) (labels : EachLabel InRange ls) where
+module _ (states : List StateView) (ls : Labels) (party : List ℕ) (fulfilled : EachFulfilled InRange states) (labels : EachLabel InRange ls) where
   services_in_range : OfServices InRange
   services_in_range = record { ertp = omega arith; zoe = omega arith; timer = omega arith }
 
-  path-InRange : (path : List ℕ) (t : Tree) → Gave (resolved ls party (part.path path)) t → InRange t
-  path-InRange path t h = value_at-passes InRange ls party services_in_range labels part_at-InRange path t (wanted-gave (value_at ls party path) (UnknownName path) t h)
-
-  pub value_at-InRange : (path : List ℕ) (t : Tree) → value_at ls party path ≡ Some t → InRange t
-  value_at-InRange path t h = value_at-passes InRange ls party services_in_range labels part_at-InRange path t h
+  pub value_at-InRange : (path : List ℕ) (t : Tree) → value_at states ls party path ≡ Ok t → InRange t
+  value_at-InRange path t h = value_at-passes InRange states ls party services_in_range fulfilled labels part_at-InRange path t h
 
   mutual
-    resolved-InRange : (p : PartTree) (t : Tree) → PartInRange p → resolved ls party p ≡ Ok t → InRange t
+    resolved-InRange : (p : PartTree) (t : Tree) → PartInRange p → resolved states ls party p ≡ Ok t → InRange t
     resolved-InRange part.null t r h = subst InRange (is_ok tree.null t h) tt
     resolved-InRange (part.boolean b) t r h = subst InRange (is_ok (tree.boolean b) t h) tt
     resolved-InRange (part.number z) t r h = subst InRange (is_ok (tree.number z) t h) r
     resolved-InRange (part.text s) t r h = subst InRange (is_ok (tree.text s) t h) tt
     resolved-InRange (part.array ps) t r h =
-        let b = bind-gave (resolved_all ls party ps) (λ us. Ok (tree.array us)) t h in
+        let b = bind-gave (resolved_all states ls party ps) (λ us. Ok (tree.array us)) t h in
         subst InRange (is_ok (tree.array b.0) t b.2) (resolved_all-InRange ps b.0 r b.1)
     resolved-InRange (part.fields fs) t r h =
-        let b = bind-gave (resolved_fields ls party fs) (λ gs. Ok (tree.fields gs)) t h in
+        let b = bind-gave (resolved_fields states ls party fs) (λ gs. Ok (tree.fields gs)) t h in
         subst InRange (is_ok (tree.fields b.0) t b.2) (resolved_fields-InRange fs b.0 r b.1)
-    resolved-InRange (part.path path) t r h = path-InRange path t h
+    resolved-InRange (part.path path) t r h = value_at-InRange path t h
 
-    pub resolved_all-InRange : (ps : PartItems) (ts : Items) → PartItemsInRange ps → resolved_all ls party ps ≡ Ok ts → ItemsInRange ts
+    pub resolved_all-InRange : (ps : PartItems) (ts : Items) → PartItemsInRange ps → resolved_all states ls party ps ≡ Ok ts → ItemsInRange ts
     resolved_all-InRange part.no_items ts r h = subst ItemsInRange (is_ok no_items ts h) tt
     resolved_all-InRange (part.item p ps) ts r h =
-        let b = bind-gave (resolved ls party p) (λ u. bind (resolved_all ls party ps) (λ us. Ok (item u us))) ts h in
-        let d = bind-gave (resolved_all ls party ps) (λ us. Ok (item b.0 us)) ts b.2 in
+        let b = bind-gave (resolved states ls party p) (λ u. bind (resolved_all states ls party ps) (λ us. Ok (item u us))) ts h in
+        let d = bind-gave (resolved_all states ls party ps) (λ us. Ok (item b.0 us)) ts b.2 in
         subst ItemsInRange (is_ok (item b.0 d.0) ts d.2) (resolved-InRange p b.0 r.0 b.1, resolved_all-InRange ps d.0 r.1 d.1)
 
-    resolved_fields-InRange : (ps : PartFields) (gs : Fields) → PartFieldsInRange ps → resolved_fields ls party ps ≡ Ok gs → FieldsInRange gs
+    resolved_fields-InRange : (ps : PartFields) (gs : Fields) → PartFieldsInRange ps → resolved_fields states ls party ps ≡ Ok gs → FieldsInRange gs
     resolved_fields-InRange part.no_fields gs r h = subst FieldsInRange (is_ok no_fields gs h) tt
     resolved_fields-InRange (part.field name p ps) gs r h =
-        let b = bind-gave (resolved ls party p) (λ u. bind (resolved_fields ls party ps) (λ us. Ok (field name u us))) gs h in
-        let d = bind-gave (resolved_fields ls party ps) (λ us. Ok (field name b.0 us)) gs b.2 in
+        let b = bind-gave (resolved states ls party p) (λ u. bind (resolved_fields states ls party ps) (λ us. Ok (field name u us))) gs h in
+        let d = bind-gave (resolved_fields states ls party ps) (λ us. Ok (field name b.0 us)) gs b.2 in
         subst FieldsInRange (is_ok (field name b.0 d.0) gs d.2) (r.0, resolved-InRange p b.0 r.1 b.1, resolved_fields-InRange ps d.0 r.2 d.1)

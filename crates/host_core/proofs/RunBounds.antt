@@ -1,5 +1,5 @@
 -- Along effects numbers stay in range: of the purses and payments that were made, of what is moved, and of the sums.
-use Rattle.std.proofs.Common.{◌≡◌, ℕ, zero, suc, ◌*◌, ◌^◌, ◌<◌, ◌≤◌, ◌==◌, Bool, true, false, List, [], ◌∷◌, ◌++◌, length, map, if◌then◌else◌, refl, sym, ◌∙◌, ap, subst, arith, length-append}
+use Rattle.std.proofs.Common.{◌≡◌, ℕ, zero, suc, ◌*◌, ◌^◌, ◌<◌, ◌≤◌, ◌==◌, Bool, true, false, List, [], ◌∷◌, ◌++◌, length, map, if◌then◌else◌, refl, sym, ◌∙◌, ap, arith, length-append}
 use Rattle.std.specs.List.{All}
 use Rattle.std.specs.Ordering.{match_ordering, nat_cmp}
 use Rattle.std.specs.declared.cmp.Ordering.{Ordering}
@@ -18,22 +18,21 @@ use Rattle.rights_model.specs.Supply.{is_inside}
 use Rattle.rights_model.specs.Table.{holds}
 use Rattle.journal_text.specs.JournalLaws.{IsHolder, IsMove, IsSum}
 use Rattle.vault.specs.Vaults.{first_vault, CanGive, CanTake, CanTransfer, PaymentMark, VaultState, amount_moved, brand_of, payments_from, payments_to, seats_from, seats_to, supplies_from, supplies_to}
-use Rattle.host_core.specs.Moved.{IsPassed}
+use Rattle.zoe_service.specs.Moved.{IsPassed}
 use Rattle.seats.specs.Seats.{SeatState, seats_counted}
 use Rattle.ertp_mint.specs.Stocks.{most_made}
 use Rattle.vault.specs.Sums.{sum_of, sums_of}
 use Rattle.rights_model.specs.Totals.{brands_of, placed, held_over, is_payment, is_purse}
-use Rattle.vault.specs.Worlds.{CanDo, CanDoAll, Effect, IsValid, MintedWithin, after, after_all, count_in, in_numbers, move, new_brand, new_purse}
-use Rattle.vault.specs.declared.world.World.{World}
+use Rattle.vault.specs.Worlds.{CanDo, CanDoAll, Effect, IsValid, MintedWithin, WorldState, after, after_all, count_in, in_numbers, install, move, new_brand, new_purse}
 use Rattle.amount_math.specs.declared.Amount.{Amount}
 use Rattle.host_core.proofs.Accounts.{AreTold, never_slot, told-after_all}
 use Rattle.vault.proofs.EffectsValid.{valid-after}
-use Rattle.host_core.proofs.Growth.{payments-from}
+use Rattle.zoe_service.proofs.Growth.{payments-from}
 use Rattle.vault.proofs.Lists.{get_or-set_seen}
-use Rattle.host_core.proofs.RefusalData.{value_is_data}
-use Rattle.host_core.proofs.ServedData.{bound_small, held_small}
+use Rattle.zoe_service.proofs.RefusalData.{value_is_data}
+use Rattle.zoe_service.proofs.ServedData.{bound_small, held_small}
 use Rattle.journal_text.proofs.RowsWritable.{all_head, all_tail}
-use Rattle.host_core.proofs.UnitsMoved.{ArePlain, HoldsUnits, IsPlain, OnlyUnits, moved_value, units_from}
+use Rattle.zoe_service.proofs.UnitsMoved.{ArePlain, HoldsUnits, IsPlain, OnlyUnits, moved_value, units_from}
 
 -- ---- purses and payments are few, no seat is opened, and nothing is burned
 
@@ -98,16 +97,18 @@ few-to v ps (Slot seat keyword) b c can same few = omega (arith, same, few)
 few-to v ps Hand b c can same few = omega (arith, same, few)
 few-to v ps Outside b c can same few = omega (arith, same, few)
 
-bounded-after : (w : World) (e : Effect) → CanDo w e → IsPlain e → IsBounded w.draft.now → IsBounded (after w e).draft.now
+bounded-after : (w : WorldState) (e : Effect) → CanDo w e → IsPlain e → IsBounded w.draft.now → IsBounded (after w e).draft.now
 bounded-after w (new_brand b) can plain bounded = record { purses = bounded.purses; payments = bounded.payments; seatless = bounded.seatless; unburned = unburned-added w.draft.now.supplies b.kind bounded.unburned }
 bounded-after w (new_purse b) can plain bounded = record { purses = omega (arith, can.room, length-append w.draft.now.purses (b ∷ [])); payments = bounded.payments; seatless = bounded.seatless; unburned = bounded.unburned }
 bounded-after w (move m) can plain bounded = record {
   purses = bounded.purses;
-  payments = few-to w.draft.now (payments_from w.draft.now.payments m.from) m.to m.brand m.value.content can.to (payments-from w.draft.now.payments m.from) bounded.payments;
+  payments = few-to w.draft.now (payments_from w.draft.now.payments m.from) m.to m.brand m.value.content can.transfer.to (payments-from w.draft.now.payments m.from) bounded.payments;
   seatless = seats-to (seats_from w.draft.now.seats m.from m.value.content) m.from m.to (amount_moved m) plain.passed ∙ seats-from w.draft.now.seats m.from m.to m.value.content plain.passed ∙ bounded.seatless;
   unburned = λ e. ap (λ ss. (supply_at ss e).burned) (unburned-to (supplies_from w.draft.now.supplies m.from m.brand m.value.content) m.from m.to m.brand m.value.content plain.passed)
       ∙ unburned-from w.draft.now.supplies m.from m.brand m.value.content e ∙ bounded.unburned e;
 }
+bounded-after w (install m) can plain bounded = bounded
+bounded-after w _ can plain bounded = absurd plain
 
 -- ---- what is moved
 
@@ -129,7 +130,7 @@ holder_to v (Slot seat keyword) b c bounded can = seat_small v seat bounded can.
 holder_to v Hand b c bounded can = absurd can
 holder_to v Outside b c bounded can = tt
 
-moved_in_range : (w : World) (m : Movement) → IsValid w → IsBounded w.draft.now → CanTransfer w.draft.now m → m.value.kind ≡ Nat → OnlyUnits m.value.content → IsMove m
+moved_in_range : (w : WorldState) (m : Movement) → IsValid w → IsBounded w.draft.now → CanTransfer w.draft.now m → m.value.kind ≡ Nat → OnlyUnits m.value.content → IsMove m
 moved_in_range w m valid bounded can nat own = record {
   brand = omega (arith, can.brand, valid.brands, valid.few);
   from = holder_from w.draft.now m.from m.brand m.value.content bounded can.from;
@@ -139,19 +140,21 @@ moved_in_range w m valid bounded can nat own = record {
 }
 
 -- the stores are few, and all movements of the turn so far are in range
-pub record AreNoted (w : World) : Type 0 where
+pub record AreNoted (w : WorldState) : Type 0 where
   pub bounded : IsBounded w.draft.now
   pub movements : All IsMove w.draft.movements
 
-noted-after : (before : List Movement) (w : World) (e : Effect) → IsValid w → CanDo w e → IsPlain e → AreTold before w → AreNoted w → AreNoted (after w e)
+noted-after : (before : List Movement) (w : WorldState) (e : Effect) → IsValid w → CanDo w e → IsPlain e → AreTold before w → AreNoted w → AreNoted (after w e)
 noted-after before w (new_brand b) valid can plain told noted = record { bounded = bounded-after w (new_brand b) can plain noted.bounded; movements = noted.movements }
 noted-after before w (new_purse b) valid can plain told noted = record { bounded = bounded-after w (new_purse b) can plain noted.bounded; movements = noted.movements }
 noted-after before w (move m) valid can plain told noted = record {
   bounded = bounded-after w (move m) can plain noted.bounded;
-  movements = All-push IsMove w.draft.movements m noted.movements (moved_in_range w m valid noted.bounded can plain.nat (units_from w.draft.now m.from m.brand m.value.content can.from plain.units told.accounts.units));
+  movements = All-push IsMove w.draft.movements m noted.movements (moved_in_range w m valid noted.bounded can.transfer plain.nat (units_from w.draft.now m.from m.brand m.value.content can.transfer.from plain.units told.accounts.units));
 }
+noted-after before w (install m) valid can plain told noted = record { bounded = noted.bounded; movements = noted.movements }
+noted-after before w _ valid can plain told noted = absurd plain
 
-pub noted-after_all : (before : List Movement) (w : World) (es : List Effect) → IsValid w → CanDoAll w es → ArePlain es → AreTold before w → AreNoted w → AreNoted (after_all w es)
+pub noted-after_all : (before : List Movement) (w : WorldState) (es : List Effect) → IsValid w → CanDoAll w es → ArePlain es → AreTold before w → AreNoted w → AreNoted (after_all w es)
 noted-after_all before w [] valid can plain told noted = noted
 noted-after_all before w (e ∷ es) valid can plain told noted =
     noted-after_all before (after w e) es (valid-after w e can.0 valid) can.1 plain.1 (told-after_all before w (e ∷ []) valid (can.0, tt) (plain.0, tt) told) (noted-after before w e valid can.0 plain.0 told noted)
@@ -193,7 +196,7 @@ counted_units c only = ap counted (same_content c (of_nat (count c unit)) at) �
     at [] = sym (count-of_nat_unit (count c unit))
     at (x ∷ k) = only.each x k ∙ sym (count-of_nat (count c unit) (x ∷ k))
 
-module _ (w : World) (valid : IsValid w) (units : HoldsUnits w.draft.now.table) (bounded : IsBounded w.draft.now) where
+module _ (w : WorldState) (valid : IsValid w) (units : HoldsUnits w.draft.now.table) (bounded : IsBounded w.draft.now) where
   counted_small : (h : Holder) (b : ℕ) → is_inside h ≡ true → counted (holds w.draft.now.table h b) ≤ nat_bound
   counted_small h b inside = omega (arith, counted_units (holds w.draft.now.table h b) (units.at h b), held_small w valid h b unit inside)
 

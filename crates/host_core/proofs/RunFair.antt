@@ -33,10 +33,10 @@ use Rattle.call_data.specs.Values.{amount_tree}
 use Rattle.vault.specs.Worlds.{after_all}
 use Rattle.call_data.specs.declared.refusals.Refusal.{Refusal}
 use Rattle.host_core.proofs.Accounts.{Accounts, AreTold, IsLeft, IsSpent, kinds, left-after_all, or_false, spent_has_nothing, told-after_all}
-use Rattle.vault.proofs.EffectsValid.{first_valid}
+use Rattle.host_core.proofs.RunStarts.{first_is_valid}
 use Rattle.host_core.proofs.HostSteps.{IsStepped, step_valid, step_worked, worked_moves}
 use Rattle.host_core.proofs.RunOrder.{after_order, drained_order, first_turns, host_of, kept_after, took_lines, turns_count}
-use Rattle.host_core.proofs.UnitsMoved.{units-none}
+use Rattle.zoe_service.proofs.UnitsMoved.{units-none}
 
 -- ---- the movements of turns
 
@@ -65,23 +65,23 @@ sums_are done v so [] = refl
 sums_are done v so (b ∷ bs) = ap (λ s. s ∷ map (sum_of v) bs) (sum_is done v so b) ∙ ap (λ ss. sum_by done b ∷ ss) (sums_are done v so bs)
 
 -- what is out is the supply, and the table balances
-out_is : (done : List TurnRecord) (s : HostState) → IsValidHost s → Accounts (movements_of done) s.kept.vault → (b : ℕ) → out_of s.kept.vault b ≡ supply (movements_of done) b
+out_is : (done : List TurnRecord) (s : HostState) → IsValidHost s → Accounts (movements_of done) s.kept.rested.vault → (b : ℕ) → out_of s.kept.rested.vault b ≡ supply (movements_of done) b
 out_is done s valid so b = same_content _ _ (λ k. sym (sound.balanced.adds_up b k) ∙ ap (λ t. total_of is_store t b k) so.table ∙ adds_up_after (movements_of done) so.defined hand b k)
   where
-    sound : IsSound s.kept.vault
+    sound : IsSound s.kept.rested.vault
     sound = valid.world.draft.sound
 
     hand : (b : ℕ) → holds (table_by done) holders.Hand b ≡ nothing
     hand b = subst (λ t. holds t holders.Hand b ≡ nothing) so.table (sound.balanced.hand_empty b)
 
-balances : (done : List TurnRecord) (s : HostState) → IsValidHost s → Accounts (movements_of done) s.kept.vault → Balanced (table_by done) kinds (supply (movements_of done))
+balances : (done : List TurnRecord) (s : HostState) → IsValidHost s → Accounts (movements_of done) s.kept.rested.vault → Balanced (table_by done) kinds (supply (movements_of done))
 balances done s valid so = record {
   adds_up = adds_up_after (movements_of done) so.defined hand;
   hand_empty = hand;
-  bounded = λ b. subst (λ (kind : Kind). Fits kind (supply (movements_of done) b)) (so.of_kind b) (subst (Fits (kind_of s.kept.vault b)) (out_is done s valid so b) (sound.balanced.bounded b));
+  bounded = λ b. subst (λ (kind : Kind). Fits kind (supply (movements_of done) b)) (so.of_kind b) (subst (Fits (kind_of s.kept.rested.vault b)) (out_is done s valid so b) (sound.balanced.bounded b));
 }
   where
-    sound : IsSound s.kept.vault
+    sound : IsSound s.kept.rested.vault
     sound = valid.world.draft.sound
 
     hand : (b : ℕ) → holds (table_by done) holders.Hand b ≡ nothing
@@ -93,7 +93,7 @@ balances done s valid so = record {
 pub record Leads (done : List TurnRecord) (s : HostState) : Type 0 where
   pub valid : IsValidHost s
   pub turns : length done ≡ s.turns
-  pub accounts : Accounts (movements_of done) s.kept.vault
+  pub accounts : Accounts (movements_of done) s.kept.rested.vault
 
 first_accounts : Accounts [] first_vault
 first_accounts = record {
@@ -122,7 +122,7 @@ first_accounts = record {
 -- a new host, whatever messages wait
 pub leads_first : (ms : List MessageRead) → Leads [] (host_of 0 first_host.kept ms)
 leads_first ms = record {
-  valid = record { world = first_valid; minted = record { each = λ b. omega (arith, first_accounts.minted_are b, counted-nothing) }; labels = tt };
+  valid = record { world = first_is_valid.world; minted = first_is_valid.minted; good = first_is_valid.good };
   turns = refl;
   accounts = first_accounts;
 }
@@ -131,7 +131,7 @@ leads_first ms = record {
 leads_on : (done : List TurnRecord) (s new : HostState) → Leads done s → new.kept ≡ s.kept → new.turns ≡ s.turns → Leads done new
 leads_on done s new leads kept turns =
     let there : Leads done (host_of s.turns s.kept new.queue) = record {
-      valid = record { world = leads.valid.world; minted = leads.valid.minted; labels = leads.valid.labels };
+      valid = record { world = leads.valid.world; minted = leads.valid.minted; good = leads.valid.good };
       turns = leads.turns;
       accounts = leads.accounts;
     } in
@@ -146,7 +146,7 @@ module _ (done : List TurnRecord) (s new : HostState) (t : TurnRecord) (leaves :
   -- at the turn's start nothing is moved yet
   told_first : AreTold (movements_of done) (world_at s.kept)
   told_first = record {
-    accounts = subst (λ ms. Accounts ms s.kept.vault) (sym (append-nil (movements_of done))) leaves.accounts;
+    accounts = subst (λ ms. Accounts ms s.kept.rested.vault) (sym (append-nil (movements_of done))) leaves.accounts;
     spent = λ p takes. absurd (cc);
   }
 
@@ -159,7 +159,7 @@ module _ (done : List TurnRecord) (s new : HostState) (t : TurnRecord) (leaves :
   told_movements : movements_of (done ++ t ∷ []) ≡ movements_of done ++ (after_all (world_at s.kept) step.worked.effects).draft.movements
   told_movements = moved_last done t ∙ ap (λ ms. movements_of done ++ ms) moves
 
-  step_accounts : Accounts (movements_of (done ++ t ∷ [])) new.kept.vault
+  step_accounts : Accounts (movements_of (done ++ t ∷ [])) new.kept.rested.vault
   step_accounts = subst (λ (v : VaultState). Accounts (movements_of (done ++ t ∷ [])) v) (sym step.worked.vault) (subst (λ ms. Accounts ms (after_all (world_at s.kept) step.worked.effects).draft.now) (sym told_movements) told.accounts)
 
   pub leaves_step : Leads (done ++ t ∷ []) new
@@ -179,24 +179,24 @@ module _ (done : List TurnRecord) (s new : HostState) (t : TurnRecord) (leaves :
   pub step_refused : (r : Refusal) → t.answer ≡ refused r → t.events ≡ []
   step_refused = step.worked.refused
 
-  pub step_spent : (p : ℕ) → takes_from p (movements_in t) ≡ true → IsSpent new.kept.vault p
+  pub step_spent : (p : ℕ) → takes_from p (movements_in t) ≡ true → IsSpent new.kept.rested.vault p
   step_spent p takes = subst (λ (v : VaultState). IsSpent v p) (sym step.worked.vault) (told.spent p (subst (λ ms. takes_from p ms ≡ true) moves takes))
 
-  left : (p : ℕ) → IsSpent s.kept.vault p → IsLeft (after_all (world_at s.kept) step.worked.effects) p
-  left p spent = left-after_all (world_at s.kept) step.worked.effects p step.worked.can (record { spent = spent; unnamed = refl })
+  left : (p : ℕ) → IsSpent s.kept.rested.vault p → IsLeft (after_all (world_at s.kept) step.worked.effects) p
+  left p spent = left-after_all (world_at s.kept) step.worked.effects p step.worked.can step.worked.plain (record { spent = spent; unnamed = refl })
 
-  pub step_left : (p : ℕ) → IsSpent s.kept.vault p → IsSpent new.kept.vault p
+  pub step_left : (p : ℕ) → IsSpent s.kept.rested.vault p → IsSpent new.kept.rested.vault p
   step_left p spent = subst (λ (v : VaultState). IsSpent v p) (sym step.worked.vault) (left p spent).spent
 
-  pub step_unnamed : (p : ℕ) → IsSpent s.kept.vault p → names p (movements_in t) ≡ false
+  pub step_unnamed : (p : ℕ) → IsSpent s.kept.rested.vault p → names p (movements_in t) ≡ false
   step_unnamed p spent = subst (λ ms. names p ms ≡ false) (sym moves) (left p spent).unnamed
 
   pub step_sums : t.sums ≡ map (sum_by (done ++ t ∷ [])) (brands_of (movements_in t))
-  step_sums = step.worked.sums ∙ sums_are (done ++ t ∷ []) new.kept.vault step_accounts (brands_of (movements_in t))
+  step_sums = step.worked.sums ∙ sums_are (done ++ t ∷ []) new.kept.rested.vault step_accounts (brands_of (movements_in t))
 
   pub step_read : (purse : ℕ) (answer : Tree) → IsReading t purse answer → IsAmountAt (table_by done) kinds purse answer
   step_read purse answer reading =
-      let b = brand_of s.kept.vault (holders.Purse purse) in
+      let b = brand_of s.kept.rested.vault (holders.Purse purse) in
       record {
         brand = b;
         amount = step.worked.read purse answer reading
@@ -258,7 +258,7 @@ reached n s done leaves few (t ∷ ts) later is =
     (reached one.fuel one.end (done ++ t ∷ []) (leaves_step done s one.end t one.leaves one.few one.is) one.enough ts later (sym one.rest))
 
 -- what was spent is named by no later movement
-never_named : (n : ℕ) (s : HostState) (first : List TurnRecord) → Leads first s → s.turns + n ≤ 4000000000 → (p : ℕ) → IsSpent s.kept.vault p → (later : List TurnRecord) → later ≡ drained n s → names p (movements_of later) ≡ false
+never_named : (n : ℕ) (s : HostState) (first : List TurnRecord) → Leads first s → s.turns + n ≤ 4000000000 → (p : ℕ) → IsSpent s.kept.rested.vault p → (later : List TurnRecord) → later ≡ drained n s → names p (movements_of later) ≡ false
 never_named n s first leaves few p spent [] is = refl
 never_named n s first leaves few p spent (t ∷ later) is =
     let one = steps n s first t later leaves few (sym is) in
@@ -280,7 +280,7 @@ drained_fair n s start few = record {
   refused = λ first later t r is. let host = (upto first (t ∷ later) is).host in let one = at first later t is in step_refused first host one.end t one.leaves one.few one.is r;
   spent = λ first later t p b is takes. let host = (upto first (t ∷ later) is).host in let one = at first later t is in
       let end = leaves_step first host one.end t one.leaves one.few one.is in
-      subst (λ u. holds u (holders.Payment p) b ≡ nothing) end.accounts.table (spent_has_nothing (movements_of (first ++ t ∷ [])) one.end.kept.vault p b end.accounts (step_spent first host one.end t one.leaves one.few one.is p takes));
+      subst (λ u. holds u (holders.Payment p) b ≡ nothing) end.accounts.table (spent_has_nothing (movements_of (first ++ t ∷ [])) one.end.kept.rested.vault p b end.accounts (step_spent first host one.end t one.leaves one.few one.is p takes));
   dead = λ first later t p is takes. let host = (upto first (t ∷ later) is).host in let one = at first later t is in
       never_named one.fuel one.end (first ++ t ∷ []) (leaves_step first host one.end t one.leaves one.few one.is) one.enough p (step_spent first host one.end t one.leaves one.few one.is p takes) later one.rest;
   read = λ first later t purse answer is. let host = (upto first (t ∷ later) is).host in let one = at first later t is in step_read first host one.end t one.leaves one.few one.is purse answer;
@@ -328,7 +328,7 @@ leads_leaves ts s leads = record {
   out = out_is ts s leads.valid leads.accounts;
   minted_are = leads.accounts.minted_are;
   burned_are = leads.accounts.burned_are;
-  kinds = All-weaker (λ (m : Movement). m.value.kind ≡ kinds m.brand) (λ (m : Movement). m.value.kind ≡ kind_of s.kept.vault m.brand) (λ m is. is ∙ sym (leads.accounts.of_kind m.brand)) (movements_of ts) leads.accounts.one_kind;
+  kinds = All-weaker (λ (m : Movement). m.value.kind ≡ kinds m.brand) (λ (m : Movement). m.value.kind ≡ kind_of s.kept.rested.vault m.brand) (λ m is. is ∙ sym (leads.accounts.of_kind m.brand)) (movements_of ts) leads.accounts.one_kind;
   live = leads.accounts.live;
   made = leads.accounts.made;
 }

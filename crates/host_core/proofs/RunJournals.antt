@@ -1,5 +1,5 @@
 -- The journal of a run tells its turns: their numbers are in range, and the data in them is ordered and nests little.
-use Rattle.std.proofs.Common.{◌≡◌, ℕ, zero, suc, ◌+◌, ◌^◌, ◌<◌, ◌≤◌, List, [], ◌∷◌, ◌++◌, length, map, Option, Some, None, Result, Ok, Err, refl, sym, ap, subst, arith, append-nil, length-append}
+use Rattle.std.proofs.Common.{◌≡◌, ℕ, zero, suc, ◌+◌, ◌^◌, ◌<◌, ◌≤◌, List, [], ◌∷◌, ◌++◌, length, map, Option, Some, None, Result, Ok, Err, refl, sym, ◌∙◌, ap, subst, arith, append-nil, length-append}
 use Rattle.std.specs.List.{All}
 use Rattle.std.specs.Option.{option_map_or}
 use Rattle.std.proofs.lemmas.List.Elements.{All-cons, All-nil}
@@ -14,35 +14,42 @@ use Rattle.host_core.specs.InputLines.{lines_of}
 use Rattle.journal_text.specs.JournalLaws.{InRange, IsAnswer, IsData, IsDelivery, IsEvent, IsJournal, IsMove, IsSum, IsTurn, written}
 use Rattle.host_core.specs.MessageLines as read
 use Rattle.host_core.specs.MessageLines.{CallRead, GiveRead, Meaning, MessageRead, meaning_of}
-use Rattle.vault.specs.Parties.{EachLabel, Labels}
+use Rattle.vault.specs.Parties.{EachFulfilled, EachLabel, Labels}
 use Rattle.host_core.specs.Runs.{drained, end_of, journal_of, left_of, meanings_of, messages_of, turns_in_order, turns_of}
-use Rattle.host_core.specs.Served.{IsMade, KnowsArgs}
-use Rattle.host_core.specs.Services.{Outcome, serve, served}
+use Rattle.zoe_service.specs.Rows.{Outcome, served}
+use Rattle.zoe_service.specs.Served.{KnowsArgs}
+use Rattle.zoe_service.specs.Services.{serve}
 use Rattle.journal_text.specs.Turns.{Delivery, TurnRecord, bad, message, movements_in, service}
-use Rattle.turn_log.specs.Events.{moved}
+use Rattle.turn_log.specs.Events.{moved, moves_in}
+use Rattle.vault.specs.Made.{IsMade}
 use Rattle.vault.specs.Worlds.{Effect, after_all}
 use Rattle.call_data.specs.declared.refusals.Refusal.{Refusal}
 use Rattle.host_core.proofs.Accounts.{Accounts, AreTold}
-use Rattle.host_core.proofs.AddressedData.{IsAddressed, addressed_told, arg_in_range, given_told, good_ordered}
+use Rattle.host_core.proofs.AddressedData.{IsAddressed, addressed_told, arg_in_range, given_told}
 use Rattle.host_core.proofs.HostSteps.{addressed_good, moves_back, steady, step_worked}
+use Rattle.host_core.proofs.PlainEffects.{quiet-after_all}
+use Rattle.promises.specs.States.{most_made}
+use Rattle.promises.specs.Turns.{PromisesState}
 use Rattle.journal_text.proofs.JournalRead.{one_text}
-use Rattle.host_core.proofs.LinesData.{AreMessages, IsMeaning, IsMessage, IsReadied, meaning_told, meanings_few}
-use Rattle.host_core.proofs.RefusalData.{Comes, IsTold}
+use Rattle.host_core.proofs.LinesData.{AreMessages, IsMeaning, IsMessage, IsReadied, meaning_told, meanings_few, none_fulfilled}
+use Rattle.zoe_service.proofs.RefusalData.{Comes, IsTold}
 use Rattle.vault.proofs.Resolved.{EachLabel-with_label}
 use Rattle.host_core.proofs.RunBounds.{IsBounded, first_bounded, noted-after_all, sum_told}
 use Rattle.host_core.proofs.RunFair.{Leads, leads_first, leaves_step}
 use Rattle.host_core.proofs.RunOrder.{drained_order, host_of, took_lines, turns_count}
-use Rattle.host_core.proofs.ServedData.{serve_told}
-use Rattle.host_core.proofs.ServedLaws.{serve_answers}
-use Rattle.host_core.proofs.UnitsMoved.{serve_plain}
+use Rattle.zoe_service.proofs.ServedData.{serve_told}
+use Rattle.zoe_service.proofs.ServedLaws.{serve_answers}
+use Rattle.zoe_service.proofs.UnitsMoved.{serve_plain}
 use Rattle.journal_text.proofs.RowsWritable.{all_head, all_tail}
 
 -- ---- a turn
 
 -- what it tells beside its number and its sums is in range, and so is what is kept after it
 record IsTurnTold (new : Kept) (t : TurnRecord) : Type 0 where
-  bounded : IsBounded new.vault
+  bounded : IsBounded new.rested.vault
   labels : EachLabel InRange new.labels
+  fulfilled : EachFulfilled InRange new.rested.promises
+  few : length new.rested.promises ≤ most_made
   delivery : IsDelivery t.delivery
   answer : IsAnswer t.answer
   events : All IsEvent t.events
@@ -57,23 +64,27 @@ labelled_in_range : (ls : Labels) (by : List ℕ) (label : Option (List ℕ)) (t
 labelled_in_range ls by None t ranges one = ranges
 labelled_in_range ls by (Some label) t ranges one = EachLabel-with_label InRange ls by label t ranges one
 
-module _ (n : ℕ) (before : List Movement) (k : Kept) (steady : IsSteady k) (told : AreTold before (world_at k)) (bounded : IsBounded k.vault) (ranges : EachLabel InRange k.labels) where
+module _ (n : ℕ) (before : List Movement) (k : Kept) (steady : IsSteady k) (told : AreTold before (world_at k)) (bounded : IsBounded k.rested.vault) (ranges : EachLabel InRange k.labels) (fulfilled : EachFulfilled InRange k.rested.promises) (few : length k.rested.promises ≤ most_made) where
   told_refused : (d : Delivery) (r : Refusal) → IsDelivery d → IsTold r → IsTurnTold (refused n d r k).0 (refused n d r k).1
-  told_refused d r delivery answer = record { bounded = bounded; labels = ranges; delivery = delivery; answer = answer; events = All-nil IsEvent; movements = All-nil IsMove }
+  told_refused d r delivery answer = record { bounded = bounded; labels = ranges; fulfilled = fulfilled; few = few; delivery = delivery; answer = answer; events = All-nil IsEvent; movements = All-nil IsMove }
 
-  module _ (c : CallRead) (on : Obj) (args : List Tree) (good : IsMade k.vault on × KnowsArgs k.vault args) (addressed : IsAddressed on args) where
+  module _ (c : CallRead) (on : Obj) (args : List Tree) (good : IsMade (world_at k) on × KnowsArgs (world_at k) args) (addressed : IsAddressed on args) where
     told_answered : (answer : Tree) (effects : List Effect) → serve (world_at k) on c.method args ≡ Ok (answer, effects) → InRange answer
         → let turn = answered n (service c.by on c.method args) c.by c.label k.labels (answer, after_all (world_at k) effects) in IsTurnTold turn.0 turn.1
     told_answered answer effects is range =
         let so = serve_answers (world_at k) on c.method args answer effects steady.valid steady.room good.0 good.1 is in
-        let noted = noted-after_all before (world_at k) effects steady.valid so.can (serve_plain (world_at k) on c.method args answer effects steady.valid good.0 is) told (record { bounded = bounded; movements = All-nil IsMove }) in
+        let plain = serve_plain (world_at k) on c.method args answer effects steady.valid good.0 is in
+        let quiet = quiet-after_all (world_at k) effects plain in
+        let noted = noted-after_all before (world_at k) effects steady.valid so.can plain told (record { bounded = bounded; movements = All-nil IsMove }) in
         record {
           bounded = noted.bounded;
           labels = labelled_in_range k.labels c.by c.label answer ranges range;
+          fulfilled = subst (EachFulfilled InRange) (sym (ap (λ (p : PromisesState). p.now) quiet.promises)) fulfilled;
+          few = subst (λ states. length states ≤ most_made) (sym (ap (λ (p : PromisesState). p.now) quiet.promises)) few;
           delivery = (addressed.target, addressed.arguments);
           answer = record { ranges = range; ordered = so.ordered; shallow = so.shallow };
-          events = moves_told _ noted.movements;
-          movements = subst (All IsMove) (sym (moves_back _)) noted.movements;
+          events = subst (All IsEvent) (sym (quiet.log refl)) (moves_told _ noted.movements);
+          movements = subst (All IsMove) (sym (ap moves_in (quiet.log refl) ∙ moves_back _)) noted.movements;
         }
 
     told_served : (outcome : Outcome) → serve (world_at k) on c.method args ≡ outcome → Comes (λ d. InRange d.0) outcome
@@ -81,9 +92,9 @@ module _ (n : ℕ) (before : List Movement) (k : Kept) (steady : IsSteady k) (to
     told_served (Ok (answer, effects)) is comes = told_answered answer effects is comes
     told_served (Err r) is comes = told_refused (service c.by on c.method args) r (addressed.target, addressed.arguments) comes
 
-  told_call : (c : CallRead) (to : Result (Obj × List Tree) Refusal) → addressed k.labels c ≡ to → Comes (λ p. IsAddressed p.0 p.1) to → IsTurnTold (call_turn n c k to).0 (call_turn n c k to).1
+  told_call : (c : CallRead) (to : Result (Obj × List Tree) Refusal) → addressed k.rested.promises k.labels c ≡ to → Comes (λ p. IsAddressed p.0 p.1) to → IsTurnTold (call_turn n c k to).0 (call_turn n c k to).1
   told_call c (Ok (on, args)) is comes =
-      let good = addressed_good k.vault k.labels c on args steady.labels is in
+      let good = addressed_good k c on args steady.good is in
       told_served c on args good comes (serve (world_at k) on c.method args) refl (serve_told (world_at k) steady.valid args (arg_in_range args comes.arguments) on c.method good.0)
   told_call c (Err r) is comes = told_refused (message c.by c.method) r tt comes
 
@@ -92,6 +103,8 @@ module _ (n : ℕ) (before : List Movement) (k : Kept) (steady : IsSteady k) (to
   told_given g given data_given = record {
     bounded = bounded;
     labels = EachLabel-with_label InRange k.labels g.to g.label given ranges data_given.ranges;
+    fulfilled = fulfilled;
+    few = few;
     delivery = data_given;
     answer = record { ranges = tt; ordered = tt; shallow = omega arith };
     events = All-nil IsEvent;
@@ -104,8 +117,8 @@ module _ (n : ℕ) (before : List Movement) (k : Kept) (steady : IsSteady k) (to
 
   told_turn : (m : MessageRead) → IsMessage m → IsTurnTold (turn_of n k m).0 (turn_of n k m).1
   unfolding turn_of
-  told_turn (read.call c) is = told_call c (addressed k.labels c) refl (addressed_told k.labels c ranges (good_ordered k.vault k.labels steady.labels) is.0 is.1)
-  told_turn (read.give g) is = told_give g (given_by k.labels g) (given_told k.vault k.labels g ranges steady.labels)
+  told_turn (read.call c) is = told_call c (addressed k.rested.promises k.labels c) refl (addressed_told k steady.good few fulfilled ranges c is.0 is.1)
+  told_turn (read.give g) is = told_give g (given_by k.rested.promises k.labels g) (given_told k steady.good few fulfilled ranges g)
   told_turn (read.bad r) is = told_refused bad r tt is
 
 -- ---- a step
@@ -124,14 +137,14 @@ step_told before s new t steady told ready is = from s.queue ready.queue is
         let done = turned s rest (turn_of (s.turns + 1) s.kept m) in
         let same : done ≡ (new, t) = cc in
         subst (λ (p : HostState × TurnRecord). IsStepTold p.0 p.1) same (record {
-          turn = told_turn (s.turns + 1) before s.kept steady told ready.bounded ready.labels m messages.0;
+          turn = told_turn (s.turns + 1) before s.kept steady told ready.bounded ready.labels ready.fulfilled ready.few m messages.0;
           queue = messages.1;
         })
 
 -- at the turn's start nothing is moved yet
 told_first : (done : List TurnRecord) (s : HostState) → Leads done s → AreTold (movements_of done) (world_at s.kept)
 told_first done s leaves = record {
-  accounts = subst (λ ms. Accounts ms s.kept.vault) (sym (append-nil (movements_of done))) leaves.accounts;
+  accounts = subst (λ ms. Accounts ms s.kept.rested.vault) (sym (append-nil (movements_of done))) leaves.accounts;
   spent = λ p takes. absurd (cc);
 }
 
@@ -140,7 +153,7 @@ module _ (done : List TurnRecord) (s new : HostState) (t : TurnRecord) (leaves :
   stepped = step_told (movements_of done) s new t (steady s leaves.valid few) (told_first done s leaves) ready is
 
   step_readied : IsReadied new
-  step_readied = record { bounded = stepped.turn.bounded; labels = stepped.turn.labels; queue = stepped.queue }
+  step_readied = record { bounded = stepped.turn.bounded; labels = stepped.turn.labels; fulfilled = stepped.turn.fulfilled; few = stepped.turn.few; queue = stepped.queue }
 
   step_turn : IsTurn t
   step_turn =
@@ -171,7 +184,7 @@ run_told (suc n) s done leaves few ready = from (λ end t next enough readied. r
 
 order_told : (ms : List MessageRead) → length ms ≤ 4000000000 → AreMessages ms → All IsTurn (turns_in_order 0 first_host.kept ms)
 order_told ms few told =
-    subst (All IsTurn) (drained_order 0 first_host.kept ms) (run_told (length ms) (host_of 0 first_host.kept ms) [] (leads_first ms) (omega (arith, few)) (record { bounded = first_bounded; labels = tt; queue = told }))
+    subst (All IsTurn) (drained_order 0 first_host.kept ms) (run_told (length ms) (host_of 0 first_host.kept ms) [] (leads_first ms) (omega (arith, few)) (record { bounded = first_bounded; labels = tt; fulfilled = none_fulfilled InRange; few = omega arith; queue = told }))
 
 -- ---- the messages of an input
 

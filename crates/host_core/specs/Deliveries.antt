@@ -1,31 +1,28 @@
 -- What a message comes to when it is delivered.
-use Rattle.std.specs.Prelude.{ℕ, List, [], map, not, is_some, nat_le, Option, Some, None, Result, Ok, Err, codes}
+use Rattle.std.specs.Prelude.{ℕ, List, [], not, is_some, nat_le, Option, Some, None, Result, Ok, Err, codes}
 use Rattle.jessie_tree.specs.Tree.{Tree, null, items_nesting, listed, object_of}
 use Rattle.jessie_tree.specs.declared.data.Obj.{Obj}
 use Rattle.host_core.specs.MessageLines.{CallRead, GiveRead, MessageRead, call, give, bad}
 use Rattle.call_data.specs.Outcomes.{◌>>=◌, ◌>>◌, need, wanted}
 use Rattle.vault.specs.Parties.{Labels, bound_to, resolved_all, value_at, with_label}
 use Rattle.vault.specs.Parts.{most_deep}
-use Rattle.host_core.specs.Services.{serve, served}
+use Rattle.promises.specs.States.{StateView}
 use Rattle.vault.specs.Sums.{sums_of}
 use Rattle.journal_text.specs.Turns.{Delivery, TurnRecord}
 use Rattle.journal_text.specs.Turns as turns
-use Rattle.turn_log.specs.Events.{moved}
-use Rattle.vault.specs.Vaults.{VaultState}
-use Rattle.vault.specs.Worlds.{begins}
-use Rattle.vault.specs.declared.brands.Brand.{Brand}
+use Rattle.vault.specs.Worlds.{Rested, WorldState, begins, ends}
+use Rattle.zoe_service.specs.Rows.{served}
+use Rattle.zoe_service.specs.Services.{serve}
 use Rattle.call_data.specs.declared.refusals.Refusal.{Refusal}
-use Rattle.call_data.specs.declared.refusals.Refusal.TheVariants.{BadField, NameTaken, UnknownName, WrongObject}
-use Rattle.vault.specs.declared.world.World.{World}
+use Rattle.call_data.specs.declared.refusals.Refusal.TheVariants.{BadField, NameTaken, WrongObject}
 
--- what lies between turns: the vault, the brands, and what the parties have under their labels
+-- what lies between turns, and what the parties have under their labels
 pub record Kept : Type 0 where
-  pub vault : VaultState
-  pub brands : List Brand
+  pub rested : Rested
   pub labels : Labels
 
-abbrev pub kept_of : World → Labels → Kept
-kept_of w ls = record { vault = w.draft.now; brands = w.brands.now; labels = ls }
+abbrev pub kept_of : WorldState → Labels → Kept
+kept_of w ls = record { rested = ends w; labels = ls }
 
 -- ---- the call that a message is
 
@@ -34,21 +31,21 @@ abbrev pub free_label : Labels → List ℕ → Option (List ℕ) → Result (Un
 free_label ls by None = Ok tt
 free_label ls by (Some label) = need (not (is_some (bound_to ls by label))) (NameTaken label)
 
--- the target and the arguments, once all paths are resolved; what data holds nests at most 32 deep
-unfoldable pub addressed : Labels → CallRead → Result (Obj × List Tree) Refusal
-addressed ls c = do
+-- the target and the arguments, once all paths are resolved, where promises are in these states; what data holds nests at most 32 deep
+unfoldable pub addressed : List StateView → Labels → CallRead → Result (Obj × List Tree) Refusal
+addressed states ls c = do
   free_label ls c.by c.label
-  target ← wanted (value_at ls c.by c.on) (UnknownName c.on)
-  args ← resolved_all ls c.by c.arguments
+  target ← value_at states ls c.by c.on
+  args ← resolved_all states ls c.by c.arguments
   need (nat_le (items_nesting args) most_deep) (BadField (codes "args"))
   on ← wanted (object_of target) (WrongObject 0)
   Ok (on, listed args)
 
 -- what a give gives: the label is to be free for the receiver, and the path to lead to something
-unfoldable pub given_by : Labels → GiveRead → Result Tree Refusal
-given_by ls g = do
+unfoldable pub given_by : List StateView → Labels → GiveRead → Result Tree Refusal
+given_by states ls g = do
   free_label ls g.to (Some g.label)
-  wanted (value_at ls g.by g.given) (UnknownName g.given)
+  value_at states ls g.by g.given
 
 -- ---- the turn
 
@@ -58,19 +55,20 @@ labelled ls by None answer = ls
 labelled ls by (Some label) answer = with_label ls by label answer
 
 -- the world at a turn's start
-abbrev pub world_at : Kept → World
-world_at k = begins k.vault k.brands
+abbrev pub world_at : Kept → WorldState
+world_at k = begins k.rested
 
 abbrev pub refused : ℕ → Delivery → Refusal → Kept → Kept × TurnRecord
 refused n d r k = (k, record { number = n; delivery = d; answer = turns.refused r; events = []; sums = [] })
 
-abbrev pub answered : ℕ → Delivery → List ℕ → Option (List ℕ) → Labels → Tree × World → Kept × TurnRecord
+-- The turn tells what happened in the world, with the sums at its end. What waits is as it was: no call has anything delivered to an instance so far, so w.deliveries is empty.
+abbrev pub answered : ℕ → Delivery → List ℕ → Option (List ℕ) → Labels → Tree × WorldState → Kept × TurnRecord
 answered n d by label ls (answer, w) = (
   kept_of w (labelled ls by label answer),
-  record { number = n; delivery = d; answer = turns.answered answer; events = map moved w.draft.movements; sums = sums_of w.draft.now w.draft.movements },
+  record { number = n; delivery = d; answer = turns.answered answer; events = w.log; sums = sums_of w.draft.now w.draft.movements },
 )
 
-abbrev pub came_to : ℕ → Delivery → CallRead → Kept → Result (Tree × World) Refusal → Kept × TurnRecord
+abbrev pub came_to : ℕ → Delivery → CallRead → Kept → Result (Tree × WorldState) Refusal → Kept × TurnRecord
 came_to n d c k (Ok done) = answered n d c.by c.label k.labels done
 came_to n d c k (Err r) = refused n d r k
 
@@ -88,6 +86,6 @@ give_turn n g k (Err r) = refused n (turns.message g.by g.label) r k
 
 -- what is kept after the message's turn, which has the number, and the turn
 unfoldable pub turn_of : ℕ → Kept → MessageRead → Kept × TurnRecord
-turn_of n k (call c) = call_turn n c k (addressed k.labels c)
-turn_of n k (give g) = give_turn n g k (given_by k.labels g)
+turn_of n k (call c) = call_turn n c k (addressed k.rested.promises k.labels c)
+turn_of n k (give g) = give_turn n g k (given_by k.rested.promises k.labels g)
 turn_of n k (bad r) = refused n turns.bad r k

@@ -1,16 +1,13 @@
 -- A host between its calls, and what a step makes of it.
 use Rattle.std.specs.Prelude.{◌≡◌, ◌<◌, ◌≤◌, ℕ, ◌+◌, List, [], ◌∷◌, ◌++◌, length, Option, Some, None, Result, Ok, Err}
 use Rattle.std.specs.declared.alloc.AllocError.{AllocError}
-use Rattle.vault.specs.Brands.{first_brands}
 use Rattle.host_core.specs.Deliveries.{Kept, turn_of, world_at}
 use Rattle.host_core.specs.MessageLines.{Meaning, MessageRead, blank, meaning_of, message, run}
-use Rattle.vault.specs.Parties.{Labels, labels_of}
+use Rattle.vault.specs.Parties.{labels_of}
 use Rattle.host_core.specs.Queues.{waiting}
 use Rattle.host_core.specs.Delivered.{AreGood}
 use Rattle.journal_text.specs.Turns.{TurnRecord, turn_view}
-use Rattle.vault.specs.Vaults.{VaultState, first_vault}
-use Rattle.vault.specs.Worlds.{resting_of, IsValid, MintedWithin}
-use Rattle.vault.specs.declared.brands.Brand.{Brand}
+use Rattle.vault.specs.Worlds.{IsValid, MintedWithin, first_rested, resting_of}
 use Rattle.host_core.specs.declared.host.Host.{Host}
 use Rattle.host_core.specs.declared.host.StepFault.{StepFault}
 use Rattle.host_core.specs.declared.host.StepFault.TheVariants as faults
@@ -25,13 +22,10 @@ pub record HostState : Type 0 where
 
 -- a new host
 abbrev pub first_host : HostState
-first_host = record { kept = record { vault = first_vault; brands = first_brands; labels = [] }; queue = []; turns = 0 }
-
-abbrev pub kept_by : VaultState × List Brand → Labels → Kept
-kept_by (vault, brands) labels = record { vault = vault; brands = brands; labels = labels }
+first_host = record { kept = record { rested = first_rested; labels = [] }; queue = []; turns = 0 }
 
 abbrev pub host_view : Host → HostState
-host_view h = record { kept = kept_by (resting_of h.resting) (labels_of h.parties); queue = waiting h.queue; turns = h.turns }
+host_view h = record { kept = record { rested = resting_of h.resting; labels = labels_of h.parties }; queue = waiting h.queue; turns = h.turns }
 
 -- a message is appended
 abbrev pub with_message : HostState → MessageRead → HostState
@@ -68,8 +62,8 @@ IsStep old new (Err faults.NoMemory) = new ≡ old
 
 pub record IsValidHost (s : HostState) : Type 0 where
   pub world : IsValid (world_at s.kept)
-  pub minted : MintedWithin s.kept.vault s.turns
-  pub labels : AreGood s.kept.vault s.kept.labels
+  pub minted : MintedWithin s.kept.rested.vault s.turns
+  pub good : AreGood s.kept
 
 -- ---- submitting
 

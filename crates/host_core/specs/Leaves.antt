@@ -12,13 +12,13 @@ pub record Leaves (ts : List TurnRecord) (s : HostState) : Type 0 where
   -- it took one delivery for each
   pub taken : length ts ≡ s.turns
   -- who holds what is what the movements make
-  pub table : s.kept.vault.table ≡ table_by ts
+  pub table : s.kept.rested.vault.table ≡ table_by ts
   -- of each brand what is out, and all that was minted and burned
-  pub out : (b : ℕ) → out_of s.kept.vault b ≡ supply (movements_of ts) b
-  pub minted_are : (b : ℕ) → (supply_at s.kept.vault.supplies b).minted ≡ counted (minted (movements_of ts) b)
-  pub burned_are : (b : ℕ) → (supply_at s.kept.vault.supplies b).burned ≡ counted (burned (movements_of ts) b)
+  pub out : (b : ℕ) → out_of s.kept.rested.vault b ≡ supply (movements_of ts) b
+  pub minted_are : (b : ℕ) → (supply_at s.kept.rested.vault.supplies b).minted ≡ counted (minted (movements_of ts) b)
+  pub burned_are : (b : ℕ) → (supply_at s.kept.rested.vault.supplies b).burned ≡ counted (burned (movements_of ts) b)
   -- each value is of its brand's kind
-  pub kinds : All (λ m. m.value.kind ≡ kind_of s.kept.vault m.brand) (movements_of ts)
+  pub kinds : All (λ m. m.value.kind ≡ kind_of s.kept.rested.vault m.brand) (movements_of ts)
   -- a payment is live where no movement took from it, and none that isn't made is named
-  pub live : (p : ℕ) → p < length s.kept.vault.payments → (mark_of s.kept.vault p).is_live ≡ not (takes_from p (movements_of ts))
-  pub made : (p : ℕ) → length s.kept.vault.payments ≤ p → names p (movements_of ts) ≡ false
+  pub live : (p : ℕ) → p < length s.kept.rested.vault.payments → (mark_of s.kept.rested.vault p).is_live ≡ not (takes_from p (movements_of ts))
+  pub made : (p : ℕ) → length s.kept.rested.vault.payments ≤ p → names p (movements_of ts) ≡ false

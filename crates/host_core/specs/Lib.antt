@@ -2,11 +2,6 @@ pub mod InputLines
 pub mod MessageLines
 pub mod FormTables
 pub mod Queues
-pub mod CallArguments
-pub mod Services
-pub mod Served
-pub mod Moved
-pub mod Answered
 pub mod Deliveries
 pub mod Delivered
 pub mod Hosts

@@ -2,7 +2,7 @@
 //! turn's record is made. Its one contract is `turn_of`'s: the turn and what is kept after it are those
 //! that the message has by definition, or, for want of memory, all is as before.
 
-ghost use Rattle.std.specs.Prelude.{◌≡◌, ◌<◌, [], All, length, map, Some, IfErr, IfOk, OnErr, OnOk};
+ghost use Rattle.std.specs.Prelude.{◌≡◌, ◌<◌, ℕ, [], All, length, map, Some, IfErr, IfOk, OnErr, OnOk};
 ghost use Rattle.jessie_tree.specs.View.{tree, trees};
 ghost use Rattle.host_core.specs.Deliveries as deliveries;
 ghost use Rattle.jessie_tree.specs.Tree.{null};
@@ -11,26 +11,28 @@ ghost use Rattle.host_core.specs.Delivered.{IsFree, IsReady, IsSteady, kept_with
 ghost use Rattle.host_core.specs.MessageLines.{call_view, give_view, message_view};
 ghost use Rattle.call_data.specs.Outcomes.{Gives};
 ghost use Rattle.vault.specs.Parties.{labels_of, with_label};
-ghost use Rattle.host_core.specs.Services as services;
-ghost use Rattle.host_core.specs.Services.{served};
 ghost use Rattle.journal_text.specs.Turns as turns;
-ghost use Rattle.journal_text.specs.Turns.{delivery_of, message, service, turn_view};
+ghost use Rattle.journal_text.specs.Turns.{Delivery, answer_of, delivery_of, message, service, turn_view};
+ghost use Rattle.promises.specs.Turns.{promises_of};
+ghost use Rattle.vault.specs.InstanceDeliveries.{delivery_view};
 ghost use Rattle.vault.specs.Sums.{sums_of};
-ghost use Rattle.vault.specs.Worlds.{IsValid, Keeps};
-ghost use Rattle.turn_log.specs.Events.{event_views, moved};
+ghost use Rattle.vault.specs.Worlds.{IsValid, Keeps, rested, world_of};
+ghost use Rattle.zoe_service.specs.Rows.{served};
+ghost use Rattle.zoe_service.specs.Services as services;
 ghost use Rattle.journal_text.specs.declared.turns.Delivered;
 
 use crate::message_lines::{Call, Give, Message};
-use crate::services::serve;
 use call_data::refusals::{Refusal, Stop};
 use host_text::text::Text;
 use jessie_tree::data::{self, Data, Obj};
 use journal_text::turns::{Answer, Delivered, GivenName, ServiceCall, Turn};
-use rights_model::Movement;
+use promises::Promises;
+use rights_model::Sum;
 use std::alloc::{AllocError, Global};
-use turn_log::events::Event;
+use vault::instance_deliveries::InstanceDelivery;
 use vault::parties::Parties;
 use vault::world::{Resting, World};
+use zoe_service::serve::serve;
 
 /// The most that data nests.
 const MOST_DEEP: u32 = 32;
@@ -59,14 +61,17 @@ fn free_answer(alloc: Global, parties: &Parties, call: &Call) -> Result<(), Stop
 
 /// The target and the arguments, once all paths are resolved.
 #[tactic(auto, unfolding(crate::specs::Deliveries::addressed, call_data::specs::Outcomes::bind, call_data::specs::Outcomes::need, call_data::specs::Outcomes::wanted))]
-fn address(alloc: Global, parties: &Parties, call: &Call) -> Result<(Obj, Vec<Data>), Stop>
-    ensures { Gives (λ (on, arguments). (on, trees arguments.items)) result (addressed (labels_of parties.now) (call_view call.now)) }
+fn address(
+    alloc: Global,
+    promises: &Promises,
+    parties: &Parties,
+    call: &Call,
+) -> Result<(Obj, Vec<Data>), Stop>
+    ensures { Gives (λ (on, arguments). (on, trees arguments.items)) result (addressed (promises_of promises.now).now (labels_of parties.now) (call_view call.now)) }
 {
     free_answer(alloc, parties, call)?;
-    let Some(target) = parties.value_at(alloc, &call.by, &call.on)? else {
-        return Err(Stop::Refused(Refusal::UnknownName(call.on.copy(alloc)?)));
-    };
-    let arguments = parties.resolve(alloc, &call.by, &call.arguments)?;
+    let target = parties.value_at(alloc, promises, &call.by, &call.on)?;
+    let arguments = parties.resolve(alloc, promises, &call.by, &call.arguments)?;
     if !data::all_within(MOST_DEEP, &arguments) {
         return Err(Stop::Refused(Refusal::BadField(Text::from_str(alloc, "args")?)));
     }
@@ -125,77 +130,61 @@ fn bind_answer(
     }
 }
 
-/// Movements as events, in order.
-fn move_events(alloc: Global, movements: Vec<Movement>) -> Result<Vec<Event>, AllocError>
-    ensures { IfOk result (λ events. event_views events.items ≡ map moved movements.items) }
-{
-    let mut events = Vec::new(alloc);
-    for movement in movements {
-        events.push(Event::Moved(movement))?;
-    }
-    Ok(events)
-}
-
-/// The turn of a call that was answered. The label for the answer is bound last.
-fn answered_turn(
+/// What is told of a call that was answered: the answer, and the sums. The label for the answer is
+/// bound last.
+fn answered(
     alloc: Global,
     world: &World,
     parties: &mut Parties,
     call: &Call,
-    delivered: Delivered,
     answer: Data,
-    number: u32,
-) -> Result<Turn, AllocError>
-    requires valid { IsValid world.now }
+) -> Result<(Answer, Vec<Sum>), AllocError>
+    requires valid { IsValid (world_of world.now) }
     requires made { All (λ m. m.brand < length world.now.draft.now.supplies) world.now.draft.movements }
     requires free { IsFree (labels_of parties.old) call.now.by call.now.label }
-    ensures turn { IfOk result (λ turn. turn_view turn ≡ record { number = number; delivery = delivery_of delivered; answer = turns.answered (tree answer); events = map moved world.now.draft.movements; sums = sums_of world.now.draft.now world.now.draft.movements }) }
+    ensures answer { IfOk result (λ (given, _). answer_of given ≡ turns.answered (tree answer)) }
+    ensures sums { IfOk result (λ (_, sums). sums.items ≡ sums_of world.now.draft.now world.now.draft.movements) }
     ensures labels { OnOk result (labels_of parties.new ≡ labelled (labels_of parties.old) call.now.by call.now.label (tree answer)) }
     ensures err { OnErr result (labels_of parties.new ≡ labels_of parties.old) }
 {
-    let movements = world.movements(alloc)?;
-    let sums = world.sums(alloc, &movements)?;
-    let events = move_events(alloc, movements)?;
+    let sums = world.sums()?;
     bind_answer(alloc, parties, call, &answer)?;
-    Ok(Turn {
-        number,
-        delivered,
-        answer: Answer::Given(answer),
-        events,
-        sums,
-    })
+    Ok((Answer::Given(answer), sums))
 }
 
-/// Works a call on the world of a turn that just began, and gives its record. For want of memory the
-/// turn is to be undone; no label is bound then.
+/// Works a call on the world of a turn that just began, and gives what is told of it beside what
+/// happened: the answer, and the sums. For want of memory the turn is to be undone; no label is bound
+/// then.
 fn worked(
     alloc: Global,
     world: &mut World,
     parties: &mut Parties,
     call: &Call,
-    service: ServiceCall,
-    number: u32,
-) -> Result<Turn, AllocError>
-    requires begun { world.old ≡ world_at (kept_of world.old (labels_of parties.old)) }
-    requires ready { IsReady world.old service.on (trees service.arguments.items) }
+    service: &ServiceCall,
+) -> Result<(Answer, Vec<Sum>), AllocError>
+    requires begun { world_of world.old ≡ world_at (kept_of (world_of world.old) (labels_of parties.old)) }
+    requires ready { IsReady (world_of world.old) service.now.on (trees service.now.arguments.items) }
     requires free { IsFree (labels_of parties.old) call.now.by call.now.label }
-    requires method { service.method ≡ call.now.method }
-    ensures turn { IfOk result (λ turn. (kept_of world.new (labels_of parties.new), turn_view turn) ≡ came_to number (delivery_of (Delivered.Service service)) (call_view call.now) (kept_of world.old (labels_of parties.old)) (served world.old (services.serve world.old service.on call.now.method (trees service.arguments.items)))) }
-    ensures valid { OnOk result (IsValid world.new) }
-    ensures keeps { Keeps world.old world.new }
+    requires method { service.now.method ≡ call.now.method }
+    ensures turn { IfOk result (λ (answer, sums). (number : ℕ) (delivery : Delivery) → (kept_of (world_of world.new) (labels_of parties.new), record { number = number; delivery = delivery; answer = answer_of answer; events = (world_of world.new).log; sums = sums.items }) ≡ came_to number delivery (call_view call.now) (kept_of (world_of world.old) (labels_of parties.old)) (served (world_of world.old) (services.serve (world_of world.old) service.now.on call.now.method (trees service.now.arguments.items)))) }
+    ensures valid { OnOk result (IsValid (world_of world.new)) }
+    ensures undelivered { OnOk result ((world_of world.new).deliveries ≡ []) }
+    ensures keeps { Keeps (world_of world.old) (world_of world.new) }
     ensures err { OnErr result (labels_of parties.new ≡ labels_of parties.old) }
 {
     match serve(alloc, world, service.on, &call.method, &service.arguments) {
-        Ok(answer) => {
-            let delivered = Delivered::Service(service);
-            answered_turn(alloc, world, parties, call, delivered, answer, number)
-        }
-        Err(Stop::Refused(refusal)) => {
-            let delivered = Delivered::Service(service);
-            Ok(refused_turn(alloc, number, delivered, refusal))
-        }
+        Ok(answer) => answered(alloc, world, parties, call, answer),
+        Err(Stop::Refused(refusal)) => Ok((Answer::Refused(refusal), Vec::new(alloc))),
         Err(Stop::NoMemory) => Err(AllocError),
     }
+}
+
+/// Lets go of what a turn has delivered to instances, which is nothing: no call has anything delivered
+/// so far.
+fn none_delivered(deliveries: Vec<InstanceDelivery>)
+    requires { map delivery_view deliveries.items ≡ [] }
+{
+    drop(deliveries);
 }
 
 /// The call as its turn's record has it.
@@ -233,12 +222,23 @@ fn service_turn(
     ensures turn { IfOk result (λ (kept, turn). (kept_with kept (labels_of parties.new), turn_view turn) ≡ came_to number (delivery_of (Delivered.Service service)) (call_view call.now) (kept_with resting (labels_of parties.old)) (served (world_at (kept_with resting (labels_of parties.old))) (services.serve (world_at (kept_with resting (labels_of parties.old))) service.on call.now.method (trees service.arguments.items)))) }
     ensures back { IfErr result (λ kept. kept_with kept (labels_of parties.new) ≡ kept_with resting (labels_of parties.old)) }
 {
-    let mut world = match World::begin(resting) {
+    let mut world = match World::begin(alloc, resting) {
         Ok(world) => world,
         Err(resting) => return Err(resting),
     };
-    match worked(alloc, &mut world, parties, call, service, number) {
-        Ok(turn) => Ok((world.commit(), turn)),
+    match worked(alloc, &mut world, parties, call, &service) {
+        Ok((answer, sums)) => {
+            let (resting, deliveries, log) = world.commit();
+            none_delivered(deliveries);
+            let turn = Turn {
+                number,
+                delivered: Delivered::Service(service),
+                answer,
+                events: log.into_events(),
+                sums,
+            };
+            Ok((resting, turn))
+        }
         Err(_) => Err(world.undo()),
     }
 }
@@ -252,10 +252,10 @@ fn call_turn(
     number: u32,
 ) -> Result<(Resting, Turn), Resting>
     requires { IsSteady (kept_with resting (labels_of parties.old)) }
-    ensures turn { IfOk result (λ (kept, turn). (kept_with kept (labels_of parties.new), turn_view turn) ≡ deliveries.call_turn number (call_view call.now) (kept_with resting (labels_of parties.old)) (addressed (labels_of parties.old) (call_view call.now))) }
+    ensures turn { IfOk result (λ (kept, turn). (kept_with kept (labels_of parties.new), turn_view turn) ≡ deliveries.call_turn number (call_view call.now) (kept_with resting (labels_of parties.old)) (addressed (rested resting).promises (labels_of parties.old) (call_view call.now))) }
     ensures back { IfErr result (λ kept. kept_with kept (labels_of parties.new) ≡ kept_with resting (labels_of parties.old)) }
 {
-    match address(alloc, parties, call) {
+    match address(alloc, &resting.promises, parties, call) {
         Ok((on, arguments)) => match service_call(alloc, call, on, arguments) {
             Ok(service) => service_turn(alloc, resting, parties, call, service, number),
             Err(_) => Err(resting),
@@ -272,14 +272,16 @@ fn call_turn(
 
 /// What a give gives: the receiver's label is free, and something stands at the giver's path.
 #[tactic(auto, unfolding(crate::specs::Deliveries::given_by, call_data::specs::Outcomes::bind, call_data::specs::Outcomes::need, call_data::specs::Outcomes::wanted))]
-fn given_by(alloc: Global, parties: &Parties, give: &Give) -> Result<Data, Stop>
-    ensures { Gives (λ given. tree given) result (deliveries.given_by (labels_of parties.now) (give_view give.now)) }
+fn given_by(
+    alloc: Global,
+    promises: &Promises,
+    parties: &Parties,
+    give: &Give,
+) -> Result<Data, Stop>
+    ensures { Gives (λ given. tree given) result (deliveries.given_by (promises_of promises.now).now (labels_of parties.now) (give_view give.now)) }
 {
     free_label(alloc, parties, &give.to, &give.label)?;
-    match parties.value_at(alloc, &give.by, &give.given)? {
-        Some(given) => Ok(given),
-        None => Err(Stop::Refused(Refusal::UnknownName(give.given.copy(alloc)?))),
-    }
+    parties.value_at(alloc, promises, &give.by, &give.given)
 }
 
 /// The give as its turn's record has it.
@@ -320,18 +322,18 @@ fn given_turn(
     })
 }
 
-/// The turn of a give; or, for want of memory, nothing happened. It changes the labels alone, whatever
-/// else is kept.
+/// The turn of a give; or, for want of memory, nothing happened. It changes the labels alone.
 fn give_turn(
     alloc: Global,
+    resting: &Resting,
     parties: &mut Parties,
     give: &Give,
     number: u32,
 ) -> Result<Turn, AllocError>
-    ensures turn { IfOk result (λ turn. (kept : Resting) → (kept_with kept (labels_of parties.new), turn_view turn) ≡ deliveries.give_turn number (give_view give.now) (kept_with kept (labels_of parties.old)) (deliveries.given_by (labels_of parties.old) (give_view give.now))) }
+    ensures turn { IfOk result (λ turn. (kept_with resting.now (labels_of parties.new), turn_view turn) ≡ deliveries.give_turn number (give_view give.now) (kept_with resting.now (labels_of parties.old)) (deliveries.given_by (rested resting.now).promises (labels_of parties.old) (give_view give.now))) }
     ensures err { OnErr result (labels_of parties.new ≡ labels_of parties.old) }
 {
-    match given_by(alloc, parties, give) {
+    match given_by(alloc, &resting.promises, parties, give) {
         Ok(given) => given_turn(alloc, parties, give, given, number),
         Err(Stop::Refused(refusal)) => {
             message_turn(alloc, &give.by, &give.label, refusal, number)
@@ -356,7 +358,7 @@ pub(crate) fn turn_of(
 {
     match message {
         Message::Call(call) => call_turn(alloc, resting, parties, call, number),
-        Message::Give(give) => match give_turn(alloc, parties, give, number) {
+        Message::Give(give) => match give_turn(alloc, &resting, parties, give, number) {
             Ok(turn) => Ok((resting, turn)),
             Err(_) => Err(resting),
         },

@@ -1,16 +1,13 @@
 //! The host: lines are read as messages, each message is one turn, and a turn's rows are written.
-//! It stands on the vault, and on the data of the contract language. Its one contract is
+//! It stands on the vault, on the methods of the host's own objects (`zoe_service`), and on the data of
+//! the contract language. Its one contract is
 //! `host::Host::step`'s: a step is the turn of the message in front, or nothing happened; what holds of
 //! whole runs, that their turns are fair and their journal tells them, is stated in `laws`.
 #![tactic(auto)]
 
-pub mod call_arguments;
 pub mod deliveries;
-pub mod holdings;
 pub mod host;
 pub mod laws;
 pub mod lines;
 pub mod message_lines;
-pub mod service_laws;
-pub mod services;
 pub mod turn_queue;

@@ -20,8 +20,9 @@ use Rattle.vault.specs.Vaults.{VaultState, PaymentMark, no_mark, amount_moved, b
 use Rattle.vault.specs.Worlds.{AreFresh, AreTotals, IsAsset, IsOrdinary}
 use Rattle.rights_model.specs.Totals.{held_over, is_payment, is_purse, is_slot}
 use Rattle.vault.proofs.Numbered.{AddUp, Numbering, AddUp-put, AddUp-elsewhere, AddUp-brands, AddUp-more, held-put_elsewhere, held-put_here}
+use Rattle.vault.proofs.KeywordsKept.{HaveApart-moved}
 use Rattle.vault.proofs.Supplies.{kind_at-added}
-use Rattle.vault.proofs.SlotRows.{Under, at_brand, in_none, missing, there, under}
+use Rattle.vault.proofs.SlotRows.{at_brand, in_none, missing, there, under}
 use Rattle.vault.proofs.SlotMoves.{Meets, SeatsAgree, agree-given, agree-taken, counted-given, counted-taken, length_left, meets_put, slot_left}
 use Rattle.vault.proofs.Transferred.{brands_made, kinds_moved, meets_given, paid-from, brands-from, brands-to, seats_taken}
 
@@ -235,6 +236,7 @@ module _ (v : VaultState) (m : Movement) (can : CanTransfer v m) where
 pub IsOrdinary-moved : (v : VaultState) (m : Movement) → CanTransfer v m → AreSeats v → IsOrdinary v → IsOrdinary (after_move v m)
 IsOrdinary-moved v m can seats is = record {
   purses = λ p made. IsAsset-moved v m can (brand_of v (Purse p)) (is.purses p made);
+  keywords = (HaveApart-moved v m (record { each = is.keywords })).each;
   fresh = AreFresh-moved v m can is.fresh;
   totals = AreTotals-moved v m can seats is.fresh is.totals;
 }
@@ -255,6 +257,7 @@ IsOrdinary-opened v b asset is =
     (AddUp-brands Purse is_purse purse_numbers (bought_in v.purses) (bought_in (v.purses ++ b ∷ [])) v.table (length v.purses) (λ i within. get_or_append_left v.purses (b ∷ []) 0 i within) (record { each = is.totals.purses })) in
     record {
       purses = each_push (IsAsset (record v { purses = v.purses ++ b ∷ [] })) v.purses b (λ p made. same_asset (get_or v.purses p 0) (is.purses p made)) (same_asset b asset);
+      keywords = is.keywords;
       fresh = record { purses = λ p e past. is.fresh.purses p e (omega arith); payments = is.fresh.payments };
       totals = record { purses = (subst (AddUp Purse is_purse (bought_in (v.purses ++ b ∷ [])) v.table) longer purses).each; payments = is.totals.payments; slots = is.totals.slots };
     }
@@ -267,6 +270,7 @@ IsOrdinary-opened v b asset is =
 pub IsOrdinary-added : (v : VaultState) (kind : Kind) → IsOrdinary v → IsOrdinary (record v { supplies = v.supplies ++ new_supply kind ∷ [] })
 IsOrdinary-added v kind is = record {
   purses = λ p made. kept (brand_of v (Purse p)) (is.purses p made);
+  keywords = is.keywords;
   fresh = record { purses = is.fresh.purses; payments = is.fresh.payments };
   totals = record { purses = is.totals.purses; payments = is.totals.payments; slots = is.totals.slots };
 }

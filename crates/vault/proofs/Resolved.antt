@@ -1,5 +1,6 @@
--- What holds of all that the labels were bound to and of the services holds of what stands at a path and of what is resolved.
-use Rattle.std.proofs.Common.{◌≡◌, ℕ, zero, suc, List, [], ◌∷◌, Bool, true, false, Option, Some, None, option_and_then, slice_get, if◌then◌else◌, Result, Ok, Err, refl, subst, codes}
+-- What holds of the services, of all that the labels were bound to and of all that promises were fulfilled with holds of
+-- what stands at a path, and of what is resolved.
+use Rattle.std.proofs.Common.{◌≡◌, ℕ, zero, suc, List, [], ◌∷◌, Bool, true, false, Option, Some, None, option_and_then, slice_get, if◌then◌else◌, Ok, refl, subst, codes}
 use Rattle.std.proofs.lemmas.Option.{option_and_then_some}
 use Rattle.std.specs.Option.{option_map_or}
 use Rattle.std.specs.Str.{bytes_eq}
@@ -12,33 +13,13 @@ use Rattle.jessie_tree.specs.declared.data.ObjKind.TheVariants.{Ertp, Timer, Zoe
 use Rattle.vault.specs.Known.{AllInFields, AllInItems, AllObjects}
 use Rattle.vault.specs.OrderedParts.{BeforeParts, OrderedPart, OrderedPartFields, OrderedPartItems}
 use Rattle.call_data.specs.Outcomes.{bind, wanted}
-use Rattle.vault.specs.Parties.{EachLabel, Labels, bound_to, label_in, own, part_at, place_of, resolved, resolved_all, resolved_fields, service_of, value_at, walked, walked_from, with_label}
+use Rattle.promises.specs.States.{StateView}
+use Rattle.vault.specs.Parties.{EachFulfilled, EachLabel, Labels, bound_to, followed, label_in, own, part_at, part_met, place_of, resolved, resolved_all, resolved_fields, service_of, value_at, walked, walked_from, with_label}
 use Rattle.vault.specs.Parts as part
 use Rattle.vault.specs.Parts.{PartFields, PartItems, PartTree, steps_of}
-use Rattle.call_data.specs.declared.refusals.Refusal.{Refusal}
 use Rattle.call_data.specs.declared.refusals.Refusal.TheVariants.{UnknownName}
-
--- ---- steps that came to an answer
-
-abbrev Gave : {A : Type 0} → Result A Refusal → A → Type 0
-Gave r x = r ≡ Ok x
-
--- the answer is that one
-is_ok : {A : Type 0} (x y : A) → Gave (Ok x) y → x ≡ y
-is_ok x y h = cc
-
-is_some : {A : Type 0} (x y : A) → Some x ≡ Some y → x ≡ y
-is_some x y h = cc
-
-bind-gave : {A B : Type 0} (r : Result A Refusal) (f : A → Result B Refusal) (y : B) → Gave (bind r f) y → (x : A) × Gave r x × Gave (f x) y
-unfolding bind
-bind-gave (Ok x) f y h = (x, refl, h)
-bind-gave (Err e) f y h = absurd (cc)
-
-wanted-gave : {A : Type 0} (o : Option A) (r : Refusal) (x : A) → Gave (wanted o r) x → o ≡ Some x
-unfolding wanted
-wanted-gave (Some y) r x h = cc
-wanted-gave None r x h = absurd (cc)
+use Rattle.vault.proofs.Gave.{Gave, bind-gave, is_ok, is_some, wanted-gave}
+use Rattle.vault.proofs.PromisesMet.{followed-passes}
 
 -- ---- what stands at a path
 
@@ -64,7 +45,7 @@ pub record OfServices (P : Tree → Type 0) : Type 0 where
   pub zoe : P (tree.object (record { kind = Zoe; number = 0 }))
   pub timer : P (tree.object (record { kind = Timer; number = 0 }))
 
-module _ (P : Tree → Type 0) (ls : Labels) (party : List ℕ) (services : OfServices P) (labels : EachLabel P ls) (parts : (t : Tree) (s : List ℕ) (u : Tree) → P t → part_at t s ≡ Some u → P u) where
+module _ (P : Tree → Type 0) (states : List StateView) (ls : Labels) (party : List ℕ) (services : OfServices P) (fulfilled : EachFulfilled P states) (labels : EachLabel P ls) (parts : (t : Tree) (s : List ℕ) (u : Tree) → P t → part_at t s ≡ Some u → P u) where
   service-passes : (label : List ℕ) (o : Obj) → service_of label ≡ Some o → P (tree.object o)
   service-passes label o h = by (bytes_eq label (codes "ertp")) (bytes_eq label (codes "zoe")) (bytes_eq label (codes "timer")) h
     where
@@ -81,22 +62,26 @@ module _ (P : Tree → Type 0) (ls : Labels) (party : List ℕ) (services : OfSe
       by None here e = EachLabel-label_in P ls (own party label) t labels e
       by (Some o) here e = subst P (is_some (tree.object o) t e) (here o refl)
 
-  walked-passes : (steps : List (List ℕ)) (t u : Tree) → P t → walked t steps ≡ Some u → P u
-  walked-passes [] t u p h = subst P (is_some t u h) p
-  walked-passes (s ∷ steps) t u p h =
-      option_and_then_some (λ v. walked v steps) (part_at t s) u h (λ v at rest. walked-passes steps v u (parts t s v p at) rest)
+  part_met-passes : (path : List ℕ) (t : Tree) (s : List ℕ) (u : Tree) → P t → Gave (part_met states path t s) u → P u
+  part_met-passes path t s u p h =
+      let b = bind-gave (followed states t) (λ met. wanted (part_at met s) (UnknownName path)) u h in
+      parts b.0 s u (followed-passes P states fulfilled t b.0 p b.1) (wanted-gave (part_at b.0 s) (UnknownName path) u b.2)
 
-  walked_from-passes : (steps : List (List ℕ)) (t : Tree) → walked_from ls party steps ≡ Some t → P t
-  walked_from-passes [] t h = absurd (cc)
-  walked_from-passes (label ∷ steps) t h =
-      option_and_then_some (λ v. walked v steps) (bound_to ls party label) t h (λ v at rest. walked-passes steps v t (bound_to-passes label v at) rest)
+  walked-passes : (path : List ℕ) (steps : List (List ℕ)) (t u : Tree) → P t → Gave (walked states path t steps) u → P u
+  walked-passes path [] t u p h = followed-passes P states fulfilled t u p h
+  walked-passes path (s ∷ steps) t u p h =
+      let b = bind-gave (part_met states path t s) (λ part. walked states path part steps) u h in
+      walked-passes path steps b.0 u (part_met-passes path t s b.0 p b.1) b.2
 
-  pub value_at-passes : (path : List ℕ) (t : Tree) → value_at ls party path ≡ Some t → P t
+  walked_from-passes : (path : List ℕ) (steps : List (List ℕ)) (t : Tree) → Gave (walked_from states ls party path steps) t → P t
+  walked_from-passes path [] t h = absurd (cc)
+  walked_from-passes path (label ∷ steps) t h =
+      let b = bind-gave (wanted (bound_to ls party label) (UnknownName path)) (λ v. walked states path v steps) t h in
+      walked-passes path steps b.0 t (bound_to-passes label b.0 (wanted-gave (bound_to ls party label) (UnknownName path) b.0 b.1)) b.2
+
+  pub value_at-passes : (path : List ℕ) (t : Tree) → Gave (value_at states ls party path) t → P t
   unfolding value_at
-  value_at-passes path t h = walked_from-passes (steps_of path) t h
-
-  path-passes : (path : List ℕ) (t : Tree) → Gave (resolved ls party (part.path path)) t → P t
-  path-passes path t h = value_at-passes path t (wanted-gave (value_at ls party path) (UnknownName path) t h)
+  value_at-passes path t h = walked_from-passes path (steps_of path) t h
 
 -- ---- each object in it passes
 
@@ -124,39 +109,39 @@ module _ (Passes : Obj → Type 0) where
   part_at-AllObjects (tree.object o) s u h e = absurd (cc)
   part_at-AllObjects (tree.function x) s u h e = absurd (cc)
 
-  module _ (ls : Labels) (party : List ℕ) (services : OfServices (AllObjects Passes)) (labels : EachLabel (AllObjects Passes) ls) where
+  module _ (states : List StateView) (ls : Labels) (party : List ℕ) (services : OfServices (AllObjects Passes)) (fulfilled : EachFulfilled (AllObjects Passes) states) (labels : EachLabel (AllObjects Passes) ls) where
     -- what stands at a path
-    pub value_at-AllObjects : (path : List ℕ) (t : Tree) → value_at ls party path ≡ Some t → AllObjects Passes t
-    value_at-AllObjects path t h = value_at-passes (AllObjects Passes) ls party services labels part_at-AllObjects path t h
+    pub value_at-AllObjects : (path : List ℕ) (t : Tree) → Gave (value_at states ls party path) t → AllObjects Passes t
+    value_at-AllObjects path t h = value_at-passes (AllObjects Passes) states ls party services fulfilled labels part_at-AllObjects path t h
 
     mutual
       -- what an argument is resolved to
-      pub resolved-AllObjects : (p : PartTree) (t : Tree) → resolved ls party p ≡ Ok t → AllObjects Passes t
+      pub resolved-AllObjects : (p : PartTree) (t : Tree) → resolved states ls party p ≡ Ok t → AllObjects Passes t
       resolved-AllObjects part.null t h = subst (AllObjects Passes) (is_ok tree.null t h) tt
       resolved-AllObjects (part.boolean b) t h = subst (AllObjects Passes) (is_ok (tree.boolean b) t h) tt
       resolved-AllObjects (part.number z) t h = subst (AllObjects Passes) (is_ok (tree.number z) t h) tt
       resolved-AllObjects (part.text s) t h = subst (AllObjects Passes) (is_ok (tree.text s) t h) tt
       resolved-AllObjects (part.array ps) t h =
-          let b = bind-gave (resolved_all ls party ps) (λ us. Ok (tree.array us)) t h in
+          let b = bind-gave (resolved_all states ls party ps) (λ us. Ok (tree.array us)) t h in
           subst (AllObjects Passes) (is_ok (tree.array b.0) t b.2) (resolved_all-AllObjects ps b.0 b.1)
       resolved-AllObjects (part.fields fs) t h =
-          let b = bind-gave (resolved_fields ls party fs) (λ gs. Ok (tree.fields gs)) t h in
+          let b = bind-gave (resolved_fields states ls party fs) (λ gs. Ok (tree.fields gs)) t h in
           subst (AllObjects Passes) (is_ok (tree.fields b.0) t b.2) (resolved_fields-AllObjects fs b.0 b.1)
-      resolved-AllObjects (part.path path) t h = path-passes (AllObjects Passes) ls party services labels part_at-AllObjects path t h
+      resolved-AllObjects (part.path path) t h = value_at-AllObjects path t h
 
       -- what arguments are resolved to
-      pub resolved_all-AllObjects : (ps : PartItems) (ts : Items) → resolved_all ls party ps ≡ Ok ts → AllInItems Passes ts
+      pub resolved_all-AllObjects : (ps : PartItems) (ts : Items) → resolved_all states ls party ps ≡ Ok ts → AllInItems Passes ts
       resolved_all-AllObjects part.no_items ts h = subst (AllInItems Passes) (is_ok no_items ts h) tt
       resolved_all-AllObjects (part.item p ps) ts h =
-          let b = bind-gave (resolved ls party p) (λ u. bind (resolved_all ls party ps) (λ us. Ok (item u us))) ts h in
-          let d = bind-gave (resolved_all ls party ps) (λ us. Ok (item b.0 us)) ts b.2 in
+          let b = bind-gave (resolved states ls party p) (λ u. bind (resolved_all states ls party ps) (λ us. Ok (item u us))) ts h in
+          let d = bind-gave (resolved_all states ls party ps) (λ us. Ok (item b.0 us)) ts b.2 in
           subst (AllInItems Passes) (is_ok (item b.0 d.0) ts d.2) (resolved-AllObjects p b.0 b.1, resolved_all-AllObjects ps d.0 d.1)
 
-      pub resolved_fields-AllObjects : (ps : PartFields) (gs : Fields) → resolved_fields ls party ps ≡ Ok gs → AllInFields Passes gs
+      pub resolved_fields-AllObjects : (ps : PartFields) (gs : Fields) → resolved_fields states ls party ps ≡ Ok gs → AllInFields Passes gs
       resolved_fields-AllObjects part.no_fields gs h = subst (AllInFields Passes) (is_ok no_fields gs h) tt
       resolved_fields-AllObjects (part.field name p ps) gs h =
-          let b = bind-gave (resolved ls party p) (λ u. bind (resolved_fields ls party ps) (λ us. Ok (field name u us))) gs h in
-          let d = bind-gave (resolved_fields ls party ps) (λ us. Ok (field name b.0 us)) gs b.2 in
+          let b = bind-gave (resolved states ls party p) (λ u. bind (resolved_fields states ls party ps) (λ us. Ok (field name u us))) gs h in
+          let d = bind-gave (resolved_fields states ls party ps) (λ us. Ok (field name b.0 us)) gs b.2 in
           subst (AllInFields Passes) (is_ok (field name b.0 d.0) gs d.2) (resolved-AllObjects p b.0 b.1, resolved_fields-AllObjects ps d.0 d.1)
 
 -- ---- its records have their fields in byte order
@@ -184,48 +169,48 @@ part_at-Ordered (tree.text x) s u h e = absurd (cc)
 part_at-Ordered (tree.object o) s u h e = absurd (cc)
 part_at-Ordered (tree.function x) s u h e = absurd (cc)
 
-module _ (ls : Labels) (party : List ℕ) (labels : EachLabel Ordered ls) where
+module _ (states : List StateView) (ls : Labels) (party : List ℕ) (fulfilled : EachFulfilled Ordered states) (labels : EachLabel Ordered ls) where
   ordered_services : OfServices Ordered
   ordered_services = record { ertp = tt; zoe = tt; timer = tt }
 
   -- what stands at a path
-  pub value_at-Ordered : (path : List ℕ) (t : Tree) → value_at ls party path ≡ Some t → Ordered t
-  value_at-Ordered path t h = value_at-passes Ordered ls party ordered_services labels part_at-Ordered path t h
+  pub value_at-Ordered : (path : List ℕ) (t : Tree) → Gave (value_at states ls party path) t → Ordered t
+  value_at-Ordered path t h = value_at-passes Ordered states ls party ordered_services fulfilled labels part_at-Ordered path t h
 
   -- resolving keeps the names
-  resolved_fields-Before : (name : List ℕ) (ps : PartFields) (gs : Fields) → BeforeParts name ps → resolved_fields ls party ps ≡ Ok gs → Before name gs
+  resolved_fields-Before : (name : List ℕ) (ps : PartFields) (gs : Fields) → BeforeParts name ps → resolved_fields states ls party ps ≡ Ok gs → Before name gs
   resolved_fields-Before name part.no_fields gs before h = subst (Before name) (is_ok no_fields gs h) tt
   resolved_fields-Before name (part.field next p ps) gs before h =
-      let b = bind-gave (resolved ls party p) (λ u. bind (resolved_fields ls party ps) (λ us. Ok (field next u us))) gs h in
-      let d = bind-gave (resolved_fields ls party ps) (λ us. Ok (field next b.0 us)) gs b.2 in
+      let b = bind-gave (resolved states ls party p) (λ u. bind (resolved_fields states ls party ps) (λ us. Ok (field next u us))) gs h in
+      let d = bind-gave (resolved_fields states ls party ps) (λ us. Ok (field next b.0 us)) gs b.2 in
       subst (Before name) (is_ok (field next b.0 d.0) gs d.2) before
 
   mutual
     -- what an argument is resolved to
-    pub resolved-Ordered : (p : PartTree) (t : Tree) → OrderedPart p → resolved ls party p ≡ Ok t → Ordered t
+    pub resolved-Ordered : (p : PartTree) (t : Tree) → OrderedPart p → resolved states ls party p ≡ Ok t → Ordered t
     resolved-Ordered part.null t o h = subst Ordered (is_ok tree.null t h) tt
     resolved-Ordered (part.boolean b) t o h = subst Ordered (is_ok (tree.boolean b) t h) tt
     resolved-Ordered (part.number z) t o h = subst Ordered (is_ok (tree.number z) t h) tt
     resolved-Ordered (part.text s) t o h = subst Ordered (is_ok (tree.text s) t h) tt
     resolved-Ordered (part.array ps) t o h =
-        let b = bind-gave (resolved_all ls party ps) (λ us. Ok (tree.array us)) t h in
+        let b = bind-gave (resolved_all states ls party ps) (λ us. Ok (tree.array us)) t h in
         subst Ordered (is_ok (tree.array b.0) t b.2) (resolved_all-Ordered ps b.0 o b.1)
     resolved-Ordered (part.fields fs) t o h =
-        let b = bind-gave (resolved_fields ls party fs) (λ gs. Ok (tree.fields gs)) t h in
+        let b = bind-gave (resolved_fields states ls party fs) (λ gs. Ok (tree.fields gs)) t h in
         subst Ordered (is_ok (tree.fields b.0) t b.2) (resolved_fields-Ordered fs b.0 o b.1)
-    resolved-Ordered (part.path path) t o h = path-passes Ordered ls party ordered_services labels part_at-Ordered path t h
+    resolved-Ordered (part.path path) t o h = value_at-Ordered path t h
 
     -- what arguments are resolved to
-    pub resolved_all-Ordered : (ps : PartItems) (ts : Items) → OrderedPartItems ps → resolved_all ls party ps ≡ Ok ts → OrderedItems ts
+    pub resolved_all-Ordered : (ps : PartItems) (ts : Items) → OrderedPartItems ps → resolved_all states ls party ps ≡ Ok ts → OrderedItems ts
     resolved_all-Ordered part.no_items ts o h = subst OrderedItems (is_ok no_items ts h) tt
     resolved_all-Ordered (part.item p ps) ts o h =
-        let b = bind-gave (resolved ls party p) (λ u. bind (resolved_all ls party ps) (λ us. Ok (item u us))) ts h in
-        let d = bind-gave (resolved_all ls party ps) (λ us. Ok (item b.0 us)) ts b.2 in
+        let b = bind-gave (resolved states ls party p) (λ u. bind (resolved_all states ls party ps) (λ us. Ok (item u us))) ts h in
+        let d = bind-gave (resolved_all states ls party ps) (λ us. Ok (item b.0 us)) ts b.2 in
         subst OrderedItems (is_ok (item b.0 d.0) ts d.2) (resolved-Ordered p b.0 o.0 b.1, resolved_all-Ordered ps d.0 o.1 d.1)
 
-    pub resolved_fields-Ordered : (ps : PartFields) (gs : Fields) → OrderedPartFields ps → resolved_fields ls party ps ≡ Ok gs → OrderedFields gs
+    pub resolved_fields-Ordered : (ps : PartFields) (gs : Fields) → OrderedPartFields ps → resolved_fields states ls party ps ≡ Ok gs → OrderedFields gs
     resolved_fields-Ordered part.no_fields gs o h = subst OrderedFields (is_ok no_fields gs h) tt
     resolved_fields-Ordered (part.field name p ps) gs o h =
-        let b = bind-gave (resolved ls party p) (λ u. bind (resolved_fields ls party ps) (λ us. Ok (field name u us))) gs h in
-        let d = bind-gave (resolved_fields ls party ps) (λ us. Ok (field name b.0 us)) gs b.2 in
+        let b = bind-gave (resolved states ls party p) (λ u. bind (resolved_fields states ls party ps) (λ us. Ok (field name u us))) gs h in
+        let d = bind-gave (resolved_fields states ls party ps) (λ us. Ok (field name b.0 us)) gs b.2 in
         subst OrderedFields (is_ok (field name b.0 d.0) gs d.2) (resolved-Ordered p b.0 o.0 b.1, resolved_fields-Before name ps d.0 o.1 d.1, resolved_fields-Ordered ps d.0 o.2 d.1)

@@ -1,5 +1,5 @@
 -- A seat is opened, closed, and paid out.
-use Rattle.std.proofs.Common.{◌≡◌, ◌≢◌, ◌⊎◌, ℕ, suc, ◌<◌, ◌≤◌, ◌+◌, Bool, true, false, cond, eqb, List, [], ◌∷◌, ◌++◌, length, map, get_or, set, drop, All, Option, Some, None, IsSome, is_none, inl, inr, refl, sym, ◌∙◌, ap, subst, arith, append_assoc, get_or-set_same, length-append}
+use Rattle.std.proofs.Common.{◌≡◌, ◌≢◌, ℕ, suc, ◌<◌, ◌≤◌, ◌+◌, Bool, true, false, cond, eqb, List, [], ◌∷◌, ◌++◌, length, map, get_or, set, drop, All, Option, Some, None, is_none, inl, inr, refl, sym, ◌∙◌, ap, subst, arith, append_assoc, get_or-set_same, length-append}
 use Rattle.std.specs.Option.{is_some, unwrap_or}
 use Rattle.std.specs.Str.{bytes_eq}
 use Rattle.std.proofs.lemmas.Slice.Eq.{bytes_eq-Decides}
@@ -7,7 +7,6 @@ use Rattle.std.proofs.lemmas.Bool.{cases_order}
 use Rattle.std.proofs.lemmas.List.{drop_more, get_or_past, get_or_push, get_or_append_left, length-map, length-set}
 use Rattle.std.proofs.lemmas.List.Elements.{All-append, All-cons, All-head, All-map, All-nil, All-tail, All-weaker}
 use Rattle.std.proofs.lemmas.List.Sums.{sum_by_push, sum_by-set}
-use Rattle.amount_math.specs.Amount.{holding}
 use Rattle.amount_math.specs.Content.{Content, nothing, Contains, Contains-refl}
 use Rattle.amount_math.specs.declared.Amount.{Amount}
 use Rattle.ertp_mint.specs.BrandSupply.{BrandSupply}
@@ -20,16 +19,16 @@ use Rattle.proposals.proofs.SlotLists.{length-in_byte_order}
 use Rattle.rights_model.specs.declared.Holder.{Holder}
 use Rattle.rights_model.specs.declared.Holder.TheVariants.{Purse, Payment, Slot, Hand, Outside}
 use Rattle.rights_model.specs.declared.Movement.{Movement}
-use Rattle.rights_model.specs.Supply.{is_store}
-use Rattle.rights_model.specs.Table.{Table, holds, table_after}
+use Rattle.rights_model.specs.Table.{table_after}
 use Rattle.seats.specs.Seats.{IsOpen, SeatState, closed, no_seat, open_slots, open_slots_in, opened, seat_at, taken_from}
 use Rattle.seats.specs.Slots.{slot_at, with_less}
 use Rattle.vault.specs.declared.stores.Stores.{Stores}
 use Rattle.vault.specs.Vaults.{VaultState, PaymentMark, after_move, in_brand, slot_of, AreSeats, CanTransfer, IsOfKind}
-use Rattle.vault.specs.Drafts.{DraftState, IsDraft, IsOffered, KeepsHand, mark, paid_out, payout_move, payout_moves, payout_of, payouts_of, stepped, stepped_all, with_closed, with_seat}
+use Rattle.vault.specs.Drafts.{DraftState, IsDraft, IsOffered, KeepsHand, paid_out, payout_move, payout_moves, payout_of, payouts_of, stepped, stepped_all, with_closed}
 use Rattle.vault.specs.Stored.{content_in, state_of, Agrees, AreOfKind, IsDraftInside}
 use Rattle.vault.proofs.Lists.{get_or-set_seen}
-use Rattle.vault.proofs.SlotRows.{Match, Under, at_brand, in_none, match, matches, missing, of_kind_under, there, under, under-less_other, under_first, under_later, unmatched}
+use Rattle.vault.proofs.Pushed.{each_pushed}
+use Rattle.vault.proofs.SlotRows.{at_brand, in_none, match, matches, of_kind_under, under-less_other, under_first, under_later, unmatched}
 use Rattle.vault.proofs.SlotMoves.{open-taken}
 use Rattle.vault.proofs.KindsKept.{seats_are}
 use Rattle.vault.proofs.Movings.{draft_of}
@@ -79,42 +78,40 @@ none_in_emptied k (r ∷ rs) b = elim (match k (emptied r)) [
 
 -- ---- a seat is opened
 
+module _ (ss : List SeatState) (instance : ℕ) (p : Proposal) where
+  -- slots have what they had, and those of the new seat nothing
+  pub contents_opened : (n : ℕ) (k : List ℕ) (b : ℕ) → in_brand (slot_of (ss ++ opened instance p ∷ []) n k) b ≡ in_brand (slot_of ss n k) b
+  contents_opened n k b = elim (cases_order n (length ss)) [
+    | inl same ↦ subst (λ i. in_brand (slot_of (ss ++ opened instance p ∷ []) i k) b ≡ in_brand (slot_of ss i k) b) (sym same)
+        (ap (λ (x : SeatState). in_brand (slot_at k x.slots) b) (get_or_push ss (opened instance p) no_seat (length ss) refl) ∙ none_in_emptied k (slots_of p) b
+        ∙ sym (ap (λ (x : SeatState). in_brand (slot_at k x.slots) b) (get_or_past ss (length ss) no_seat (omega arith)) ∙ in_none b))
+    | inr (inl below) ↦ ap (λ (x : SeatState). in_brand (slot_at k x.slots) b) (get_or_append_left ss (opened instance p ∷ []) no_seat n below)
+    | inr (inr above) ↦ ap (λ (x : SeatState). in_brand (slot_at k x.slots) b) (get_or_past (ss ++ opened instance p ∷ []) n no_seat (omega (arith, length-append {A = SeatState})) ∙ sym (get_or_past ss n no_seat (omega arith)))
+  ]
+
+  pub kinds_opened : (supplies : List BrandSupply) → ((n : ℕ) → n < length ss → All (λ (r : Row). IsOfKind supplies r.amount) (seat_at ss n).slots) → All (λ (r : Row). IsOfKind supplies r.amount) p.give → All (λ (r : Row). IsOfKind supplies r.amount) p.want
+      → (n : ℕ) → n < length (ss ++ opened instance p ∷ []) → All (λ (r : Row). IsOfKind supplies r.amount) (seat_at (ss ++ opened instance p ∷ []) n).slots
+  kinds_opened supplies all give want =
+      each_pushed (λ (x : SeatState). All (λ (r : Row). IsOfKind supplies r.amount) x.slots) ss (opened instance p) no_seat all (All-emptied supplies (slots_of p) (All-slots supplies p give want))
+
+  pub slots_opened : open_slots (ss ++ opened instance p ∷ []) ≡ open_slots ss + (length p.give + length p.want)
+  slots_opened = omega (arith, sum_by_push open_slots_in ss (opened instance p), length-map (slots_of p) emptied, length-slots p)
+
 module _ (v : VaultState) (s : Stores) (ms : List Movement) (u : Bool) (instance : ℕ) (p : Proposal) where
   pub seated_keeps_hand : KeepsHand (draft_of v s ms u) (draft_of v (record s { seats = s.seats ++ opened instance p ∷ [] }) ms u)
   seated_keeps_hand = record { each = λ e k. omega arith }
 
-  same_slots : (n : ℕ) (k : List ℕ) (b : ℕ) → in_brand (slot_of (s.seats ++ opened instance p ∷ []) n k) b ≡ in_brand (slot_of s.seats n k) b
-  same_slots n k b = elim (cases_order n (length s.seats)) [
-    | inl same ↦ subst (λ i. in_brand (slot_of (s.seats ++ opened instance p ∷ []) i k) b ≡ in_brand (slot_of s.seats i k) b) (sym same)
-        (ap (λ (x : SeatState). in_brand (slot_at k x.slots) b) (get_or_push s.seats (opened instance p) no_seat (length s.seats) refl) ∙ none_in_emptied k (slots_of p) b
-        ∙ sym (ap (λ (x : SeatState). in_brand (slot_at k x.slots) b) (get_or_past s.seats (length s.seats) no_seat (omega arith)) ∙ in_none b))
-    | inr (inl below) ↦ ap (λ (x : SeatState). in_brand (slot_at k x.slots) b) (get_or_append_left s.seats (opened instance p ∷ []) no_seat n below)
-    | inr (inr above) ↦ ap (λ (x : SeatState). in_brand (slot_at k x.slots) b) (get_or_past (s.seats ++ opened instance p ∷ []) n no_seat (omega (arith, length-append {A = SeatState})) ∙ sym (get_or_past s.seats n no_seat (omega arith)))
-  ]
-
   same_contents : (h : Holder) (b : ℕ) → content_in (record s { seats = s.seats ++ opened instance p ∷ [] }) h b ≡ content_in s h b
   same_contents (Purse n) b = refl
   same_contents (Payment n) b = refl
-  same_contents (Slot n k) b = same_slots n k b
+  same_contents (Slot n k) b = contents_opened s.seats instance p n k b
   same_contents Hand b = refl
   same_contents Outside b = refl
-
-  seat_kinds : AreOfKind s → IsOffered (state_of s (table_after v.table ms)) p → (n : ℕ) → n < length (s.seats ++ opened instance p ∷ []) → All (λ (r : Row). IsOfKind s.supply r.amount) (seat_at (s.seats ++ opened instance p ∷ []) n).slots
-  seat_kinds are offered n within = elim (cases_order n (length s.seats)) [
-    | inl same ↦ subst (λ i. All (λ (r : Row). IsOfKind s.supply r.amount) (seat_at (s.seats ++ opened instance p ∷ []) i).slots) (sym same)
-        (subst (λ (x : SeatState). All (λ (r : Row). IsOfKind s.supply r.amount) x.slots) (sym (get_or_push s.seats (opened instance p) no_seat (length s.seats) refl))
-        (All-emptied s.supply (slots_of p) (All-slots s.supply p offered.give offered.want)))
-    | inr (inl below) ↦ subst (λ (x : SeatState). All (λ (r : Row). IsOfKind s.supply r.amount) x.slots) (sym (get_or_append_left s.seats (opened instance p ∷ []) no_seat n below)) (are.seats n below)
-    | inr (inr above) ↦ absurd (omega (arith, length-append {A = SeatState}))
-  ]
-
-  slots_open : open_slots (s.seats ++ opened instance p ∷ []) ≡ open_slots s.seats + (length p.give + length p.want)
-  slots_open = omega (arith, sum_by_push open_slots_in s.seats (opened instance p), length-map (slots_of p) emptied, length-slots p)
 
   pub seats_opened : IsDraftInside s (draft_of v s ms u) → IsOffered (state_of s (table_after v.table ms)) p → length s.payments + open_slots s.seats + (length p.give + length p.want) ≤ most_made
       → IsDraftInside (record s { seats = s.seats ++ opened instance p ∷ [] }) (draft_of v (record s { seats = s.seats ++ opened instance p ∷ [] }) ms u)
   seats_opened is offered left =
-      let kinds : AreOfKind (record s { seats = s.seats ++ opened instance p ∷ [] }) = record { purses = is.kinds.purses; payments = is.kinds.payments; seats = seat_kinds is.kinds offered } in
+      let kinds : AreOfKind (record s { seats = s.seats ++ opened instance p ∷ [] }) = record { purses = is.kinds.purses; payments = is.kinds.payments; seats = kinds_opened s.seats instance p s.supply is.kinds.seats offered.give offered.want } in
       let agrees : Agrees (record s { seats = s.seats ++ opened instance p ∷ [] }) (table_after v.table ms) = record { each = λ h b store. is.agrees.each h b store ∙ sym (same_contents h b) } in
       record {
         draft = record {
@@ -127,7 +124,7 @@ module _ (v : VaultState) (s : Stores) (ms : List Movement) (u : Bool) (instance
           unspoiled = is.draft.unspoiled;
           purses = is.draft.purses;
           payments = is.draft.payments;
-          seats = seats_are (record s { seats = s.seats ++ opened instance p ∷ [] }) (table_after v.table ms) agrees kinds (omega (arith, left, slots_open));
+          seats = seats_are (record s { seats = s.seats ++ opened instance p ∷ [] }) (table_after v.table ms) agrees kinds (omega (arith, left, slots_opened s.seats instance p));
         };
         agrees = agrees;
         kinds = kinds;
@@ -147,17 +144,17 @@ slots_closed ss n made was = omega (
     open_in None x was = refl
     open_in (Some rs) x was = absurd (cc)
 
+pub slots_as_closed : (ss : List SeatState) (n m : ℕ) → (seat_at (set ss n (closed (seat_at ss n))) m).slots ≡ (seat_at ss m).slots
+slots_as_closed ss n m = get_or-set_seen (λ (x : SeatState). x.slots) ss n m (closed (seat_at ss n)) no_seat refl
+
 module _ (v : VaultState) (s : Stores) (ms : List Movement) (u : Bool) (n : ℕ) (made : n < length s.seats) where
   pub closed_keeps_hand : KeepsHand (draft_of v s ms u) (draft_of v (record s { seats = set s.seats n (closed (seat_at s.seats n)) }) ms u)
   closed_keeps_hand = record { each = λ e k. omega arith }
 
-  slots_kept : (m : ℕ) → (seat_at (set s.seats n (closed (seat_at s.seats n))) m).slots ≡ (seat_at s.seats m).slots
-  slots_kept m = get_or-set_seen (λ (x : SeatState). x.slots) s.seats n m (closed (seat_at s.seats n)) no_seat refl
-
   closed_contents : (h : Holder) (b : ℕ) → content_in (record s { seats = set s.seats n (closed (seat_at s.seats n)) }) h b ≡ content_in s h b
   closed_contents (Purse m) b = refl
   closed_contents (Payment m) b = refl
-  closed_contents (Slot m k) b = ap (λ rs. in_brand (slot_at k rs) b) (slots_kept m)
+  closed_contents (Slot m k) b = ap (λ rs. in_brand (slot_at k rs) b) (slots_as_closed s.seats n m)
   closed_contents Hand b = refl
   closed_contents Outside b = refl
 
@@ -167,7 +164,7 @@ module _ (v : VaultState) (s : Stores) (ms : List Movement) (u : Bool) (n : ℕ)
       let kinds : AreOfKind (record s { seats = set s.seats n (closed (seat_at s.seats n)) }) = record {
         purses = is.kinds.purses;
         payments = is.kinds.payments;
-        seats = λ m within. subst (All (λ (r : Row). IsOfKind s.supply r.amount)) (sym (slots_kept m)) (is.kinds.seats m (omega (arith, within, length-set s.seats n (closed (seat_at s.seats n)))));
+        seats = λ m within. subst (All (λ (r : Row). IsOfKind s.supply r.amount)) (sym (slots_as_closed s.seats n m)) (is.kinds.seats m (omega (arith, within, length-set s.seats n (closed (seat_at s.seats n)))));
       } in
       let agrees : Agrees (record s { seats = set s.seats n (closed (seat_at s.seats n)) }) (table_after v.table ms) = record { each = λ h b store. is.agrees.each h b store ∙ sym (closed_contents h b) } in
       record {

@@ -22,7 +22,7 @@ use Rattle.seats.specs.Seats.{SeatState, open_slots, seat_at}
 use Rattle.vault.specs.Vaults.{VaultState, PaymentMark, no_mark, amount_moved, brand_of, kind_of, out_of, seats_from, seats_to, supplies_from, supplies_to, payments_from, payments_to, after_move, AreSeats, CanTake, CanGive, CanTransfer, IsOfKind}
 use Rattle.vault.specs.Drafts.{DraftState, HandIsEmpty, IsDraft, given_up, in_hand, stepped}
 use Rattle.vault.proofs.Lists.{get_or-set_seen}
-use Rattle.vault.proofs.SlotRows.{Under, missing, none_also, there, under}
+use Rattle.vault.proofs.SlotRows.{missing, none_also, there, under}
 use Rattle.vault.proofs.SlotMoves.{Meets, SeatsAgree, SeatsOfKind, agree-given, agree-given_other, agree-taken, agree-taken_other, length_left, of_kind-given, of_kind-supplies, of_kind-taken, open-given_more, open-given_there, open-taken, slot_left, some_left}
 use Rattle.vault.proofs.Supplies.{out_at, kind_at-from, kind_at-to, out_at-from, out_at-to, Fits-from, Fits-to}
 use Rattle.vault.proofs.Hands.{no_share}
@@ -240,7 +240,7 @@ module _ (d : DraftState) (m : Movement) (is : IsDraft d) (whole : d.spoiled ≡
   out : m.to ≡ Outside → Contains (out_at (supplies_from d.now.supplies m.from m.brand m.value.content) m.brand) m.value.content
   out outside = out_has d m.from m.brand m.value.content is whole can.from (λ also. can.apart (also ∙ sym outside))
 
-  out_moved : (b : ℕ) (k : List ℕ) → count (out_of (after_move d.now m) b) k + share_of is_outside b k (place m.to m.brand) m.value.content ≡ count (out_of d.now b) k + share_of is_outside b k (place m.from m.brand) m.value.content
+  pub out_moved : (b : ℕ) (k : List ℕ) → count (out_of (after_move d.now m) b) k + share_of is_outside b k (place m.to m.brand) m.value.content ≡ count (out_of d.now b) k + share_of is_outside b k (place m.from m.brand) m.value.content
   out_moved b k =
       out_at-to (supplies_from d.now.supplies m.from m.brand m.value.content) m.to m.brand m.value.content made_from out b k
       ∙ out_at-from d.now.supplies m.from m.brand m.value.content can.brand b k

@@ -10,6 +10,9 @@ pub mod Parties
 pub mod Known
 pub mod Brands
 pub mod BrandsKept
+pub mod InstanceDeliveries
 pub mod Worlds
+pub mod Made
+pub mod Exits
 pub mod Sums
 pub mod OrderedParts

@@ -1,12 +1,16 @@
 //! What each party has under its labels, what stands at a path, and the arguments of a line with what
 //! stands at their paths. Its one contract: a party has `ertp`, `zoe` and `timer` from the start and,
-//! beside them, what was bound for it, and nothing else; a path that isn't there is refused.
+//! beside them, what was bound for it, and nothing else. A path follows each promise on its way that is
+//! fulfilled; a promise that is pending or broken, and a path that isn't there, are refused.
 
 ghost use Rattle.std.specs.Prelude.{◌≡◌, ◌∷◌, [], map, option_map, is_some, string_bytes, IfOk, OnErr, OnOk, None};
+ghost use Rattle.std.specs.Option.{option_map_or};
 ghost use Rattle.jessie_tree.specs.View.{tree, trees, named_trees};
 ghost use Rattle.jessie_tree.specs.View as views;
-ghost use Rattle.call_data.specs.Outcomes.{Gives, wanted};
-ghost use Rattle.vault.specs.Parties.{bound_to, item_at, label_in, labels_of, own, part_at, resolved, resolved_all, resolved_fields, service_of, value_at, walked, walked_from, with_label};
+ghost use Rattle.call_data.specs.Outcomes.{Gives, Refuses};
+ghost use Rattle.promises.specs.States.{pending, state_at, state_view};
+ghost use Rattle.promises.specs.Turns.{promises_of};
+ghost use Rattle.vault.specs.Parties.{bound_to, followed, item_at, label_in, labels_of, of_state, own, part_at, part_met, resolved, resolved_all, resolved_fields, service_of, value_at, walked, walked_from, with_label};
 ghost use Rattle.vault.specs.Parts.{steps_of};
 ghost use Rattle.vault.specs.PartViews.{fields_of, items_of, named_part_trees, part_tree, part_trees};
 ghost use Rattle.call_data.specs.declared.refusals.Refusal.TheVariants.{UnknownName};
@@ -17,6 +21,7 @@ use host_text::number::read_number;
 use host_text::text::Text;
 use indexmap::IndexMap;
 use jessie_tree::data::{Data, Obj, ObjKind};
+use promises::{PromiseState, Promises, Settlement};
 use std::alloc::{AllocError, Global};
 
 /// What the parties have under their labels. A party exists from its first mention and has from the
@@ -65,32 +70,35 @@ impl Parties {
         Ok(())
     }
 
-    /// A copy of what stands at a path of the party's, or `None` exactly where its label or a step of it
-    /// isn't there.
+    /// A copy of what stands at a path of the party's, each promise on the way, and at its end, followed to
+    /// what it was fulfilled with (eventual send). `Pending` and `Broken` refuse one that isn't fulfilled,
+    /// `UnknownName` a label or a step that isn't there.
     #[tactic(auto, unfolding(crate::specs::Parties::value_at))]
     pub fn value_at(
         &self,
         alloc: Global,
+        promises: &Promises,
         party: &Text,
         path: &Text,
-    ) -> Result<Option<Data>, AllocError>
-        ensures { IfOk result (λ found. option_map (λ made. tree made) found ≡ value_at (labels_of self.now) party.now path.now) }
+    ) -> Result<Data, Stop>
+        ensures { Gives (λ made. tree made) result (value_at (promises_of promises.now).now (labels_of self.now) party.now path.now) }
     {
         let steps = steps_of(alloc, path.as_str())?;
-        self.walked_from(alloc, party, steps.as_slice())
+        self.walked_from(alloc, promises, party, path, steps.as_slice())
     }
 
     /// The arguments with copies of what stands at their paths in the place of the paths. The first path
-    /// that isn't there is refused.
+    /// at which nothing stands is refused, as by `value_at`.
     pub fn resolve(
         &self,
         alloc: Global,
+        promises: &Promises,
         party: &Text,
         arguments: &[Part],
     ) -> Result<Vec<Data>, Stop>
-        ensures { Gives (λ made. views.items_of (trees made.items)) result (resolved_all (labels_of self.now) party.now (items_of (part_trees arguments.now))) }
+        ensures { Gives (λ made. views.items_of (trees made.items)) result (resolved_all (promises_of promises.now).now (labels_of self.now) party.now (items_of (part_trees arguments.now))) }
     {
-        resolve_items(alloc, self, party, arguments)
+        resolve_items(alloc, self, promises, party, arguments)
     }
 
     /// What was bound for the party under the label.
@@ -101,37 +109,44 @@ impl Parties {
         Ok(self.labels.get(name.as_str()))
     }
 
-    /// A copy of what stands at the end of the steps, of which the first is a label of the party's.
+    /// A copy of what stands at the end of the steps of the path, of which the first is a label of the party's.
     fn walked_from(
         &self,
         alloc: Global,
+        promises: &Promises,
         party: &Text,
+        path: &Text,
         steps: &[&str],
-    ) -> Result<Option<Data>, AllocError>
-        ensures { IfOk result (λ found. option_map (λ made. tree made) found ≡ walked_from (labels_of self.now) party.now (map (λ step. step.now) steps.now)) }
+    ) -> Result<Data, Stop>
+        ensures { Gives (λ made. tree made) result (walked_from (promises_of promises.now).now (labels_of self.now) party.now path.now (map (λ step. step.now) steps.now)) }
     {
         match steps {
-            [] => Ok(None),
-            [label, steps @ ..] => self.walked_from_label(alloc, party, label, steps),
+            [] => Err(unknown_name(alloc, path)),
+            [label, steps @ ..] => self.walked_from_label(
+                alloc, promises, party, path, label, steps,
+            ),
         }
     }
 
     /// A copy of what stands at the end of the steps from what the party has under the label.
+    #[tactic(auto, unfolding(call_data::specs::Outcomes::bind, call_data::specs::Outcomes::wanted))]
     fn walked_from_label(
         &self,
         alloc: Global,
+        promises: &Promises,
         party: &Text,
+        path: &Text,
         label: &str,
         steps: &[&str],
-    ) -> Result<Option<Data>, AllocError>
-        ensures { IfOk result (λ found. option_map (λ made. tree made) found ≡ walked_from (labels_of self.now) party.now (label.now ∷ map (λ step. step.now) steps.now)) }
+    ) -> Result<Data, Stop>
+        ensures { Gives (λ made. tree made) result (walked_from (promises_of promises.now).now (labels_of self.now) party.now path.now (label.now ∷ map (λ step. step.now) steps.now)) }
     {
         if let Some(object) = service(label) {
-            return copy_at(alloc, &Data::Object(object), steps);
+            return copy_at(alloc, promises, path, &Data::Object(object), steps);
         }
         match self.bound(alloc, party, label)? {
-            Some(found) => copy_at(alloc, found, steps),
-            None => Ok(None),
+            Some(found) => copy_at(alloc, promises, path, found, steps),
+            None => Err(unknown_name(alloc, path)),
         }
     }
 }
@@ -183,31 +198,113 @@ fn item_at<'a>(items: &'a [Data], step: &str) -> Option<&'a Data>
     items.get(place)
 }
 
-/// What stands at the end of the steps.
-fn walk<'a>(whole: &'a Data, steps: &[&str]) -> Option<&'a Data>
-    ensures { option_map (λ part. tree part.now) result ≡ walked (tree whole.now) (map (λ step. step.now) steps.now) }
+/// The refusal of a path at which nothing stands.
+fn unknown_name(alloc: Global, path: &Text) -> Stop
+    ensures { Refuses result (UnknownName path.now) }
+{
+    match path.copy(alloc) {
+        Ok(path) => Stop::Refused(Refusal::UnknownName(path)),
+        Err(_) => Stop::NoMemory,
+    }
+}
+
+/// The state of the promise, where one of that number was made.
+fn state_of(promises: &Promises, number: u32) -> Option<&PromiseState>
+    ensures { state_at (promises_of promises.now).now number ≡ option_map_or (λ state. state_view state.now) result pending }
+{
+    if number < promises.made() {
+        Some(promises.state(number))
+    } else {
+        None
+    }
+}
+
+/// What the promise of that number was fulfilled with.
+fn fulfilled(promises: &Promises, number: u32) -> Result<&Data, Stop>
+    ensures { Gives (λ given. tree given.now) result (of_state number (state_at (promises_of promises.now).now number)) }
+{
+    match state_of(promises, number) {
+        Some(PromiseState::Settled(Settlement::Ok(data))) => Ok(data),
+        Some(PromiseState::Settled(Settlement::Broken(_))) => Err(Stop::Refused(Refusal::Broken(
+            number,
+        ))),
+        Some(PromiseState::Pending) => Err(Stop::Refused(Refusal::Pending)),
+        None => Err(Stop::Refused(Refusal::Pending)),
+    }
+}
+
+/// The data, or what the promise that it is was fulfilled with.
+fn follow<'a>(promises: &'a Promises, whole: &'a Data) -> Result<&'a Data, Stop>
+    ensures { Gives (λ met. tree met.now) result (followed (promises_of promises.now).now (tree whole.now)) }
+{
+    match whole {
+        Data::Object(object) if object.kind == ObjKind::Promise => fulfilled(
+            promises,
+            object.number,
+        ),
+        _ => Ok(whole),
+    }
+}
+
+/// The part that a step of the path names of what is met.
+#[tactic(auto, unfolding(call_data::specs::Outcomes::bind, call_data::specs::Outcomes::wanted))]
+fn next_part<'a>(
+    alloc: Global,
+    promises: &'a Promises,
+    path: &Text,
+    whole: &'a Data,
+    step: &str,
+) -> Result<&'a Data, Stop>
+    ensures { Gives (λ part. tree part.now) result (part_met (promises_of promises.now).now path.now (tree whole.now) step.now) }
+{
+    let met = follow(promises, whole)?;
+    match part_at(met, step) {
+        Some(part) => Ok(part),
+        None => Err(unknown_name(alloc, path)),
+    }
+}
+
+/// What stands at the end of the steps of the path.
+fn walk<'a>(
+    alloc: Global,
+    promises: &'a Promises,
+    path: &Text,
+    whole: &'a Data,
+    steps: &[&str],
+) -> Result<&'a Data, Stop>
+    ensures { Gives (λ part. tree part.now) result (walked (promises_of promises.now).now path.now (tree whole.now) (map (λ step. step.now) steps.now)) }
 {
     let mut part = whole;
     for step in steps {
-        part = part_at(part, step)?;
+        part = next_part(alloc, promises, path, part, step)?;
     }
-    Some(part)
+    follow(promises, part)
 }
 
-/// A copy of what stands at the end of the steps.
-fn copy_at(alloc: Global, whole: &Data, steps: &[&str]) -> Result<Option<Data>, AllocError>
-    ensures { IfOk result (λ found. option_map (λ part. tree part) found ≡ walked (tree whole.now) (map (λ step. step.now) steps.now)) }
+/// A copy of what stands at the end of the steps of the path.
+fn copy_at(
+    alloc: Global,
+    promises: &Promises,
+    path: &Text,
+    whole: &Data,
+    steps: &[&str],
+) -> Result<Data, Stop>
+    ensures { Gives (λ made. tree made) result (walked (promises_of promises.now).now path.now (tree whole.now) (map (λ step. step.now) steps.now)) }
 {
-    match walk(whole, steps) {
-        Some(part) => Ok(Some(part.copy(alloc)?)),
-        None => Ok(None),
-    }
+    let part = walk(alloc, promises, path, whole, steps)?;
+    Ok(part.copy(alloc)?)
 }
 
 /// The part with what stands at its paths.
 #[cycle(resolve)]
-fn resolve_part(alloc: Global, parties: &Parties, party: &Text, part: &Part) -> Result<Data, Stop>
-    ensures { Gives (λ made. tree made) result (resolved (labels_of parties.now) party.now (part_tree part.now)) }
+fn resolve_part(
+    alloc: Global,
+    parties: &Parties,
+    promises: &Promises,
+    party: &Text,
+    part: &Part,
+) -> Result<Data, Stop>
+    ensures { Gives (λ made. tree made) result (resolved (promises_of promises.now).now (labels_of parties.now) party.now (part_tree part.now)) }
 {
     match part {
         Part::Null => Ok(Data::Null),
@@ -217,27 +314,18 @@ fn resolve_part(alloc: Global, parties: &Parties, party: &Text, part: &Part) -> 
         Part::Array(items) => Ok(Data::Array(resolve_items(
             alloc,
             parties,
+            promises,
             party,
             items.as_slice(),
         )?)),
         Part::Record(fields) => Ok(Data::Record(resolve_fields(
             alloc,
             parties,
+            promises,
             party,
             fields.as_slice(),
         )?)),
-        Part::Path(path) => resolve_path(alloc, parties, party, path),
-    }
-}
-
-/// A copy of what stands at the path, or its refusal.
-#[tactic(auto, unfolding(call_data::specs::Outcomes::wanted))]
-fn resolve_path(alloc: Global, parties: &Parties, party: &Text, path: &Text) -> Result<Data, Stop>
-    ensures { Gives (λ made. tree made) result (wanted (value_at (labels_of parties.now) party.now path.now) (UnknownName path.now)) }
-{
-    match parties.value_at(alloc, party, path)? {
-        Some(data) => Ok(data),
-        None => Err(Stop::Refused(Refusal::UnknownName(path.copy(alloc)?))),
+        Part::Path(path) => parties.value_at(alloc, promises, party, path),
     }
 }
 
@@ -246,14 +334,15 @@ fn resolve_path(alloc: Global, parties: &Parties, party: &Text, path: &Text) -> 
 fn resolve_items(
     alloc: Global,
     parties: &Parties,
+    promises: &Promises,
     party: &Text,
     items: &[Part],
 ) -> Result<Vec<Data>, Stop>
-    ensures { Gives (λ made. views.items_of (trees made.items)) result (resolved_all (labels_of parties.now) party.now (items_of (part_trees items.now))) }
+    ensures { Gives (λ made. views.items_of (trees made.items)) result (resolved_all (promises_of promises.now).now (labels_of parties.now) party.now (items_of (part_trees items.now))) }
 {
     let mut found = Vec::new(alloc);
     for item in items {
-        found.push(resolve_part(alloc, parties, party, item)?)?;
+        found.push(resolve_part(alloc, parties, promises, party, item)?)?;
     }
     Ok(found)
 }
@@ -263,14 +352,15 @@ fn resolve_items(
 fn resolve_fields(
     alloc: Global,
     parties: &Parties,
+    promises: &Promises,
     party: &Text,
     fields: &[(Text, Part)],
 ) -> Result<Vec<(Text, Data)>, Stop>
-    ensures { Gives (λ made. views.fields_of (named_trees made.items)) result (resolved_fields (labels_of parties.now) party.now (fields_of (named_part_trees fields.now))) }
+    ensures { Gives (λ made. views.fields_of (named_trees made.items)) result (resolved_fields (promises_of promises.now).now (labels_of parties.now) party.now (fields_of (named_part_trees fields.now))) }
 {
     let mut found = Vec::new(alloc);
     for (name, part) in fields {
-        let data = resolve_part(alloc, parties, party, part)?;
+        let data = resolve_part(alloc, parties, promises, party, part)?;
         found.push((name.copy(alloc)?, data))?;
     }
     Ok(found)

@@ -1,11 +1,8 @@
 ghost use Rattle.std.specs.Prelude.{◌≡◌};
-ghost use Rattle.vault.specs.Brands.{first_brands};
-ghost use Rattle.vault.specs.Vaults.{first_vault};
-ghost use Rattle.vault.specs.Worlds.{begins};
+ghost use Rattle.vault.specs.Worlds.{begins, first_rested, world_of};
 
 use super::{Resting, World};
-use crate::brands::{Brand, Brands};
-use crate::drafts::Vault;
+use crate::brands::Brand;
 use amount_math::{Kind, Value};
 use host_text::text::Text;
 use rights_model::{Holder, Movement, Sum};
@@ -14,18 +11,12 @@ use std::process::Abort;
 
 /// The world of a new host's first turn.
 fn first_world(rt: &impl Abort, alloc: Global) -> World
-    ensures { result ≡ begins first_vault first_brands }
+    ensures { world_of result ≡ begins first_rested }
 {
-    let mut draft = match Vault::new(alloc).begin() {
-        Ok(draft) => draft,
-        Err((_, _)) => panic!(rt; "memory for a draft"),
-    };
-    draft.add_brand(Kind::Set).expect(rt, "memory for a brand");
-    let vault = draft.commit();
-    let brands = Brands::new(alloc).expect(rt, "memory for brands");
-    match World::begin(Resting { vault, brands }) {
+    let resting = Resting::first(alloc).expect(rt, "memory for a host");
+    match World::begin(alloc, resting) {
         Ok(world) => world,
-        Err(_resting) => panic!(rt; "memory for a draft"),
+        Err(_resting) => panic!(rt; "memory for a turn"),
     }
 }
 
@@ -45,12 +36,7 @@ fn a_minted_payment_is_summed(rt: HostRuntime) {
         value: Value::nat(5),
     };
     world.transfer(&mint).expect(&rt, "memory for a movement");
-    let movements = world
-        .movements(rt.alloc())
-        .expect(&rt, "memory for movements");
-    let sums = world
-        .sums(rt.alloc(), &movements)
-        .expect(&rt, "memory for sums");
+    let sums = world.sums().expect(&rt, "memory for sums");
     let moola = Sum {
         brand: 1,
         minted: 5,

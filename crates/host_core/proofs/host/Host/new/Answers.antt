@@ -3,7 +3,7 @@ use Rattle.host_core.proofs.host.Host.new.Goals as goal
 
 pub returns-clause-valid : goal.returns-clause-valid
 returns-clause-valid c = new_is_valid _ (λ i. record {
-  kept = record { vault = c.in_ok-resting.ensures.vault i; brands = c.in_ok-resting.ensures.brands i; labels = c.new.ensures i };
+  kept = record { rested = c.in_ok-resting.ensures i; labels = c.new.ensures i };
   queue = c.new-2.ensures i;
   turns = 0;
 })

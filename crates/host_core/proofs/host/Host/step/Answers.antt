@@ -1,7 +1,7 @@
 use Rattle.std.proofs.Common.{◌≡◌, ◌∙◌, ◌+◌, ◌<◌, Some, ap, option_map, refl, rules, sym}
 use Rattle.host_core.specs.Deliveries.{turn_of}
 use Rattle.host_core.specs.Delivered.{kept_with}
-use Rattle.host_core.specs.Hosts.{host_view, kept_by, most_turns}
+use Rattle.host_core.specs.Hosts.{host_view, most_turns}
 use Rattle.vault.specs.Worlds.{resting_of}
 use Rattle.host_core.specs.MessageLines.{message_view}
 use Rattle.vault.specs.Parties.{labels_of}
@@ -18,7 +18,7 @@ pub returns-in-Ok-clause-step : goal.returns-in-Ok-clause-step
 returns-in-Ok-clause-step c =
     let at : c.args.self.now.resting ≡ Some c.in-Some-take.resting = sym c.take.ensures.value ∙ c.in-Some-take.is in
     let front : front_of (waiting c.args.self.now.queue) ≡ Some (message_view c.in-Some.message.now) = sym c.front.ensures ∙ ap (option_map (λ m. message_view m.now)) c.in-Some.is in
-    let turn = c.in-Ok.ensures.turn ∙ ap (λ r. turn_of (c.args.self.now.turns + 1) (kept_by (resting_of r) (labels_of c.args.self.now.parties)) (message_view c.in-Some.message.now)) (sym at) in
+    let turn = c.in-Ok.ensures.turn ∙ ap (λ r. turn_of (c.args.self.now.turns + 1) (record { rested = resting_of r; labels = labels_of c.args.self.now.parties }) (message_view c.in-Some.message.now)) (sym at) in
     let few : c.args.self.now.turns < most_turns = search rules in
     (step_is (host_view c.args.self.now) (message_view c.in-Some.message.now) (kept_with c.in-Ok.resting (labels_of c.turn_of.new.parties)) (waiting c.pop.new.self) (turn_view c.in-Ok.turn) front c.pop.ensures turn, few)
 

@@ -1,9 +1,0 @@
-use Rattle.std.proofs.Common.{rules}
-use Rattle.host_core.proofs.ServiceTransfers.{mint_transfer}
-use Rattle.host_core.proofs.services.mint_payment.Goals as goal
-
-pub transfer-requires : goal.transfer-requires
-transfer-requires c =
-    mint_transfer c.args.world.now c.requires.valid _ c.args.brand c.kind.result c.in_ok-value.value (search rules) c.requires.room c.requires.asset c.in_ok-value.ensures.own
-    (rw (c.value_out-out.ensures) at c.in_ok-within_out.ensures.fits)
-    c.in_ok-payment.ensures.can

@@ -1,0 +1,10 @@
+pub mod Steps
+pub mod Elements
+pub mod Inviting
+pub mod Grown
+pub mod Worked
+pub mod Runs
+pub mod Sets
+pub mod Kept
+pub mod Answered
+pub mod Started

@@ -1,0 +1,5 @@
+use Rattle.zcf_calls.proofs.Started.{first_hosted}
+use Rattle.zcf_calls.proofs.tests.set_up.Goals as goal
+
+pub returns-clause-hosted : goal.returns-clause-hosted
+returns-clause-hosted c = first_hosted _ _ _ c.args.module _ _ _ c.requires c.in_ok-install.ensures.ok c.in_ok-start_instance.ensures.ok

@@ -1,0 +1,25 @@
+-- What the calls of a function make of the world, as effects.
+use Rattle.std.specs.Prelude.{◌≡◌, ℕ, ◌<◌, List, length}
+use Rattle.instances.specs.Tables.{instance_at}
+use Rattle.vault.specs.Worlds.{CanDoAll, Effect, WorldState, after_all}
+
+-- one world comes from the other by effects that can be had
+pub record ByEffects (old new : WorldState) : Type 0 where
+  pub effects : List Effect
+  pub can : CanDoAll old effects
+  pub done : new ≡ after_all old effects
+
+-- so far no call changes brands, purses, seats, promises, instances or what is to be delivered
+pub record KeepsRest (old new : WorldState) : Type 0 where
+  pub brands : new.brands ≡ old.brands
+  pub purses : new.draft.now.purses ≡ old.draft.now.purses
+  pub seats : new.draft.now.seats ≡ old.draft.now.seats
+  pub promises : new.promises ≡ old.promises
+  pub instances : new.instances ≡ old.instances
+  pub pairs : new.pairs ≡ old.pairs
+  pub deliveries : new.deliveries ≡ old.deliveries
+
+-- the instance was made, and its installation
+pub record IsThere (i : ℕ) (w : WorldState) : Type 0 where
+  pub made : i < length w.instances.now.instances
+  pub installed : (instance_at w.instances.now.instances i).installation < length w.instances.now.installations

@@ -1,0 +1,6 @@
+pub mod Known
+pub mod Rows
+pub mod Effects
+pub mod Calls
+pub mod Situations
+pub mod Plans

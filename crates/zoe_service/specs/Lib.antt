@@ -1,0 +1,11 @@
+pub mod Rows
+pub mod CallArguments
+pub mod ErtpRows
+pub mod PurseRows
+pub mod ZoeRows
+pub mod SeatRows
+pub mod OfferRows
+pub mod Services
+pub mod Served
+pub mod Moved
+pub mod Answered
