@@ -8,3 +8,5 @@ pub mod Sets
 pub mod Kept
 pub mod Answered
 pub mod Started
+pub mod SeatsLeaving
+pub mod TurnsEnding

@@ -32,7 +32,7 @@ done_more : (w : WorldState) (es fs : List Effect) → after_all w (es ++ fs) �
 done_more w [] fs = refl
 done_more w (e ∷ es) fs = done_more (worlds.after w e) es fs
 
-by_more : (w u v : WorldState) → ByEffects w u → ByEffects u v → ByEffects w v
+pub by_more : (w u v : WorldState) → ByEffects w u → ByEffects u v → ByEffects w v
 by_more w u v first later = record {
   effects = first.effects ++ later.effects;
   can = effects_more w first.effects later.effects first.can (subst (λ z. CanDoAll z later.effects) first.done later.can);

@@ -4,3 +4,5 @@ pub mod Effects
 pub mod Calls
 pub mod Situations
 pub mod Plans
+pub mod InstanceTurns
+pub mod Due
