@@ -1,11 +1,14 @@
-//! What the functions of a contract can do to the world, as the evaluator's `Powers`, and a function that
-//! is run over it. It stands on the vault's world, the evaluator and the text of invitations. So far the
-//! one call is that of zcf's makeInvitation (Zoe).
+//! What the functions of a contract can do to the world, as the evaluator's `Powers`, a function that is
+//! run over it, and the turns of instances. It stands on the vault's world, the evaluator and the text of
+//! invitations. So far the one call is that of zcf's makeInvitation (Zoe).
 //!
-//! Its one contract is that of `running::run_function`: the outcome, the new state values and the new
-//! world are those of the play over the world (specs/Calls.antt); and for want of memory the world can be
-//! undone. Over it, `turns::work_delivery` and `turns::work_spent` are the turns of instances
-//! (specs/InstanceTurns.antt): a start, and an offer for a handler.
+//! `running::run_function`: the outcome, the new state values and the new world are those of the play over
+//! the world (specs/Calls.antt); and for want of memory the world can be undone.
+//!
+//! `turns::{work_delivery, work_spent}`: a start, or an offer for a handler, comes to its turn as it is
+//! defined (specs/InstanceTurns.antt), by effects that can be had, where it is due (specs/Due.antt). A
+//! turn that spends its meter is worked twice: its world is undone, and a world begun anew has what the
+//! spent meter brings.
 #![tactic(auto)]
 
 mod calls;

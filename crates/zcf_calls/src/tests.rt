@@ -4,20 +4,26 @@ ghost use Rattle.call_data.specs.Values.{object_tree};
 ghost use Rattle.jessie_tree.specs.Tree.{null};
 ghost use Rattle.jessie_tree.specs.View.{trees};
 ghost use Rattle.jessie_tree.specs.declared.data.ObjKind.TheVariants as kinds;
+ghost use Rattle.vault.specs.InstanceDeliveries.{delivery_view, start};
 ghost use Rattle.vault.specs.Worlds.{Keeps, begins, first_rested, world_of};
+ghost use Rattle.zcf_calls.specs.Due.{IsDue};
 ghost use Rattle.zcf_calls.specs.Known.{IsHosted, module_of};
 
 use crate::running::run_function;
+use crate::turn_answers::TurnAnswer;
+use crate::turns::{work_delivery, work_spent};
 use call_data::values::object_data;
 use host_text::text::Text;
 use jessie_eval::run::Outcome;
 use jessie_tree::data::{Data, ObjKind};
 use jessie_tree::syntax::{Expr, Function, Literal, Module, Step, Stmt};
+use promises::Settlement;
 use proposals::issuer_records::IssuerRecord;
 use sqlite_items::{Boxed, Items};
 use std::alloc::{AllocError, Global};
 use std::test::Fail;
 use turn_log::events::Event;
+use vault::instance_deliveries::{InstanceDelivery, StartDelivery};
 use vault::world::{Resting, World};
 
 fn named(alloc: Global, name: &str) -> Result<Expr, AllocError> {
@@ -63,7 +69,9 @@ fn module(alloc: Global) -> Result<Module, AllocError>
 
 /// Installs the module, and starts instance 0 of it.
 fn set_up(alloc: Global, world: &mut World, module: Module) -> Result<(), AllocError>
-    requires { world_of world.old ≡ begins first_rested }
+    requires new { world_of world.old ≡ begins first_rested }
+    requires no_variables { «module».variables ≡ [] }
+    ensures due { OnOk result (IsDue (world_of world.new) (start (record { instance = 0; private_arguments = null; promise = 0 }))) }
     ensures hosted { OnOk result (IsHosted 0 (world_of world.new)) }
     ensures runs { OnOk result (module_of (world_of world.new) 0 ≡ «module») }
     ensures keeps { Keeps (world_of world.old) (world_of world.new) }
@@ -76,6 +84,8 @@ fn set_up(alloc: Global, world: &mut World, module: Module) -> Result<(), AllocE
 
 /// A new host's world, in which instance 0 runs the module.
 fn world_with(alloc: Global, module: Module) -> Result<World, AllocError>
+    requires { «module».variables ≡ [] }
+    ensures due { IfOk result (λ world. IsDue (world_of world) (start (record { instance = 0; private_arguments = null; promise = 0 }))) }
     ensures hosted { IfOk result (λ world. IsHosted 0 (world_of world)) }
     ensures runs { IfOk result (λ world. module_of (world_of world) 0 ≡ «module») }
 {
@@ -131,5 +141,57 @@ fn a_start_makes_an_invitation(rt: HostRuntime) -> Result<(), Fail> {
     drop(world.undo());
     assert!(rt; invited);
     assert!(rt; gives_payment(&outcome));
+    Ok(())
+}
+
+/// The start of instance 0.
+fn first_start() -> InstanceDelivery
+    ensures { delivery_view result ≡ start (record { instance = 0; private_arguments = null; promise = 0 }) }
+{
+    InstanceDelivery::Start(StartDelivery {
+        instance: 0,
+        private_arguments: Data::Null,
+        promise: 0,
+    })
+}
+
+/// Whether the last that was told is that promise 0 is of a record.
+fn is_started(world: &World) -> bool {
+    matches!(
+        world.log.events(),
+        [
+            Event::Called(_),
+            Event::Moved(_),
+            Event::Settled(0, Settlement::Ok(Data::Record(_)))
+        ]
+    )
+}
+
+#[test]
+fn a_start_settles_its_promise(rt: HostRuntime) -> Result<(), Fail> {
+    let alloc = rt.alloc();
+    let module = module(alloc)?;
+    let world = world_with(alloc, module)?;
+    let (world, answer) = work_delivery(alloc, world, &first_start(), 10_000);
+    let started = is_started(&world);
+    drop(world.undo());
+    assert!(rt; started);
+    assert!(rt; matches!(answer, Ok(TurnAnswer::Given(_))));
+    Ok(())
+}
+
+#[test]
+fn a_spent_start_breaks_its_promise(rt: HostRuntime) -> Result<(), Fail> {
+    let alloc = rt.alloc();
+    let module = module(alloc)?;
+    let mut world = world_with(alloc, module)?;
+    let done = work_spent(alloc, &mut world, &first_start(), 1);
+    let broken = matches!(
+        world.log.events(),
+        [Event::Settled(0, Settlement::Broken(_))]
+    );
+    drop(world.undo());
+    assert!(rt; done.is_ok());
+    assert!(rt; broken);
     Ok(())
 }
