@@ -33,7 +33,7 @@ use Rattle.call_data.specs.declared.refusals.Refusal.{Refusal}
 use Rattle.vault.proofs.EffectsValid.{begins_valid, valid-after_all}
 use Rattle.host_core.proofs.GoodLabels.{fulfilled_weaker, labels_weaker, rests_good, stays_good, value_at-good}
 use Rattle.host_core.proofs.PlainEffects.{quiet-after_all}
-use Rattle.zoe_service.proofs.Growth.{grows-after_all}
+use Rattle.vault.proofs.Growth.{grows-after_all}
 use Rattle.vault.proofs.Resolved.{EachLabel-with_label, OfServices, resolved_all-AllObjects, value_at-AllObjects}
 use Rattle.zoe_service.proofs.ServedLaws.{serve_can, serve_known, serve_minted, serve_ordered, serve_shallow}
 use Rattle.zoe_service.proofs.UnitsMoved.{ArePlain, serve_plain}

@@ -27,7 +27,7 @@ use Rattle.vault.specs.Worlds.{CanDo, CanDoAll, Effect, IsValid, MintedWithin, W
 use Rattle.amount_math.specs.declared.Amount.{Amount}
 use Rattle.host_core.proofs.Accounts.{AreTold, never_slot, told-after_all}
 use Rattle.vault.proofs.EffectsValid.{valid-after}
-use Rattle.zoe_service.proofs.Growth.{payments-from}
+use Rattle.vault.proofs.Growth.{payments-from}
 use Rattle.vault.proofs.Lists.{get_or-set_seen}
 use Rattle.zoe_service.proofs.RefusalData.{value_is_data}
 use Rattle.zoe_service.proofs.ServedData.{bound_small, held_small}

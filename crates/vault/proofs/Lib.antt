@@ -34,6 +34,12 @@ pub mod Told
 pub mod SeatsLeft
 pub mod InvitationsKept
 pub mod SeatPromisesKept
+pub mod Growth
+pub mod KnowingKept
+pub mod ConsistentKept
+pub mod WaitingKept
+pub mod ExitsConsistent
+pub mod OffersWait
 pub mod EffectsValid
 pub mod ExitsSettled
 pub mod LabelsApart

@@ -13,6 +13,9 @@ pub mod BrandsKept
 pub mod InstanceDeliveries
 pub mod Worlds
 pub mod Made
+pub mod InstanceKnowledge
+pub mod Consistent
+pub mod Waiting
 pub mod Exits
 pub mod Sums
 pub mod OrderedParts

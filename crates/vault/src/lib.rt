@@ -4,9 +4,12 @@
 //! each method is one effect, as it is defined, a turn that is undone leaves all as it was, and effects
 //! that can be had keep a world valid (`effects`): purses, payments and slots add up to the supply, each
 //! invitation that is out was made, and the payouts of an open seat are still promised.
+//! Where what they bring is as the world needs it they keep what instances are handed fit for them, and what
+//! waits to be delivered due (`consistency`).
 #![tactic(auto)]
 
 pub mod brands;
+pub mod consistency;
 pub mod drafts;
 pub mod effects;
 pub mod exits;

@@ -41,7 +41,7 @@ Fits-one_more kind out k is new fits = record { each = one_more out k (bound kin
 
 -- ---- the next invitation
 
-invites : (w : WorldState) (p : ℕ) → IsValid w → length w.invitations.now < most_made → CanMakePayment w.draft.now p
+pub invites : (w : WorldState) (p : ℕ) → IsValid w → length w.invitations.now < most_made → CanMakePayment w.draft.now p
     → CanInvite w.draft.now (length w.invitations.now) (movement 0 Outside (Payment p) (invitation_value (length w.invitations.now)))
 invites w p valid room payment =
     let n = length w.invitations.now in
@@ -63,7 +63,7 @@ invites w p valid room payment =
       made = λ m later few. none_later m n (omega (arith, room)) (omega (arith, later));
     }
 
-next_payment_has : (v : VaultState) → IfOk (next_payment v) (CanMakePayment v)
+pub next_payment_has : (v : VaultState) → IfOk (next_payment v) (CanMakePayment v)
 next_payment_has v = after_need _ _ _ _ (λ room. record { next = refl; room = ltb-true _ _ room })
 
 -- one is added, of which the payment is the answer

@@ -2,6 +2,9 @@ pub mod Steps
 pub mod Elements
 pub mod Inviting
 pub mod Grown
+pub mod Handed
+pub mod CallsFitting
+pub mod EndingsHanded
 pub mod Worked
 pub mod Runs
 pub mod Sets

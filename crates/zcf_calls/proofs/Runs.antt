@@ -18,7 +18,8 @@ use Rattle.vault.specs.Worlds.{CanDoAll, Effect, WorldState, after_all}
 use Rattle.vault.specs.Worlds as worlds
 use Rattle.zcf_calls.specs.Calls.{Played, comes_to, host_call, run}
 use Rattle.zcf_calls.specs.Effects.{ByEffects, KeepsRest}
-use Rattle.zcf_calls.specs.Known.{IsHosted, IsNamed, KeepsKnown, Knows, module_of}
+use Rattle.vault.specs.InstanceKnowledge.{IsNamed, module_of}
+use Rattle.zcf_calls.specs.Known.{IsHosted, KeepsKnown, Knows}
 use Rattle.zcf_calls.specs.Situations.{Became, KnownIn, Situation}
 use Rattle.zcf_calls.proofs.Worked.{called_hosted, called_well, effects_hosted}
 

@@ -24,7 +24,8 @@ use Rattle.vault.proofs.EffectsValid.{valid-after_all}
 use Rattle.zcf_calls.specs.Due.{CanEnd, CanThrow, HandsOver, HasSeat, IsAwaited, IsDue}
 use Rattle.zcf_calls.specs.Effects.{ByEffects, KeepsRest}
 use Rattle.zcf_calls.specs.InstanceTurns.{arguments_of, halted_with, instance_of, kept_and_settled, thrown_in}
-use Rattle.zcf_calls.specs.Known.{IsHosted, Knows, knows_as}
+use Rattle.vault.specs.InstanceKnowledge.{knows_as}
+use Rattle.zcf_calls.specs.Known.{IsHosted, Knows}
 use Rattle.zcf_calls.proofs.SeatsLeaving.{awaited_halted, by_halted, by_left_if_open}
 use Rattle.zcf_calls.proofs.Runs.{by_more}
 

@@ -27,7 +27,8 @@ use Rattle.zcf_calls.specs.Known.{IsHosted, KeepsKnown, Knows}
 use Rattle.zcf_calls.specs.Plans.{CanInvite}
 use Rattle.zcf_calls.specs.Rows.{Outcome, invitation_value, serve}
 use Rattle.zcf_calls.specs.Effects.{ByEffects, KeepsRest}
-use Rattle.zcf_calls.proofs.Grown.{grew_same, in_vault, known_stays, moved_has_more}
+use Rattle.vault.proofs.Growth.{moved_has_more}
+use Rattle.zcf_calls.proofs.Grown.{grew_same, in_vault, known_stays}
 use Rattle.zcf_calls.proofs.Inviting.{Invites, invited_can, make_invitation_can, serve_has}
 
 -- ---- a refusal holds no object and no function

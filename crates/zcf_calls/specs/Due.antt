@@ -10,7 +10,8 @@ use Rattle.turn_log.specs.declared.events.Cause.{Cause}
 use Rattle.vault.specs.Exits.{exits}
 use Rattle.vault.specs.Worlds.{CanLeaveSeat, WorldState, after_all}
 use Rattle.zcf_calls.specs.InstanceTurns.{instance_of}
-use Rattle.zcf_calls.specs.Known.{IsHosted, IsOwnSeat, Knows}
+use Rattle.vault.specs.InstanceKnowledge.{IsOwnSeat}
+use Rattle.zcf_calls.specs.Known.{IsHosted, Knows}
 
 -- a promise waits to be settled: it was made, it is pending, and it isn't that of an open seat's payouts
 pub record IsAwaited (w : WorldState) (promise : ℕ) : Type 0 where

@@ -1,6 +1,5 @@
 -- What the calls of a function make of the world, as effects.
-use Rattle.std.specs.Prelude.{◌≡◌, ℕ, ◌<◌, List, length}
-use Rattle.instances.specs.Tables.{instance_at}
+use Rattle.std.specs.Prelude.{◌≡◌, List}
 use Rattle.vault.specs.Worlds.{CanDoAll, Effect, WorldState, after_all}
 
 -- one world comes from the other by effects that can be had
@@ -18,8 +17,3 @@ pub record KeepsRest (old new : WorldState) : Type 0 where
   pub instances : new.instances ≡ old.instances
   pub pairs : new.pairs ≡ old.pairs
   pub deliveries : new.deliveries ≡ old.deliveries
-
--- the instance was made, and its installation
-pub record IsThere (i : ℕ) (w : WorldState) : Type 0 where
-  pub made : i < length w.instances.now.instances
-  pub installed : (instance_at w.instances.now.instances i).installation < length w.instances.now.installations

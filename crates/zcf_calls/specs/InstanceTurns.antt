@@ -20,7 +20,7 @@ use Rattle.vault.specs.Exits.{exits}
 use Rattle.vault.specs.InstanceDeliveries.{DeliveryView, offer, promise_of, start}
 use Rattle.vault.specs.Worlds.{WorldState, after, after_all, halt, keep_state, settle}
 use Rattle.zcf_calls.specs.Calls.{Ran, ended, run, spent}
-use Rattle.zcf_calls.specs.Known.{module_of}
+use Rattle.vault.specs.InstanceKnowledge.{module_of}
 use Rattle.zcf_calls.specs.declared.turn_answers.TurnAnswer.{TurnAnswer}
 use Rattle.zcf_calls.specs.declared.turn_answers.TurnAnswer.TheVariants as code
 

@@ -8,10 +8,11 @@ ghost use Rattle.jessie_rules.specs.Rules.{play};
 ghost use Rattle.jessie_tree.specs.Syntax.{routines};
 ghost use Rattle.jessie_tree.specs.View.{trees};
 ghost use Rattle.vault.specs.Drafts.{HandIsEmpty};
+ghost use Rattle.vault.specs.InstanceKnowledge.{module_of};
 ghost use Rattle.vault.specs.Worlds.{Keeps, goes_back, world_of};
 ghost use Rattle.zcf_calls.specs.Calls.{comes_to, run};
 ghost use Rattle.zcf_calls.specs.Effects.{ByEffects, KeepsRest};
-ghost use Rattle.zcf_calls.specs.Known.{IsHosted, KeepsKnown, Knows, module_of};
+ghost use Rattle.zcf_calls.specs.Known.{IsHosted, KeepsKnown, Knows};
 
 use crate::powers::{ContractPowers, Turn};
 use host_text::text::Text;

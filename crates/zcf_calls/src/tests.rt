@@ -5,9 +5,10 @@ ghost use Rattle.jessie_tree.specs.Tree.{null};
 ghost use Rattle.jessie_tree.specs.View.{trees};
 ghost use Rattle.jessie_tree.specs.declared.data.ObjKind.TheVariants as kinds;
 ghost use Rattle.vault.specs.InstanceDeliveries.{delivery_view, start};
+ghost use Rattle.vault.specs.InstanceKnowledge.{module_of};
 ghost use Rattle.vault.specs.Worlds.{Keeps, begins, first_rested, world_of};
 ghost use Rattle.zcf_calls.specs.Due.{IsDue};
-ghost use Rattle.zcf_calls.specs.Known.{IsHosted, module_of};
+ghost use Rattle.zcf_calls.specs.Known.{IsHosted};
 
 use crate::running::run_function;
 use crate::turn_answers::TurnAnswer;

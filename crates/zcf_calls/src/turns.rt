@@ -7,11 +7,12 @@ ghost use Rattle.jessie_eval.specs.Machine.{variable_names};
 ghost use Rattle.jessie_tree.specs.View.{trees};
 ghost use Rattle.promises.specs.States.{broken};
 ghost use Rattle.vault.specs.InstanceDeliveries.{delivery_view, promise_of};
+ghost use Rattle.vault.specs.InstanceKnowledge.{module_of};
 ghost use Rattle.vault.specs.Worlds.{Keeps, after, settle, world_of};
 ghost use Rattle.zcf_calls.specs.Due.{IsAwaited, IsDue};
 ghost use Rattle.zcf_calls.specs.Effects.{ByEffects};
 ghost use Rattle.zcf_calls.specs.InstanceTurns.{arguments_of, called, called_by, came_to, delivered, instance_of, refused_closed, spent_world};
-ghost use Rattle.zcf_calls.specs.Known.{IsHosted, module_of};
+ghost use Rattle.zcf_calls.specs.Known.{IsHosted};
 
 use crate::departures::halt_with;
 use crate::endings::{end_turn, instance_of, promise_of};

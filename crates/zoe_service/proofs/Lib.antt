@@ -3,7 +3,6 @@ pub mod Units
 pub mod OutcomeSteps
 pub mod ServiceTransfers
 pub mod UnitsMoved
-pub mod Growth
 pub mod ServedLaws
 pub mod ServedCalls
 pub mod RefusalData
@@ -22,3 +21,6 @@ pub mod MovesMade
 pub mod GivesPaired
 pub mod OffersKnown
 pub mod RowsAnswered
+pub mod ConsistentRows
+pub mod RowsFitting
+pub mod ServedFitting

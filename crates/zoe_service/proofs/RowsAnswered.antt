@@ -38,7 +38,7 @@ use Rattle.zoe_service.specs.Rows.{Outcome}
 use Rattle.zoe_service.specs.SeatRows.{ArePayouts, get_offer_result, get_payout, get_payouts, has_exited, is_on_demand, keyword_in, payouts_at, try_exit}
 use Rattle.zoe_service.specs.Served.{KnowsArgs}
 use Rattle.zoe_service.specs.ZoeRows.{has_terms, install, installation_number, installation_seen, issuers_in, module_in, start_instance, terms_in}
-use Rattle.zoe_service.proofs.Growth.{grows-after_all}
+use Rattle.vault.proofs.Growth.{grows-after_all}
 use Rattle.zoe_service.proofs.MovesMade.{after-append}
 use Rattle.zoe_service.proofs.KnownParts.{chained, field-known, object-known, some_same}
 use Rattle.zoe_service.proofs.OffersAccepted.{offer_can}

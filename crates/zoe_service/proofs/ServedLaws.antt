@@ -32,7 +32,7 @@ use Rattle.zoe_service.specs.Rows.{Outcome, served}
 use Rattle.zoe_service.specs.Served.{KnowsArgs}
 use Rattle.zoe_service.specs.Services.{of_kind, serve}
 use Rattle.zoe_service.specs.ZoeRows.{install}
-use Rattle.zoe_service.proofs.Growth.{grows-after_all, minted-added, minted-moved, minted_less, payments-from}
+use Rattle.vault.proofs.Growth.{grows-after_all, minted-added, minted-moved, minted_less, payments-from}
 use Rattle.zoe_service.proofs.OutcomeSteps.{after_check, after_need, after_step, next_payment_has, ok_has, payment_in_has}
 use Rattle.zoe_service.proofs.ServiceTransfers.{deposit_transfer, mint_transfer, nat_move, units_counted, withdraw_transfer}
 use Rattle.zoe_service.proofs.Units.{value_is_units}

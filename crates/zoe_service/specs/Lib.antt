@@ -9,3 +9,4 @@ pub mod Services
 pub mod Served
 pub mod Moved
 pub mod Answered
+pub mod Fitting

@@ -5,7 +5,7 @@ use Rattle.jessie_tree.specs.Syntax.{routines}
 use Rattle.jessie_tree.specs.View.{trees}
 use Rattle.jessie_tree.specs.declared.syntax.Module.{Module}
 use Rattle.vault.specs.Worlds.{world_of}
-use Rattle.zcf_calls.specs.Known.{module_of}
+use Rattle.vault.specs.InstanceKnowledge.{module_of}
 use Rattle.zcf_calls.specs.Situations.{KnownIn, situation}
 use Rattle.zcf_calls.proofs.Runs.{functions_known, ran_well, same_run, values_known}
 use Rattle.zcf_calls.proofs.Sets.{HandIsEmpty-prop, Rested-set}
