@@ -5,7 +5,7 @@ use Rattle.std.specs.Ordering.{match_ordering}
 use Rattle.std.specs.Cmp.{nat_cmp_is}
 use Rattle.std.proofs.lemmas.Bool.{cases_order}
 use Rattle.rights_model.specs.declared.Movement.{Movement}
-use Rattle.host_core.specs.Fair.{IsBefore, IsRising}
+use Rattle.fair_turns.specs.Fair.{IsBefore, IsRising}
 use Rattle.rights_model.specs.Totals.{brands_of, placed}
 
 -- what holds in each of the three cases holds of the list with the number in its place

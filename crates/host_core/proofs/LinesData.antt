@@ -1,135 +1,52 @@
--- The messages that lines mean have arguments in range and in order, bad lines are refused by what is told, and run lines are of few deliveries.
-use Rattle.std.proofs.Common.{◌≡◌, ℕ, ◌+◌, ◌^◌, ◌<◌, ◌≤◌, ◌==◌, List, [], ◌∷◌, ◌++◌, length, map, Bool, true, false, nat_lt, Option, Some, None, option_and_then, unwrap_or, if◌then◌else◌, codes, refl, arith, length-append}
-use Rattle.std.proofs.lemmas.Bool.{ltb-true}
-use Rattle.std.specs.Option.{option_map_or}
-use Rattle.std.specs.Str.{is_utf8}
+-- What waits are messages that lines mean and deliveries of data in range, and what a host keeps is in range.
+use Rattle.std.proofs.Common.{◌≡◌, ℕ, ◌+◌, ◌*◌, ◌≤◌, ◌==◌, List, [], ◌∷◌, ◌++◌, length, map, arith, length-append}
+use Rattle.std.specs.List.{All}
 use Rattle.std.proofs.lemmas.List.{length-map}
-use Rattle.std.proofs.lemmas.List.Elements.{All-nil}
+use Rattle.std.proofs.lemmas.List.Elements.{All-head, All-tail}
 use Rattle.std.proofs.lemmas.List.Splits.{length-slice_split}
 use Rattle.std.proofs.lemmas.List.Sums.{count_by-le-length}
-use Rattle.serde_json.specs.Data as json
-use Rattle.serde_json.specs.Find.{as_number, as_u64, get_member}
-use Rattle.serde_json.specs.Read.{read}
+use Rattle.host_core.specs.Delivered.{IsInOrder}
+use Rattle.host_core.specs.Deliveries.{world_at}
 use Rattle.host_core.specs.Hosts.{HostState, first_host, with_message}
-use Rattle.host_core.specs.InputLines.{is_blank, lines_of}
-use Rattle.jessie_tree.specs.Tree.{Tree}
-use Rattle.promises.specs.States.{most_made}
-use Rattle.journal_text.specs.JournalLaws.{InRange}
-use Rattle.host_core.specs.MessageLines.{Meaning, MessageRead, bad, bad_call_label, bad_field, bad_field_line, bad_give_label, bad_label_message, bad_line, blank, call, call_form, call_labelled, call_of, count_of, give, give_form, give_labelled, give_of, has, json_meaning, json_of, meaning_of, members_meaning, message, run, run_form, value_meaning}
-use Rattle.vault.specs.OrderedParts.{OrderedJson, OrderedJsonMembers, OrderedPartItems}
-use Rattle.vault.specs.Parties.{EachFulfilled, EachLabel, StatePasses}
-use Rattle.vault.specs.Parts.{PartItems, arguments_of, no_items}
+use Rattle.host_core.specs.InputLines.{lines_of}
+use Rattle.host_core.specs.MessageLines.{Meaning, MessageRead, bad, blank, call, give, meaning_of, message, run}
+use Rattle.host_core.specs.Queues.{Entry, from_line, to_instance}
 use Rattle.host_core.specs.Runs.{meanings_of}
-use Rattle.call_data.specs.declared.refusals.Refusal.TheVariants.{BadField, BadLabel, BadLine}
-use Rattle.vault.proofs.OrderedRead.{arguments_of-Ordered, get_member-Ordered, read-Ordered}
-use Rattle.host_core.proofs.RangesRead.{JsonIsWide, JsonMembersAreWide, PartItemsInRange, arguments_of-InRange, get_member-IsWide, read-IsWide}
-use Rattle.zoe_service.proofs.Chained.{passed}
-use Rattle.zoe_service.proofs.RefusalData.{IsTold, told_nothing, told_text}
-use Rattle.host_core.proofs.RunBounds.{IsBounded, first_bounded}
-
--- ---- messages
-
-abbrev pub IsMessage : MessageRead → Type 0
-IsMessage (call c) = PartItemsInRange c.arguments × OrderedPartItems c.arguments
-IsMessage (give g) = Unit {0}
-IsMessage (bad r) = IsTold r
-
-abbrev pub IsMeaning : Meaning → Type 0
-IsMeaning blank = Unit {0}
-IsMeaning (message m) = IsMessage m
-IsMeaning (run n) = n < 2 ^ 32
-
-arguments_from : (d : json.Data) (o : Option PartItems) → arguments_of d ≡ o → JsonIsWide d → OrderedJson d → PartItemsInRange (unwrap_or o no_items) × OrderedPartItems (unwrap_or o no_items)
-arguments_from d None is wide ordered = (tt, tt)
-arguments_from d (Some ts) is wide ordered = (arguments_of-InRange d ts wide is, arguments_of-Ordered d ts ordered is)
-
-arguments_at : (o : Option json.Data) → ((d : json.Data) → o ≡ Some d → JsonIsWide d × OrderedJson d)
-    → PartItemsInRange (unwrap_or (option_and_then arguments_of o) no_items) × OrderedPartItems (unwrap_or (option_and_then arguments_of o) no_items)
-arguments_at None facts = (tt, tt)
-arguments_at (Some d) facts = let so = facts d refl in arguments_from d (arguments_of d) refl so.0 so.1
-
-meaning_where : (b : Bool) (x y : Meaning) → IsMeaning x → IsMeaning y → IsMeaning (if b then x else y)
-meaning_where true x y h k = h
-meaning_where false x y h k = k
-
-message_or : (o : Option (List ℕ)) (f : List ℕ → MessageRead) (y : MessageRead) → ((s : List ℕ) → IsMessage (f s)) → IsMessage y → IsMessage (option_map_or f o y)
-message_or None f y h k = k
-message_or (Some s) f y h k = h s
-
-bad_field_told : (name : List ℕ) → IsMeaning (bad_field_line name)
-bad_field_told name = told_text (BadField name) name refl
-
-bad_label_told : (label : List ℕ) → IsMessage (bad_label_message label)
-bad_label_told label = told_text (BadLabel label) label refl
-
-bad_line_told : IsMeaning bad_line
-bad_line_told = told_nothing BadLine refl
-
--- what the members mean by a form
-form_told : (o : Option (List ℕ)) (read : Meaning) → IsMeaning read → IsMeaning (option_map_or bad_field_line o read)
-form_told None read h = h
-form_told (Some name) read h = bad_field_told name
-
-call_told : (ms : json.Members) → JsonMembersAreWide ms → OrderedJsonMembers ms → IsMessage (call_labelled (call_of ms))
-call_told ms wide ordered =
-    message_or (bad_call_label (call_of ms).by (call_of ms).label) bad_label_message (call (call_of ms)) bad_label_told
-    (arguments_at (get_member (codes "args") ms) (λ d at. (get_member-IsWide (codes "args") ms d wide at, get_member-Ordered (codes "args") ms d ordered at)))
-
-give_told : (ms : json.Members) → IsMessage (give_labelled (give_of ms))
-give_told ms = message_or (bad_give_label (give_of ms).by (give_of ms).to (give_of ms).label) bad_label_message (give (give_of ms)) bad_label_told tt
-
-small_or_none : (b : Bool) (n : ℕ) → nat_lt n (2 ^ 32) ≡ b → unwrap_or (if b then Some n else None) 0 < 2 ^ 32
-small_or_none true n is = ltb-true n (2 ^ 32) is
-small_or_none false n is = omega arith
-
-number_small : (o : Option ℕ) → unwrap_or (option_and_then (λ n. if nat_lt n (2 ^ 32) then Some n else None) o) 0 < 2 ^ 32
-number_small None = omega arith
-number_small (Some n) = small_or_none (nat_lt n (2 ^ 32)) n refl
-
-count_small : (o : Option json.Data) → unwrap_or (option_and_then count_of o) 0 < 2 ^ 32
-count_small None = omega arith
-count_small (Some d) = number_small (option_and_then as_u64 (as_number d))
-
-members_told : (ms : json.Members) → JsonMembersAreWide ms → OrderedJsonMembers ms → IsMeaning (members_meaning ms)
-members_told ms wide ordered =
-    meaning_where (has (codes "run") ms) _ _ (form_told (bad_field run_form ms) _ (count_small (get_member (codes "run") ms)))
-    (meaning_where (has (codes "tick") ms) _ _ (bad_field_told (codes "tick"))
-    (meaning_where (has (codes "give") ms) _ _ (form_told (bad_field give_form ms) _ (give_told ms))
-    (meaning_where (has (codes "do") ms) _ _ (form_told (bad_field call_form ms) _ (call_told ms wide ordered)) (bad_field_told (codes "do")))))
-
-value_told : (d : json.Data) → JsonIsWide d → OrderedJson d → IsMeaning (value_meaning d)
-value_told json.null wide ordered = bad_line_told
-value_told (json.boolean b) wide ordered = bad_line_told
-value_told (json.number n) wide ordered = bad_line_told
-value_told (json.string s) wide ordered = bad_line_told
-value_told (json.array ds) wide ordered = bad_line_told
-value_told (json.object ms) wide ordered = members_told ms wide ordered
-
-json_told : (o : Option json.Data) → ((d : json.Data) → o ≡ Some d → JsonIsWide d × OrderedJson d) → IsMeaning (json_meaning o)
-json_told None facts = bad_line_told
-json_told (Some d) facts = let so = facts d refl in value_told d so.0 so.1
-
-json_read : (line : List ℕ) (d : json.Data) → json_of line ≡ Some d → read line ≡ Some d
-unfolding json_of
-json_read line d h = (passed (is_utf8 line) (read line) d h).1
-
-pub meaning_told : (line : List ℕ) → IsMeaning (meaning_of line)
-unfolding meaning_of
-meaning_told line = meaning_where (is_blank line) blank (json_meaning (json_of line)) tt
-    (json_told (json_of line) (λ d h. let is = json_read line d h in (read-IsWide line d is, read-Ordered line d is)))
+use Rattle.journal_text.specs.JournalLaws.{InRange}
+use Rattle.vault.specs.InstanceDeliveries.{DeliveryView}
+use Rattle.vault.specs.Parties.{EachLabel}
+use Rattle.host_core.proofs.MessagesRead.{IsMeaning, IsMessage, meaning_told}
+use Rattle.host_core.proofs.WorldRanges.{AreRanged, IsRangedDelivery, first_ranged}
 
 -- ---- the lines of an input
 
-abbrev pub AreMeanings : List Meaning → Type 0
-AreMeanings [] = Unit {0}
-AreMeanings (m ∷ ms) = IsMeaning m × AreMeanings ms
+-- a message is one that a line can mean
+abbrev pub IsMeant : Meaning → Type 0
+IsMeant blank = Unit {0}
+IsMeant (message m) = IsMessage m
+IsMeant (run n) = Unit {0}
 
-lines_told : (lines : List (List ℕ)) (last : List Meaning) → AreMeanings last → AreMeanings (map meaning_of lines ++ last)
-lines_told [] last h = h
-lines_told (line ∷ lines) last h = (meaning_told line, lines_told lines last h)
+abbrev pub AreMeant : List Meaning → Type 0
+AreMeant [] = Unit {0}
+AreMeant (m ∷ ms) = IsMeant m × AreMeant ms
 
-pub meanings_told : (most : ℕ) (input : List ℕ) → most < 2 ^ 32 → AreMeanings (meanings_of most input)
-meanings_told most input few = lines_told (lines_of input) (run most ∷ []) (few, tt)
+is_meant : (m : Meaning) → IsMeaning m → IsMeant m
+is_meant blank told = tt
+is_meant (message m) told = told
+is_meant (run n) told = tt
+
+lines_meant : (lines : List (List ℕ)) (most : ℕ) → AreMeant (map meaning_of lines ++ run most ∷ [])
+lines_meant [] most = (tt, tt)
+lines_meant (line ∷ lines) most = (is_meant (meaning_of line) (meaning_told line), lines_meant lines most)
+
+pub meanings_meant : (most : ℕ) (input : List ℕ) → AreMeant (meanings_of most input)
+meanings_meant most input = lines_meant (lines_of input) most
+
+-- the arguments of such a message are in order
+pub in_order : (m : MessageRead) → IsMessage m → IsInOrder m
+in_order (call c) told = told.1
+in_order (give g) told = tt
+in_order (bad r) told = tt
 
 lines_few : (input : List ℕ) → length (lines_of input) ≤ length input + 1
 unfolding lines_of
@@ -139,32 +56,77 @@ lines_few input = omega (arith, length-slice_split (λ b. b == 10) input, count_
 pub meanings_few : (most : ℕ) (input : List ℕ) → length (meanings_of most input) ≤ length input + 2
 meanings_few most input = omega (arith, lines_few input, length-map (lines_of input) meaning_of, length-append (map meaning_of (lines_of input)) (run most ∷ []))
 
+-- ---- how many turns can come
+
+-- an entry has a turn, and a message may bring one delivery
+abbrev pub owed : List Entry → ℕ
+owed [] = 0
+owed (from_line m ∷ es) = 2 + owed es
+owed (to_instance d ∷ es) = 1 + owed es
+
+-- so much is owed because of lines
+abbrev pub coming : List Meaning → ℕ
+coming [] = 0
+coming (blank ∷ ms) = coming ms
+coming (message m ∷ ms) = 2 + coming ms
+coming (run n ∷ ms) = coming ms
+
+pub coming_few : (ms : List Meaning) → coming ms ≤ 2 * length ms
+coming_few [] = omega arith
+coming_few (blank ∷ ms) = omega (arith, coming_few ms)
+coming_few (message m ∷ ms) = omega (arith, coming_few ms)
+coming_few (run n ∷ ms) = omega (arith, coming_few ms)
+
+pub owed_message : (es : List Entry) (m : MessageRead) → owed (es ++ from_line m ∷ []) ≡ owed es + 2
+owed_message [] m = omega arith
+owed_message (from_line n ∷ es) m = omega (arith, owed_message es m)
+owed_message (to_instance d ∷ es) m = omega (arith, owed_message es m)
+
+delivered_owed : (ds : List DeliveryView) → owed (map to_instance ds) ≡ length ds
+delivered_owed [] = omega arith
+delivered_owed (d ∷ ds) = omega (arith, delivered_owed ds)
+
+pub owed_deliveries : (es : List Entry) (ds : List DeliveryView) → owed (es ++ map to_instance ds) ≡ owed es + length ds
+owed_deliveries [] ds = omega (arith, delivered_owed ds)
+owed_deliveries (from_line m ∷ es) ds = omega (arith, owed_deliveries es ds)
+owed_deliveries (to_instance d ∷ es) ds = omega (arith, owed_deliveries es ds)
+
+pub left_owed : (es : List Entry) → length es ≤ owed es
+left_owed [] = omega arith
+left_owed (from_line m ∷ es) = omega (arith, left_owed es)
+left_owed (to_instance d ∷ es) = omega (arith, left_owed es)
+
 -- ---- the queue
 
-abbrev pub AreMessages : List MessageRead → Type 0
-AreMessages [] = Unit {0}
-AreMessages (m ∷ ms) = IsMessage m × AreMessages ms
+abbrev pub IsReadyEntry : Entry → Type 0
+IsReadyEntry (from_line m) = IsMessage m
+IsReadyEntry (to_instance d) = IsRangedDelivery d
 
-messages_push : (ms : List MessageRead) (m : MessageRead) → AreMessages ms → IsMessage m → AreMessages (ms ++ m ∷ [])
-messages_push [] m h one = (one, tt)
-messages_push (n ∷ ms) m h one = (h.0, messages_push ms m h.1 one)
+abbrev pub AreReadyEntries : List Entry → Type 0
+AreReadyEntries [] = Unit {0}
+AreReadyEntries (e ∷ es) = IsReadyEntry e × AreReadyEntries es
 
--- what was made is few, and what labels were bound to and promises were fulfilled with is in range, and so is what waits
+ready_message : (es : List Entry) (m : MessageRead) → AreReadyEntries es → IsMessage m → AreReadyEntries (es ++ from_line m ∷ [])
+ready_message [] m ready one = (one, tt)
+ready_message (e ∷ es) m ready one = (ready.0, ready_message es m ready.1 one)
+
+delivered_ready : (ds : List DeliveryView) → All IsRangedDelivery ds → AreReadyEntries (map to_instance ds)
+delivered_ready [] ranged = tt
+delivered_ready (d ∷ ds) ranged = (All-head IsRangedDelivery d ds ranged, delivered_ready ds (All-tail IsRangedDelivery d ds ranged))
+
+pub ready_deliveries : (es : List Entry) (ds : List DeliveryView) → AreReadyEntries es → All IsRangedDelivery ds → AreReadyEntries (es ++ map to_instance ds)
+ready_deliveries [] ds ready ranged = delivered_ready ds ranged
+ready_deliveries (e ∷ es) ds ready ranged = (ready.0, ready_deliveries es ds ready.1 ranged)
+
+-- ---- what a host keeps
+
 pub record IsReadied (s : HostState) : Type 0 where
-  pub bounded : IsBounded s.kept.rested.vault
+  pub ranged : AreRanged (world_at s.kept)
   pub labels : EachLabel InRange s.kept.labels
-  pub fulfilled : EachFulfilled InRange s.kept.rested.promises
-  pub few : length s.kept.rested.promises ≤ most_made
-  pub queue : AreMessages s.queue
+  pub queue : AreReadyEntries s.queue
 
-pub none_fulfilled : (P : Tree → Type 0) → EachFulfilled P []
-none_fulfilled P = All-nil (StatePasses P)
-
-pub first_readied : IsReadied first_host
-first_readied = record { bounded = first_bounded; labels = tt; fulfilled = none_fulfilled InRange; few = omega arith; queue = tt }
+pub first_readied : (meter : ℕ) → IsReadied (first_host meter)
+first_readied meter = record { ranged = first_ranged; labels = tt; queue = tt }
 
 pub message_readied : (s : HostState) (m : MessageRead) → IsMessage m → IsReadied s → IsReadied (with_message s m)
-message_readied s m told ready = record { bounded = ready.bounded; labels = ready.labels; fulfilled = ready.fulfilled; few = ready.few; queue = messages_push s.queue m ready.queue told }
-
-pub message_waits : (s : HostState) (m : MessageRead) → length (with_message s m).queue ≡ length s.queue + 1
-message_waits s m = length-append s.queue (m ∷ [])
+message_readied s m told ready = record { ranged = ready.ranged; labels = ready.labels; queue = ready_message s.queue m ready.queue told }

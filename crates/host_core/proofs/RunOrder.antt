@@ -1,110 +1,147 @@
--- The turns of a run are those of its first messages, one after another.
-use Rattle.std.proofs.Common.{◌≡◌, ℕ, zero, suc, ◌+◌, List, [], ◌∷◌, ◌++◌, length, Option, Some, None, refl, sym, ◌∙◌, ap, subst, arith, append_assoc, append-nil, length-append}
+-- The turns of a run are those of the first entries of its queue, one after another.
+use Rattle.std.proofs.Common.{◌≡◌, ℕ, zero, suc, ◌+◌, List, [], ◌∷◌, ◌++◌, length, map, Option, Some, None, refl, sym, ◌∙◌, ap, subst, arith, append_assoc, append-nil, length-append}
 use Rattle.std.specs.Option.{option_map_or}
+use Rattle.std.proofs.lemmas.Grind.{flat_map-append}
 use Rattle.host_core.specs.Deliveries.{Kept, turn_of}
 use Rattle.host_core.specs.Hosts.{HostState, first_host, step_from, step_of, turned, with_message}
 use Rattle.host_core.specs.MessageLines.{Meaning, MessageRead, blank, message, run}
-use Rattle.host_core.specs.Runs.{AreInOrder, after, drained, end_of, left_of, line_host, line_turns, lines_host, lines_turns, meanings_of, messages_of, turns_in_order, turns_of}
+use Rattle.host_core.specs.Queues.{Entry, deliveries_in, delivery_in, from_line, message_in, messages_in, to_instance}
+use Rattle.host_core.specs.Runs.{AreInOrder, after, delivered_in_order, drained, end_of, left_of, line_host, line_turns, lines_host, lines_turns, meanings_of, messages_of, turns_in_order, turns_of}
 use Rattle.journal_text.specs.Turns.{TurnRecord}
+use Rattle.vault.specs.InstanceDeliveries.{DeliveryView}
 
--- ---- messages that are delivered one after another
+-- ---- messages and deliveries among entries
+
+messages_then : (a b : List Entry) → messages_in (a ++ b) ≡ messages_in a ++ messages_in b
+messages_then a b = flat_map-append message_in a b
+
+deliveries_then : (a b : List Entry) → deliveries_in (a ++ b) ≡ deliveries_in a ++ deliveries_in b
+deliveries_then a b = flat_map-append delivery_in a b
+
+-- deliveries that are appended hold no message, and are those
+no_messages : (ds : List DeliveryView) → messages_in (map to_instance ds) ≡ []
+no_messages [] = refl
+no_messages (d ∷ ds) = no_messages ds
+
+pub deliveries_of : (ds : List DeliveryView) → deliveries_in (map to_instance ds) ≡ ds
+deliveries_of [] = refl
+deliveries_of (d ∷ ds) = ap (λ rest. d ∷ rest) (deliveries_of ds)
+
+pub deliveries_appended : (es : List Entry) (ds : List DeliveryView) → deliveries_in (es ++ map to_instance ds) ≡ deliveries_in es ++ ds
+deliveries_appended es ds = deliveries_then es (map to_instance ds) ∙ ap (λ rest. deliveries_in es ++ rest) (deliveries_of ds)
+
+messages_kept : (es : List Entry) (ds : List DeliveryView) → messages_in (es ++ map to_instance ds) ≡ messages_in es
+messages_kept es ds = messages_then es (map to_instance ds) ∙ ap (λ rest. messages_in es ++ rest) (no_messages ds) ∙ append-nil (messages_in es)
+
+-- ---- entries that are taken one after another
 
 -- what is kept after them, from a number on
-abbrev pub kept_after : ℕ → Kept → List MessageRead → Kept
-kept_after n k [] = k
-kept_after n k (m ∷ ms) = kept_after (n + 1) (turn_of (n + 1) k m).0 ms
+abbrev pub kept_after : ℕ → ℕ → Kept → List Entry → Kept
+kept_after meter n k [] = k
+kept_after meter n k (e ∷ es) = kept_after meter (n + 1) (turn_of meter (n + 1) k e).kept es
 
-turns_then : (n : ℕ) (k : Kept) (a b : List MessageRead) → turns_in_order n k (a ++ b) ≡ turns_in_order n k a ++ turns_in_order (n + length a) (kept_after n k a) b
-turns_then n k [] b = let same : n ≡ n + 0 = omega arith in ap (λ i. turns_in_order i k b) same
-turns_then n k (m ∷ a) b =
-    let next = (turn_of (n + 1) k m).0 in
-    let same : n + 1 + length a ≡ n + length (m ∷ a) = omega arith in
-    ap (λ ts. (turn_of (n + 1) k m).1 ∷ ts) (turns_then (n + 1) next a b ∙ ap (λ i. turns_in_order (n + 1) next a ++ turns_in_order i (kept_after (n + 1) next a) b) same)
+turns_then : (meter n : ℕ) (k : Kept) (a b : List Entry) → turns_in_order meter n k (a ++ b) ≡ turns_in_order meter n k a ++ turns_in_order meter (n + length a) (kept_after meter n k a) b
+turns_then meter n k [] b = let same : n ≡ n + 0 = omega arith in ap (λ i. turns_in_order meter i k b) same
+turns_then meter n k (e ∷ a) b =
+    let next = (turn_of meter (n + 1) k e).kept in
+    let same : n + 1 + length a ≡ n + length (e ∷ a) = omega arith in
+    ap (λ ts. (turn_of meter (n + 1) k e).turn ∷ ts) (turns_then meter (n + 1) next a b ∙ ap (λ i. turns_in_order meter (n + 1) next a ++ turns_in_order meter i (kept_after meter (n + 1) next a) b) same)
 
-kept_then : (n : ℕ) (k : Kept) (a b : List MessageRead) → kept_after n k (a ++ b) ≡ kept_after (n + length a) (kept_after n k a) b
-kept_then n k [] b = let same : n ≡ n + 0 = omega arith in ap (λ i. kept_after i k b) same
-kept_then n k (m ∷ a) b =
-    let next = (turn_of (n + 1) k m).0 in
-    let same : n + 1 + length a ≡ n + length (m ∷ a) = omega arith in
-    kept_then (n + 1) next a b ∙ ap (λ i. kept_after i (kept_after (n + 1) next a) b) same
+owed_then : (meter n : ℕ) (k : Kept) (a b : List Entry) → delivered_in_order meter n k (a ++ b) ≡ delivered_in_order meter n k a ++ delivered_in_order meter (n + length a) (kept_after meter n k a) b
+owed_then meter n k [] b = let same : n ≡ n + 0 = omega arith in ap (λ i. delivered_in_order meter i k b) same
+owed_then meter n k (e ∷ a) b =
+    let done = turn_of meter (n + 1) k e in
+    let same : n + 1 + length a ≡ n + length (e ∷ a) = omega arith in
+    ap (λ ds. done.deliveries ++ ds) (owed_then meter (n + 1) done.kept a b ∙ ap (λ i. delivered_in_order meter (n + 1) done.kept a ++ delivered_in_order meter i (kept_after meter (n + 1) done.kept a) b) same)
+    ∙ sym (append_assoc done.deliveries (delivered_in_order meter (n + 1) done.kept a) _)
+
+kept_then : (meter n : ℕ) (k : Kept) (a b : List Entry) → kept_after meter n k (a ++ b) ≡ kept_after meter (n + length a) (kept_after meter n k a) b
+kept_then meter n k [] b = let same : n ≡ n + 0 = omega arith in ap (λ i. kept_after meter i k b) same
+kept_then meter n k (e ∷ a) b =
+    let next = (turn_of meter (n + 1) k e).kept in
+    let same : n + 1 + length a ≡ n + length (e ∷ a) = omega arith in
+    kept_then meter (n + 1) next a b ∙ ap (λ i. kept_after meter i (kept_after meter (n + 1) next a) b) same
 
 -- one turn for each
-pub turns_count : (n : ℕ) (k : Kept) (ms : List MessageRead) → length (turns_in_order n k ms) ≡ length ms
-turns_count n k [] = refl
-turns_count n k (m ∷ ms) = ap suc (turns_count (n + 1) (turn_of (n + 1) k m).0 ms)
-
--- the first turns are those of the first messages
-pub record AreFirst (n : ℕ) (k : Kept) (first : List TurnRecord) : Type 0 where
-  pub messages : List MessageRead
-  pub turns : first ≡ turns_in_order n k messages
-
-same_head : (t u : TurnRecord) (ts us : List TurnRecord) → t ∷ ts ≡ u ∷ us → t ≡ u
-same_head t u ts us h = cc
-
-same_rest : (t u : TurnRecord) (ts us : List TurnRecord) → t ∷ ts ≡ u ∷ us → ts ≡ us
-same_rest t u ts us h = cc
-
-pub first_turns : (n : ℕ) (k : Kept) (ms : List MessageRead) (first later : List TurnRecord) → turns_in_order n k ms ≡ first ++ later → AreFirst n k first
-first_turns n k ms [] later is = record { messages = []; turns = refl }
-first_turns n k [] (t ∷ first) later is = absurd (cc)
-first_turns n k (m ∷ ms) (t ∷ first) later is =
-    let next = (turn_of (n + 1) k m).0 in
-    let head = same_head (turn_of (n + 1) k m).1 t (turns_in_order (n + 1) next ms) (first ++ later) is in
-    let rest = first_turns (n + 1) next ms first later (same_rest (turn_of (n + 1) k m).1 t (turns_in_order (n + 1) next ms) (first ++ later) is) in
-    record { messages = m ∷ rest.messages; turns = (λ i. sym head i ∷ rest.turns i) }
-
--- ---- a host in which they wait
-
-abbrev pub host_of : ℕ → Kept → List MessageRead → HostState
-host_of n k ms = record { kept = k; queue = ms; turns = n }
-
-pub drained_order : (n : ℕ) (k : Kept) (ms : List MessageRead) → drained (length ms) (host_of n k ms) ≡ turns_in_order n k ms
-unfolding drained step_of
-drained_order n k [] = refl
-drained_order n k (m ∷ ms) = ap (λ ts. (turn_of (n + 1) k m).1 ∷ ts) (drained_order (n + 1) (turn_of (n + 1) k m).0 ms)
-
-pub after_order : (n : ℕ) (k : Kept) (ms : List MessageRead) → after (length ms) (host_of n k ms) ≡ host_of (n + length ms) (kept_after n k ms) []
-unfolding after step_of
-after_order n k [] = let same : n ≡ n + 0 = omega arith in ap (λ i. host_of i k []) same
-after_order n k (m ∷ ms) =
-    let next = (turn_of (n + 1) k m).0 in
-    let same : n + 1 + length ms ≡ n + length (m ∷ ms) = omega arith in
-    after_order (n + 1) next ms ∙ ap (λ i. host_of i (kept_after (n + 1) next ms) []) same
+pub turns_count : (meter n : ℕ) (k : Kept) (es : List Entry) → length (turns_in_order meter n k es) ≡ length es
+turns_count meter n k [] = refl
+turns_count meter n k (e ∷ es) = ap suc (turns_count meter (n + 1) (turn_of meter (n + 1) k e).kept es)
 
 -- ---- what a host takes
 
--- of the messages that waited and those that came, the first were delivered, with these turns, and the others wait
+-- Of the entries that waited, of the messages that came and of what the turns delivered, the first were taken, with these turns, and the others wait.
 pub record Took (s : HostState) (came : List MessageRead) (ts : List TurnRecord) (end : HostState) : Type 0 where
-  pub taken : List MessageRead
-  pub all : s.queue ++ came ≡ taken ++ end.queue
-  pub turns : ts ≡ turns_in_order s.turns s.kept taken
-  pub kept : end.kept ≡ kept_after s.turns s.kept taken
+  pub taken : List Entry
+  pub said : messages_in s.queue ++ came ≡ messages_in (taken ++ end.queue)
+  pub owed : deliveries_in s.queue ++ delivered_in_order s.meter s.turns s.kept taken ≡ deliveries_in (taken ++ end.queue)
+  pub turns : ts ≡ turns_in_order s.meter s.turns s.kept taken
+  pub kept : end.kept ≡ kept_after s.meter s.turns s.kept taken
   pub count : end.turns ≡ s.turns + length taken
+  pub meter : end.meter ≡ s.meter
 
 took_none : (s : HostState) → Took s [] [] s
-took_none s = record { taken = []; all = append-nil s.queue; turns = refl; kept = refl; count = omega arith }
+took_none s = record { taken = []; said = append-nil (messages_in s.queue); owed = append-nil (deliveries_in s.queue); turns = refl; kept = refl; count = omega arith; meter = refl }
 
-took_then : (s mid end : HostState) (a b : List MessageRead) (ts us : List TurnRecord) → Took s a ts mid → Took mid b us end → Took s (a ++ b) (ts ++ us) end
-took_then s mid end a b ts us x y = record {
-  taken = x.taken ++ y.taken;
-  all = sym (append_assoc s.queue a b) ∙ ap (λ q. q ++ b) x.all ∙ append_assoc x.taken mid.queue b ∙ ap (λ q. x.taken ++ q) y.all ∙ sym (append_assoc x.taken y.taken end.queue);
-  turns = ap (λ vs. ts ++ vs) y.turns ∙ (λ i. x.turns i ++ turns_in_order (x.count i) (x.kept i) y.taken) ∙ sym (turns_then s.turns s.kept x.taken y.taken);
-  kept = y.kept ∙ (λ i. kept_after (x.count i) (x.kept i) y.taken) ∙ sym (kept_then s.turns s.kept x.taken y.taken);
-  count = omega (arith, x.count, y.count, length-append x.taken y.taken);
-}
+module _ (s mid end : HostState) (a b : List MessageRead) (ts us : List TurnRecord) (x : Took s a ts mid) (y : Took mid b us end) where
+  abbrev both : List Entry
+  both = x.taken ++ y.taken
+
+  said_then : messages_in s.queue ++ (a ++ b) ≡ messages_in (both ++ end.queue)
+  said_then =
+      sym (append_assoc (messages_in s.queue) a b) ∙ ap (λ q. q ++ b) (x.said ∙ messages_then x.taken mid.queue) ∙ append_assoc (messages_in x.taken) (messages_in mid.queue) b
+      ∙ ap (λ q. messages_in x.taken ++ q) y.said ∙ sym (messages_then x.taken (y.taken ++ end.queue)) ∙ ap messages_in (sym (append_assoc x.taken y.taken end.queue))
+
+  owed_more : delivered_in_order mid.meter mid.turns mid.kept y.taken ≡ delivered_in_order s.meter (s.turns + length x.taken) (kept_after s.meter s.turns s.kept x.taken) y.taken
+  owed_more = λ i. delivered_in_order (x.meter i) (x.count i) (x.kept i) y.taken
+
+  owed_both : deliveries_in s.queue ++ delivered_in_order s.meter s.turns s.kept both ≡ deliveries_in (both ++ end.queue)
+  owed_both =
+      ap (λ q. deliveries_in s.queue ++ q) (owed_then s.meter s.turns s.kept x.taken y.taken ∙ ap (λ q. delivered_in_order s.meter s.turns s.kept x.taken ++ q) (sym owed_more))
+      ∙ sym (append_assoc (deliveries_in s.queue) (delivered_in_order s.meter s.turns s.kept x.taken) (delivered_in_order mid.meter mid.turns mid.kept y.taken))
+      ∙ ap (λ q. q ++ delivered_in_order mid.meter mid.turns mid.kept y.taken) (x.owed ∙ deliveries_then x.taken mid.queue)
+      ∙ append_assoc (deliveries_in x.taken) (deliveries_in mid.queue) (delivered_in_order mid.meter mid.turns mid.kept y.taken)
+      ∙ ap (λ q. deliveries_in x.taken ++ q) y.owed ∙ sym (deliveries_then x.taken (y.taken ++ end.queue)) ∙ ap deliveries_in (sym (append_assoc x.taken y.taken end.queue))
+
+  took_then : Took s (a ++ b) (ts ++ us) end
+  took_then = record {
+    taken = both;
+    said = said_then;
+    owed = owed_both;
+    turns = ap (λ vs. ts ++ vs) y.turns ∙ (λ i. x.turns i ++ turns_in_order (x.meter i) (x.count i) (x.kept i) y.taken) ∙ sym (turns_then s.meter s.turns s.kept x.taken y.taken);
+    kept = y.kept ∙ (λ i. kept_after (x.meter i) (x.count i) (x.kept i) y.taken) ∙ sym (kept_then s.meter s.turns s.kept x.taken y.taken);
+    count = omega (arith, x.count, y.count, length-append x.taken y.taken);
+    meter = y.meter ∙ x.meter;
+  }
 
 took_message : (s : HostState) (m : MessageRead) → Took s (m ∷ []) [] (with_message s m)
-took_message s m = record { taken = []; all = refl; turns = refl; kept = refl; count = omega arith }
+took_message s m = record {
+  taken = [];
+  said = sym (messages_then s.queue (from_line m ∷ []));
+  owed = append-nil (deliveries_in s.queue) ∙ sym (deliveries_then s.queue (from_line m ∷ []) ∙ append-nil (deliveries_in s.queue));
+  turns = refl;
+  kept = refl;
+  count = omega arith;
+  meter = refl;
+}
 
 took_step : (s new : HostState) (t : TurnRecord) → step_of s ≡ Some (new, t) → Took s [] (t ∷ []) new
 unfolding step_of
 took_step s new t is = from s.queue refl is
   where
-    from : (queue : List MessageRead) → s.queue ≡ queue → step_from s queue ≡ Some (new, t) → Took s [] (t ∷ []) new
+    from : (queue : List Entry) → s.queue ≡ queue → step_from s queue ≡ Some (new, t) → Took s [] (t ∷ []) new
     from [] e h = absurd (cc)
     from (m ∷ rest) e h =
-        let same : turned s rest (turn_of (s.turns + 1) s.kept m) ≡ (new, t) = cc in
-        subst (λ (p : HostState × TurnRecord). Took s [] (p.1 ∷ []) p.0) same (record { taken = m ∷ []; all = append-nil s.queue ∙ e; turns = refl; kept = refl; count = omega arith })
+        let done = turn_of s.meter (s.turns + 1) s.kept m in
+        let same : turned s rest done ≡ (new, t) = cc in
+        subst (λ (p : HostState × TurnRecord). Took s [] (p.1 ∷ []) p.0) same (record {
+          taken = m ∷ [];
+          said = append-nil (messages_in s.queue) ∙ ap messages_in e ∙ messages_then (m ∷ []) rest ∙ ap (λ q. messages_in (m ∷ []) ++ q) (sym (messages_kept rest done.deliveries)) ∙ sym (messages_then (m ∷ []) (rest ++ map to_instance done.deliveries));
+          owed = ap (λ q. deliveries_in q ++ (done.deliveries ++ [])) e ∙ ap (λ ds. deliveries_in (m ∷ rest) ++ ds) (append-nil done.deliveries) ∙ sym (deliveries_appended (m ∷ rest) done.deliveries);
+          turns = refl;
+          kept = refl;
+          count = omega arith;
+          meter = refl;
+        })
 
 took_drained : (n : ℕ) (s : HostState) → Took s [] (drained n s) (after n s)
 unfolding drained after
@@ -126,7 +163,7 @@ took_lines (run n ∷ ms) s = took_then s (after n s) (lines_host (after n s) ms
 
 -- one turn is counted for each
 took_count : (s end : HostState) (came : List MessageRead) (ts : List TurnRecord) → Took s came ts end → end.turns ≡ s.turns + length ts
-took_count s end came ts took = omega (arith, took.count, ap length took.turns, turns_count s.turns s.kept took.taken)
+took_count s end came ts took = omega (arith, took.count, ap length took.turns, turns_count s.meter s.turns s.kept took.taken)
 
 pub step_count : (s new : HostState) (t : TurnRecord) → step_of s ≡ Some (new, t) → new.turns ≡ s.turns + 1
 step_count s new t is = took_count s new [] (t ∷ []) (took_step s new t is)
@@ -139,7 +176,7 @@ line_count (run n) s = took_count s (after n s) [] (drained n s) (took_drained n
 pub lines_count : (ms : List Meaning) (s : HostState) → (lines_host s ms).turns ≡ s.turns + length (lines_turns s ms)
 lines_count ms s = took_count s (lines_host s ms) (messages_of ms) (lines_turns s ms) (took_lines ms s)
 
-pub runs_in_order : (most : ℕ) (input : List ℕ) → AreInOrder (messages_of (meanings_of most input)) (turns_of most input) (left_of most input)
-runs_in_order most input =
-    let run = took_lines (meanings_of most input) first_host in
-    record { taken = run.taken; waiting = (end_of most input).queue; all = run.all; turns = run.turns; left_are = refl }
+pub runs_in_order : (meter most : ℕ) (input : List ℕ) → AreInOrder meter (messages_of (meanings_of most input)) (turns_of meter most input) (left_of meter most input)
+runs_in_order meter most input =
+    let run = took_lines (meanings_of most input) (first_host meter) in
+    record { taken = run.taken; waiting = (end_of meter most input).queue; said = sym run.said; owed = sym run.owed; turns = run.turns; left_are = refl }

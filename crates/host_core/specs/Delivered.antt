@@ -1,15 +1,15 @@
 -- What a delivery needs of the world and of the labels, and what is kept between turns.
-use Rattle.std.specs.Prelude.{◌≡◌, ℕ, ◌≤◌, List, Option, Some, None}
-use Rattle.jessie_tree.specs.Tree.{Tree, Ordered, nesting}
-use Rattle.jessie_tree.specs.declared.data.Obj.{Obj}
-use Rattle.host_core.specs.Deliveries.{Kept, world_at}
-use Rattle.vault.specs.Known.{AllObjects}
-use Rattle.vault.specs.Made.{IsMade}
-use Rattle.vault.specs.Parties.{EachFulfilled, EachLabel, Labels, bound_to}
-use Rattle.vault.specs.Parts.{most_deep}
-use Rattle.vault.specs.Worlds.{HasRoom, IsValid, WorldState, rested}
+use Rattle.std.specs.Prelude.{◌≡◌, ◌++◌, ℕ, List, map, Option, Some, None}
+use Rattle.host_core.specs.Deliveries.{Done, Kept, world_at}
+use Rattle.host_core.specs.MessageLines.{MessageRead, bad, call, give}
+use Rattle.host_core.specs.Queues.{Entry, from_line, to_instance}
+use Rattle.journal_text.specs.Turns.{TurnRecord}
+use Rattle.vault.specs.Consistent.{IsConsistent}
+use Rattle.vault.specs.OrderedParts.{OrderedPartItems}
+use Rattle.vault.specs.Parties.{EachLabel, Labels, bound_to}
+use Rattle.vault.specs.Worlds.{HasRoom, IsValid, rested}
 use Rattle.vault.specs.declared.world.Resting.{Resting}
-use Rattle.zoe_service.specs.Served.{KnowsArgs}
+use Rattle.zoe_service.specs.Answered.{IsBound}
 
 -- what the code keeps between turns, with the labels
 abbrev pub kept_with : Resting → Labels → Kept
@@ -20,26 +20,30 @@ abbrev pub IsFree : Labels → List ℕ → Option (List ℕ) → Type 0
 IsFree ls by None = Unit {0}
 IsFree ls by (Some label) = bound_to ls by label ≡ None
 
--- a call can be worked: the world is valid and has room for one value more, and target and arguments name objects that were made
-pub record IsReady (w : WorldState) (on : Obj) (args : List Tree) : Type 0 where
-  pub valid : IsValid w
-  pub room : HasRoom w.draft.now
-  pub target : IsMade w on
-  pub known : KnowsArgs w args
-
--- data names objects that were made, has its records in order, and nests at most 32 deep
-pub record IsGood (w : WorldState) (t : Tree) : Type 0 where
-  pub known : AllObjects (IsMade w) t
-  pub ordered : Ordered t
-  pub shallow : nesting t ≤ most_deep
-
--- so does what labels were bound to, and what promises were fulfilled with
+-- labels are bound to promises that were made, and to what can be handed out
 pub record AreGood (k : Kept) : Type 0 where
-  pub labels : EachLabel (IsGood (world_at k)) k.labels
-  pub fulfilled : EachFulfilled (IsGood (world_at k)) k.rested.promises
+  pub labels : EachLabel (IsBound (world_at k)) k.labels
 
--- the next message can be taken
+-- the records in the arguments of a call have their fields in byte order of names, each name once
+abbrev pub IsInOrder : MessageRead → Type 0
+IsInOrder (call c) = OrderedPartItems c.arguments
+IsInOrder (give g) = Unit {0}
+IsInOrder (bad r) = Unit {0}
+
+-- so it is where the entry is a call
+abbrev pub IsEntryInOrder : Entry → Type 0
+IsEntryInOrder (from_line m) = IsInOrder m
+IsEntryInOrder (to_instance d) = Unit {0}
+
+-- the next turn can be worked
 pub record IsSteady (k : Kept) : Type 0 where
   pub valid : IsValid (world_at k)
+  pub consistent : IsConsistent (world_at k)
   pub room : HasRoom k.rested.vault
   pub good : AreGood k
+
+-- a turn came to this: what is kept, the turn, and the queue, to which what it has delivered was appended
+pub record HasCome (kept : Kept) (turn : TurnRecord) (before now : List Entry) (done : Done) : Type 0 where
+  pub kept_is : kept ≡ done.kept
+  pub turn_is : turn ≡ done.turn
+  pub appended : now ≡ before ++ map to_instance done.deliveries

@@ -6,5 +6,4 @@ pub mod Deliveries
 pub mod Delivered
 pub mod Hosts
 pub mod Runs
-pub mod Fair
 pub mod Leaves

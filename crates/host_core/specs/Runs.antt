@@ -3,12 +3,14 @@ use Rattle.std.specs.Prelude.{◌≡◌, ◌≤◌, ◌+◌, ℕ, zero, suc, map
 use Rattle.std.specs.Option.{option_map_or}
 use Rattle.std.specs.Io.KnownBytes.{Appends}
 use Rattle.host_core.specs.Deliveries.{Kept, turn_of}
-use Rattle.host_core.specs.Fair.{AreFair}
-use Rattle.host_core.specs.Hosts.{HostState, first_host, most_turns, step_of, with_message}
+use Rattle.fair_turns.specs.Fair.{AreFair}
+use Rattle.host_core.specs.Hosts.{HostState, first_host, first_kept, most_turns, step_of, with_message}
 use Rattle.host_core.specs.InputLines.{lines_of}
 use Rattle.journal_text.specs.Journal.{close_text, journal_text, turn_texts}
 use Rattle.host_core.specs.MessageLines.{Meaning, MessageRead, blank, message, meaning_of, run}
+use Rattle.host_core.specs.Queues.{Entry, deliveries_in, messages_in}
 use Rattle.journal_text.specs.Turns.{TurnRecord}
+use Rattle.vault.specs.InstanceDeliveries.{DeliveryView}
 
 -- the turns of at most n deliveries, each of the message in front
 unfoldable pub drained : ℕ → HostState → List TurnRecord
@@ -44,31 +46,31 @@ lines_turns s (m ∷ ms) = line_turns s m ++ lines_turns (line_host s m) ms
 abbrev pub meanings_of : ℕ → List ℕ → List Meaning
 meanings_of most input = map meaning_of (lines_of input) ++ run most ∷ []
 
--- the host at the end of the run on an input, of which at most so many deliveries are run at the input's end
-abbrev pub end_of : ℕ → List ℕ → HostState
-end_of most input = lines_host first_host (meanings_of most input)
+-- the host at the end of the run on an input, where functions run under the meter, and at most so many deliveries are run at the input's end
+abbrev pub end_of : ℕ → ℕ → List ℕ → HostState
+end_of meter most input = lines_host (first_host meter) (meanings_of most input)
 
 -- the turns of that run
-abbrev pub turns_of : ℕ → List ℕ → List TurnRecord
-turns_of most input = lines_turns first_host (meanings_of most input)
+abbrev pub turns_of : ℕ → ℕ → List ℕ → List TurnRecord
+turns_of meter most input = lines_turns (first_host meter) (meanings_of most input)
 
 -- how many deliveries are left
-abbrev pub left_of : ℕ → List ℕ → ℕ
-left_of most input = length (end_of most input).queue
+abbrev pub left_of : ℕ → ℕ → List ℕ → ℕ
+left_of meter most input = length (end_of meter most input).queue
 
 -- the close row of a host: how many deliveries are left, and how many turns it ran
 abbrev pub closes : HostState → List ℕ
 closes s = close_text (length s.queue) s.turns
 
 -- the journal of a run
-unfoldable pub journal_of : ℕ → List ℕ → List ℕ
-journal_of most input = journal_text (turns_of most input) (left_of most input)
+unfoldable pub journal_of : ℕ → ℕ → List ℕ → List ℕ
+journal_of meter most input = journal_text (turns_of meter most input) (left_of meter most input)
 
 -- the turns as far as they can be run are fair
 pub record AreFairToLimit (ts : List TurnRecord) : Type 0 where
   pub fair : (first later : List TurnRecord) → ts ≡ first ++ later → length first ≤ most_turns → AreFair first
 
--- ---- in which order messages are delivered
+-- ---- in which order entries have their turns
 
 -- the messages of lines
 abbrev pub messages_of : List Meaning → List MessageRead
@@ -77,17 +79,23 @@ messages_of (blank ∷ ms) = messages_of ms
 messages_of (message m ∷ ms) = m ∷ messages_of ms
 messages_of (run n ∷ ms) = messages_of ms
 
--- the turns of messages that are delivered one after another, from a number on
-abbrev pub turns_in_order : ℕ → Kept → List MessageRead → List TurnRecord
-turns_in_order n k [] = []
-turns_in_order n k (m ∷ ms) = (turn_of (n + 1) k m).1 ∷ turns_in_order (n + 1) (turn_of (n + 1) k m).0 ms
+-- the turns of entries that are taken one after another, from a number on
+abbrev pub turns_in_order : ℕ → ℕ → Kept → List Entry → List TurnRecord
+turns_in_order meter n k [] = []
+turns_in_order meter n k (e ∷ es) = (turn_of meter (n + 1) k e).turn ∷ turns_in_order meter (n + 1) (turn_of meter (n + 1) k e).kept es
 
--- first in first out: the turns are those of the first messages, one for each, in the order of their lines, and the others are left
-pub record AreInOrder (messages : List MessageRead) (ts : List TurnRecord) (left : ℕ) : Type 0 where
-  pub taken : List MessageRead
-  pub waiting : List MessageRead
-  pub all : messages ≡ taken ++ waiting
-  pub turns : ts ≡ turns_in_order 0 first_host.kept taken
+-- what these turns have delivered to instances, in order
+abbrev pub delivered_in_order : ℕ → ℕ → Kept → List Entry → List DeliveryView
+delivered_in_order meter n k [] = []
+delivered_in_order meter n k (e ∷ es) = (turn_of meter (n + 1) k e).deliveries ++ delivered_in_order meter (n + 1) (turn_of meter (n + 1) k e).kept es
+
+-- First in first out: of all that was appended to the queue the turns are those of the first entries, one for each, in their order, and the others are left. What was appended are the messages of the lines, in the order of these, and what the turns delivered to instances, in the order of those.
+pub record AreInOrder (meter : ℕ) (messages : List MessageRead) (ts : List TurnRecord) (left : ℕ) : Type 0 where
+  pub taken : List Entry
+  pub waiting : List Entry
+  pub said : messages_in (taken ++ waiting) ≡ messages
+  pub owed : deliveries_in (taken ++ waiting) ≡ delivered_in_order meter 0 first_kept taken
+  pub turns : ts ≡ turns_in_order meter 0 first_kept taken
   pub left_are : left ≡ length waiting
 
 -- the rows of the first turns were appended, whole, and nothing else

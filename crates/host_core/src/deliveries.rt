@@ -1,37 +1,48 @@
-//! What a message comes to when it is delivered: its paths are resolved, its call is worked, and the
-//! turn's record is made. Its one contract is `turn_of`'s: the turn and what is kept after it are those
-//! that the message has by definition, or, for want of memory, all is as before.
+//! What an entry of the queue comes to when its turn comes: of a call the paths are resolved and the
+//! method is worked; of a give the name is bound; of what is delivered to an instance the function is run.
+//! Its one contract is `turn_of`'s: the turn, what is kept after it, and what it appends to the queue are
+//! those that the entry has by definition, or, for want of memory, all is as before.
 
-ghost use Rattle.std.specs.Prelude.{◌≡◌, ◌<◌, ℕ, [], All, length, map, Some, IfErr, IfOk, OnErr, OnOk};
+ghost use Rattle.std.specs.Prelude.{◌≡◌, ◌<◌, ◌≤◌, ◌++◌, ◌∷◌, ℕ, [], All, false, length, map, option_map, Some, IfErr, IfOk, OnErr, OnOk};
 ghost use Rattle.jessie_tree.specs.View.{tree, trees};
 ghost use Rattle.host_core.specs.Deliveries as deliveries;
 ghost use Rattle.jessie_tree.specs.Tree.{null};
-ghost use Rattle.host_core.specs.Deliveries.{addressed, came_to, free_label, kept_of, labelled, world_at};
-ghost use Rattle.host_core.specs.Delivered.{IsFree, IsReady, IsSteady, kept_with};
+ghost use Rattle.host_core.specs.Deliveries.{addressed, answer_shown, came_to, ended, free_label, kept_of, labelled, named_delivery, told_of, world_at};
+ghost use Rattle.host_core.specs.Delivered.{HasCome, IsEntryInOrder, IsFree, IsInOrder, IsSteady, kept_with};
+ghost use Rattle.host_core.specs.MessageLines as lines;
 ghost use Rattle.host_core.specs.MessageLines.{call_view, give_view, message_view};
+ghost use Rattle.host_core.specs.Queues.{deliveries_in, entry_view, room_of, to_instance, waiting};
 ghost use Rattle.call_data.specs.Outcomes.{Gives};
-ghost use Rattle.vault.specs.Parties.{labels_of, with_label};
+ghost use Rattle.vault.specs.Parties.{Labels, labels_of, with_label};
 ghost use Rattle.journal_text.specs.Turns as turns;
 ghost use Rattle.journal_text.specs.Turns.{Delivery, answer_of, delivery_of, message, service, turn_view};
 ghost use Rattle.promises.specs.Turns.{promises_of};
+ghost use Rattle.vault.specs.Drafts.{HandIsEmpty};
 ghost use Rattle.vault.specs.InstanceDeliveries.{delivery_view};
 ghost use Rattle.vault.specs.Sums.{sums_of};
-ghost use Rattle.vault.specs.Worlds.{IsValid, Keeps, rested, world_of};
+ghost use Rattle.vault.specs.Waiting.{AreWaiting};
+ghost use Rattle.vault.specs.Worlds.{IsValid, Keeps, begins, ends, goes_back, rested, world_of};
+ghost use Rattle.zcf_calls.specs.Due.{IsDue};
+ghost use Rattle.zcf_calls.specs.InstanceTurns.{spends, spent_world};
 ghost use Rattle.zoe_service.specs.Rows.{served};
+ghost use Rattle.zoe_service.specs.Served.{CanServe};
 ghost use Rattle.zoe_service.specs.Services as services;
-ghost use Rattle.journal_text.specs.declared.turns.Delivered;
+ghost use Rattle.journal_text.specs.declared.turns.Delivered.{Delivered};
 
 use crate::message_lines::{Call, Give, Message};
+use crate::turn_queue::{Queued, TurnQueue};
 use call_data::refusals::{Refusal, Stop};
 use host_text::text::Text;
 use jessie_tree::data::{self, Data, Obj};
-use journal_text::turns::{Answer, Delivered, GivenName, ServiceCall, Turn};
+use journal_text::turns::{Answer, Delivered, GivenName, HandlerCall, ServiceCall, Turn};
 use promises::Promises;
 use rights_model::Sum;
 use std::alloc::{AllocError, Global};
 use vault::instance_deliveries::InstanceDelivery;
 use vault::parties::Parties;
 use vault::world::{Resting, World};
+use zcf_calls::turn_answers::TurnAnswer;
+use zcf_calls::turns::{work_delivery, work_spent};
 use zoe_service::serve::serve;
 
 /// The most that data nests.
@@ -130,12 +141,26 @@ fn bind_answer(
     }
 }
 
+/// The sums at a turn's end; and the queue has room for what the turn has delivered to instances.
+fn sums_and_room(world: &World, queue: &mut TurnQueue) -> Result<Vec<Sum>, AllocError>
+    requires valid { IsValid (world_of world.now) }
+    requires made { All (λ m. m.brand < length world.now.draft.now.supplies) world.now.draft.movements }
+    ensures sums { IfOk result (λ sums. sums.items ≡ sums_of world.now.draft.now world.now.draft.movements) }
+    ensures waiting { waiting queue.new ≡ waiting queue.old }
+    ensures kept { room_of queue.old ≤ room_of queue.new }
+    ensures room { OnOk result (length world.now.deliveries.items ≤ room_of queue.new) }
+{
+    queue.reserve(world.deliveries.len())?;
+    world.sums()
+}
+
 /// What is told of a call that was answered: the answer, and the sums. The label for the answer is
 /// bound last.
 fn answered(
     alloc: Global,
     world: &World,
     parties: &mut Parties,
+    queue: &mut TurnQueue,
     call: &Call,
     answer: Data,
 ) -> Result<(Answer, Vec<Sum>), AllocError>
@@ -145,9 +170,12 @@ fn answered(
     ensures answer { IfOk result (λ (given, _). answer_of given ≡ turns.answered (tree answer)) }
     ensures sums { IfOk result (λ (_, sums). sums.items ≡ sums_of world.now.draft.now world.now.draft.movements) }
     ensures labels { OnOk result (labels_of parties.new ≡ labelled (labels_of parties.old) call.now.by call.now.label (tree answer)) }
+    ensures waiting { waiting queue.new ≡ waiting queue.old }
+    ensures kept { room_of queue.old ≤ room_of queue.new }
+    ensures room { OnOk result (length world.now.deliveries.items ≤ room_of queue.new) }
     ensures err { OnErr result (labels_of parties.new ≡ labels_of parties.old) }
 {
-    let sums = world.sums()?;
+    let sums = sums_and_room(world, queue)?;
     bind_answer(alloc, parties, call, &answer)?;
     Ok((Answer::Given(answer), sums))
 }
@@ -159,32 +187,56 @@ fn worked(
     alloc: Global,
     world: &mut World,
     parties: &mut Parties,
+    queue: &mut TurnQueue,
     call: &Call,
     service: &ServiceCall,
 ) -> Result<(Answer, Vec<Sum>), AllocError>
     requires begun { world_of world.old ≡ world_at (kept_of (world_of world.old) (labels_of parties.old)) }
-    requires ready { IsReady (world_of world.old) service.now.on (trees service.now.arguments.items) }
+    requires ready { CanServe (world_of world.old) service.now.on (trees service.now.arguments.items) }
     requires free { IsFree (labels_of parties.old) call.now.by call.now.label }
     requires method { service.now.method ≡ call.now.method }
-    ensures turn { IfOk result (λ (answer, sums). (number : ℕ) (delivery : Delivery) → (kept_of (world_of world.new) (labels_of parties.new), record { number = number; delivery = delivery; answer = answer_of answer; events = (world_of world.new).log; sums = sums.items }) ≡ came_to number delivery (call_view call.now) (kept_of (world_of world.old) (labels_of parties.old)) (served (world_of world.old) (services.serve (world_of world.old) service.now.on call.now.method (trees service.now.arguments.items)))) }
+    ensures turn { IfOk result (λ (answer, sums). (number : ℕ) (delivery : Delivery) → record { kept = kept_of (world_of world.new) (labels_of parties.new); deliveries = (world_of world.new).deliveries; turn = record { number = number; delivery = delivery; answer = answer_of answer; events = (world_of world.new).log; sums = sums.items } } ≡ came_to number delivery (call_view call.now) (kept_of (world_of world.old) (labels_of parties.old)) (served (world_of world.old) (services.serve (world_of world.old) service.now.on call.now.method (trees service.now.arguments.items)))) }
     ensures valid { OnOk result (IsValid (world_of world.new)) }
-    ensures undelivered { OnOk result ((world_of world.new).deliveries ≡ []) }
     ensures keeps { Keeps (world_of world.old) (world_of world.new) }
+    ensures waiting { waiting queue.new ≡ waiting queue.old }
+    ensures kept { room_of queue.old ≤ room_of queue.new }
+    ensures room { OnOk result (length world.new.deliveries.items ≤ room_of queue.new) }
     ensures err { OnErr result (labels_of parties.new ≡ labels_of parties.old) }
 {
     match serve(alloc, world, service.on, &call.method, &service.arguments) {
-        Ok(answer) => answered(alloc, world, parties, call, answer),
+        Ok(answer) => answered(alloc, world, parties, queue, call, answer),
         Err(Stop::Refused(refusal)) => Ok((Answer::Refused(refusal), Vec::new(alloc))),
         Err(Stop::NoMemory) => Err(AllocError),
     }
 }
 
-/// Lets go of what a turn has delivered to instances, which is nothing: no call has anything delivered
-/// so far.
-fn none_delivered(deliveries: Vec<InstanceDelivery>)
-    requires { map delivery_view deliveries.items ≡ [] }
+/// Ends a turn, and keeps what it did: what lies there after it, its record, and in the queue what it has
+/// delivered to instances.
+fn end_turn(
+    world: World,
+    queue: &mut TurnQueue,
+    number: u32,
+    delivered: Delivered,
+    answer: Answer,
+    sums: Vec<Sum>,
+) -> (Resting, Turn)
+    requires unspoiled { world.draft.spoiled ≡ false }
+    requires hand { HandIsEmpty world.draft }
+    requires room { length world.deliveries.items ≤ room_of queue.old }
+    ensures rested { rested result.0 ≡ ends (world_of world) }
+    ensures turn { turn_view result.1 ≡ record { number = number; delivery = delivery_of delivered; answer = answer_of answer; events = (world_of world).log; sums = sums.items } }
+    ensures appended { waiting queue.new ≡ waiting queue.old ++ map to_instance (world_of world).deliveries }
 {
-    drop(deliveries);
+    let (resting, deliveries, log) = world.commit();
+    queue.append_reserved(deliveries);
+    let turn = Turn {
+        number,
+        delivered,
+        answer,
+        events: log.into_events(),
+        sums,
+    };
+    (resting, turn)
 }
 
 /// The call as its turn's record has it.
@@ -212,32 +264,24 @@ fn service_turn(
     alloc: Global,
     resting: Resting,
     parties: &mut Parties,
+    queue: &mut TurnQueue,
     call: &Call,
     service: ServiceCall,
     number: u32,
 ) -> Result<(Resting, Turn), Resting>
-    requires ready { IsReady (world_at (kept_with resting (labels_of parties.old))) service.on (trees service.arguments.items) }
+    requires ready { CanServe (world_at (kept_with resting (labels_of parties.old))) service.on (trees service.arguments.items) }
     requires free { IsFree (labels_of parties.old) call.now.by call.now.label }
     requires method { service.method ≡ call.now.method }
-    ensures turn { IfOk result (λ (kept, turn). (kept_with kept (labels_of parties.new), turn_view turn) ≡ came_to number (delivery_of (Delivered.Service service)) (call_view call.now) (kept_with resting (labels_of parties.old)) (served (world_at (kept_with resting (labels_of parties.old))) (services.serve (world_at (kept_with resting (labels_of parties.old))) service.on call.now.method (trees service.arguments.items)))) }
+    ensures turn { IfOk result (λ (kept, turn). HasCome (kept_with kept (labels_of parties.new)) (turn_view turn) (waiting queue.old) (waiting queue.new) (came_to number (delivery_of (Delivered.Service service)) (call_view call.now) (kept_with resting (labels_of parties.old)) (served (world_at (kept_with resting (labels_of parties.old))) (services.serve (world_at (kept_with resting (labels_of parties.old))) service.on call.now.method (trees service.arguments.items))))) }
     ensures back { IfErr result (λ kept. kept_with kept (labels_of parties.new) ≡ kept_with resting (labels_of parties.old)) }
+    ensures waiting { OnErr result (waiting queue.new ≡ waiting queue.old) }
+    ensures kept { OnErr result (room_of queue.old ≤ room_of queue.new) }
 {
-    let mut world = match World::begin(alloc, resting) {
-        Ok(world) => world,
-        Err(resting) => return Err(resting),
-    };
-    match worked(alloc, &mut world, parties, call, &service) {
+    let mut world = World::begin(alloc, resting)?;
+    match worked(alloc, &mut world, parties, queue, call, &service) {
         Ok((answer, sums)) => {
-            let (resting, deliveries, log) = world.commit();
-            none_delivered(deliveries);
-            let turn = Turn {
-                number,
-                delivered: Delivered::Service(service),
-                answer,
-                events: log.into_events(),
-                sums,
-            };
-            Ok((resting, turn))
+            let delivered = Delivered::Service(service);
+            Ok(end_turn(world, queue, number, delivered, answer, sums))
         }
         Err(_) => Err(world.undo()),
     }
@@ -248,16 +292,20 @@ fn call_turn(
     alloc: Global,
     resting: Resting,
     parties: &mut Parties,
+    queue: &mut TurnQueue,
     call: &Call,
     number: u32,
 ) -> Result<(Resting, Turn), Resting>
-    requires { IsSteady (kept_with resting (labels_of parties.old)) }
-    ensures turn { IfOk result (λ (kept, turn). (kept_with kept (labels_of parties.new), turn_view turn) ≡ deliveries.call_turn number (call_view call.now) (kept_with resting (labels_of parties.old)) (addressed (rested resting).promises (labels_of parties.old) (call_view call.now))) }
+    requires steady { IsSteady (kept_with resting (labels_of parties.old)) }
+    requires ordered { IsInOrder (lines.call (call_view call.now)) }
+    ensures turn { IfOk result (λ (kept, turn). HasCome (kept_with kept (labels_of parties.new)) (turn_view turn) (waiting queue.old) (waiting queue.new) (deliveries.call_turn number (call_view call.now) (kept_with resting (labels_of parties.old)) (addressed (rested resting).promises (labels_of parties.old) (call_view call.now)))) }
     ensures back { IfErr result (λ kept. kept_with kept (labels_of parties.new) ≡ kept_with resting (labels_of parties.old)) }
+    ensures waiting { OnErr result (waiting queue.new ≡ waiting queue.old) }
+    ensures kept { OnErr result (room_of queue.old ≤ room_of queue.new) }
 {
     match address(alloc, &resting.promises, parties, call) {
         Ok((on, arguments)) => match service_call(alloc, call, on, arguments) {
-            Ok(service) => service_turn(alloc, resting, parties, call, service, number),
+            Ok(service) => service_turn(alloc, resting, parties, queue, call, service, number),
             Err(_) => Err(resting),
         },
         Err(Stop::Refused(refusal)) => {
@@ -330,7 +378,7 @@ fn give_turn(
     give: &Give,
     number: u32,
 ) -> Result<Turn, AllocError>
-    ensures turn { IfOk result (λ turn. (kept_with resting.now (labels_of parties.new), turn_view turn) ≡ deliveries.give_turn number (give_view give.now) (kept_with resting.now (labels_of parties.old)) (deliveries.given_by (rested resting.now).promises (labels_of parties.old) (give_view give.now))) }
+    ensures turn { IfOk result (λ turn. record { kept = kept_with resting.now (labels_of parties.new); deliveries = []; turn = turn_view turn } ≡ deliveries.give_turn number (give_view give.now) (kept_with resting.now (labels_of parties.old)) (deliveries.given_by (rested resting.now).promises (labels_of parties.old) (give_view give.now))) }
     ensures err { OnErr result (labels_of parties.new ≡ labels_of parties.old) }
 {
     match given_by(alloc, &resting.promises, parties, give) {
@@ -344,20 +392,24 @@ fn give_turn(
 
 /// The turn of a message, which has the number, and what is kept after it; or, for want of memory, what
 /// was kept.
-#[tactic(auto, unfolding(crate::specs::Deliveries::turn_of))]
-pub(crate) fn turn_of(
+#[tactic(auto, unfolding(crate::specs::Deliveries::message_turn))]
+fn line_turn(
     alloc: Global,
     resting: Resting,
     parties: &mut Parties,
+    queue: &mut TurnQueue,
     message: &Message,
     number: u32,
 ) -> Result<(Resting, Turn), Resting>
-    requires { IsSteady (kept_with resting (labels_of parties.old)) }
-    ensures turn { IfOk result (λ (kept, turn). (kept_with kept (labels_of parties.new), turn_view turn) ≡ deliveries.turn_of number (kept_with resting (labels_of parties.old)) (message_view message.now)) }
+    requires steady { IsSteady (kept_with resting (labels_of parties.old)) }
+    requires ordered { IsInOrder (message_view message.now) }
+    ensures turn { IfOk result (λ (kept, turn). HasCome (kept_with kept (labels_of parties.new)) (turn_view turn) (waiting queue.old) (waiting queue.new) (deliveries.message_turn number (kept_with resting (labels_of parties.old)) (message_view message.now))) }
     ensures back { IfErr result (λ kept. kept_with kept (labels_of parties.new) ≡ kept_with resting (labels_of parties.old)) }
+    ensures waiting { OnErr result (waiting queue.new ≡ waiting queue.old) }
+    ensures kept { OnErr result (room_of queue.old ≤ room_of queue.new) }
 {
     match message {
-        Message::Call(call) => call_turn(alloc, resting, parties, call, number),
+        Message::Call(call) => call_turn(alloc, resting, parties, queue, call, number),
         Message::Give(give) => match give_turn(alloc, &resting, parties, give, number) {
             Ok(turn) => Ok((resting, turn)),
             Err(_) => Err(resting),
@@ -369,5 +421,155 @@ pub(crate) fn turn_of(
             )),
             Err(_) => Err(resting),
         },
+    }
+}
+
+/// A delivery to an instance as its turn's record has it.
+fn instance_call(alloc: Global, delivery: &InstanceDelivery) -> Result<Delivered, AllocError>
+    ensures { IfOk result (λ made. delivery_of made ≡ named_delivery (delivery_view delivery.now)) }
+{
+    match delivery {
+        InstanceDelivery::Start(start) => Ok(Delivered::Start(start.instance)),
+        InstanceDelivery::Offer(offer) => Ok(Delivered::Handler(HandlerCall {
+            instance: offer.instance,
+            seat: offer.seat,
+            function: offer.function.copy(alloc)?,
+            offer_arguments: offer.offer_arguments.copy(alloc)?,
+        })),
+    }
+}
+
+/// What a turn's row shows of what an instance answered, unless it spent its meter.
+fn told_answer(answer: TurnAnswer) -> Option<Answer>
+    ensures { option_map (λ told. answer_of told) result ≡ answer_shown answer }
+{
+    match answer {
+        TurnAnswer::Given(given) => Some(Answer::Given(given)),
+        TurnAnswer::Refused(refusal) => Some(Answer::Refused(refusal)),
+        TurnAnswer::Threw(thrown) => Some(Answer::Threw(thrown)),
+        TurnAnswer::Spent => None,
+    }
+}
+
+/// What is told of a delivery to an instance beside its answer and what happened: how the row names it,
+/// and the sums.
+fn told(
+    alloc: Global,
+    world: &World,
+    queue: &mut TurnQueue,
+    delivery: &InstanceDelivery,
+) -> Result<(Delivered, Vec<Sum>), AllocError>
+    requires valid { IsValid (world_of world.now) }
+    requires made { All (λ m. m.brand < length world.now.draft.now.supplies) world.now.draft.movements }
+    ensures delivered { IfOk result (λ (delivered, _). delivery_of delivered ≡ named_delivery (delivery_view delivery.now)) }
+    ensures sums { IfOk result (λ (_, sums). sums.items ≡ sums_of world.now.draft.now world.now.draft.movements) }
+    ensures waiting { waiting queue.new ≡ waiting queue.old }
+    ensures kept { room_of queue.old ≤ room_of queue.new }
+    ensures room { OnOk result (length world.now.deliveries.items ≤ room_of queue.new) }
+{
+    let delivered = instance_call(alloc, delivery)?;
+    let sums = sums_and_room(world, queue)?;
+    Ok((delivered, sums))
+}
+
+/// Ends the turn of an instance with its answer; or, for want of memory, undoes it.
+fn end_instance_turn(
+    alloc: Global,
+    world: World,
+    queue: &mut TurnQueue,
+    delivery: &InstanceDelivery,
+    answer: Answer,
+    number: u32,
+) -> Result<(Resting, Turn), Resting>
+    requires valid { IsValid (world_of world) }
+    requires made { All (λ m. m.brand < length world.draft.now.supplies) world.draft.movements }
+    requires hand { HandIsEmpty world.draft }
+    ensures turn { IfOk result (λ (kept, turn). (labels : Labels) → HasCome (kept_with kept labels) (turn_view turn) (waiting queue.old) (waiting queue.new) (told_of number (named_delivery (delivery_view delivery.now)) (answer_of answer) labels (world_of world))) }
+    ensures back { IfErr result (λ kept. rested kept ≡ goes_back (world_of world)) }
+    ensures waiting { OnErr result (waiting queue.new ≡ waiting queue.old) }
+    ensures kept { OnErr result (room_of queue.old ≤ room_of queue.new) }
+{
+    match told(alloc, &world, queue, delivery) {
+        Ok((delivered, sums)) => Ok(end_turn(world, queue, number, delivered, answer, sums)),
+        Err(_) => Err(world.undo()),
+    }
+}
+
+/// The turn of a delivery that spent its meter, over what lay at the turn's start: the instance halts, its
+/// open seats leave, and the delivery's promise is broken.
+fn spent_turn(
+    alloc: Global,
+    resting: Resting,
+    queue: &mut TurnQueue,
+    delivery: &InstanceDelivery,
+    meter: u32,
+    number: u32,
+) -> Result<(Resting, Turn), Resting>
+    requires valid { IsValid (begins (rested resting)) }
+    requires due { IsDue (begins (rested resting)) (delivery_view delivery.now) }
+    ensures turn { IfOk result (λ (kept, turn). (labels : Labels) → HasCome (kept_with kept labels) (turn_view turn) (waiting queue.old) (waiting queue.new) (ended number (delivery_view delivery.now) labels (spends meter, spent_world meter (delivery_view delivery.now) (begins (rested resting))))) }
+    ensures back { IfErr result (λ kept. rested kept ≡ rested resting) }
+    ensures waiting { OnErr result (waiting queue.new ≡ waiting queue.old) }
+    ensures kept { OnErr result (room_of queue.old ≤ room_of queue.new) }
+{
+    let mut world = World::begin(alloc, resting)?;
+    match work_spent(alloc, &mut world, delivery, meter) {
+        Ok(()) => end_instance_turn(alloc, world, queue, delivery, Answer::Spent(meter), number),
+        Err(_) => Err(world.undo()),
+    }
+}
+
+/// The turn of a delivery to an instance, and what is kept after it; or, for want of memory, what was
+/// kept. After a spent meter all that the turn did is undone first.
+fn delivery_turn(
+    alloc: Global,
+    resting: Resting,
+    queue: &mut TurnQueue,
+    delivery: &InstanceDelivery,
+    meter: u32,
+    number: u32,
+) -> Result<(Resting, Turn), Resting>
+    requires valid { IsValid (begins (rested resting)) }
+    requires due { IsDue (begins (rested resting)) (delivery_view delivery.now) }
+    ensures turn { IfOk result (λ (kept, turn). (labels : Labels) → HasCome (kept_with kept labels) (turn_view turn) (waiting queue.old) (waiting queue.new) (deliveries.delivery_turn meter number (kept_with resting labels) (delivery_view delivery.now))) }
+    ensures back { IfErr result (λ kept. rested kept ≡ rested resting) }
+    ensures waiting { OnErr result (waiting queue.new ≡ waiting queue.old) }
+    ensures kept { OnErr result (room_of queue.old ≤ room_of queue.new) }
+{
+    let world = World::begin(alloc, resting)?;
+    let (world, answer) = work_delivery(alloc, world, delivery, meter);
+    let Ok(answer) = answer else {
+        return Err(world.undo());
+    };
+    match told_answer(answer) {
+        Some(answer) => end_instance_turn(alloc, world, queue, delivery, answer, number),
+        None => spent_turn(alloc, world.undo(), queue, delivery, meter, number),
+    }
+}
+
+/// The turn of an entry, which has the number, and what is kept after it; or, for want of memory, what
+/// was kept. What the turn has delivered to instances is appended to the queue.
+pub(crate) fn turn_of(
+    alloc: Global,
+    resting: Resting,
+    parties: &mut Parties,
+    queue: &mut TurnQueue,
+    entry: &Queued,
+    meter: u32,
+    number: u32,
+) -> Result<(Resting, Turn), Resting>
+    requires steady { IsSteady (kept_with resting (labels_of parties.old)) }
+    requires ordered { IsEntryInOrder (entry_view entry.now) }
+    requires due { AreWaiting (begins (rested resting)) (deliveries_in (entry_view entry.now ∷ waiting queue.old)) }
+    ensures turn { IfOk result (λ (kept, turn). HasCome (kept_with kept (labels_of parties.new)) (turn_view turn) (waiting queue.old) (waiting queue.new) (deliveries.turn_of meter number (kept_with resting (labels_of parties.old)) (entry_view entry.now))) }
+    ensures back { IfErr result (λ kept. kept_with kept (labels_of parties.new) ≡ kept_with resting (labels_of parties.old)) }
+    ensures waiting { OnErr result (waiting queue.new ≡ waiting queue.old) }
+    ensures kept { OnErr result (room_of queue.old ≤ room_of queue.new) }
+{
+    match entry {
+        Queued::Line(message) => line_turn(alloc, resting, parties, queue, message, number),
+        Queued::Instance(delivery) => {
+            delivery_turn(alloc, resting, queue, delivery, meter, number)
+        }
     }
 }

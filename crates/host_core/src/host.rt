@@ -1,5 +1,5 @@
 //! The host: what lies between turns, and the queue. Its one contract is the step's: it is the turn of
-//! the message in front, as that is defined, or nothing happened.
+//! the entry in front, as that is defined, or nothing happened.
 
 ghost use Rattle.std.specs.Prelude.{◌≡◌, ◌<◌, ◌≤◌, ◌+◌, IsTrue, is_some, length, IfOk};
 
@@ -40,6 +40,8 @@ pub const MOST_TURNS: u32 = 4_000_000_000;
 /// (specs/Hosts.antt).
 #[derive(Debug, Drop)]
 pub struct Host {
+    /// What a contract's function may cost at most.
+    meter: u32,
     resting: Option<Resting>,
     parties: Parties,
     queue: TurnQueue,
@@ -48,15 +50,18 @@ pub struct Host {
 }
 
 impl Host {
-    ghost use Rattle.host_core.specs.Hosts.{IsStep, IsSubmitted, IsValidHost, first_host, host_view};
+    ghost use Rattle.host_core.specs.Hosts.{IsStep, IsSubmitted, IsValidHost, first_host, host_view, most_meter};
 
-    /// A new host, which has the brand of invitations and no right.
-    pub fn new(alloc: Global) -> Result<Host, AllocError>
-        ensures host { IfOk result (λ host. host_view host ≡ first_host) }
+    /// A new host, which has the brand of invitations and no right. Functions of contracts run under the
+    /// meter, which is at most 10,000,000 (our own).
+    pub fn new(alloc: Global, meter: u32) -> Result<Host, AllocError>
+        requires { meter ≤ most_meter }
+        ensures host { IfOk result (λ host. host_view host ≡ first_host meter) }
         ensures valid { IfOk result (λ host. IsValidHost (host_view host)) }
     {
         let resting = Resting::first(alloc)?;
         Ok(Host {
+            meter,
             resting: Some(resting),
             parties: Parties::new(alloc),
             queue: TurnQueue::new(alloc),
@@ -67,7 +72,6 @@ impl Host {
     /// Appends the message that a line means, if it means one. A bad line is a message too, which is
     /// refused when it is delivered. A run line is answered, and left to the caller. On an error all is
     /// as before.
-    #[tactic(auto, using(crate::proofs::RunStarts::queue_keeps_valid))]
     pub fn submit(&mut self, alloc: Global, line: &[u8]) -> Result<Submitted, AllocError>
         ensures submitted { IsSubmitted (host_view self.old) (host_view self.new) line.now result }
         ensures valid { IsValidHost (host_view self.old) → IsValidHost (host_view self.new) }
@@ -82,38 +86,41 @@ impl Host {
         }
     }
 
-    /// The turn of the message in front, or `None` exactly where none waits. Where turn 4,000,000,000
-    /// was run and a message is left, and for want of memory, the host is as it was, with the message
-    /// in front.
+    /// The turn of the entry in front, or `None` exactly where none waits. Where turn 4,000,000,000
+    /// was run and an entry is left, and for want of memory, the host is as it was, with the entry in
+    /// front.
     pub fn step(&mut self, alloc: Global) -> Result<Option<Turn>, StepFault>
         requires valid { IsValidHost (host_view self.old) }
         ensures step { IsStep (host_view self.old) (host_view self.new) result }
         ensures valid { IsValidHost (host_view self.new) }
     {
-        let Some(message) = self.queue.front() else {
+        let Some(entry) = self.queue.pop() else {
             return Ok(None);
         };
         if self.turns >= MOST_TURNS {
+            self.queue.put_back(entry);
             return Err(StepFault::TurnLimit);
         }
         let Some(resting) = self.resting.take() else {
             unreachable!()
         };
-        match turn_of(alloc, resting, &mut self.parties, message, self.turns + 1) {
+        let number = self.turns + 1;
+        let (parties, queue) = (&mut self.parties, &mut self.queue);
+        match turn_of(alloc, resting, parties, queue, &entry, self.meter, number) {
             Ok((resting, turn)) => {
                 self.resting = Some(resting);
-                self.queue.pop();
-                self.turns += 1;
+                self.turns = number;
                 Ok(Some(turn))
             }
             Err(resting) => {
                 self.resting = Some(resting);
+                self.queue.put_back(entry);
                 Err(StepFault::NoMemory)
             }
         }
     }
 
-    /// How many messages wait.
+    /// How many entries wait.
     pub fn waiting(&self) -> u64
         ensures { result ≡ length (host_view self.now).queue }
     {

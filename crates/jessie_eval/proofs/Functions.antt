@@ -15,7 +15,7 @@ use Rattle.jessie_rules.proofs.Plays.{follows}
 use Rattle.jessie_rules.proofs.Known.{all_more}
 use Rattle.jessie_rules.proofs.Runs.{bind_computes, stop_computes, within_runs}
 use Rattle.jessie_rules.proofs.Safe.{stmt_safe, calls_safe, pairs_have}
-use Rattle.jessie_rules.proofs.Licence.{closed_within}
+use Rattle.jessie_rules.proofs.Licence.{closed_within, statement_within}
 use Rattle.jessie_rules.proofs.Came.{CameTo, came_known, a_tree, an_end}
 use Rattle.jessie_eval.specs.Ends.{end_of}
 use Rattle.jessie_eval.specs.Machine.{program, state, Knows}
@@ -55,7 +55,7 @@ pub stmt_came : {K L : Known} {X : Type 0} {d e : List Exchange} {rs : List Rout
     → Knows K rs s → Runs K L X d e (stmt (program rs room) a) s (came v) u → Knows L rs u
 stmt_came {K} {L} {rs = rs} room a n r =
     let fs = functions_more K L (r.hears tt).keeps rs n.functions in
-    let h = came_known (an_end (Within L)) n.values (stmt_safe (Within L) (FieldsWithin L) (program rs room) (closed_within L rs fs) a) r in
+    let h = came_known (an_end (Within L)) n.values (stmt_safe (Within L) (FieldsWithin L) (program rs room) (closed_within L rs fs) a (statement_within L a)) r in
     record { functions = fs; values = h.1 }
 
 pub end_as : {K L : Known} {X : Type 0} {d e : List Exchange} {a : Action End} {s u : State} (x y : CodeEnd) → x ≡ y → Runs K L X d e a s (came (end_of x)) u → Runs K L X d e a s (came (end_of y)) u

@@ -15,7 +15,7 @@ use Rattle.jessie_rules.specs.Runs.{came, halted, throws, Runs, Computes}
 use Rattle.jessie_rules.proofs.Known.{within_more}
 use Rattle.jessie_rules.proofs.Runs.{pure_computes, throw_computes}
 use Rattle.jessie_rules.proofs.Safe.{expr_safe, exprs_safe, one_step_safe}
-use Rattle.jessie_rules.proofs.Licence.{closed_within}
+use Rattle.jessie_rules.proofs.Licence.{closed_within, term_within, terms_within, link_within}
 use Rattle.jessie_rules.proofs.Came.{came_known, a_tree, some_trees}
 use Rattle.jessie_eval.specs.Machine.{program, state, Knows}
 use Rattle.jessie_eval.specs.declared.machine.Machine.{Machine}
@@ -55,21 +55,21 @@ pub expr_came : {K L : Known} {X : Type 0} {d e : List Exchange} {rs : List Rout
     → Knows K rs s → Runs K L X d e (expr (program rs room) t) s (came v) u → Within L v × Knows L rs u
 expr_came {K} {L} {rs = rs} room t n r =
     let fs = functions_more K L (r.hears tt).keeps rs n.functions in
-    let h = came_known (a_tree (Within L)) n.values (expr_safe (Within L) (FieldsWithin L) (program rs room) (closed_within L rs fs) t) r in
+    let h = came_known (a_tree (Within L)) n.values (expr_safe (Within L) (FieldsWithin L) (program rs room) (closed_within L rs fs) t (term_within L t)) r in
     (h.0, record { functions = fs; values = h.1 })
 
 pub exprs_came : {K L : Known} {X : Type 0} {d e : List Exchange} {rs : List Routine} (room : ℕ) (ts : Terms) {s u : State} {vs : List Tree}
     → Knows K rs s → Runs K L X d e (exprs (program rs room) ts []) s (came vs) u → AllHave (Within L) vs × Knows L rs u
 exprs_came {K} {L} {rs = rs} room ts n r =
     let fs = functions_more K L (r.hears tt).keeps rs n.functions in
-    let h = came_known (some_trees (Within L)) n.values (exprs_safe (Within L) (FieldsWithin L) (program rs room) (closed_within L rs fs) ts [] tt) r in
+    let h = came_known (some_trees (Within L)) n.values (exprs_safe (Within L) (FieldsWithin L) (program rs room) (closed_within L rs fs) ts [] (terms_within L ts) tt) r in
     (h.0, record { functions = fs; values = h.1 })
 
 pub step_came : {K L : Known} {X : Type 0} {d e : List Exchange} {rs : List Routine} (room : ℕ) (a : Link) (w : Tree) {s u : State} {v : Tree}
     → Knows K rs s → Within K w → Runs K L X d e (one_step (program rs room) a w) s (came v) u → Within L v × Knows L rs u
 step_came {K} {L} {rs = rs} room a w n k r =
     let fs = functions_more K L (r.hears tt).keeps rs n.functions in
-    let h = came_known (a_tree (Within L)) n.values (one_step_safe (Within L) (FieldsWithin L) (program rs room) (closed_within L rs fs) a w (within_more K L (r.hears tt).keeps w k)) r in
+    let h = came_known (a_tree (Within L)) n.values (one_step_safe (Within L) (FieldsWithin L) (program rs room) (closed_within L rs fs) a w (link_within L a) (within_more K L (r.hears tt).keeps w k)) r in
     (h.0, record { functions = fs; values = h.1 })
 
 -- lists of parts, from some place on

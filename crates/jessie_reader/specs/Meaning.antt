@@ -2,6 +2,7 @@
 use Rattle.std.specs.Prelude.{◌≡◌, ℕ, ◌≤◌, ◌<◌, true, false, List, [], ◌++◌, length, codes, Some, None, Ok, Err}
 use Rattle.jessie_tokens.specs.declared.token.Token.{Token}
 use Rattle.jessie_tokens.specs.Lex.{cut}
+use Rattle.jessie_tree.specs.Syntax.{routines}
 use Rattle.jessie_tree.specs.declared.syntax.Module.{Module}
 use Rattle.jessie_grammar.specs.declared.event.Event.{Event}
 use Rattle.jessie_grammar.specs.declared.fault.Refusal.{Refusal}
@@ -10,6 +11,7 @@ use Rattle.jessie_grammar.specs.Words.{Limits, language_limits, no_limits}
 use Rattle.jessie_grammar.specs.Grammar as grammar
 use Rattle.jessie_grammar.specs.Laws.{NoneGoesOn, GoesOn}
 use Rattle.jessie_names.specs.Names.{first, is_function}
+use Rattle.jessie_rules.specs.Ranges.{IsModuleInRange, StartInRange}
 use Rattle.jessie_reader.specs.declared.read.TextRefusal.{TextRefusal}
 use Rattle.jessie_reader.specs.Read.{read, refusal, place_at}
 
@@ -48,3 +50,11 @@ pub data FirstRefusal (bytes : List ℕ) : TextRefusal → Type 0 where
 
 abbrev pub RefusesFirst : Type 0
 RefusesFirst = (bytes : List ℕ) (f : TextRefusal) → read bytes ≡ Err f → FirstRefusal bytes f
+
+-- what its functions write is in range, and what its state variables hold at first
+pub record IsInRange (m : Module) : Type 0 where
+  pub functions : IsModuleInRange (routines m)
+  pub variables : StartInRange m.variables
+
+abbrev pub ReadIsInRange : Type 0
+ReadIsInRange = (bytes : List ℕ) (m : Module) → read bytes ≡ Ok m → IsInRange m

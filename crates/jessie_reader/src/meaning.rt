@@ -1,5 +1,5 @@
 // What holds of reading a text.
-ghost use Rattle.jessie_reader.specs.Meaning.{ReadIsText, TextIsRead, OneModule, RefusesFirst};
+ghost use Rattle.jessie_reader.specs.Meaning.{ReadIsText, TextIsRead, OneModule, RefusesFirst, ReadIsInRange};
 
 /// What is read is a text of the language within its limits, and that module is its tree.
 pub fn read_is_text()
@@ -20,4 +20,10 @@ pub fn one_module()
 /// then the first fault of its names, then that it has no function `start`.
 pub fn refuses_first()
     ensures { RefusesFirst }
+{}
+
+/// What is read writes no number over 128 bits and no field that isn't named as fields are, and no
+/// state variable holds such data at first.
+pub fn read_is_in_range()
+    ensures { ReadIsInRange }
 {}

@@ -12,6 +12,7 @@ use Rattle.jessie_tree.specs.declared.syntax.Literal.TheVariants as l
 use Rattle.jessie_tree.specs.Syntax.{literal_tree, Routine}
 use Rattle.jessie_rules.specs.Rules.{placed, with_field}
 use Rattle.jessie_rules.specs.Form.{InForm}
+use Rattle.jessie_rules.proofs.Written.{routines_write}
 use Rattle.jessie_rules.proofs.Safe.{Closed}
 
 literal_form : (c : Literal) → InForm (literal_tree c)
@@ -52,11 +53,10 @@ shallow n h = grind arith
 
 pub closed_form : (rs : List Routine) → Closed InForm OrderedFields rs
 closed_form rs = record {
-  literals = literal_form;
+  written = routines_write _ _ literal_form (λ x v fs h i. with_field_ordered x v fs h.0 i) rs;
   nothing = (tt, omega arith);
   bad_steps = λ r. ((tt, refl, ((tt, tt), tt, tt)), omega arith);
   functions = λ f r e. (tt, omega arith);
   no_field = tt;
-  more_fields = λ x v fs h i. with_field_ordered x v fs h.0 i;
   records = λ fs h e. (h, shallow (nesting (fields fs)) e);
 }

@@ -7,3 +7,7 @@ pub mod Form
 pub mod Price
 pub mod Came
 pub mod Calls
+pub mod EachRule
+pub mod Counts
+pub mod Written
+pub mod Ranges

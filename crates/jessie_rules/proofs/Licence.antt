@@ -1,20 +1,20 @@
 -- What the rules make by themselves refers to nothing but the module's functions.
 use Rattle.std.proofs.Common.{ℕ, List, [], ◌∷◌, ◌++◌, Bool, true, false, cond, map, inl, inr, Option, Some, None, refl, subst}
 use Rattle.std.specs.Str.{bytes_eq}
-use Rattle.std.specs.declared.cmp.Ordering.{Ordering}
-use Rattle.std.specs.declared.cmp.Ordering.TheVariants.{Less, Equal, Greater}
 use Rattle.std.specs.Cmp.Lexicographic.{slice_cmp}
 use Rattle.std.specs.Ordering.{nat_cmp}
 use Rattle.jessie_tree.specs.Tree.{Tree, null, boolean, number, text, array, fields, object, function, Items, no_items, item, Fields, no_fields, field}
 use Rattle.jessie_tree.specs.declared.data.Obj.{Obj}
 use Rattle.jessie_tree.specs.declared.syntax.Literal.{Literal}
 use Rattle.jessie_tree.specs.declared.syntax.Literal.TheVariants as l
-use Rattle.jessie_tree.specs.Syntax.{literal_tree, Routine}
+use Rattle.jessie_tree.specs.Syntax.{literal_tree, Term, Terms, Link, Statement, Routine}
 use Rattle.jessie_rules.specs.Play.{Reply, given, refused, Exchange, Play, after, Follows, replies}
-use Rattle.jessie_rules.specs.Rules.{find_routine, placed, with_field, play}
+use Rattle.jessie_rules.specs.Rules.{find_routine, with_field, play}
 use Rattle.jessie_rules.specs.Keeping.{Known, to_object, to_function, Within, ItemsWithin, FieldsWithin, AllHave, RepliesHave, NextHas, FunctionsKnown}
 use Rattle.jessie_rules.specs.Licence.{Occurs, OccursItems, OccursFields, OccursAny, Handed, reply_tree, handed, Licensed}
-use Rattle.jessie_rules.proofs.Safe.{Closed, play_keeps}
+use Rattle.jessie_rules.specs.Written.{TermWrites, TermsWrite, LinkWrites, StatementWrites}
+use Rattle.jessie_rules.proofs.Written.{term_writes, terms_write, link_writes, statement_writes, routines_write}
+use Rattle.jessie_rules.proofs.Safe.{LiteralHas, NameHas, Closed, placed_has, play_keeps}
 
 literal_within : (K : Known) (c : Literal) → Within K (literal_tree c)
 literal_within K (l.Number z) = tt
@@ -22,14 +22,9 @@ literal_within K (l.Text t) = tt
 literal_within K (l.Bool b) = tt
 literal_within K l.Null = tt
 
-placed_within : (K : Known) (o : Ordering) (a b c : Fields) → FieldsWithin K a → FieldsWithin K b → FieldsWithin K c → FieldsWithin K (placed o a b c)
-placed_within K Less a b c h i j = h
-placed_within K Equal a b c h i j = i
-placed_within K Greater a b c h i j = j
-
 with_field_within : (K : Known) (x : List ℕ) (v : Tree) (fs : Fields) → Within K v → FieldsWithin K fs → FieldsWithin K (with_field x v fs)
 with_field_within K x v no_fields h i = (h, tt)
-with_field_within K x v (field y w fs) h i = placed_within K (slice_cmp nat_cmp x y) (field x v (field y w fs)) (field x v fs) (field y w (with_field x v fs)) (h, i) (h, i.1) (i.0, with_field_within K x v fs h i.1)
+with_field_within K x v (field y w fs) h i = placed_has (FieldsWithin K) (slice_cmp nat_cmp x y) (field x v (field y w fs)) (field x v fs) (field y w (with_field x v fs)) (h, i) (h, i.1) (i.0, with_field_within K x v fs h i.1)
 
 abbrev FunctionKnown : Known → Option Routine → Type 0
 FunctionKnown K None = Unit {0}
@@ -43,14 +38,30 @@ found_known : (K : Known) (f : List ℕ) (rs : List Routine) → FunctionsKnown 
 found_known K f [] h = tt
 found_known K f (r ∷ rs) h = chosen_known K (bytes_eq r.name f) r _ h.0 (found_known K f rs h.1)
 
+-- each literal, and each name of a field, may be written
+
+added_within : (K : Known) (x : List ℕ) → NameHas (Within K) (FieldsWithin K) x
+added_within K x v fs h i = with_field_within K x v fs h i
+
+pub term_within : (K : Known) (t : Term) → TermWrites (LiteralHas (Within K)) (NameHas (Within K) (FieldsWithin K)) t
+term_within K t = term_writes _ _ (literal_within K) (added_within K) t
+
+pub terms_within : (K : Known) (ts : Terms) → TermsWrite (LiteralHas (Within K)) (NameHas (Within K) (FieldsWithin K)) ts
+terms_within K ts = terms_write _ _ (literal_within K) (added_within K) ts
+
+pub link_within : (K : Known) (k : Link) → LinkWrites (LiteralHas (Within K)) (NameHas (Within K) (FieldsWithin K)) k
+link_within K k = link_writes _ _ (literal_within K) (added_within K) k
+
+pub statement_within : (K : Known) (a : Statement) → StatementWrites (LiteralHas (Within K)) (NameHas (Within K) (FieldsWithin K)) a
+statement_within K a = statement_writes _ _ (literal_within K) (added_within K) a
+
 pub closed_within : (K : Known) (rs : List Routine) → FunctionsKnown K rs → Closed (Within K) (FieldsWithin K) rs
 closed_within K rs h = record {
-  literals = λ c. literal_within K c;
+  written = routines_write _ _ (literal_within K) (added_within K) rs;
   nothing = tt;
   bad_steps = λ r. (tt, ((tt, tt), tt));
   functions = λ f r e. subst (λ o. FunctionKnown K o) e (found_known K f rs h);
   no_field = tt;
-  more_fields = λ x v fs w v2. with_field_within K x v fs w v2;
   records = λ fs v e. v;
 }
 

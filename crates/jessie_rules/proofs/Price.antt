@@ -1,14 +1,14 @@
 -- One evaluation from different meters: with x less it does the same, or is spent where it would have less
 -- than x left in the end.
-use Rattle.std.proofs.Common.{◌≡◌, ℕ, zero, suc, ◌+◌, ◌-◌, ◌<◌, ◌≤◌, ℤ, pos, List, [], ◌∷◌, Bool, true, false, cond, Option, Some, None, refl, sym, ap, subst, ◌∙◌, arith, ◌⊎◌, inl, inr}
+use Rattle.std.proofs.Common.{◌≡◌, ℕ, ◌+◌, ◌-◌, ◌<◌, ◌≤◌, ℤ, pos, List, [], ◌∷◌, Bool, true, false, cond, refl, sym, ap, subst, ◌∙◌, arith, ◌⊎◌, inl, inr}
 use Rattle.std.specs.Prelude.{nat_le}
-use Rattle.jessie_tree.specs.Tree.{Tree, number, Fields, fields, object_of, size, nesting}
-use Rattle.jessie_tree.specs.declared.data.Obj.{Obj}
-use Rattle.jessie_tree.specs.Syntax.{Term, literal, name, composed, linked, Terms, no_terms, term, NamedTerms, no_named, named_term, Link, method, Links, no_links, link, Statement, declare, give, give_nothing, run, Block, done, step, Routine}
-use Rattle.jessie_rules.specs.Play.{Call, Reply, given, refused, Ending, returned, threw, Play, Ends, Spends, Asks, after}
+use Rattle.jessie_tree.specs.Tree.{Tree, number}
+use Rattle.jessie_tree.specs.Syntax.{Routine}
+use Rattle.jessie_rules.specs.Play.{Call, Reply, Ending, returned, threw, Play, Ends, Spends, Asks, after}
 use Rattle.jessie_rules.specs.Actions.{Bindings, State, Flow, went, fails, Then, Action, pure, throw, onward, ◌>>=◌, charge, ask, bind, within}
-use Rattle.jessie_rules.specs.Rules.{Program, find_routine, named_value, found, value_of, heard, call_method, expr, exprs, named_exprs, behind, one_step, End, next, leaves, stmt, going_on, block, pairs, enter, calls_of, values_in, finish, play}
+use Rattle.jessie_rules.specs.Rules.{pairs, calls_of, values_in, finish, play}
 use Rattle.jessie_rules.specs.Price.{HasPrice}
+use Rattle.jessie_rules.proofs.EachRule.{OfActions, of_calls}
 
 -- an evaluation that tells, before the state values, what is left of its meter
 
@@ -117,34 +117,34 @@ Steady {A} x k = (f : Flow A) (t : State) → Cheaper x (k f (more x t)) (k f t)
 abbrev Parallel : {A : Type 0} → Then A → Then A → Type 0
 Parallel {A} k l = (f : Flow A) (t : State) → Told (k f t) (l f t)
 
-pub record Metered {A : Type 0} (a : Action A) : Type 0 where
-  pub falls : (x : ℕ) (s : State) (k : Then A) → s.meter < x → Falling x k → Doomed x (a s k)
-  pub steady : (x : ℕ) (s : State) (k : Then A) → Steady x k → Falling x k → Cheaper x (a (more x s) k) (a s k)
-  pub parallel : (s : State) (k l : Then A) → Parallel k l → Told (a s k) (a s l)
+record Metered (A : Type 0) (a : Action A) : Type 0 where
+  falls : (x : ℕ) (s : State) (k : Then A) → s.meter < x → Falling x k → Doomed x (a s k)
+  steady : (x : ℕ) (s : State) (k : Then A) → Steady x k → Falling x k → Cheaper x (a (more x s) k) (a s k)
+  parallel : (s : State) (k l : Then A) → Parallel k l → Told (a s k) (a s l)
 
-pure_metered : {A : Type 0} (a : A) → Metered (pure a)
+pure_metered : {A : Type 0} (a : A) → Metered A (pure a)
 unfolding pure
 pure_metered a = record { falls = λ x s k h d. d (went a) s h; steady = λ x s k g d. g (went a) s; parallel = λ s k l g. g (went a) s }
 
-throw_metered : {A : Type 0} (t : Tree) → Metered {A = A} (throw t)
+throw_metered : {A : Type 0} (t : Tree) → Metered A (throw t)
 unfolding throw
 throw_metered t = record { falls = λ x s k h d. d (fails t) s h; steady = λ x s k g d. g (fails t) s; parallel = λ s k l g. g (fails t) s }
 
-onward_falls : {A B : Type 0} (x : ℕ) (f : A → Action B) (k : Then B) → ((a : A) → Metered (f a)) → Falling x k → Falling x (onward f k)
+onward_falls : {A B : Type 0} (x : ℕ) (f : A → Action B) (k : Then B) → ((a : A) → Metered B (f a)) → Falling x k → Falling x (onward f k)
 onward_falls x f k g d (went a) t h = (g a).falls x t k h d
 onward_falls x f k g d (fails v) t h = d (fails v) t h
 
-onward_steady : {A B : Type 0} (x : ℕ) (f : A → Action B) (k : Then B) → ((a : A) → Metered (f a)) → Steady x k → Falling x k → Steady x (onward f k)
+onward_steady : {A B : Type 0} (x : ℕ) (f : A → Action B) (k : Then B) → ((a : A) → Metered B (f a)) → Steady x k → Falling x k → Steady x (onward f k)
 onward_steady x f k g z d (went a) t = (g a).steady x t k z d
 onward_steady x f k g z d (fails v) t = z (fails v) t
 
-onward_parallel : {A B : Type 0} (f : A → Action B) (k l : Then B) → ((a : A) → Metered (f a)) → Parallel k l → Parallel (onward f k) (onward f l)
+onward_parallel : {A B : Type 0} (f : A → Action B) (k l : Then B) → ((a : A) → Metered B (f a)) → Parallel k l → Parallel (onward f k) (onward f l)
 onward_parallel f k l g z (went a) t = (g a).parallel t k l z
 onward_parallel f k l g z (fails v) t = z (fails v) t
 
-bind_metered : {A B : Type 0} {a : Action A} (f : A → Action B) → Metered a → ((x : A) → Metered (f x)) → Metered (a >>= f)
+bind_metered : {A B : Type 0} (a : Action A) (f : A → Action B) → Metered A a → ((x : A) → Metered B (f x)) → Metered B (a >>= f)
 unfolding ◌>>=◌
-bind_metered f h g = record {
+bind_metered a f h g = record {
   falls = λ x s k m d. h.falls x s (onward f k) m (onward_falls x f k g d);
   steady = λ x s k z d. h.steady x s (onward f k) (onward_steady x f k g z d) (onward_falls x f k g d);
   parallel = λ s k l z. h.parallel s (onward f k) (onward f l) (onward_parallel f k l g z);
@@ -180,7 +180,7 @@ picked : (b : Bool) (p q : Play) → Told p q → Told (cond b p Spends) (cond b
 picked true p q h = h
 picked false p q h = tt
 
-charge_metered : (n : ℕ) → Metered (charge n)
+charge_metered : (n : ℕ) → Metered _ (charge n)
 unfolding charge
 charge_metered n = record {
   falls = λ x s k h d. pays x n s k h d (nat_le n s.meter);
@@ -188,92 +188,40 @@ charge_metered n = record {
   parallel = λ s k l g. picked (nat_le n s.meter) _ _ (g (went tt) _);
 }
 
-ask_metered : (c : Call) → Metered (ask c)
+ask_metered : (c : Call) → Metered _ (ask c)
 unfolding ask
 ask_metered c = record { falls = λ x s k h d r. d (went r) s h; steady = λ x s k g d. (refl, λ r. g (went r) s); parallel = λ s k l g. (refl, λ r. g (went r) s) }
 
-declare_metered : (y : List ℕ) (v : Tree) → Metered (bind y v)
+declare_metered : (y : List ℕ) (v : Tree) → Metered _ (bind y v)
 unfolding bind
 declare_metered y v = record { falls = λ x s k h d. d (went tt) _ h; steady = λ x s k g d. g (went tt) _; parallel = λ s k l g. g (went tt) _ }
 
-within_metered : {A : Type 0} {a : Action A} (bs : Bindings) → Metered a → Metered (within bs a)
+within_metered : {A : Type 0} (bs : Bindings) (a : Action A) → Metered A a → Metered A (within bs a)
 unfolding within
-within_metered bs h = record {
+within_metered bs a h = record {
   falls = λ x s k m d. h.falls x (record s { locals = bs }) (λ f t. k f (record t { locals = s.locals })) m (λ f t n. d f _ n);
   steady = λ x s k g d. h.steady x (record s { locals = bs }) (λ f t. k f (record t { locals = s.locals })) (λ f t. g f (record t { locals = s.locals })) (λ f t n. d f _ n);
   parallel = λ s k l g. h.parallel (record s { locals = bs }) (λ f t. k f (record t { locals = s.locals })) (λ f t. l f (record t { locals = s.locals })) (λ f t. g f _);
 }
 
-found_metered : (o : Option Tree) → Metered (found o)
-found_metered None = throw_metered _
-found_metered (Some v) = pure_metered v
-
-value_of_metered : (m : Program) (y : List ℕ) → Metered (value_of m y)
-unfolding value_of
-value_of_metered m y = record {
-  falls = λ x s k h d. (found_metered (named_value m y s)).falls x s k h d;
-  steady = λ x s k g d. (found_metered (named_value m y s)).steady x s k g d;
-  parallel = λ s k l g. (found_metered (named_value m y s)).parallel s k l g;
+looks_metered : {A : Type 0} (f : Bindings → Bindings → Action A) → ((locals globals : Bindings) → Metered A (f locals globals)) → Metered A (λ s. f s.locals s.globals s)
+looks_metered f h = record {
+  falls = λ x s k m d. (h s.locals s.globals).falls x s k m d;
+  steady = λ x s k g d. (h s.locals s.globals).steady x s k g d;
+  parallel = λ s k l g. (h s.locals s.globals).parallel s k l g;
 }
 
--- Rules.
-
-heard_metered : (r : Reply) → Metered (heard r)
-heard_metered (given v) = bind_metered _ (charge_metered (size v)) (λ _. pure_metered v)
-heard_metered (refused v) = bind_metered _ (charge_metered (size v)) (λ _. throw_metered v)
-
-call_method_metered : (o : Option Obj) (x : List ℕ) (vs : List Tree) → Metered (call_method o x vs)
-call_method_metered None x vs = throw_metered _
-call_method_metered (Some o) x vs = bind_metered _ (charge_metered _) (λ _. bind_metered _ (ask_metered _) (λ r. heard_metered r))
-
-either_metered : {A : Type 0} (b : Bool) (x y : Action A) → Metered x → Metered y → Metered (cond b x y)
-either_metered true x y h i = h
-either_metered false x y h i = i
-
-mutual
-  expr_metered : (m : Program) (t : Term) → Metered (expr m t)
-  expr_metered m (literal l) = bind_metered _ (charge_metered 1) (λ _. bind_metered _ (charge_metered _) (λ _. pure_metered _))
-  expr_metered m (name x) = bind_metered _ (charge_metered 1) (λ _. bind_metered _ (value_of_metered m x) (λ v. bind_metered _ (charge_metered _) (λ _. pure_metered v)))
-  expr_metered m (composed ts) = bind_metered _ (charge_metered 1) (λ _. bind_metered _ (named_exprs_metered m ts _) (λ fs. either_metered (nat_le (nesting (fields fs)) 32) _ _ (pure_metered _) (throw_metered _)))
-  expr_metered m (linked t ks) = bind_metered _ (expr_metered m t) (λ v. behind_metered m ks v)
-
-  exprs_metered : (m : Program) (ts : Terms) (vs : List Tree) → Metered (exprs m ts vs)
-  exprs_metered m no_terms vs = pure_metered vs
-  exprs_metered m (term t ts) vs = bind_metered _ (expr_metered m t) (λ v. exprs_metered m ts _)
-
-  named_exprs_metered : (m : Program) (ts : NamedTerms) (fs : Fields) → Metered (named_exprs m ts fs)
-  named_exprs_metered m no_named fs = pure_metered fs
-  named_exprs_metered m (named_term x t ts) fs = bind_metered _ (expr_metered m t) (λ v. named_exprs_metered m ts _)
-
-  behind_metered : (m : Program) (ks : Links) (v : Tree) → Metered (behind m ks v)
-  behind_metered m no_links v = pure_metered v
-  behind_metered m (link a ks) v = bind_metered _ (one_step_metered m a v) (λ w. behind_metered m ks w)
-
-  one_step_metered : (m : Program) (a : Link) (v : Tree) → Metered (one_step m a v)
-  one_step_metered m (method x ts) v = bind_metered _ (charge_metered 1) (λ _. bind_metered _ (exprs_metered m ts []) (λ vs. call_method_metered (object_of v) x vs))
-
-stmt_metered : (m : Program) (a : Statement) → Metered (stmt m a)
-stmt_metered m (declare x t) = bind_metered _ (charge_metered 1) (λ _. bind_metered _ (expr_metered m t) (λ v. bind_metered _ (declare_metered x v) (λ _. pure_metered next)))
-stmt_metered m (give t) = bind_metered _ (charge_metered 1) (λ _. bind_metered _ (expr_metered m t) (λ v. pure_metered (leaves v)))
-stmt_metered m give_nothing = bind_metered _ (charge_metered 1) (λ _. pure_metered _)
-stmt_metered m (run t) = bind_metered _ (charge_metered 1) (λ _. bind_metered _ (expr_metered m t) (λ v. pure_metered next))
-
-going_on_metered : (e : End) (rest : Action End) → Metered rest → Metered (going_on e rest)
-going_on_metered next rest h = h
-going_on_metered (leaves v) rest h = pure_metered (leaves v)
-
-block_metered : (m : Program) (b : Block) → Metered (block m b)
-block_metered m done = pure_metered next
-block_metered m (step a b) = bind_metered _ (stmt_metered m a) (λ e. going_on_metered e (block m b) (block_metered m b))
-
-enter_metered : (m : Program) (o : Option Routine) (vs : List Tree) → Metered (enter m o vs)
-enter_metered m None vs = throw_metered _
-enter_metered m (Some r) vs = within_metered _ (bind_metered _ (block_metered m r.body) (λ e. pure_metered _))
-
-calls_metered : (rs : List Routine) (room : ℕ) (f : List ℕ) (vs : List Tree) → Metered (calls_of rs room f vs)
-unfolding calls_of
-calls_metered rs zero f vs = throw_metered _
-calls_metered rs (suc room) f vs = enter_metered (record { routines = rs; calls = calls_of rs room }) (find_routine f rs) vs
+metered : OfActions Metered
+metered = record {
+  comes = pure_metered;
+  fails = throw_metered;
+  goes_on = bind_metered;
+  charges = charge_metered;
+  asks = ask_metered;
+  binds = declare_metered;
+  encloses = within_metered;
+  looks = looks_metered;
+}
 
 -- The whole evaluation.
 
@@ -333,7 +281,7 @@ one_price rs variables f vs values m answers e new h =
     let start : ℕ → State = λ n. record { locals = []; globals = pairs variables values; meter = n } in
     let p = λ (n : ℕ). after (play rs variables f vs values n) answers in
     let q = λ (n : ℕ). after (a (start n) tell) answers in
-    let a_metered = calls_metered rs 32 f vs in
+    let a_metered = of_calls Metered metered rs 32 f vs in
     let told = λ (n : ℕ). told_after (play rs variables f vs values n) (a (start n) tell) answers (a_metered.parallel (start n) finish tell tell_parallel) in
     let less : (x n : ℕ) → Cheaper x (q (n + x)) (q n) = λ x n. cheaper_after x (a (start (n + x)) tell) (a (start n) tell) answers (a_metered.steady x (start n) tell (tell_steady x) (tell_falls x)) in
     let here = told_ends e new (q m) (subst (λ z. Told z (q m)) h (told m)) in

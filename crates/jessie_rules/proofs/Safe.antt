@@ -3,6 +3,8 @@
 use Rattle.std.proofs.Common.{◌≡◌, ℕ, zero, suc, List, [], ◌∷◌, ◌++◌, Bool, true, false, cond, Option, Some, None, refl}
 use Rattle.std.specs.Prelude.{nat_le}
 use Rattle.std.specs.Str.{bytes_eq}
+use Rattle.std.specs.declared.cmp.Ordering.{Ordering}
+use Rattle.std.specs.declared.cmp.Ordering.TheVariants.{Less, Equal, Greater}
 use Rattle.jessie_tree.specs.Tree.{Tree, null, fields, object, function, Fields, no_fields, object_of, size, nesting}
 use Rattle.jessie_tree.specs.declared.data.Obj.{Obj}
 use Rattle.jessie_tree.specs.declared.syntax.Literal.{Literal}
@@ -11,8 +13,10 @@ use Rattle.jessie_rules.specs.declared.reason.Reason.{Reason}
 use Rattle.jessie_rules.specs.declared.reason.Reason.TheVariants.{WrongKind, TooDeep, TooLarge}
 use Rattle.jessie_rules.specs.Play.{Call, call, Reply, given, refused, Play, Ends, Spends, Asks, after}
 use Rattle.jessie_rules.specs.Actions.{Bindings, State, Flow, went, fails, Then, Action, pure, throw, onward, ◌>>=◌, charge, ask, bind, within}
-use Rattle.jessie_rules.specs.Rules.{bad_step, Program, first_of, look, find_routine, function_named, named_value, found, value_of, with_field, heard, host, call_method, expr, exprs, named_exprs, behind, one_step, End, next, leaves, stmt, going_on, block, pairs, given_back, enter, calls_of, values_in, finish, play}
+use Rattle.jessie_rules.specs.Rules.{bad_step, Program, first_of, look, find_routine, function_named, named_value, found, value_of, placed, with_field, heard, host, call_method, expr, exprs, named_exprs, behind, one_step, End, next, leaves, stmt, going_on, block, pairs, given_back, enter, calls_of, values_in, finish, play}
+use Rattle.jessie_rules.specs.Written.{TermWrites, TermsWrite, NamedTermsWrite, LinkWrites, LinksWrite, StatementWrites, BlockWrites, RoutinesWrite}
 use Rattle.jessie_rules.specs.Keeping.{AllHave, BoundHave, StateHas, CallHas, ReplyHas, RepliesHave, EndingHas, NextHas}
+use Rattle.jessie_rules.proofs.Written.{routine_writes}
 
 -- all that the play does, as long as the answers keep to W
 abbrev pub Safe : (Tree → Type 0) → Play → Type 0
@@ -86,15 +90,28 @@ within_safe bs b h = record {
   safe = λ s k i g. h.safe _ _ (record { locals = b; globals = i.globals }) (λ f t w j. g f _ w (record { locals = i.locals; globals = j.globals }));
 }
 
--- What the rules make by themselves has W, and V is what that takes of the fields of a record.
+-- what the literal stands for has W
+abbrev pub LiteralHas : (Tree → Type 0) → Literal → Type 0
+LiteralHas W l = W (literal_tree l)
+
+-- where a field of this name is added, the fields of a record keep V
+abbrev pub NameHas : (Tree → Type 0) → (Fields → Type 0) → List ℕ → Type 0
+NameHas W V x = (v : Tree) (fs : Fields) → W v → V fs → V (with_field x v fs)
+
+-- What the rules make by themselves and what the text writes has W, and V is what that takes of the
+-- fields of a record.
 pub record Closed (W : Tree → Type 0) (V : Fields → Type 0) (rs : List Routine) : Type 0 where
-  pub literals : (l : Literal) → W (literal_tree l)
+  pub written : RoutinesWrite (LiteralHas W) (NameHas W V) rs
   pub nothing : W null
   pub bad_steps : (r : Reason) → W (bad_step r)
   pub functions : (f : List ℕ) (r : Routine) → find_routine f rs ≡ Some r → W (function r.name)
   pub no_field : V no_fields
-  pub more_fields : (x : List ℕ) (v : Tree) (fs : Fields) → W v → V fs → V (with_field x v fs)
   pub records : (fs : Fields) → V fs → nat_le (nesting (fields fs)) 32 ≡ true → W (fields fs)
+
+pub placed_has : (V : Fields → Type 0) (o : Ordering) (before here behind : Fields) → V before → V here → V behind → V (placed o before here behind)
+placed_has V Less before here behind h i j = h
+placed_has V Equal before here behind h i j = i
+placed_has V Greater before here behind h i j = j
 
 -- Names.
 
@@ -164,27 +181,27 @@ picked_safe W P true x y h i = h refl
 picked_safe W P false x y h i = i
 
 mutual
-  pub expr_safe : (W : Tree → Type 0) (V : Fields → Type 0) (m : Program) → Closed W V m.routines → (t : Term) → SafeAction W W (expr m t)
-  expr_safe W V m c (literal l) = bind_safe _ (charge_safe W 1) (λ _ _. bind_safe _ (charge_safe W _) (λ _ _. pure_safe W W _ (c.literals l)))
-  expr_safe W V m c (name x) = bind_safe _ (charge_safe W 1) (λ _ _. bind_safe _ (value_of_safe W V m x c) (λ v h. bind_safe _ (charge_safe W _) (λ _ _. pure_safe W W v h)))
-  expr_safe W V m c (composed ts) = bind_safe _ (charge_safe W 1) (λ _ _. bind_safe _ (named_exprs_safe W V m c ts no_fields c.no_field)
+  pub expr_safe : (W : Tree → Type 0) (V : Fields → Type 0) (m : Program) → Closed W V m.routines → (t : Term) → TermWrites (LiteralHas W) (NameHas W V) t → SafeAction W W (expr m t)
+  expr_safe W V m c (literal l) w = bind_safe _ (charge_safe W 1) (λ _ _. bind_safe _ (charge_safe W _) (λ _ _. pure_safe W W _ w))
+  expr_safe W V m c (name x) w = bind_safe _ (charge_safe W 1) (λ _ _. bind_safe _ (value_of_safe W V m x c) (λ v h. bind_safe _ (charge_safe W _) (λ _ _. pure_safe W W v h)))
+  expr_safe W V m c (composed ts) w = bind_safe _ (charge_safe W 1) (λ _ _. bind_safe _ (named_exprs_safe W V m c ts no_fields w c.no_field)
       (λ fs h. picked_safe W W (nat_le (nesting (fields fs)) 32) _ _ (λ e. pure_safe W W _ (c.records fs h e)) (throw_safe W W _ (c.bad_steps TooLarge))))
-  expr_safe W V m c (linked t ks) = bind_safe _ (expr_safe W V m c t) (λ v h. behind_safe W V m c ks v h)
+  expr_safe W V m c (linked t ks) w = bind_safe _ (expr_safe W V m c t w.0) (λ v h. behind_safe W V m c ks v w.1 h)
 
-  pub exprs_safe : (W : Tree → Type 0) (V : Fields → Type 0) (m : Program) → Closed W V m.routines → (ts : Terms) (vs : List Tree) → AllHave W vs → SafeAction W (AllHave W) (exprs m ts vs)
-  exprs_safe W V m c no_terms vs h = pure_safe W (AllHave W) vs h
-  exprs_safe W V m c (term t ts) vs h = bind_safe _ (expr_safe W V m c t) (λ v i. exprs_safe W V m c ts _ (all_both W vs (v ∷ []) h (i, tt)))
+  pub exprs_safe : (W : Tree → Type 0) (V : Fields → Type 0) (m : Program) → Closed W V m.routines → (ts : Terms) (vs : List Tree) → TermsWrite (LiteralHas W) (NameHas W V) ts → AllHave W vs → SafeAction W (AllHave W) (exprs m ts vs)
+  exprs_safe W V m c no_terms vs w h = pure_safe W (AllHave W) vs h
+  exprs_safe W V m c (term t ts) vs w h = bind_safe _ (expr_safe W V m c t w.0) (λ v i. exprs_safe W V m c ts _ w.1 (all_both W vs (v ∷ []) h (i, tt)))
 
-  pub named_exprs_safe : (W : Tree → Type 0) (V : Fields → Type 0) (m : Program) → Closed W V m.routines → (ts : NamedTerms) (fs : Fields) → V fs → SafeAction W V (named_exprs m ts fs)
-  named_exprs_safe W V m c no_named fs h = pure_safe W V fs h
-  named_exprs_safe W V m c (named_term x t ts) fs h = bind_safe _ (expr_safe W V m c t) (λ v i. named_exprs_safe W V m c ts _ (c.more_fields x v fs i h))
+  pub named_exprs_safe : (W : Tree → Type 0) (V : Fields → Type 0) (m : Program) → Closed W V m.routines → (ts : NamedTerms) (fs : Fields) → NamedTermsWrite (LiteralHas W) (NameHas W V) ts → V fs → SafeAction W V (named_exprs m ts fs)
+  named_exprs_safe W V m c no_named fs w h = pure_safe W V fs h
+  named_exprs_safe W V m c (named_term x t ts) fs w h = bind_safe _ (expr_safe W V m c t w.1) (λ v i. named_exprs_safe W V m c ts _ w.2 (w.0 v fs i h))
 
-  pub behind_safe : (W : Tree → Type 0) (V : Fields → Type 0) (m : Program) → Closed W V m.routines → (ks : Links) (v : Tree) → W v → SafeAction W W (behind m ks v)
-  behind_safe W V m c no_links v h = pure_safe W W v h
-  behind_safe W V m c (link a ks) v h = bind_safe _ (one_step_safe W V m c a v h) (λ w i. behind_safe W V m c ks w i)
+  pub behind_safe : (W : Tree → Type 0) (V : Fields → Type 0) (m : Program) → Closed W V m.routines → (ks : Links) (v : Tree) → LinksWrite (LiteralHas W) (NameHas W V) ks → W v → SafeAction W W (behind m ks v)
+  behind_safe W V m c no_links v w h = pure_safe W W v h
+  behind_safe W V m c (link a ks) v w h = bind_safe _ (one_step_safe W V m c a v w.0 h) (λ u i. behind_safe W V m c ks u w.1 i)
 
-  pub one_step_safe : (W : Tree → Type 0) (V : Fields → Type 0) (m : Program) → Closed W V m.routines → (a : Link) (v : Tree) → W v → SafeAction W W (one_step m a v)
-  one_step_safe W V m c (method x ts) v h = bind_safe _ (charge_safe W 1) (λ _ _. bind_safe _ (exprs_safe W V m c ts [] tt)
+  pub one_step_safe : (W : Tree → Type 0) (V : Fields → Type 0) (m : Program) → Closed W V m.routines → (a : Link) (v : Tree) → LinkWrites (LiteralHas W) (NameHas W V) a → W v → SafeAction W W (one_step m a v)
+  one_step_safe W V m c (method x ts) v w h = bind_safe _ (charge_safe W 1) (λ _ _. bind_safe _ (exprs_safe W V m c ts [] w tt)
       (λ vs i. call_method_safe W (object_of v) x vs (c.bad_steps WrongKind) (object_has W v h) i))
 
 -- Statements.
@@ -193,19 +210,19 @@ abbrev pub EndHas : (Tree → Type 0) → End → Type 0
 EndHas W next = Unit {0}
 EndHas W (leaves v) = W v
 
-pub stmt_safe : (W : Tree → Type 0) (V : Fields → Type 0) (m : Program) → Closed W V m.routines → (a : Statement) → SafeAction W (EndHas W) (stmt m a)
-stmt_safe W V m c (declare x t) = bind_safe _ (charge_safe W 1) (λ _ _. bind_safe _ (expr_safe W V m c t) (λ v h. bind_safe _ (declare_safe W x v h) (λ _ _. pure_safe W (EndHas W) next tt)))
-stmt_safe W V m c (give t) = bind_safe _ (charge_safe W 1) (λ _ _. bind_safe _ (expr_safe W V m c t) (λ v h. pure_safe W (EndHas W) (leaves v) h))
-stmt_safe W V m c give_nothing = bind_safe _ (charge_safe W 1) (λ _ _. pure_safe W (EndHas W) (leaves null) c.nothing)
-stmt_safe W V m c (run t) = bind_safe _ (charge_safe W 1) (λ _ _. bind_safe _ (expr_safe W V m c t) (λ v h. pure_safe W (EndHas W) next tt))
+pub stmt_safe : (W : Tree → Type 0) (V : Fields → Type 0) (m : Program) → Closed W V m.routines → (a : Statement) → StatementWrites (LiteralHas W) (NameHas W V) a → SafeAction W (EndHas W) (stmt m a)
+stmt_safe W V m c (declare x t) w = bind_safe _ (charge_safe W 1) (λ _ _. bind_safe _ (expr_safe W V m c t w) (λ v h. bind_safe _ (declare_safe W x v h) (λ _ _. pure_safe W (EndHas W) next tt)))
+stmt_safe W V m c (give t) w = bind_safe _ (charge_safe W 1) (λ _ _. bind_safe _ (expr_safe W V m c t w) (λ v h. pure_safe W (EndHas W) (leaves v) h))
+stmt_safe W V m c give_nothing w = bind_safe _ (charge_safe W 1) (λ _ _. pure_safe W (EndHas W) (leaves null) c.nothing)
+stmt_safe W V m c (run t) w = bind_safe _ (charge_safe W 1) (λ _ _. bind_safe _ (expr_safe W V m c t w) (λ v h. pure_safe W (EndHas W) next tt))
 
 going_on_safe : (W : Tree → Type 0) (e : End) (rest : Action End) → EndHas W e → SafeAction W (EndHas W) rest → SafeAction W (EndHas W) (going_on e rest)
 going_on_safe W next rest h i = i
 going_on_safe W (leaves v) rest h i = pure_safe W (EndHas W) (leaves v) h
 
-pub block_safe : (W : Tree → Type 0) (V : Fields → Type 0) (m : Program) → Closed W V m.routines → (b : Block) → SafeAction W (EndHas W) (block m b)
-block_safe W V m c done = pure_safe W (EndHas W) next tt
-block_safe W V m c (step a b) = bind_safe _ (stmt_safe W V m c a) (λ e h. going_on_safe W e (block m b) h (block_safe W V m c b))
+pub block_safe : (W : Tree → Type 0) (V : Fields → Type 0) (m : Program) → Closed W V m.routines → (b : Block) → BlockWrites (LiteralHas W) (NameHas W V) b → SafeAction W (EndHas W) (block m b)
+block_safe W V m c done w = pure_safe W (EndHas W) next tt
+block_safe W V m c (step a b) w = bind_safe _ (stmt_safe W V m c a w.0) (λ e h. going_on_safe W e (block m b) h (block_safe W V m c b w.1))
 
 -- Functions.
 
@@ -218,14 +235,14 @@ given_back_has : (W : Tree → Type 0) (e : End) → W null → EndHas W e → W
 given_back_has W next n h = n
 given_back_has W (leaves v) n h = h
 
-enter_safe : (W : Tree → Type 0) (V : Fields → Type 0) (m : Program) → Closed W V m.routines → (o : Option Routine) (vs : List Tree) → AllHave W vs → SafeAction W W (enter m o vs)
-enter_safe W V m c None vs h = throw_safe W W _ (c.bad_steps WrongKind)
-enter_safe W V m c (Some r) vs h = within_safe _ (pairs_have W r.params vs c.nothing h) (bind_safe _ (block_safe W V m c r.body) (λ e i. pure_safe W W _ (given_back_has W e c.nothing i)))
+enter_safe : (W : Tree → Type 0) (V : Fields → Type 0) (m : Program) → Closed W V m.routines → (o : Option Routine) (vs : List Tree) → ((r : Routine) → o ≡ Some r → BlockWrites (LiteralHas W) (NameHas W V) r.body) → AllHave W vs → SafeAction W W (enter m o vs)
+enter_safe W V m c None vs w h = throw_safe W W _ (c.bad_steps WrongKind)
+enter_safe W V m c (Some r) vs w h = within_safe _ (pairs_have W r.params vs c.nothing h) (bind_safe _ (block_safe W V m c r.body (w r refl)) (λ e i. pure_safe W W _ (given_back_has W e c.nothing i)))
 
 pub calls_safe : (W : Tree → Type 0) (V : Fields → Type 0) (rs : List Routine) → Closed W V rs → (room : ℕ) (f : List ℕ) (vs : List Tree) → AllHave W vs → SafeAction W W (calls_of rs room f vs)
 unfolding calls_of
 calls_safe W V rs c zero f vs h = throw_safe W W _ (c.bad_steps TooDeep)
-calls_safe W V rs c (suc room) f vs h = enter_safe W V (record { routines = rs; calls = calls_of rs room }) c (find_routine f rs) vs h
+calls_safe W V rs c (suc room) f vs h = enter_safe W V (record { routines = rs; calls = calls_of rs room }) c (find_routine f rs) vs (λ r. routine_writes _ _ f rs r c.written) h
 
 values_have : (W : Tree → Type 0) (bs : Bindings) → BoundHave W bs → AllHave W (values_in bs)
 values_have W [] h = tt
@@ -235,10 +252,15 @@ finish_safe : (W : Tree → Type 0) → SafeThen W W finish
 finish_safe W (went v) s w i = (w, values_have W s.globals i.globals)
 finish_safe W (fails v) s w i = (w, values_have W s.globals i.globals)
 
+-- Whatever holds of arguments and state values holds of all that the play asks and comes to, as long as
+-- it holds of the answers.
+pub play_safe : (W : Tree → Type 0) (V : Fields → Type 0) (rs : List Routine) (variables : List (List ℕ)) (f : List ℕ) (vs values : List Tree) (meter : ℕ)
+    → Closed W V rs → AllHave W vs → AllHave W values → Safe W (play rs variables f vs values meter)
+play_safe W V rs variables f vs values meter c a b =
+    (calls_safe W V rs c 32 f vs a).safe _ finish (record { locals = tt; globals = pairs_have W variables values c.nothing b }) (finish_safe W)
+
 -- Whatever holds of arguments, state values and answers so far holds of the next call, or of the outcome
 -- and the new state values.
 pub play_keeps : (W : Tree → Type 0) (V : Fields → Type 0) (rs : List Routine) (variables : List (List ℕ)) (f : List ℕ) (vs values : List Tree) (meter : ℕ) (answers : List Reply)
     → Closed W V rs → AllHave W vs → AllHave W values → RepliesHave W answers → NextHas W (after (play rs variables f vs values meter) answers)
-play_keeps W V rs variables f vs values meter answers c a b r =
-    safe_after W (play rs variables f vs values meter) answers
-    ((calls_safe W V rs c 32 f vs a).safe _ finish (record { locals = tt; globals = pairs_have W variables values c.nothing b }) (finish_safe W)) r
+play_keeps W V rs variables f vs values meter answers c a b = safe_after W (play rs variables f vs values meter) answers (play_safe W V rs variables f vs values meter c a b)

@@ -6,3 +6,5 @@ pub mod Licence
 pub mod Form
 pub mod Price
 pub mod Runs
+pub mod Written
+pub mod Ranges

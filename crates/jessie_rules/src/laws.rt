@@ -1,6 +1,6 @@
 // What the rules mean: each law holds of every module, function, list of arguments, list of state
 // values, meter and list of answers. The functions do nothing; their contracts are the laws.
-ghost use Rattle.std.specs.Prelude.{◌≡◌, ℕ, List};
+ghost use Rattle.std.specs.Prelude.{◌≡◌, ℕ, List, length};
 ghost use Rattle.jessie_tree.specs.Tree.{Tree};
 ghost use Rattle.jessie_tree.specs.Syntax.{Routine};
 ghost use Rattle.jessie_rules.specs.Play.{Ending, Ends, Reply, after};
@@ -30,4 +30,10 @@ pub fn data_stays_in_form()
 pub fn evaluations_have_one_price()
     ensures { (rs : List Routine) (variables : List (List ℕ)) (f : List ℕ) (vs values : List Tree) (meter : ℕ) (answers : List Reply) (e : Ending) (new : List Tree)
         → after (play rs variables f vs values meter) answers ≡ Ends e new → HasPrice (λ n. play rs variables f vs values n) answers e new }
+{}
+
+/// An evaluation gives as many state values as it got, where there is one for each variable.
+pub fn state_values_stay_as_many()
+    ensures { (rs : List Routine) (variables : List (List ℕ)) (f : List ℕ) (vs values : List Tree) (meter : ℕ) (answers : List Reply) (e : Ending) (new : List Tree)
+        → length values ≡ length variables → after (play rs variables f vs values meter) answers ≡ Ends e new → length new ≡ length values }
 {}

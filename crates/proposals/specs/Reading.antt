@@ -1,5 +1,5 @@
 -- Reading a proposal and the payments of an offer from data (Zoe; the order of the refusals is our own). Fields are taken as they stand: in data that the host makes, in byte order of their names, each name once.
-use Rattle.std.specs.Prelude.{◌≡◌, ℕ, ◌+◌, min, ℤ, pos, ◌==◌, nat_le, length, map, filter, List, [], ◌∷◌, ◌++◌, Bool, true, false, not, ◌&&◌, ◌||◌, Option, Some, None, unwrap_or, option_map, option_and_then, Result, Ok, Err, if◌then◌else◌, codes}
+use Rattle.std.specs.Prelude.{◌≡◌, ℕ, ◌+◌, min, ◌==◌, nat_le, length, map, filter, List, [], ◌∷◌, ◌++◌, Bool, true, false, not, ◌&&◌, ◌||◌, Option, Some, None, unwrap_or, option_map, option_and_then, Result, Ok, Err, if◌then◌else◌, codes}
 use Rattle.std.specs.Cmp.Lexicographic.{slice_cmp}
 use Rattle.std.specs.List.{All, find, list_all, list_any}
 use Rattle.std.specs.Option.{option_map_or}
@@ -7,12 +7,9 @@ use Rattle.std.specs.Ordering.{nat_cmp}
 use Rattle.std.specs.Str.{bytes_eq}
 use Rattle.std.specs.declared.cmp.Ordering.TheVariants.{Less}
 use Rattle.host_text.specs.Words.{is_keyword}
-use Rattle.amount_math.specs.Worth.{nat_bound}
-use Rattle.jessie_tree.specs.Tree.{Tree, null, is_null, number_of, object_of, pairs_of, field_of, field_count}
+use Rattle.jessie_tree.specs.Tree.{Tree, null, is_null, pairs_of, field_of}
 use Rattle.jessie_tree.specs.View.{named_trees}
-use Rattle.jessie_tree.specs.declared.data.ObjKind.{ObjKind}
-use Rattle.jessie_tree.specs.declared.data.ObjKind.TheVariants.{Timer}
-use Rattle.call_data.specs.Amounts.{AmountData, amount_data, amount_fields, has_two, read_all, value_in, whole}
+use Rattle.call_data.specs.Amounts.{AmountData, amount_data, amount_fields, read_all, value_in}
 use Rattle.call_data.specs.Outcomes.{◌>>=◌, ◌>>◌, need, none_such, wanted}
 use Rattle.call_data.specs.declared.refusals.Refusal.{Refusal}
 use Rattle.call_data.specs.declared.refusals.Refusal.TheVariants.{BadArgs, BadExit, BadKeyword, KeywordMismatch, WrongBrand}
@@ -21,7 +18,7 @@ use Rattle.proposals.specs.Slots.{is_upto}
 use Rattle.proposals.specs.declared.allocations.Row.{Row}
 use Rattle.proposals.specs.declared.issuer_records.Issuer.{Issuer}
 use Rattle.proposals.specs.declared.offers.Exit.{Exit}
-use Rattle.proposals.specs.declared.offers.Exit.TheVariants.{AfterDeadline, OnDemand, Waived}
+use Rattle.proposals.specs.declared.offers.Exit.TheVariants.{OnDemand}
 use Rattle.proposals.specs.declared.offers.Proposal.{Proposal}
 use Rattle.proposals.specs.declared.reading.GivenRow.{GivenRow}
 use Rattle.proposals.specs.declared.reading.Offered.{Offered}
@@ -140,23 +137,9 @@ all_valued (r ∷ rs) = do
 
 -- ---- exit
 
-abbrev pub is_timer : ObjKind → Bool
-is_timer Timer = true
-is_timer _ = false
-
--- a whole number from 0 to 2^63 - 1
-abbrev pub time_in : ℤ → Option ℕ
-time_in z = option_and_then (λ n. if nat_le n nat_bound then Some n else None) (whole z)
-
--- `{timer, deadline}`, of which the timer is one
-abbrev pub deadline_in : Tree → Option ℕ
-deadline_in t = if has_two (field_count t) && option_map_or (λ o. is_timer o.kind) (option_and_then object_of (field_of (codes "timer") t)) false then option_and_then time_in (option_and_then number_of (field_of (codes "deadline") t)) else None
-
+-- leaving on demand is the one rule so far
 abbrev pub named_rule : List ℕ → Tree → Option Exit
-named_rule name t =
-    if bytes_eq name (codes "onDemand") then (if is_null t then Some OnDemand else None) else
-    if bytes_eq name (codes "waived") then (if is_null t then Some Waived else None) else
-    if bytes_eq name (codes "afterDeadline") then option_map AfterDeadline (deadline_in t) else None
+named_rule name t = if bytes_eq name (codes "onDemand") then (if is_null t then Some OnDemand else None) else None
 
 -- a record of one rule; the empty record isn't one
 abbrev pub rule_from : List (List ℕ × Tree) → Option Exit

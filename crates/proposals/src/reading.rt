@@ -10,7 +10,7 @@ ghost use Rattle.jessie_tree.specs.View.{named_trees, tree};
 ghost use Rattle.call_data.specs.Amounts.{seen};
 ghost use Rattle.call_data.specs.Outcomes.{Gives, Refuses, none_such, wanted};
 ghost use Rattle.call_data.specs.declared.refusals.Refusal.TheVariants as refusals;
-ghost use Rattle.proposals.specs.Reading.{IsOffered, IsRising, all_valued, deadline_in, exit_in, first_ill, first_shared, has_parts, is_known, is_part, is_small, keywords, least_alone, least_of, least_strange, names, named_rule, offered, part, read_proposal, record_in, row_data, rows_data, rows_in, time_in, valued};
+ghost use Rattle.proposals.specs.Reading.{IsOffered, IsRising, all_valued, exit_in, first_ill, first_shared, has_parts, is_known, is_part, is_small, keywords, least_alone, least_of, least_strange, names, named_rule, offered, part, read_proposal, record_in, row_data, rows_data, rows_in, valued};
 ghost use Rattle.proposals.specs.Slots.{FitsSeat};
 
 use crate::allocations::{Allocation, MOST_ROWS, Row};
@@ -22,15 +22,12 @@ use call_data::outcomes::need;
 use call_data::refusals::{Refusal, Stop};
 use host_text::keyword::{Keyword, KeywordFault};
 use host_text::text::Text;
-use jessie_tree::data::{Data, ObjKind, copy_fields};
+use jessie_tree::data::{Data, copy_fields};
 use std::alloc::Global;
 use std::cmp::Ordering;
 
 #[cfg(test)]
 mod tests;
-
-/// The last time to which a deadline may be set.
-const LAST_TIME: u64 = (1 << 63) - 1;
 
 // ---- what is read
 
@@ -403,8 +400,8 @@ fn with_values(alloc: Global, issuers: &IssuerRecord, rows: &[GivenRow]) -> Resu
 
 // ---- exit
 
-/// When an offer may be left (Zoe): `{onDemand: null}`, for which null stands too, `{waived: null}`, or
-/// `{afterDeadline: {timer, deadline}}` with the timer and a time from 0 to 2^63 - 1. Else `BadExit`.
+/// When an offer may be left (Zoe): `{onDemand: null}`, for which null stands too. Any other is `BadExit`
+/// so far, since nobody could leave a seat yet that isn't left on demand.
 #[tactic(auto, unfolding(call_data::specs::Outcomes::wanted))]
 pub fn read_exit(given: Option<&Data>) -> Result<Exit, Stop>
     ensures { Gives (λ exit. exit) result (wanted (exit_in (seen given.entry)) refusals.BadExit) }
@@ -437,34 +434,6 @@ fn named_rule(name: &str, rule: &Data) -> Option<Exit>
 {
     match name {
         "onDemand" if rule.is_null() => Some(Exit::OnDemand),
-        "waived" if rule.is_null() => Some(Exit::Waived),
-        "afterDeadline" => Some(Exit::AfterDeadline(deadline(rule)?)),
         _ => None,
     }
-}
-
-/// The deadline of a record of exactly the timer and a deadline.
-fn deadline(given: &Data) -> Option<u64>
-    ensures { result ≡ deadline_in (tree given.now) }
-{
-    if given.field_count() != Some(2) {
-        return None;
-    }
-    let ObjKind::Timer = given.field("timer")?.object()?.kind else {
-        return None;
-    };
-    time(given.field("deadline")?.number()?)
-}
-
-/// A time, from 0 to the last.
-fn time(number: i128) -> Option<u64>
-    ensures { result ≡ time_in number }
-{
-    let Ok(time) = u64::try_from(number) else {
-        return None;
-    };
-    if time > LAST_TIME {
-        return None;
-    }
-    Some(time)
 }

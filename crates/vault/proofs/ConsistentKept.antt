@@ -1,7 +1,7 @@
 -- Effects that can be had and bring data as the world needs it keep it consistent.
 use Rattle.std.proofs.Common.{◌≡◌, ℕ, ◌<◌, true, List, [], ◌∷◌, ◌++◌, length, map, set, All, inl, inr, refl, sym, ◌∙◌, ap, subst, arith, length-append, get_or-set_same, get_or-set_other}
 use Rattle.std.proofs.lemmas.Bool.{cases_eq, cases_order}
-use Rattle.std.proofs.lemmas.List.{get_or_append_left, get_or_push, length-set}
+use Rattle.std.proofs.lemmas.List.{get_or_append_left, get_or_push, length-map, length-set}
 use Rattle.std.proofs.lemmas.List.Elements.{All-cons, All-nil, All-push, All-set, All-weaker}
 use Rattle.instances.specs.Tables.{InstanceView, instance_at, module_at, new_instance, no_instance}
 use Rattle.invitations.specs.Details.{DetailsView}
@@ -11,11 +11,12 @@ use Rattle.jessie_tree.specs.declared.syntax.Constant.{Constant}
 use Rattle.jessie_tree.specs.declared.syntax.Constant.TheVariants as c
 use Rattle.jessie_tree.specs.declared.syntax.Literal.{Literal}
 use Rattle.jessie_tree.specs.declared.syntax.Literal.TheVariants as l
+use Rattle.jessie_tree.specs.declared.syntax.Module.{Module}
 use Rattle.jessie_tree.specs.declared.syntax.Variable.{Variable}
 use Rattle.promises.specs.States.{SettlementView, StateView, broken, ok, pending, settled}
 use Rattle.proposals.specs.declared.issuer_records.Issuer.{Issuer}
 use Rattle.vault.specs.Consistent.{AreIssuersMade, AreStateValues, BringsInstance, CanBring, CanBringAll, IsConsistent, IsInstance, IsInvitation, IsPromise, IsSettling}
-use Rattle.vault.specs.InstanceKnowledge.{HasFunction, Holds, IsKnownTo, IsThere, knows_as}
+use Rattle.vault.specs.InstanceKnowledge.{HasFunction, IsKnownTo, IsThere}
 use Rattle.vault.specs.Worlds.{CanDo, CanDoAll, CanStart, Effect, IsAsset, WorldState, add_invitation, after, after_all, begins, deliver, ends, first_rested, halt, install, keep_state, leave_seat, move, new_brand, new_purse, note_call, open_seat, settle, start_instance}
 use Rattle.vault.proofs.Growth.{WorldHasMore, after_has_more}
 use Rattle.vault.proofs.KnowingKept.{HasFunction-more, IsHanded-more, IsKnownTo-more}
@@ -42,6 +43,7 @@ IsInstance-more w more has i there x is = record {
   installed = omega (arith, is.installed, has.installations);
   issuers = AreIssuersMade-more w more has x.issuers is.issuers;
   terms = IsHanded-more w more has x.terms is.terms;
+  whole = is.whole ∙ sym (ap (λ (m : Module). length m.variables) (has.modules x.installation is.installed));
   state = AreStateValues-more w more has i there x.state is.state;
 }
 
@@ -62,14 +64,14 @@ IsPromise-more w more has (settled s) is = IsSettling-more w more has s is
 
 -- ---- a new instance
 
-literal_known : (w : WorldState) (i : ℕ) (value : Literal) → Holds (λ o. knows_as i w o.kind o.number) (λ f. HasFunction w i f) (literal_tree value)
-literal_known w i (l.Number z) = tt
-literal_known w i (l.Text t) = tt
-literal_known w i (l.Bool b) = tt
-literal_known w i l.Null = tt
+literal_known : (w : WorldState) (i : ℕ) (value : Literal) → IsKnownTo w i (literal_tree value)
+literal_known w i (l.Number z) = record { holds = tt; ordered = tt; shallow = omega arith }
+literal_known w i (l.Text t) = record { holds = tt; ordered = tt; shallow = omega arith }
+literal_known w i (l.Bool b) = record { holds = tt; ordered = tt; shallow = omega arith }
+literal_known w i l.Null = record { holds = tt; ordered = tt; shallow = omega arith }
 
 constant_known : (w : WorldState) (i : ℕ) (value : Constant) → IsKnownTo w i (constant_tree value)
-constant_known w i (c.Literal value) = record { holds = literal_known w i value }
+constant_known w i (c.Literal value) = literal_known w i value
 
 -- what state variables hold at first names nothing
 variables_known : (w : WorldState) (i : ℕ) (vs : List Variable) → All (λ t. IsKnownTo w i t) (map (λ (v : Variable). constant_tree v.initial) vs)
@@ -112,6 +114,7 @@ instances_started w n issuers terms arguments can brings is i made =
         installed = can.made;
         issuers = AreIssuersMade-more w more has issuers brings.issuers_made;
         terms = IsHanded-more w more has terms brings.terms_handed;
+        whole = length-map (module_at w.instances.now.installations n).variables (λ (v : Variable). constant_tree v.initial);
         state = record { each = variables_known more i (module_at w.instances.now.installations n).variables };
       })
       | inr (inl below) ↦ subst (IsInstance more i) (sym (get_or_append_left xs (x ∷ []) no_instance i below)) (IsInstance-more w more has i (is_there w is i below) (instance_at xs i) (is.instances i below))
@@ -121,9 +124,9 @@ instances_started w n issuers terms arguments can brings is i made =
 instances_after : (w : WorldState) (e : Effect) → CanDo w e → CanBring w e → IsConsistent w → (i : ℕ) → i < length (after w e).instances.now.instances → IsInstance (after w e) i (instance_at (after w e).instances.now.instances i)
 instances_after w (start_instance n issuers terms arguments) can brings is = instances_started w n issuers terms arguments can brings is
 instances_after w (keep_state n vs) can brings is = instances_changed w (after w (keep_state n vs)) (after_has_more w (keep_state n vs)) n (record (instance_at w.instances.now.instances n) { state = vs }) refl is
-    (λ made. let was = is.instances n made in record { installed = was.installed; issuers = was.issuers; terms = was.terms; state = brings })
+    (λ made. let was = is.instances n made in record { installed = was.installed; issuers = was.issuers; terms = was.terms; whole = can.as_many ∙ was.whole; state = brings })
 instances_after w (halt n) can brings is = instances_changed w (after w (halt n)) (after_has_more w (halt n)) n (record (instance_at w.instances.now.instances n) { halted = true }) refl is
-    (λ made. let was = is.instances n made in record { installed = was.installed; issuers = was.issuers; terms = was.terms; state = was.state })
+    (λ made. let was = is.instances n made in record { installed = was.installed; issuers = was.issuers; terms = was.terms; whole = was.whole; state = was.state })
 instances_after w (new_brand b) can brings is = instances_as_before w (after w (new_brand b)) (after_has_more w (new_brand b)) refl is
 instances_after w (new_purse b) can brings is = instances_as_before w (after w (new_purse b)) (after_has_more w (new_purse b)) refl is
 instances_after w (move m) can brings is = instances_as_before w (after w (move m)) (after_has_more w (move m)) refl is

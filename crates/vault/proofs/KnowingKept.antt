@@ -127,6 +127,8 @@ pub IsKnownTo-more : (w more : WorldState) → WorldHasMore w more → (i : ℕ)
 IsKnownTo-more w more has i there t known = record {
   holds = Holds-weaker (λ o. knows_as i w o.kind o.number) (λ o. knows_as i more o.kind o.number) (λ f. HasFunction w i f) (λ f. HasFunction more i f)
       (λ o one. known_stays w more has i o.kind o.number one) (HasFunction-more w more has i there) t known.holds;
+  ordered = known.ordered;
+  shallow = known.shallow;
 }
 
 pub IsHanded-more : (w more : WorldState) → WorldHasMore w more → (t : Tree) → IsHanded w t → IsHanded more t
@@ -140,6 +142,8 @@ IsHanded-more w more has t handed = record {
 pub IsKnownTo-handed : (w : WorldState) (i : ℕ) (t : Tree) → IsHanded w t → IsKnownTo w i t
 IsKnownTo-handed w i t handed = record {
   holds = Holds-weaker (λ o. handed_as w o.kind o.number) (λ o. knows_as i w o.kind o.number) (λ f. ⊥) (λ f. HasFunction w i f) (λ o one. handed_known w i o.kind o.number one) (λ f none. absurd none) t handed.holds;
+  ordered = handed.ordered;
+  shallow = handed.shallow;
 }
 
 -- ---- objects that were made

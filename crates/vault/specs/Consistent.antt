@@ -1,6 +1,6 @@
 -- A world in which whatever is kept for instances, and whatever may come out of promises, is of things that were made.
-use Rattle.std.specs.Prelude.{ℕ, ◌<◌, List, [], ◌∷◌, length, All}
-use Rattle.instances.specs.Tables.{InstanceView, instance_at}
+use Rattle.std.specs.Prelude.{◌≡◌, ℕ, ◌<◌, List, [], ◌∷◌, length, All}
+use Rattle.instances.specs.Tables.{InstanceView, instance_at, module_at}
 use Rattle.invitations.specs.Details.{DetailsView}
 use Rattle.jessie_tree.specs.Tree.{Tree}
 use Rattle.promises.specs.States.{SettlementView, StateView, broken, ok, pending, settled}
@@ -22,11 +22,12 @@ pub record AreIssuersMade (w : WorldState) (issuers : List Issuer) : Type 0 wher
 pub record AreStateValues (w : WorldState) (i : ℕ) (values : List Tree) : Type 0 where
   pub each : All (λ t. IsKnownTo w i t) values
 
--- an instance by its number: its installation was made, so were its issuers' brands, its terms can be handed out, and its state values hold what it knows
+-- an instance by its number: its installation was made, so were its issuers' brands, its terms can be handed out, it has a value for each state variable of its module, and these hold what it knows
 pub record IsInstance (w : WorldState) (i : ℕ) (x : InstanceView) : Type 0 where
   pub installed : x.installation < length w.instances.now.installations
   pub issuers : AreIssuersMade w x.issuers
   pub terms : IsHanded w x.terms
+  pub whole : length x.state ≡ length (module_at w.instances.now.installations x.installation).variables
   pub state : AreStateValues w i x.state
 
 -- what a promise is settled with can be handed out

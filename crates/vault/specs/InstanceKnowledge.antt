@@ -63,9 +63,11 @@ abbrev mutual
   HoldFields Objects Functions no_fields = Unit {0}
   HoldFields Objects Functions (field name t fs) = Holds Objects Functions t × HoldFields Objects Functions fs
 
--- all that the data holds is known to the instance
+-- all that the data holds is known to the instance, the fields of its records stand in order, and it nests at most 32 deep
 pub record IsKnownTo (w : WorldState) (i : ℕ) (t : Tree) : Type 0 where
   pub holds : Holds (λ o. knows_as i w o.kind o.number) (λ f. HasFunction w i f) t
+  pub ordered : Ordered t
+  pub shallow : nesting t ≤ 32
 
 -- the data can be handed out, and in to any instance: its objects were made and none is a promise, nothing in it stays in an instance, no function is in it, the fields of its records stand in order, and it nests at most 32 deep
 pub record IsHanded (w : WorldState) (t : Tree) : Type 0 where

@@ -12,6 +12,7 @@ pub mod Brands
 pub mod BrandsKept
 pub mod InstanceDeliveries
 pub mod Worlds
+pub mod Acts
 pub mod Made
 pub mod InstanceKnowledge
 pub mod Consistent

@@ -1,9 +1,10 @@
 -- A function's calls keep a world consistent, and what waits due.
-use Rattle.std.proofs.Common.{◌≡◌, ℕ, zero, suc, ◌-◌, Option, Some, None, Ok, Err, IfOk, List, [], ◌∷◌, ◌++◌, length, get_or, subst}
+use Rattle.std.proofs.Common.{◌≡◌, ℕ, zero, suc, ◌-◌, Option, Some, None, Ok, Err, IfOk, List, [], ◌∷◌, ◌++◌, length, get_or, subst, arith}
 use Rattle.std.proofs.lemmas.Bool.{ltb-true}
 use Rattle.call_data.specs.Outcomes.{wanted}
 use Rattle.call_data.specs.Refusals.{refusal_tree}
 use Rattle.call_data.specs.declared.refusals.Refusal.{Refusal}
+use Rattle.jessie_rules.specs.Form.{InForm}
 use Rattle.jessie_rules.specs.Keeping.{AllHave, CallHas, Within}
 use Rattle.jessie_rules.specs.Play.{Call, call, far, send, when}
 use Rattle.jessie_tree.specs.Tree.{Tree, function_of, null}
@@ -37,6 +38,9 @@ place_has W (v ∷ vs) (suc n) none all = place_has W vs n none all.1
 
 arg_known : (i : ℕ) (w : WorldState) (args : List Tree) (place : ℕ) → AllHave (Within (Knows i w)) args → Within (Knows i w) (arg place args)
 arg_known i w args place all = place_has (Within (Knows i w)) args (place - 1) tt all
+
+arg_formed : (args : List Tree) (place : ℕ) → AllHave InForm args → InForm (arg place args)
+arg_formed args place all = place_has InForm args (place - 1) (tt, omega arith) all
 
 some_same : {A : Type 0} (x y : A) → Some x ≡ Some y → x ≡ y
 some_same x y is = cc
@@ -75,9 +79,9 @@ module _ (i : ℕ) (w : WorldState) (hosted : IsHosted i w) (is : IsConsistent w
         held = IsKnownTo-more w (after w (note_call c)) has i there held known;
       }
 
-  invitation_fits : (args : List Tree) → AllHave (Within (Knows i w)) args → IfOk (make_invitation i w args) (λ d. AreFitting w d.1)
+  invitation_fits : (args : List Tree) → AllHave (Within (Knows i w)) args → AllHave InForm args → IfOk (make_invitation i w args) (λ d. AreFitting w d.1)
   unfolding make_invitation
-  invitation_fits args known =
+  invitation_fits args known formed =
       after_need _ _ _ _ (λ runs. after_step _ _ _ (λ handler function. after_step _ _ _ (λ description text. after_need _ _ _ _ (λ few. after_step _ _ _ (λ payment next.
       let d = details_of i w handler description (arg 3 args) in
       let m = movement 0 Outside (Payment payment) (invitation_value (length w.invitations.now)) in
@@ -87,7 +91,7 @@ module _ (i : ℕ) (w : WorldState) (hosted : IsHosted i w) (is : IsConsistent w
         bring = λ c. (
           details_known handler description (arg 3 args) c
               (function_known i w (arg 1 args) handler (arg_known i w args 1 known) (was_wanted (function_of (arg 1 args)) _ handler function))
-              (within_known i w (arg 3 args) (arg_known i w args 3 known)),
+              (within_known i w (arg 3 args) (arg_known i w args 3 known) (arg_formed args 3 formed).0 (arg_formed args 3 formed).1),
           (tt, tt),
         );
         wait = λ c queue. (tt, (tt, tt));
@@ -108,17 +112,17 @@ module _ (i : ℕ) (w : WorldState) (hosted : IsHosted i w) (is : IsConsistent w
       waiting-after_all queue w (told target method args (Ok answer) ∷ effects) hosted.valid is waiting (tt, fits.can c) (tt, fits.bring c) (tt, fits.wait c queue)
   worked_waiting queue waiting target method args (Err r) fits = waiting-after_all queue w (told target method args (Err (refusal_tree r)) ∷ []) hosted.valid is waiting (tt, tt) (tt, tt) (tt, tt)
 
-  fitting : (target : Obj) (method : List ℕ) (args : List Tree) → AllHave (Within (Knows i w)) args → IfOk (serve i w target method args) (λ d. AreFitting w d.1)
-  fitting target method args known = serve_has (λ d. AreFitting w d.1) i w target method args (invitation_fits args known)
+  fitting : (target : Obj) (method : List ℕ) (args : List Tree) → AllHave (Within (Knows i w)) args → AllHave InForm args → IfOk (serve i w target method args) (λ d. AreFitting w d.1)
+  fitting target method args known formed = serve_has (λ d. AreFitting w d.1) i w target method args (invitation_fits args known formed)
 
-  pub called_consistent : (c : Call) → CallHas (Within (Knows i w)) c → IsConsistent (host_call i w c).1
-  called_consistent (call target method args) known = worked_consistent target method args (serve i w target method args) (fitting target method args known.1)
-  called_consistent (send target method args) known = is
-  called_consistent (when promise f held) known = is
-  called_consistent (far name methods held) known = is
+  pub called_consistent : (c : Call) → CallHas (Within (Knows i w)) c → CallHas InForm c → IsConsistent (host_call i w c).1
+  called_consistent (call target method args) known formed = worked_consistent target method args (serve i w target method args) (fitting target method args known.1 formed.1)
+  called_consistent (send target method args) known formed = is
+  called_consistent (when promise f held) known formed = is
+  called_consistent (far name methods held) known formed = is
 
-  pub called_waiting : (c : Call) → CallHas (Within (Knows i w)) c → (queue : List DeliveryView) → AreWaiting w (queue ++ w.deliveries) → AreWaiting (host_call i w c).1 (queue ++ (host_call i w c).1.deliveries)
-  called_waiting (call target method args) known queue waiting = worked_waiting queue waiting target method args (serve i w target method args) (fitting target method args known.1)
-  called_waiting (send target method args) known queue waiting = waiting
-  called_waiting (when promise f held) known queue waiting = waiting
-  called_waiting (far name methods held) known queue waiting = waiting
+  pub called_waiting : (c : Call) → CallHas (Within (Knows i w)) c → CallHas InForm c → (queue : List DeliveryView) → AreWaiting w (queue ++ w.deliveries) → AreWaiting (host_call i w c).1 (queue ++ (host_call i w c).1.deliveries)
+  called_waiting (call target method args) known formed queue waiting = worked_waiting queue waiting target method args (serve i w target method args) (fitting target method args known.1 formed.1)
+  called_waiting (send target method args) known formed queue waiting = waiting
+  called_waiting (when promise f held) known formed queue waiting = waiting
+  called_waiting (far name methods held) known formed queue waiting = waiting

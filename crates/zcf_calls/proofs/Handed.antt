@@ -1,6 +1,7 @@
 -- Data that an instance is handed, and data that it hands out.
 use Rattle.std.proofs.Common.{◌≡◌, ℕ, ◌≤◌, Bool, true, false, ◌||◌, List, [], ◌∷◌, All, refl}
 use Rattle.std.proofs.lemmas.List.Elements.{All-cons, All-head, All-nil, All-tail}
+use Rattle.jessie_rules.specs.Form.{InForm}
 use Rattle.jessie_rules.specs.Keeping.{AllHave, FieldsWithin, ItemsWithin, Within}
 use Rattle.jessie_tree.specs.Tree.{Fields, Items, Ordered, Tree, array, boolean, field, fields, function, is_local, item, nesting, no_fields, no_items, null, number, object, some_local, some_local_field, stays, text}
 use Rattle.jessie_tree.specs.declared.data.ObjKind.{ObjKind}
@@ -60,8 +61,8 @@ module _ (i : ℕ) (w : WorldState) where
     holds-fields no_fields within = tt
     holds-fields (field name t fs) within = (holds-tree t within.0, holds-fields fs within.1)
 
-  pub within_known : (t : Tree) → Within (Knows i w) t → IsKnownTo w i t
-  within_known t within = record { holds = holds-tree t within }
+  pub within_known : (t : Tree) → Within (Knows i w) t → Ordered t → nesting t ≤ 32 → IsKnownTo w i t
+  within_known t within ordered shallow = record { holds = holds-tree t within; ordered = ordered; shallow = shallow }
 
   -- ---- state values
 
@@ -72,12 +73,21 @@ module _ (i : ℕ) (w : WorldState) where
   pub values_within : (values : List Tree) → AreStateValues w i values → AllHave (Within (Knows i w)) values
   values_within values are = state-within values are.each
 
-  state-known : (values : List Tree) → AllHave (Within (Knows i w)) values → All (λ t. IsKnownTo w i t) values
-  state-known [] within = All-nil (λ t. IsKnownTo w i t)
-  state-known (v ∷ vs) within = All-cons (λ t. IsKnownTo w i t) v vs (within_known v within.0) (state-known vs within.1)
+  state-formed : (values : List Tree) → All (λ t. IsKnownTo w i t) values → AllHave InForm values
+  state-formed [] known = tt
+  state-formed (v ∷ vs) known =
+      let first = All-head (λ t. IsKnownTo w i t) v vs known in
+      ((first.ordered, first.shallow), state-formed vs (All-tail (λ t. IsKnownTo w i t) v vs known))
 
-  pub values_known : (values : List Tree) → AllHave (Within (Knows i w)) values → AreStateValues w i values
-  values_known values within = record { each = state-known values within }
+  pub values_formed : (values : List Tree) → AreStateValues w i values → AllHave InForm values
+  values_formed values are = state-formed values are.each
+
+  state-known : (values : List Tree) → AllHave (Within (Knows i w)) values → AllHave InForm values → All (λ t. IsKnownTo w i t) values
+  state-known [] within formed = All-nil (λ t. IsKnownTo w i t)
+  state-known (v ∷ vs) within formed = All-cons (λ t. IsKnownTo w i t) v vs (within_known v within.0 formed.0.0 formed.0.1) (state-known vs within.1 formed.1)
+
+  pub values_known : (values : List Tree) → AllHave (Within (Knows i w)) values → AllHave InForm values → AreStateValues w i values
+  values_known values within formed = record { each = state-known values within formed }
 
   -- ---- what doesn't stay can be handed out
 

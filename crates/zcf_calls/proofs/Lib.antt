@@ -13,3 +13,12 @@ pub mod Answered
 pub mod Started
 pub mod SeatsLeaving
 pub mod TurnsEnding
+pub mod RefusalsForm
+pub mod TurnData
+pub mod PaidWith
+pub mod ActsTogether
+pub mod Standing
+pub mod CallsActed
+pub mod RunsOn
+pub mod StartRecords
+pub mod TurnsActed

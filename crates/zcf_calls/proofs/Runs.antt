@@ -40,7 +40,7 @@ by_more w u v first later = record {
   done = later.done ∙ (ap (λ z. after_all z later.effects) first.done ∙ sym (done_more w first.effects later.effects));
 }
 
-rest_more : (w u v : WorldState) → KeepsRest w u → KeepsRest u v → KeepsRest w v
+pub rest_more : (w u v : WorldState) → KeepsRest w u → KeepsRest u v → KeepsRest w v
 rest_more w u v first later = record {
   brands = later.brands ∙ first.brands;
   purses = later.purses ∙ first.purses;
@@ -108,7 +108,7 @@ follows_run i w u p o values old new since follows grows played =
 
 -- ---- what is known
 
-named_known : (K : Reference → Type 0) (rs : List Routine) → ((f : List ℕ) → IsNamed f rs → K (to_function f)) → FunctionsKnown K rs
+pub named_known : (K : Reference → Type 0) (rs : List Routine) → ((f : List ℕ) → IsNamed f rs → K (to_function f)) → FunctionsKnown K rs
 named_known K [] known = tt
 named_known K (r ∷ rs) known = (known r.name (inl refl), named_known K rs (λ f named. known f (inr named)))
 

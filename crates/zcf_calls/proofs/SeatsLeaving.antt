@@ -55,7 +55,7 @@ paying d seat = payout_moves seat (length d.now.payments) (seat_at d.now.seats s
 last-paid : (d : DraftState) (seat n : ℕ) → n ≢ seat → (seat_at (paid_out d seat).now.seats n).last ≡ (seat_at d.now.seats n).last
 last-paid d seat n other = last-all (with_closed d seat) (paying d seat) n ∙ ap (λ (s : SeatState). s.last) (get_or-set_other d.now.seats seat n (closed (seat_at d.now.seats seat)) no_seat other)
 
-many-paid : (d : DraftState) (seat : ℕ) → length (paid_out d seat).now.seats ≡ length d.now.seats
+pub many-paid : (d : DraftState) (seat : ℕ) → length (paid_out d seat).now.seats ≡ length d.now.seats
 many-paid d seat = (SeatsStay-all (with_closed d seat) (paying d seat)).made ∙ length-set d.now.seats seat (closed (seat_at d.now.seats seat))
 
 open_before : (d : DraftState) (seat n : ℕ) → IsOpen (seat_at (paid_out d seat).now.seats n) → IsOpen (seat_at d.now.seats n)

@@ -6,3 +6,4 @@ pub mod Situations
 pub mod Plans
 pub mod InstanceTurns
 pub mod Due
+pub mod TurnActs

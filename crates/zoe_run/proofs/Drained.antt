@@ -4,7 +4,7 @@ use Rattle.std.specs.Io.KnownBytes.{Appends}
 use Rattle.std.specs.Option.{option_map_or}
 use Rattle.host_core.specs.Hosts.{HostState, IsAtLimit, IsStep, most_turns, step_from, step_of}
 use Rattle.journal_text.specs.Journal.{turn_text, turn_texts}
-use Rattle.host_core.specs.MessageLines.{MessageRead}
+use Rattle.host_core.specs.Queues.{Entry}
 use Rattle.host_core.specs.Runs.{AppendsToLimit, after, drained}
 use Rattle.journal_text.specs.Turns.{TurnRecord, turn_view}
 use Rattle.host_core.specs.declared.host.StepFault.{StepFault}
@@ -48,7 +48,7 @@ unfolding drained after
 drained_zero s = (refl, refl)
 
 -- what waits has a turn
-waits_from : (k : ℕ) (s : HostState) (queue : List MessageRead) → 1 ≤ length queue → 1 ≤ length (option_map_or (λ p. p.1 ∷ drained k p.0) (step_from s queue) [])
+waits_from : (k : ℕ) (s : HostState) (queue : List Entry) → 1 ≤ length queue → 1 ≤ length (option_map_or (λ p. p.1 ∷ drained k p.0) (step_from s queue) [])
 waits_from k s [] h = absurd (omega arith)
 waits_from k s (m ∷ rest) h = omega arith
 

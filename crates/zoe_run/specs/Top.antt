@@ -6,6 +6,7 @@ use Rattle.zoe_run.specs.Fronts.{AppendsFront}
 use Rattle.host_core.specs.InputLines.{is_too_long}
 use Rattle.host_core.specs.Hosts.{most_turns}
 use Rattle.host_core.specs.Runs.{AppendsToLimit, AppendsTurns, journal_of, turns_of}
+use Rattle.zoe_run.specs.declared.words.Options.{Options}
 use Rattle.zoe_run.specs.declared.top.Status.{Status}
 use Rattle.zoe_run.specs.declared.top.Status.TheVariants.{Done, Usage, ReadFault, WriteFault, NoMemory, TurnLimit, TooLong}
 
@@ -29,33 +30,33 @@ status_name NoMemory = codes "NoMemory"
 status_name TurnLimit = codes "TurnLimit"
 status_name TooLong = codes "TooLong"
 
--- what was written, for an input and so many deliveries at its end
-abbrev pub Writes : Status → Option (List ℕ) → Option (List ℕ) → ℕ → List ℕ → Type 0
-Writes Done old new most input = Appends old new (journal_of most input)
-Writes Usage old new most input = Keeps old new
-Writes ReadFault old new most input = Keeps old new
-Writes WriteFault old new most input = AppendsFront old new (journal_of most input)
-Writes NoMemory old new most input = AppendsTurns old new (turns_of most input)
-Writes TurnLimit old new most input = AppendsToLimit old new 0 (turns_of most input)
-Writes TooLong old new most input = Keeps old new
+-- what was written, for an input and the options that were given
+abbrev pub Writes : Status → Option (List ℕ) → Option (List ℕ) → Options → List ℕ → Type 0
+Writes Done old new o input = Appends old new (journal_of o.meter o.turns input)
+Writes Usage old new o input = Keeps old new
+Writes ReadFault old new o input = Keeps old new
+Writes WriteFault old new o input = AppendsFront old new (journal_of o.meter o.turns input)
+Writes NoMemory old new o input = AppendsTurns old new (turns_of o.meter o.turns input)
+Writes TurnLimit old new o input = AppendsToLimit old new 0 (turns_of o.meter o.turns input)
+Writes TooLong old new o input = Keeps old new
 
 -- `TooLong` comes exactly where the input passes a limit and is read so far, `TurnLimit` exactly where the last turn was run and another is left
-pub record IsWithin (most : ℕ) (input : List ℕ) : Type 0 where
+pub record IsWithin (o : Options) (input : List ℕ) : Type 0 where
   pub bytes : is_too_long input ≡ false
-  pub turns : length (turns_of most input) ≤ most_turns
+  pub turns : length (turns_of o.meter o.turns input) ≤ most_turns
 
-pub record IsPast (most : ℕ) (input : List ℕ) : Type 0 where
+pub record IsPast (o : Options) (input : List ℕ) : Type 0 where
   pub bytes : is_too_long input ≡ false
-  pub turns : most_turns < length (turns_of most input)
+  pub turns : most_turns < length (turns_of o.meter o.turns input)
 
-abbrev pub MeetsLimits : Status → ℕ → List ℕ → Type 0
-MeetsLimits Done most input = IsWithin most input
-MeetsLimits Usage most input = Unit {0}
-MeetsLimits ReadFault most input = Unit {0}
-MeetsLimits WriteFault most input = is_too_long input ≡ false
-MeetsLimits NoMemory most input = Unit {0}
-MeetsLimits TurnLimit most input = IsPast most input
-MeetsLimits TooLong most input = is_too_long input ≡ true
+abbrev pub MeetsLimits : Status → Options → List ℕ → Type 0
+MeetsLimits Done o input = IsWithin o input
+MeetsLimits Usage o input = Unit {0}
+MeetsLimits ReadFault o input = Unit {0}
+MeetsLimits WriteFault o input = is_too_long input ≡ false
+MeetsLimits NoMemory o input = Unit {0}
+MeetsLimits TurnLimit o input = IsPast o input
+MeetsLimits TooLong o input = is_too_long input ≡ true
 
 -- a fault is answered only where its count rose, and no fault is passed over
 abbrev pub SourceFaults : Status → ℕ → ℕ → Type 0

@@ -61,7 +61,3 @@ plain_run name = name ∷ codes "run" ∷ []
 
 abbrev pub default_options : Options
 default_options = record { turns = 10000; meter = 1000000 }
-
--- how many deliveries are run at the end of the input
-abbrev pub turns_given : List Text → ℕ
-turns_given words = (options_of words).turns

@@ -3,11 +3,11 @@
 //! written is the journal of the input, by the definition of a run, or the front of it that came before
 //! a fault.
 
-ghost use Rattle.std.specs.Prelude.{◌≡◌, ◌≤◌, length, map, OnOk, IfOk, IsErrOf};
+ghost use Rattle.std.specs.Prelude.{◌≡◌, ◌≤◌, length, map, OnOk, IsErrOf};
 ghost use Rattle.std.specs.Io.KnownBytes.{Appends, Keeps};
 ghost use Rattle.zoe_run.specs.Causes.{Rose};
 ghost use Rattle.zoe_run.specs.Fronts.{AppendsFront};
-ghost use Rattle.host_core.specs.Hosts.{IsValidHost, host_view, most_turns};
+ghost use Rattle.host_core.specs.Hosts.{IsValidHost, host_view, most_meter, most_turns};
 ghost use Rattle.host_core.specs.InputLines.{lines_of};
 ghost use Rattle.journal_text.specs.Journal.{turn_texts};
 ghost use Rattle.host_core.specs.MessageLines.{meaning_of};
@@ -148,17 +148,25 @@ fn close<K: Sink>(alloc: Global, host: &Host, sink: &mut K) -> Result<(), RunFau
     write(sink, text.as_str())
 }
 
-/// The run on an input, of which at most so many deliveries are run at the input's end.
-pub fn run<K: Sink>(alloc: Global, input: &[u8], most: u32, sink: &mut K) -> Result<(), RunFault>
-    ensures ok { OnOk result (Appends (K.written sink.old) (K.written sink.new) (journal_of most input.now)) }
-    ensures few { OnOk result (length (turns_of most input.now) ≤ most_turns) }
-    ensures memory { IsErrOf result RunFault.NoMemory → AppendsTurns (K.written sink.old) (K.written sink.new) (turns_of most input.now) }
-    ensures limit { IsErrOf result RunFault.TurnLimit → AppendsToLimit (K.written sink.old) (K.written sink.new) 0 (turns_of most input.now) }
-    ensures failed { IsErrOf result RunFault.Failed → AppendsFront (K.written sink.old) (K.written sink.new) (journal_of most input.now) }
+/// The run on an input: functions of contracts run under the meter, and at most so many deliveries are
+/// run at the input's end.
+pub fn run<K: Sink>(
+    alloc: Global,
+    input: &[u8],
+    meter: u32,
+    most: u32,
+    sink: &mut K,
+) -> Result<(), RunFault>
+    requires { meter ≤ most_meter }
+    ensures ok { OnOk result (Appends (K.written sink.old) (K.written sink.new) (journal_of meter most input.now)) }
+    ensures few { OnOk result (length (turns_of meter most input.now) ≤ most_turns) }
+    ensures memory { IsErrOf result RunFault.NoMemory → AppendsTurns (K.written sink.old) (K.written sink.new) (turns_of meter most input.now) }
+    ensures limit { IsErrOf result RunFault.TurnLimit → AppendsToLimit (K.written sink.old) (K.written sink.new) 0 (turns_of meter most input.now) }
+    ensures failed { IsErrOf result RunFault.Failed → AppendsFront (K.written sink.old) (K.written sink.new) (journal_of meter most input.now) }
     ensures cause { IsErrOf result RunFault.Failed → Rose (K.faults sink.old) (K.faults sink.new) }
     ensures quiet { (IsErrOf result RunFault.Failed → ⊥) → K.faults sink.new ≡ K.faults sink.old }
 {
-    let Ok(mut host) = Host::new(alloc) else {
+    let Ok(mut host) = Host::new(alloc, meter) else {
         return Err(RunFault::NoMemory);
     };
     work_lines(alloc, &mut host, input, sink)?;

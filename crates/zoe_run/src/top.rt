@@ -6,7 +6,7 @@ ghost use Rattle.std.specs.Io.KnownBytes.{IsAtEnd};
 ghost use Rattle.zoe_run.specs.Causes.{Rose};
 ghost use Rattle.host_core.specs.Runs.{AreFairToLimit, AreInOrder, left_of, meanings_of, messages_of, turns_of};
 ghost use Rattle.zoe_run.specs.Top.{Ends, IsRefused, IsWithin, MeetsLimits, SinkFaults, SourceFaults, Writes, WritesNothing, exit_code, status_name};
-ghost use Rattle.zoe_run.specs.Words.{takes_words, turns_given};
+ghost use Rattle.zoe_run.specs.Words.{options_of, takes_words};
 
 use crate::host_io::{ReadError, Sink, Source, read_all};
 use crate::run::{RunFault, run};
@@ -71,19 +71,19 @@ pub fn zoe_top<S: Source, K: Sink>(
     ensures untouched { takes_words (map (λ w. string_bytes w) words.now) ≡ false → (source.new ≡ source.old) × (sink.new ≡ sink.old) }
 
     // What was written is the journal of what the source held, or a front of it.
-    ensures writes { IfSome (S.left source.old) (Writes result (K.written sink.old) (K.written sink.new) (turns_given (map (λ w. string_bytes w) words.now))) }
+    ensures writes { IfSome (S.left source.old) (Writes result (K.written sink.old) (K.written sink.new) (options_of (map (λ w. string_bytes w) words.now))) }
     ensures all_read { result ≡ Status.Done → IsAtEnd (S.left source.new) }
     ensures nothing { WritesNothing result (K.written sink.old) (K.written sink.new) }
 
     // The turns of the run are fair, and stand in the order of their messages, whatever the input.
-    ensures fair { (most : ℕ) (input : List ℕ) → AreFairToLimit (turns_of most input) }
-    ensures in_order { (most : ℕ) (input : List ℕ) → AreInOrder (messages_of (meanings_of most input)) (turns_of most input) (left_of most input) }
+    ensures fair { (meter most : ℕ) (input : List ℕ) → AreFairToLimit (turns_of meter most input) }
+    ensures in_order { (meter most : ℕ) (input : List ℕ) → AreInOrder meter (messages_of (meanings_of most input)) (turns_of meter most input) (left_of meter most input) }
 
     // Where nothing stands against it, the run is done.
-    ensures complete { IfSome (S.left source.old) (λ input. takes_words (map (λ w. string_bytes w) words.now) ≡ true → IsWithin (turns_given (map (λ w. string_bytes w) words.now)) input → (Rose (S.faults source.old) (S.faults source.new) → ⊥) → (Rose (K.faults sink.old) (K.faults sink.new) → ⊥) → Ends result) }
+    ensures complete { IfSome (S.left source.old) (λ input. takes_words (map (λ w. string_bytes w) words.now) ≡ true → IsWithin (options_of (map (λ w. string_bytes w) words.now)) input → (Rose (S.faults source.old) (S.faults source.new) → ⊥) → (Rose (K.faults sink.old) (K.faults sink.new) → ⊥) → Ends result) }
 
     // Each other status has its cause.
-    ensures limits { IfSome (S.left source.old) (MeetsLimits result (turns_given (map (λ w. string_bytes w) words.now))) }
+    ensures limits { IfSome (S.left source.old) (MeetsLimits result (options_of (map (λ w. string_bytes w) words.now))) }
     ensures source_faults { SourceFaults result (S.faults source.old) (S.faults source.new) }
     ensures sink_faults { SinkFaults result (K.faults sink.old) (K.faults sink.new) }
 {
@@ -101,7 +101,7 @@ pub fn zoe_top<S: Source, K: Sink>(
     if has_long_line(&input) {
         return Status::TooLong;
     }
-    match run(alloc, &input, options.turns, sink) {
+    match run(alloc, &input, options.meter, options.turns, sink) {
         Ok(()) => Status::Done,
         Err(RunFault::Failed) => Status::WriteFault,
         Err(RunFault::TurnLimit) => Status::TurnLimit,

@@ -1,10 +1,10 @@
 -- What an offer gives can be moved to the slots of its seat.
-use Rattle.std.proofs.Common.{◌≡◌, ◌≢◌, ℕ, ◌<◌, true, false, List, [], ◌∷◌, ◌++◌, length, map, set, None, Some, IsSome, inl, inr, refl, sym, ◌∙◌, ap, subst, arith, get_or-set_same}
+use Rattle.std.proofs.Common.{◌≡◌, ℕ, ◌<◌, List, [], ◌∷◌, length, map, set, None, Some, refl, sym, ◌∙◌, ap, subst, arith, get_or-set_same}
 use Rattle.std.specs.Option.{is_some, unwrap_or}
 use Rattle.std.proofs.lemmas.List.{length-set}
 use Rattle.amount_math.specs.Amount.{holding}
-use Rattle.amount_math.specs.Content.{Content, count, nothing, nothing-sum, sum}
-use Rattle.amount_math.specs.Worth.{Fits, HasFew, bound}
+use Rattle.amount_math.specs.Content.{nothing, nothing-sum, sum}
+use Rattle.amount_math.specs.Worth.{Fits, HasFew}
 use Rattle.amount_math.specs.declared.Amount.{Amount}
 use Rattle.ertp_mint.specs.Stocks.{no_amount}
 use Rattle.proposals.specs.Rows.{AreApart, amount_under}
@@ -12,13 +12,11 @@ use Rattle.proposals.specs.Slots.{emptied}
 use Rattle.proposals.specs.declared.allocations.Row.{Row}
 use Rattle.rights_model.specs.Supply.{is_inside}
 use Rattle.rights_model.specs.Table.{holds, movement}
-use Rattle.rights_model.specs.declared.Holder.TheVariants.{Outside, Payment, Slot}
-use Rattle.rights_model.specs.declared.Movement.{Movement}
+use Rattle.rights_model.specs.declared.Holder.TheVariants.{Payment, Slot}
 use Rattle.rights_model.proofs.SupplyLaws.{count-le-total}
 use Rattle.seats.specs.Seats.{IsOpen, SeatState, no_seat, put_in, seat_at}
-use Rattle.seats.specs.Slots.{with_more}
-use Rattle.vault.specs.Vaults.{CanTransfer, VaultState, after_move, amount_of, brand_of, held_by, in_brand, kind_of, mark_of, slot_of}
-use Rattle.vault.specs.Worlds.{CanDoAll, CanMove, Effect, IsValid, WorldState, after, after_all, move}
+use Rattle.vault.specs.Vaults.{CanTransfer, VaultState, after_move, brand_of, in_brand, kind_of, slot_of}
+use Rattle.vault.specs.Worlds.{CanDoAll, CanMove, IsValid, WorldState, after, move}
 use Rattle.vault.proofs.EffectsValid.{valid-after}
 use Rattle.vault.proofs.SeatSteps.{EachUnder}
 use Rattle.vault.proofs.SlotRows.{at_brand}
@@ -37,7 +35,7 @@ pub record HasSlots (v : VaultState) (seat : ℕ) (rs : List Row) : Type 0 where
 
 module _ (w : WorldState) (valid : IsValid w) (p : ℕ) where
   -- no more of it is out than the kind's bound
-  held_fits : (b : ℕ) → Fits (kind_of w.draft.now b) (holds w.draft.now.table (Payment p) b)
+  pub held_fits : (b : ℕ) → Fits (kind_of w.draft.now b) (holds w.draft.now.table (Payment p) b)
   held_fits b = record {
     each = λ k.
         let bounded = (valid.draft.bounded b).each k in

@@ -1,13 +1,12 @@
 -- Rows and payments that are gone through side by side.
-use Rattle.std.proofs.Common.{◌≡◌, ℕ, ◌+◌, ◌<◌, ◌≤◌, List, [], ◌∷◌, ◌++◌, length, map, drop, get_or, min, ◌⊎◌, inl, inr, arith, All, Some, None, refl, sym, ◌∙◌, ap, subst}
+use Rattle.std.proofs.Common.{◌≡◌, ℕ, ◌+◌, ◌<◌, ◌≤◌, List, [], ◌∷◌, length, drop, get_or, min, ◌⊎◌, inl, inr, arith, All, Some, None, refl, ◌∙◌, ap}
 use Rattle.std.proofs.lemmas.Bool.{cases_lt}
-use Rattle.std.proofs.lemmas.List.{append-nil, append_assoc, drop_all, drop_more}
+use Rattle.std.proofs.lemmas.List.{drop_all, drop_more}
 use Rattle.std.proofs.lemmas.List.Elements.{All-cons, All-nil}
 use Rattle.call_data.specs.Amounts.{read_all}
-use Rattle.jessie_tree.specs.Tree.{Fields, Tree, paired}
+use Rattle.jessie_tree.specs.Tree.{Tree, paired}
 use Rattle.jessie_tree.specs.View.{fields_of}
 use Rattle.proposals.specs.declared.allocations.Row.{Row}
-use Rattle.rights_model.specs.declared.Movement.{Movement}
 use Rattle.vault.specs.Known.{AllInFields}
 use Rattle.vault.specs.Made.{IsMade}
 use Rattle.vault.specs.Vaults.{VaultState}

@@ -61,7 +61,7 @@ pub after-append : (w : WorldState) (es fs : List Effect) → after_all w (es ++
 after-append w [] fs = refl
 after-append w (e ∷ es) fs = after-append (after w e) es fs
 
-can_front : (w : WorldState) (es fs : List Effect) → CanDoAll w (es ++ fs) → CanDoAll w es
+pub can_front : (w : WorldState) (es fs : List Effect) → CanDoAll w (es ++ fs) → CanDoAll w es
 can_front w [] fs can = tt
 can_front w (e ∷ es) fs can = (can.0, can_front (after w e) es fs can.1)
 

@@ -1,21 +1,19 @@
 -- The effects of an offer that passed all tests can be had.
-use Rattle.std.proofs.Common.{◌≡◌, ◌≢◌, ℕ, zero, suc, ◌<◌, ◌≤◌, ◌+◌, Bool, true, false, cond, eqb, not, List, [], ◌∷◌, ◌++◌, length, map, Option, Some, None, Ok, IsTrue, inl, inr, refl, sym, ◌∙◌, ap, subst, arith, nat_le, nat_lt, length-append}
+use Rattle.std.proofs.Common.{◌≡◌, ℕ, ◌<◌, ◌≤◌, ◌+◌, Bool, true, false, cond, eqb, not, List, [], ◌∷◌, ◌++◌, length, map, Some, None, Ok, IsTrue, inl, inr, refl, sym, ◌∙◌, ap, subst, arith, nat_le, nat_lt, length-append}
 use Rattle.std.specs.Option.{is_some, option_and_then}
-use Rattle.std.specs.Str.{bytes_eq}
 use Rattle.std.proofs.lemmas.Bool.{eqb-true, leb-true, ltb-true}
 use Rattle.std.proofs.lemmas.List.{get_or_push}
 use Rattle.amount_math.specs.Content.{entries}
 use Rattle.amount_math.specs.Worth.{Worth}
 use Rattle.call_data.specs.Amounts.{read_all}
-use Rattle.call_data.specs.Outcomes.{bind, need, none_such, wanted}
+use Rattle.call_data.specs.Outcomes.{need, none_such, wanted}
 use Rattle.call_data.specs.declared.refusals.Refusal.TheVariants.{Closed, DeadPayment, Limit, NotInvitation, RepeatedPayment, WrongObject}
 use Rattle.ertp_mint.specs.Stocks.{most_made}
 use Rattle.instances.specs.Tables.{instance_at}
-use Rattle.invitations.specs.Elements.{element}
 use Rattle.jessie_tree.specs.Tree.{Fields, Tree, paired}
 use Rattle.proposals.specs.Reading.{is_small, read_proposal}
-use Rattle.proposals.specs.Rows.{AreApart, most_rows}
-use Rattle.proposals.specs.Slots.{emptied, slots_of}
+use Rattle.proposals.specs.Rows.{most_rows}
+use Rattle.proposals.specs.Slots.{emptied}
 use Rattle.proposals.specs.declared.allocations.Row.{Row}
 use Rattle.proposals.specs.declared.offers.Proposal.{Proposal}
 use Rattle.rights_model.specs.Table.{holds}
@@ -25,18 +23,18 @@ use Rattle.seats.specs.Seats.{SeatState, no_seat, open_slots, opened, seat_at}
 use Rattle.vault.specs.Drafts.{IsFull}
 use Rattle.vault.specs.Made.{IsMade}
 use Rattle.vault.specs.Vaults.{VaultState, amount_of, brand_of, held_by, kind_of, mark_of}
-use Rattle.vault.specs.Worlds.{CanDoAll, CanMove, CanOpenSeat, IsValid, WorldState, after, after_all, deliver, move, open_seat}
+use Rattle.vault.specs.Worlds.{CanDoAll, CanMove, CanOpenSeat, IsValid, WorldState, after, deliver, move, open_seat}
 use Rattle.vault.proofs.EffectsValid.{valid-after}
 use Rattle.vault.proofs.SeatSteps.{EachUnder}
 use Rattle.zoe_service.specs.CallArguments.{arg, payment_seen}
-use Rattle.zoe_service.specs.OfferRows.{Accepted, AreOrdered, HaveInstances, accepted, burn_move, first_repeated, first_wrong, give_moves, handling, has_room, invitation_of, invited, inviting, least_dead, named_by, offer_effects, offer_moves, only_key, paid, payments_in, wrong_amount}
+use Rattle.zoe_service.specs.OfferRows.{Accepted, AreOrdered, HaveInstances, accepted, burn_move, first_repeated, first_wrong, handling, has_room, invitation_of, invited, inviting, least_dead, named_by, offer_effects, offer_moves, only_key, paid, payments_in, wrong_amount}
 use Rattle.zoe_service.specs.Served.{KnowsArgs}
 use Rattle.zoe_service.specs.declared.offer_rows.Invited.{Invited}
 use Rattle.zoe_service.proofs.GivesMade.{HasSlots, gives_can}
 use Rattle.zoe_service.proofs.KeysNamed.{named_below}
 use Rattle.zoe_service.proofs.MovesMade.{can_append}
 use Rattle.zoe_service.proofs.KnownParts.{chained, payment-known, payments-known, record-known}
-use Rattle.zoe_service.proofs.PaymentsMoved.{AllPaid, AreDistinct, HasPaid, IsOther, NotAmong, all_stay}
+use Rattle.zoe_service.proofs.PaymentsMoved.{AllPaid, AreDistinct, IsOther, all_stay}
 use Rattle.zoe_service.proofs.PaymentsPaid.{AllLive, AllMade, all_live, all_paid, none_twice}
 use Rattle.zoe_service.proofs.ProposalsRead.{WasRead, give_apart, give_own, give_rows, is_offered, own_few, own_kinds, proposal_fits, want_rows, was_read}
 use Rattle.zoe_service.proofs.SlotsOpened.{slots_given}
@@ -50,10 +48,14 @@ pub record IsInvited (w : WorldState) (t : Tree) (by : Invited) : Type 0 where
   pub live : (mark_of w.draft.now by.payment).is_live ≡ true
   pub brand : brand_of w.draft.now (Payment by.payment) ≡ 0
   pub invitation : by.invitation < length w.invitations.now
+  pub key : List ℕ
+  pub only : only_key (entries (held_by w.draft.now (Payment by.payment))) ≡ Some key
 
 pub record IsInvitation (w : WorldState) (p n : ℕ) : Type 0 where
   pub brand : brand_of w.draft.now (Payment p) ≡ 0
   pub made : n < length w.invitations.now
+  pub key : List ℕ
+  pub only : only_key (entries (held_by w.draft.now (Payment p))) ≡ Some key
 
 pub is_invitation : (w : WorldState) (p n : ℕ) → invitation_of w p ≡ Some n → IsInvitation w p n
 unfolding invitation_of
@@ -62,7 +64,7 @@ is_invitation w p n is = by (eqb (brand_of w.draft.now (Payment p)) 0) (eqb-true
     by : (b : Bool) → (b ≡ true → brand_of w.draft.now (Payment p) ≡ 0) → cond b (option_and_then (named_by (length w.invitations.now)) (only_key (entries (held_by w.draft.now (Payment p))))) None ≡ Some n → IsInvitation w p n
     by true own e =
         let step = chained (named_by (length w.invitations.now)) (only_key (entries (held_by w.draft.now (Payment p)))) n e in
-        record { brand = own refl; made = named_below (length w.invitations.now) step.was n step.later }
+        record { brand = own refl; made = named_below (length w.invitations.now) step.was n step.later; key = step.was; only = step.first }
     by false own e = absurd (cc)
 
 was_invited : (w : WorldState) (t : Tree) (by : Invited) → invited w t ≡ Ok by → IsInvited w t by
@@ -78,6 +80,8 @@ was_invited w t by is =
       live = needed (mark_of w.draft.now payment.gave).is_live (DeadPayment payment.gave) live.gave live.first;
       brand = found.brand;
       invitation = found.made;
+      key = found.key;
+      only = found.only;
     })
 
 -- payments that passed

@@ -4,8 +4,8 @@ use Rattle.std.proofs.lemmas.List.{length-set}
 use Rattle.amount_math.specs.Worth.{Worth}
 use Rattle.amount_math.specs.declared.Amount.{Amount}
 use Rattle.proposals.specs.declared.allocations.Row.{Row}
-use Rattle.rights_model.specs.Place.{Place, place}
-use Rattle.rights_model.specs.Table.{holds, moved, movement, taken}
+use Rattle.rights_model.specs.Place.{Place}
+use Rattle.rights_model.specs.Table.{holds, movement, taken}
 use Rattle.rights_model.specs.declared.Holder.{Holder}
 use Rattle.rights_model.specs.declared.Holder.TheVariants.{Payment}
 use Rattle.rights_model.proofs.TableLaws.{holds-given_other, holds-taken_other}

@@ -1,18 +1,17 @@
 -- What holds of the payments of an offer that passed the tests.
-use Rattle.std.proofs.Common.{◌≡◌, ◌≢◌, ℕ, zero, suc, ◌<◌, Bool, true, false, cond, eqb, not, ◌&&◌, ◌||◌, List, [], ◌∷◌, ◌++◌, length, map, Option, Some, None, Result, Ok, refl, sym, ◌∙◌, ap, subst, arith}
+use Rattle.std.proofs.Common.{◌≡◌, ℕ, ◌<◌, Bool, true, false, cond, eqb, not, ◌&&◌, ◌||◌, List, [], ◌∷◌, ◌++◌, length, Option, Some, None, refl, sym, ◌∙◌, ap, subst}
 use Rattle.std.specs.List.{filter, list_any}
 use Rattle.std.specs.Str.{bytes_eq}
 use Rattle.std.proofs.lemmas.Bool.{eqb-true, eq-eqb}
 use Rattle.std.proofs.lemmas.Slice.Eq.{bytes_eq-Decides}
 use Rattle.amount_math.specs.Content.{Content, entries, of_entries, of_entries-entries}
 use Rattle.amount_math.specs.Worth.{HasFew, Worth}
-use Rattle.amount_math.specs.declared.Amount.{Amount}
 use Rattle.proposals.specs.Reading.{least, least_of}
 use Rattle.proposals.specs.declared.allocations.Row.{Row}
 use Rattle.rights_model.specs.declared.Holder.TheVariants.{Payment}
 use Rattle.vault.specs.Vaults.{IsOfKind, VaultState, amount_of, brand_of, held_by, kind_of, mark_of}
 use Rattle.zoe_service.specs.OfferRows.{first_again, first_repeated, first_wrong, least_dead, pays, same_entries}
-use Rattle.zoe_service.proofs.PaymentsMoved.{AllPaid, AreDistinct, HasPaid, NotAmong}
+use Rattle.zoe_service.proofs.PaymentsMoved.{AllPaid, AreDistinct, NotAmong}
 
 -- ---- all are live
 

@@ -1,29 +1,30 @@
 -- What holds of a proposal that was read of data whose objects were made.
-use Rattle.std.proofs.Common.{◌≡◌, ℕ, ◌<◌, ◌≤◌, ◌+◌, List, [], ◌∷◌, length, All, None, Some, Result, Ok, IfOk, IsTrue, refl, sym, ◌∙◌, subst, arith}
+use Rattle.std.proofs.Common.{◌≡◌, ℕ, List, [], ◌∷◌, map, All, None, Some, Ok, IfOk, IsTrue, cond, refl, sym, ◌∙◌, ap, subst, arith}
+use Rattle.std.specs.Ordering.{is_le}
 use Rattle.std.specs.Prelude.{codes}
 use Rattle.std.proofs.lemmas.List.Elements.{All-cons, All-nil}
 use Rattle.std.proofs.lemmas.Result.{IfOk-at_ok}
 use Rattle.amount_math.specs.Content.{Content}
-use Rattle.amount_math.specs.Worth.{HasFew, IsValue, Worth}
+use Rattle.amount_math.specs.Worth.{HasFew, IsValue}
 use Rattle.amount_math.specs.declared.Kind.{Kind}
 use Rattle.amount_math.specs.declared.Kind.TheVariants.{Nat, Set, Bag}
 use Rattle.call_data.specs.Amounts.{IsValueOf, value_in}
-use Rattle.call_data.specs.Outcomes.{bind, need, none_such, wanted}
+use Rattle.call_data.specs.Outcomes.{need, none_such, wanted}
 use Rattle.call_data.specs.declared.refusals.Refusal.TheVariants.{BadArgs, BadExit, BadKeyword, KeywordMismatch, WrongBrand}
 use Rattle.call_data.proofs.ValuesRead.{value_in_has}
 use Rattle.jessie_tree.specs.Tree.{Ordered, Tree}
-use Rattle.proposals.specs.Reading.{RowData, all_valued, exit_in, first_ill, first_shared, has_parts, is_small, keywords, least_alone, least_of, least_strange, names, part, read_proposal, record_in, rows_in, valued}
-use Rattle.proposals.specs.Rows.{AreApart, AreRows, amount_under, most_rows, row_of}
-use Rattle.proposals.specs.Slots.{FitsSeat}
+use Rattle.proposals.specs.Reading.{IsBefore, IsRising, RowData, all_valued, exit_in, first_ill, first_shared, has_parts, is_small, keywords, least_alone, least_of, least_strange, names, part, read_proposal, record_in, rows_in, valued}
+use Rattle.proposals.specs.Rows.{AreApart, AreRows, row_of}
+use Rattle.proposals.specs.Slots.{FitsSeat, in_byte_order, placed}
 use Rattle.proposals.specs.declared.allocations.Row.{Row}
 use Rattle.proposals.specs.declared.issuer_records.Issuer.{Issuer}
-use Rattle.proposals.specs.declared.offers.Exit.{Exit}
 use Rattle.proposals.specs.declared.offers.Proposal.{Proposal}
-use Rattle.proposals.proofs.OffersRead.{apart_from_rising, apart_from_shared, fits_seat, part-Ordered, rows_rise}
+use Rattle.proposals.proofs.Keywords.{same_names}
+use Rattle.proposals.proofs.OffersRead.{apart_from_rising, apart_from_shared, fits_seat, keywords_kept, part-Ordered, record_rises, rows_rise}
 use Rattle.vault.specs.Drafts.{IsOffered}
 use Rattle.vault.specs.Known.{AllObjects}
 use Rattle.vault.specs.Made.{IsMade}
-use Rattle.vault.specs.Vaults.{IsOfKind, VaultState}
+use Rattle.vault.specs.Vaults.{IsOfKind}
 use Rattle.vault.specs.Worlds.{WorldState}
 use Rattle.zoe_service.proofs.KnownParts.{AllBrands, given-known, part-known}
 use Rattle.zoe_service.proofs.PaymentsPaid.{AllFew, AllOfKind}
@@ -40,6 +41,8 @@ pub record WasRead (proposal payments : Tree) (p : Proposal) (paid : List (List 
   pub apart : first_shared (keywords give) (keywords want) ≡ None
   pub given : all_valued give ≡ Ok p.give
   pub asked : all_valued want ≡ Ok p.want
+  pub exit : exit_in (part (codes "exit") proposal) ≡ Some p.exit
+  pub same : least_alone (keywords give) (names paid) ≡ None
 
 abbrev IsRead : Tree → Tree → Proposal × List (List ℕ × Tree) → Type 0
 IsRead proposal payments x = WasRead proposal payments x.0 x.1
@@ -67,10 +70,23 @@ all_read issuers proposal payments =
       apart = was_none (first_shared (keywords give) (keywords want)) KeywordMismatch apart is_apart;
       given = is_given;
       asked = is_asked;
+      exit = was_wanted (exit_in (part (codes "exit") proposal)) BadExit exit is_exit;
+      same = was_none (least_alone (keywords give) (names paid)) KeywordMismatch same is_same;
     }))))))))))))
 
 pub was_read : (issuers : List Issuer) (proposal payments : Tree) (p : Proposal) (paid : List (List ℕ × Tree)) → read_proposal issuers proposal payments ≡ Ok (p, paid) → WasRead proposal payments p paid
 was_read issuers proposal payments p paid is = ended (IsRead proposal payments) (read_proposal issuers proposal payments) (p, paid) is (all_read issuers proposal payments)
+
+-- ---- order
+
+-- rows whose keywords rise stand in byte order
+is_least : (r : Row) (rs : List Row) → IsBefore r.keyword (map (λ (x : Row). x.keyword) rs) → placed r rs ≡ r ∷ rs
+is_least r [] before = refl
+is_least r (s ∷ rs) before = ap (λ o. cond (is_le o) (r ∷ s ∷ rs) (s ∷ placed r rs)) before
+
+in_order : (rows : List Row) → IsRising (map (λ (r : Row). r.keyword) rows) → in_byte_order rows ≡ rows
+in_order [] rising = refl
+in_order (r ∷ rows) rising = ap (placed r) (in_order rows rising.1) ∙ is_least r rows rising.0
 
 -- ---- values
 
@@ -83,6 +99,7 @@ module _ (w : WorldState) where
   pub record IsOwn (r : Row) : Type 0 where
     pub of_kind : IsOfKind w.draft.now.supplies r.amount
     pub few : HasFew r.amount.value.kind r.amount.value.content
+    pub value : IsValue r.amount.value.kind r.amount.value.content
 
   abbrev pub AllOwn : List Row → Type 0
   AllOwn [] = Unit {0}
@@ -100,6 +117,7 @@ module _ (w : WorldState) where
       let here : IsOwn (row_of g.keyword (record { brand = g.amount.brand; value = value.gave })) = record {
         of_kind = record { made = brands.0.made; kind = own.kind_is ∙ sym brands.0.kind_is };
         few = subst (λ k. HasFew k value.gave.content) (sym own.kind_is) (few_from_value g.amount.kind value.gave.content own.value);
+        value = subst (λ k. IsValue k value.gave.content) (sym own.kind_is) own.value;
       } in
       subst AllOwn (same_ok (first.gave ∷ rest.gave) rows rest.later) (subst IsOwn row here, all_own gs rest.gave brands.1 rest.first)
 
@@ -114,6 +132,10 @@ module _ (w : WorldState) where
   pub own_all : (rs : List Row) → AllOwn rs → All (λ (r : Row). IsOfKind w.draft.now.supplies r.amount) rs
   own_all [] own = All-nil (λ (r : Row). IsOfKind w.draft.now.supplies r.amount)
   own_all (r ∷ rs) own = All-cons (λ (x : Row). IsOfKind w.draft.now.supplies x.amount) r rs own.0.of_kind (own_all rs own.1)
+
+  pub own_values : (rs : List Row) → AllOwn rs → All (λ (r : Row). IsValue r.amount.value.kind r.amount.value.content) rs
+  own_values [] own = All-nil (λ (r : Row). IsValue r.amount.value.kind r.amount.value.content)
+  own_values (r ∷ rs) own = All-cons (λ (x : Row). IsValue x.amount.value.kind x.amount.value.content) r rs own.0.value (own_values rs own.1)
 
   -- ---- the proposal
 
@@ -144,3 +166,16 @@ module _ (w : WorldState) where
 
         pub want_rows : AreRows p.want
         want_rows = record { few = omega (arith, proposal_fits.few); apart = want_apart }
+
+-- ---- what is given, in its order
+
+module _ (proposal payments : Tree) (p : Proposal) (paid : List (List ℕ × Tree)) (read : WasRead proposal payments p paid) (ordered : Ordered proposal) where
+  give_rises : IsRising (keywords read.give)
+  give_rises = rows_rise (part (codes "give") proposal) read.give (part-Ordered (codes "give") proposal ordered) read.is_give
+
+  pub give_in_order : in_byte_order p.give ≡ p.give
+  give_in_order = in_order p.give (subst IsRising (sym (keywords_kept read.give p.give read.given)) give_rises)
+
+  -- the payments go by the keywords of what is given
+  pub paid_as_given : Ordered payments → names paid ≡ map (λ (r : Row). r.keyword) p.give
+  paid_as_given fields = sym (keywords_kept read.give p.give read.given ∙ same_names (keywords read.give) (names paid) give_rises (record_rises payments paid fields read.is_paid) read.same)

@@ -30,7 +30,7 @@ use Rattle.zoe_service.specs.Fitting.{AreFitting, CanCall, Fits}
 use Rattle.zoe_service.specs.OfferRows.{Accepted, accepted, handling, inviting, offer, offer_effects, offer_moves}
 use Rattle.zoe_service.specs.SeatRows.{is_on_demand, try_exit}
 use Rattle.zoe_service.specs.ZoeRows.{has_terms, installation_seen, issuer_in, issuer_number, issuers_in, start_instance, terms_in}
-use Rattle.zoe_service.proofs.ConsistentRows.{args_known, args_ordered, invitations_have_instances}
+use Rattle.zoe_service.proofs.ConsistentRows.{handed_known, handed_ordered, invitations_have_instances}
 use Rattle.zoe_service.proofs.KnownParts.{chained, mapped, object-known, read_more, record-known, some_same}
 use Rattle.zoe_service.proofs.OffersAccepted.{offer_can, was_accepted}
 use Rattle.zoe_service.proofs.Walks.{needed, walk, was_wanted}
@@ -102,7 +102,7 @@ module _ (queue : List DeliveryView) (w : WorldState) (args : List Tree) (may : 
       record {
         bring = (
           record {
-            issuers_made = given_issuers w (arg 2 args) given issuers ((args_known queue w args may).at 2)
+            issuers_made = given_issuers w (arg 2 args) given issuers ((handed_known w args may.handed).at 2)
                 (was_wanted (record_in (arg 2 args)) (refusals.BadArgs 2) given is_given) (was_wanted (issuers_in given) (refusals.WrongObject 2) issuers are_issuers);
             terms_handed = terms_handed w (arg 3 args) (may.handed 3);
             arguments_handed = may.handed 4;
@@ -116,7 +116,7 @@ module _ (queue : List DeliveryView) (w : WorldState) (args : List Tree) (may : 
   unfolding offer_effects
   offered_fits o is =
       let made = may.consistent.invitations o.by.invitation no_details (was_accepted w args o is).by.invitation in
-      let can = offer_can w args o may.valid (invitations_have_instances w may.consistent) (args_known queue w args may) (args_ordered queue w args may) is (arg 4 args) in
+      let can = offer_can w args o may.valid (invitations_have_instances w may.consistent) (handed_known w args may.handed) (handed_ordered w args may.handed) is (arg 4 args) in
       let view : OfferView = record {
         instance = inviting w o.by.invitation;
         seat = length w.draft.now.seats;

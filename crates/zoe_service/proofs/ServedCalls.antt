@@ -2,13 +2,12 @@
 use Rattle.std.proofs.Common.{◌≡◌, ℕ, ◌<◌, All, List, [], length, Result, Ok, Err, OnOk, refl, subst, ap}
 use Rattle.jessie_tree.specs.Tree.{Tree}
 use Rattle.jessie_tree.specs.declared.data.Obj.{Obj}
-use Rattle.vault.specs.Made.{IsMade}
-use Rattle.vault.specs.Worlds.{HasRoom, IsValid, WorldState, after_all}
+use Rattle.vault.specs.Worlds.{IsValid, WorldState, after_all}
 use Rattle.vault.proofs.EffectsValid.{noted_made, valid-after_all}
 use Rattle.zoe_service.specs.Rows.{Outcome, served}
-use Rattle.zoe_service.specs.Served.{KnowsArgs}
+use Rattle.zoe_service.specs.Served.{CanServe}
 use Rattle.zoe_service.specs.Services.{serve}
-use Rattle.zoe_service.proofs.ServedLaws.{serve_answers}
+use Rattle.zoe_service.proofs.ServedLaws.{serve_can}
 
 -- the movements are of brands that were made
 pub record IsNoted (w : WorldState) : Type 0 where
@@ -26,12 +25,12 @@ pub on_ok : {A E : Type 0} (r : Result A E) (X : Type 0) → X → OnOk r X
 on_ok (Ok x) X h = h
 on_ok (Err e) X h = tt
 
-module _ (w : WorldState) (on : Obj) (method : List ℕ) (args : List Tree) (valid : IsValid w) (room : HasRoom w.draft.now) (target : IsMade w on) (known : KnowsArgs w args) (none : w.draft.movements ≡ []) where
+module _ (w : WorldState) (on : Obj) (method : List ℕ) (args : List Tree) (may : CanServe w on args) (none : w.draft.movements ≡ []) where
   left_by : (r : Outcome) → serve w on method args ≡ r → (answer : Tree) (new : WorldState) → served w r ≡ Ok (answer, new) → IsLeft new
   left_by (Ok (given, effects)) is answer new e =
-      let can = (serve_answers w on method args given effects valid room target known is).can in
+      let can = serve_can w on method args given effects may is in
       let same : after_all w effects ≡ new = ap (λ (p : Tree × WorldState). p.1) (same_ok (given, after_all w effects) (answer, new) (served w (Ok (given, effects))) refl e) in
-      subst IsLeft same (record { valid = valid-after_all w effects valid can; noted = record { each = noted_made w effects valid can none } })
+      subst IsLeft same (record { valid = valid-after_all w effects may.valid can; noted = record { each = noted_made w effects may.valid can none } })
   left_by (Err r) is answer new e = absurd (cc e)
 
   pub served_left : (answer : Tree) (new : WorldState) → served w (serve w on method args) ≡ Ok (answer, new) → IsLeft new

@@ -1,6 +1,5 @@
--- What a call answers or refuses is data that a row can tell.
-use Rattle.std.proofs.Common.{◌≡◌, ℕ, ℤ, pos, negsuc, ◌^◌, ◌<◌, ◌≤◌, List, length, true, Option, Some, None, option_and_then, option_map, Ok, Err, codes, inl, inr, refl, sym, ◌∙◌, ap, subst, arith}
-use Rattle.std.specs.Str.{bytes_eq}
+-- What ERTP's methods answer or refuse is data that a row can tell.
+use Rattle.std.proofs.Common.{◌≡◌, ℕ, ℤ, pos, negsuc, ◌^◌, ◌<◌, ◌≤◌, List, length, map, true, Option, Some, None, option_and_then, option_map, Ok, Err, codes, inl, inr, refl, sym, ◌∙◌, ap, subst, arith}
 use Rattle.std.proofs.lemmas.Bool.{cases_order, ltb-true}
 use Rattle.std.proofs.lemmas.List.{get_or_past}
 use Rattle.amount_math.specs.Content.{Content, count, count-sum, of_nat, sum, unit}
@@ -8,16 +7,15 @@ use Rattle.amount_math.specs.Worth.{Worth, bound, nat_bound}
 use Rattle.amount_math.specs.declared.Amount.{Amount}
 use Rattle.amount_math.specs.declared.Kind.{Kind}
 use Rattle.amount_math.specs.declared.Kind.TheVariants.{Nat, Set, Bag}
-use Rattle.call_data.specs.Amounts.{AmountData, amount_fields, amount_in, has_two, kind_of_brand, nat_from, value_in}
+use Rattle.amount_math.specs.Entries.{as_one}
+use Rattle.call_data.specs.Amounts.{AmountData, amount_fields, amount_in, are_entries, bag_in, counted_key, has_two, keyed_value, kind_of_brand, nat_from, pair_in, read_all, set_in, value_in}
 use Rattle.call_data.specs.Values.{amount_tree}
-use Rattle.call_data.specs.declared.refusals.Refusal.TheVariants.{BadArgs, BadValue, DeadPayment, Limit, NoMethod, NotEnough, TextRefused, TooMuch, WrongAmount, WrongBrand, WrongObject}
+use Rattle.call_data.specs.declared.refusals.Refusal.TheVariants.{BadArgs, BadValue, DeadPayment, Limit, NotEnough, TextRefused, TooMuch, WrongAmount, WrongBrand, WrongObject}
 use Rattle.call_data.proofs.ValuesRead.{amount_in_has}
 use Rattle.ertp_mint.specs.Stocks.{most_made}
-use Rattle.jessie_tree.specs.Tree.{Tree, array, boolean, field_count, field_of, fields, function, is_null, null, number, number_of, object, object_of, text}
+use Rattle.jessie_tree.specs.Tree.{Tree, array, boolean, field_count, field_of, fields, function, is_null, list_of, null, number, number_of, object, object_of, text, text_of}
 use Rattle.jessie_tree.specs.declared.data.Obj.{Obj}
-use Rattle.jessie_tree.specs.declared.data.ObjKind.{ObjKind}
 use Rattle.jessie_reader.specs.Read as reader
-use Rattle.jessie_tree.specs.declared.data.ObjKind.TheVariants as kinds
 use Rattle.std.proofs.Math.Nat.{min-le_right}
 use Rattle.journal_text.specs.JournalLaws.{InRange}
 use Rattle.rights_model.specs.declared.Holder.{Holder}
@@ -26,18 +24,16 @@ use Rattle.rights_model.specs.Supply.{is_inside}
 use Rattle.rights_model.specs.Table.{holds}
 use Rattle.rights_model.proofs.SupplyLaws.{count-le-total}
 use Rattle.vault.specs.Brands.{most_brands}
-use Rattle.vault.specs.Made.{made_as}
 use Rattle.vault.specs.Vaults.{amount_of, brand_of, held_by, kind_of, no_mark, out_of}
 use Rattle.vault.specs.Worlds.{IsAsset, IsValid, WorldState}
 use Rattle.zoe_service.specs.CallArguments.{arg, is_payment, optional_amount, payment_in, payment_number, payment_of, payment_seen}
 use Rattle.zoe_service.specs.ErtpRows.{is_live, make_empty_purse, make_issuer_kit, mint_payment}
 use Rattle.zoe_service.specs.PurseRows.{deposit, get_current_amount, withdraw}
 use Rattle.zoe_service.specs.Rows.{Outcome, next_payment}
-use Rattle.zoe_service.specs.Services.{of_kind, serve}
 use Rattle.zoe_service.specs.ZoeRows.{install, module_from, module_in, shown_place}
 use Rattle.zoe_service.proofs.Chained.{chained, get-InRange, mapped, passed, passed_some}
 use Rattle.zoe_service.proofs.OutcomeSteps.{ok_has, payment_in_has}
-use Rattle.zoe_service.proofs.RefusalData.{Comes, comes_last, comes_need, comes_refused, comes_step, comes_wanted, comes_where, told_nothing, told_number, told_numbers, told_place, told_text, told_values, value_of_nat}
+use Rattle.zoe_service.proofs.RefusalData.{Comes, comes_last, comes_need, comes_refused, comes_step, comes_wanted, comes_where, told_nothing, told_number, told_numbers, told_place, told_values, value_of_nat}
 use Rattle.zoe_service.proofs.Units.{value_is_units}
 
 -- ---- what is read of arguments
@@ -52,7 +48,7 @@ object-InRange (array ts) o h e = absurd (cc)
 object-InRange (fields fs) o h e = absurd (cc)
 object-InRange (function s) o h e = absurd (cc)
 
-field-InRange : (name : List ℕ) (t u : Tree) → InRange t → field_of name t ≡ Some u → InRange u
+pub field-InRange : (name : List ℕ) (t u : Tree) → InRange t → field_of name t ≡ Some u → InRange u
 field-InRange name (fields fs) u h e = get-InRange name fs u h e
 field-InRange name null u h e = absurd (cc)
 field-InRange name (boolean b) u h e = absurd (cc)
@@ -72,7 +68,7 @@ amount_named o kind v = record { brand = o.number; kind = kind; value = v }
 abbrev named_by : Tree → Obj → Option AmountData
 named_by t o = option_and_then (λ kind. option_map (amount_named o kind) (field_of (codes "value") t)) (kind_of_brand o.kind)
 
-brand_named : (t : Tree) (parts : AmountData) → InRange t → amount_fields t ≡ Some parts → parts.brand < 2 ^ 32
+pub brand_named : (t : Tree) (parts : AmountData) → InRange t → amount_fields t ≡ Some parts → parts.brand < 2 ^ 32
 brand_named t parts range h =
     let two = passed (has_two (field_count t)) (option_and_then (named_by t) (option_and_then object_of (field_of (codes "brand") t))) parts h in
     let o = chained (named_by t) (option_and_then object_of (field_of (codes "brand") t)) parts two.1 in
@@ -81,12 +77,12 @@ brand_named t parts range h =
     let u = chained object_of (field_of (codes "brand") t) o.0 o.1 in
     subst (λ (p : AmountData). p.brand < 2 ^ 32) {x = amount_named o.0 kind.0 v.0} v.2 (object-InRange u.0 o.0 (field-InRange (codes "brand") t u.0 range u.1) u.2)
 
-payment_named : (t : Tree) (p : ℕ) → InRange t → payment_seen t ≡ Some p → p < 2 ^ 32
+pub payment_named : (t : Tree) (p : ℕ) → InRange t → payment_seen t ≡ Some p → p < 2 ^ 32
 payment_named t p range h = let o = chained payment_number (object_of t) p h in payment_number_small o.0 p (object-InRange t o.0 range o.1) o.2
 
 -- ---- readers
 
-abbrev Any : {A : Type 0} → A → Type 0
+abbrev pub Any : {A : Type 0} → A → Type 0
 Any x = Unit {0}
 
 nat_told : (o : Option ℤ) → Comes Any (nat_from o)
@@ -94,24 +90,41 @@ nat_told None = told_nothing BadValue refl
 nat_told (Some (pos n)) = comes_where Any _ (Ok (record { kind = Nat; content = of_nat n })) (Err BadValue) tt (told_nothing BadValue refl)
 nat_told (Some (negsuc n)) = told_nothing BadValue refl
 
-value_told : (kind : Kind) (t : Tree) → kind ≡ Nat → Comes Any (value_in kind t)
-unfolding value_in
-value_told Nat t is = nat_told (number_of t)
-value_told Set t is = absurd (cc is)
-value_told Bag t is = absurd (cc is)
+keyed_told : (kind : Kind) (es : List (List ℕ × ℕ)) → Comes Any (keyed_value kind es)
+unfolding keyed_value
+keyed_told kind es = comes_need Any (are_entries es) BadValue _ (told_nothing BadValue refl) (λ good. tt)
 
-amount_told : (t : Tree) (place b : ℕ) (kind : Kind) → kind ≡ Nat → InRange t → place < 2 ^ 32 → Comes Any (amount_in t place b kind)
+set_told : (t : Tree) → Comes Any (set_in t)
+unfolding set_in
+set_told t =
+    comes_wanted Any (list_of t) BadValue _ (told_nothing BadValue refl) (λ items is.
+    comes_wanted Any (read_all text_of items) BadValue _ (told_nothing BadValue refl) (λ keys are. keyed_told Set (map as_one keys)))
+
+bag_told : (t : Tree) → Comes Any (bag_in t)
+unfolding bag_in
+bag_told t =
+    comes_wanted Any (list_of t) BadValue _ (told_nothing BadValue refl) (λ items is.
+    comes_wanted Any (read_all pair_in items) BadValue _ (told_nothing BadValue refl) (λ pairs are.
+    comes_wanted Any (read_all counted_key pairs) BadValue _ (told_nothing BadValue refl) (λ entries counted. keyed_told Bag entries)))
+
+pub value_told : (kind : Kind) (t : Tree) → Comes Any (value_in kind t)
+unfolding value_in
+value_told Nat t = nat_told (number_of t)
+value_told Set t = set_told t
+value_told Bag t = bag_told t
+
+amount_told : (t : Tree) (place b : ℕ) (kind : Kind) → InRange t → place < 2 ^ 32 → Comes Any (amount_in t place b kind)
 unfolding amount_in
-amount_told t place b kind nat range small =
+amount_told t place b kind range small =
     comes_wanted Any (amount_fields t) (BadArgs place) _ (told_number (BadArgs place) place refl (omega (arith, small))) (λ parts is.
     comes_need Any _ (WrongBrand parts.brand) _ (told_number (WrongBrand parts.brand) parts.brand refl (omega (arith, brand_named t parts range is))) (λ own.
-    value_told kind parts.value nat))
+    value_told kind parts.value))
 
 optional_told : (t : Tree) (place b : ℕ) (held : Worth) → InRange t → place < 2 ^ 32 → held.kind ≡ Nat → count held.content unit ≤ nat_bound → Comes Any (optional_amount t place b held)
 unfolding optional_amount
 optional_told t place b held range small nat few =
     comes_where Any (is_null t) _ _ tt
-    (comes_step Any (amount_in t place b held.kind) _ (comes_refused Any _ (amount_told t place b held.kind nat range small)) (λ named is.
+    (comes_step Any (amount_in t place b held.kind) _ (comes_refused Any _ (amount_told t place b held.kind range small)) (λ named is.
     let own = value_is_units _ named nat (ok_has _ _ named is (amount_in_has t place b held.kind)) in
     comes_last Any _ (WrongAmount held named) (told_values (WrongAmount held named) held named refl nat own.kind_is (omega (arith, few)) (omega (arith, own.within))) tt))
 
@@ -187,7 +200,7 @@ module _ (w : WorldState) (valid : IsValid w) where
   abbrev pub Answers : Outcome → Type 0
   Answers row = Comes (λ d. InRange d.0) row
 
-  install_told : (args : List Tree) → Answers (install w args)
+  pub install_told : (args : List Tree) → Answers (install w args)
   unfolding install
   install_told args =
       comes_wanted _ _ (BadArgs 1) _ (told_number (BadArgs 1) 1 refl (omega arith)) (λ bytes is.
@@ -195,7 +208,7 @@ module _ (w : WorldState) (valid : IsValid w) where
       comes_need _ _ (Limit most_made) _ (told_number (Limit most_made) most_made refl (omega arith)) (λ room.
       let few : length w.instances.now.installations < most_made = ltb-true _ _ room in omega (arith, few))))
 
-  make_issuer_kit_told : (args : List Tree) → Answers (make_issuer_kit w args)
+  pub make_issuer_kit_told : (args : List Tree) → Answers (make_issuer_kit w args)
   unfolding make_issuer_kit
   make_issuer_kit_told args =
       comes_wanted _ _ (BadArgs 1) _ (told_number (BadArgs 1) 1 refl (omega arith)) (λ name is.
@@ -206,20 +219,20 @@ module _ (w : WorldState) (valid : IsValid w) where
       let small : length w.brands.now < 2 ^ 32 = omega (arith, few) in
       (refl, small, (refl, small, (refl, small, tt)))))))
 
-  mint_payment_told : (b : ℕ) (args : List Tree) → IsAsset w.draft.now b → InRange (arg 1 args) → Answers (mint_payment w b args)
+  pub mint_payment_told : (b : ℕ) (args : List Tree) → IsAsset w.draft.now b → InRange (arg 1 args) → Answers (mint_payment w b args)
   unfolding mint_payment
   mint_payment_told b args asset range =
-      comes_step _ (amount_in (arg 1 args) 1 b (kind_of w.draft.now b)) _ (comes_refused Any _ (amount_told (arg 1 args) 1 b (kind_of w.draft.now b) asset.nat range (omega arith))) (λ value is.
+      comes_step _ (amount_in (arg 1 args) 1 b (kind_of w.draft.now b)) _ (comes_refused Any _ (amount_told (arg 1 args) 1 b (kind_of w.draft.now b) range (omega arith))) (λ value is.
       let own = value_is_units _ value asset.nat (ok_has _ _ value is (amount_in_has (arg 1 args) 1 b (kind_of w.draft.now b))) in
       comes_need _ _ _ _ (too_much_told (out_of w.draft.now b) value.content (out_small b unit) own.within) (λ fits.
       comes_step _ (next_payment w.draft.now) _ (comes_refused _ _ next_told) (λ p got. next_small p got)))
 
-  make_empty_purse_told : (b : ℕ) → Answers (make_empty_purse w b)
+  pub make_empty_purse_told : (b : ℕ) → Answers (make_empty_purse w b)
   unfolding make_empty_purse
   make_empty_purse_told b = comes_need _ _ (Limit most_made) _ (told_number (Limit most_made) most_made refl (omega arith)) (λ room.
       let few : length w.draft.now.purses < most_made = ltb-true _ _ room in omega (arith, few))
 
-  is_live_told : (b : ℕ) (args : List Tree) → InRange (arg 1 args) → Answers (is_live w b args)
+  pub is_live_told : (b : ℕ) (args : List Tree) → InRange (arg 1 args) → Answers (is_live w b args)
   unfolding is_live
   is_live_told b args range = comes_step _ (payment_of w.draft.now (arg 1 args) 1 b) _ (comes_refused _ _ (brand_payment_told (arg 1 args) 1 b range (omega arith))) (λ p is. tt)
 
@@ -227,13 +240,13 @@ module _ (w : WorldState) (valid : IsValid w) where
   unfolding amount_tree
   amount_told_in_range a nat small few = (refl, small, (refl, subst InRange (sym (value_of_nat a.value nat)) (let wide : count a.value.content unit < 2 ^ 128 = omega (arith, few) in wide), tt))
 
-  get_current_amount_told : (p : ℕ) → p < length w.draft.now.purses → Answers (get_current_amount w p)
+  pub get_current_amount_told : (p : ℕ) → p < length w.draft.now.purses → Answers (get_current_amount w p)
   unfolding get_current_amount
   get_current_amount_told p made =
       let asset = valid.ordinary.purses p made in
       amount_told_in_range (amount_of w.draft.now (Purse p)) asset.nat (made_small _ asset.made) (held_small (Purse p) _ unit refl)
 
-  deposit_told : (p : ℕ) (args : List Tree) → p < length w.draft.now.purses → InRange (arg 1 args) → InRange (arg 2 args) → Answers (deposit w p args)
+  pub deposit_told : (p : ℕ) (args : List Tree) → p < length w.draft.now.purses → InRange (arg 1 args) → InRange (arg 2 args) → Answers (deposit w p args)
   unfolding deposit
   deposit_told p args made first second =
       let v = w.draft.now in
@@ -247,48 +260,13 @@ module _ (w : WorldState) (valid : IsValid w) where
       comes_need _ _ _ _ (too_much_told (held_by v (Purse p)) a.value.content (held_small (Purse p) b unit refl) few) (λ fits.
       amount_told_in_range a nat (payment_brand_small q) few)))
 
-  withdraw_told : (p : ℕ) (args : List Tree) → p < length w.draft.now.purses → InRange (arg 1 args) → Answers (withdraw w p args)
+  pub withdraw_told : (p : ℕ) (args : List Tree) → p < length w.draft.now.purses → InRange (arg 1 args) → Answers (withdraw w p args)
   unfolding withdraw
   withdraw_told p args made range =
       let a = amount_of w.draft.now (Purse p) in
       let nat = (valid.ordinary.purses p made).nat in
-      comes_step _ (amount_in (arg 1 args) 1 a.brand a.value.kind) _ (comes_refused Any _ (amount_told (arg 1 args) 1 a.brand a.value.kind nat range (omega arith))) (λ value is.
+      comes_step _ (amount_in (arg 1 args) 1 a.brand a.value.kind) _ (comes_refused Any _ (amount_told (arg 1 args) 1 a.brand a.value.kind range (omega arith))) (λ value is.
       let own = value_is_units _ value nat (ok_has _ _ value is (amount_in_has (arg 1 args) 1 a.brand a.value.kind)) in
       let few = held_small (Purse p) a.brand unit refl in
       comes_need _ _ (NotEnough a.value value) _ (told_values (NotEnough a.value value) a.value value refl nat own.kind_is (omega (arith, few)) (omega (arith, own.within))) (λ enough.
       comes_step _ (next_payment w.draft.now) _ (comes_refused _ _ next_told) (λ q got. next_small q got)))
-
-  -- ---- which method a call is
-
-  no_method : (m : List ℕ) → Answers (Err (NoMethod m))
-  no_method m = told_text (NoMethod m) m refl
-
-  module _ (args : List Tree) (ranges : (place : ℕ) → InRange (arg place args)) where
-    kind_told : (k : ObjKind) (n : ℕ) (m : List ℕ) → made_as w k n → Answers (of_kind w k n m args)
-    kind_told kinds.Ertp n m made = comes_where _ (bytes_eq m (codes "makeIssuerKit")) _ _ (make_issuer_kit_told args) (no_method m)
-    kind_told kinds.Mint n m made = comes_where _ (bytes_eq m (codes "mintPayment")) _ _ (mint_payment_told n args made (ranges 1)) (no_method m)
-    kind_told kinds.Issuer n m made =
-        comes_where _ (bytes_eq m (codes "makeEmptyPurse")) _ _ (make_empty_purse_told n)
-        (comes_where _ (bytes_eq m (codes "isLive")) _ _ (is_live_told n args (ranges 1)) (no_method m))
-    kind_told kinds.Purse n m made =
-        comes_where _ (bytes_eq m (codes "getCurrentAmount")) _ _ (get_current_amount_told n made)
-        (comes_where _ (bytes_eq m (codes "deposit")) _ _ (deposit_told n args made (ranges 1) (ranges 2))
-        (comes_where _ (bytes_eq m (codes "withdraw")) _ _ (withdraw_told n args made (ranges 1)) (no_method m)))
-    kind_told kinds.Zoe n m made = comes_where _ (bytes_eq m (codes "install")) _ _ (install_told args) (no_method m)
-    kind_told kinds.Timer n m made = no_method m
-    kind_told (kinds.Brand kind) n m made = no_method m
-    kind_told kinds.Deposit n m made = no_method m
-    kind_told kinds.Payment n m made = no_method m
-    kind_told kinds.Installation n m made = no_method m
-    kind_told kinds.Instance n m made = no_method m
-    kind_told kinds.Zcf n m made = no_method m
-    kind_told kinds.Seat n m made = no_method m
-    kind_told kinds.Zseat n m made = no_method m
-    kind_told kinds.Zmint n m made = no_method m
-    kind_told kinds.Facet n m made = no_method m
-    kind_told kinds.Promise n m made = no_method m
-
-    -- whatever is called, the answer is in range, or the refusal is told
-    pub serve_told : (on : Obj) (m : List ℕ) → made_as w on.kind on.number → Comes (λ d. InRange d.0) (serve w on m args)
-    unfolding serve
-    serve_told on m made = kind_told on.kind on.number m made

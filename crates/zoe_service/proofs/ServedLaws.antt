@@ -1,246 +1,187 @@
 -- What holds of each call's answer and effects.
-use Rattle.std.proofs.Common.{◌≡◌, ℕ, zero, suc, ◌+◌, ◌<◌, ◌≤◌, Bool, true, false, List, [], ◌∷◌, ◌++◌, length, get_or, Result, Ok, Err, IfOk, if◌then◌else◌, codes, refl, sym, ◌∙◌, ap, subst, arith, length-append}
+use Rattle.std.proofs.Common.{◌≡◌, ℕ, ◌+◌, ◌≤◌, Bool, true, false, List, [], ◌∷◌, Result, Ok, Err, IfOk, IsTrue, inl, inr, if◌then◌else◌, codes, refl, sym, ◌∙◌, ap, subst, arith}
 use Rattle.std.specs.Str.{bytes_eq}
-use Rattle.std.proofs.lemmas.Bool.{leb-true, ltb-true}
-use Rattle.std.proofs.lemmas.List.{get_or_push}
-use Rattle.amount_math.specs.Content.{count, unit}
-use Rattle.amount_math.specs.Counted.{counted}
-use Rattle.amount_math.specs.Worth.{Worth, nat_bound}
-use Rattle.amount_math.specs.declared.Amount.{Amount}
-use Rattle.amount_math.specs.declared.Kind.TheVariants.{Nat}
-use Rattle.call_data.specs.Values.{amount_tree, brand_tree, number_tree, object_tree, value_tree}
+use Rattle.std.proofs.lemmas.Slice.Eq.{bytes_eq-Decides}
 use Rattle.call_data.specs.declared.refusals.Refusal.{Refusal}
-use Rattle.call_data.proofs.ValuesRead.{amount_in_has}
-use Rattle.ertp_mint.specs.BrandSupply.{BrandSupply, new_supply}
-use Rattle.jessie_tree.specs.Tree.{Tree, Ordered, fields, field, nesting, no_fields}
+use Rattle.jessie_tree.specs.Tree.{Tree, Ordered, nesting}
 use Rattle.jessie_tree.specs.declared.data.Obj.{Obj}
 use Rattle.jessie_tree.specs.declared.data.ObjKind.{ObjKind}
 use Rattle.jessie_tree.specs.declared.data.ObjKind.TheVariants as kinds
-use Rattle.rights_model.specs.declared.Holder.{Holder}
-use Rattle.rights_model.specs.declared.Holder.TheVariants.{Purse, Payment, Outside}
-use Rattle.rights_model.specs.Table.{movement}
+use Rattle.turn_log.specs.declared.events.Cause.TheVariants.{Asked}
+use Rattle.vault.specs.Acts.{Act, ByActs, CanActAll, Departure, after_act, after_acts, effects_of, effects_of_all}
+use Rattle.vault.specs.Consistent.{IsConsistent}
+use Rattle.vault.specs.InstanceKnowledge.{IsHanded}
 use Rattle.vault.specs.Known.{AllObjects}
-use Rattle.vault.specs.Made.{IsBrand, IsMade, made_as}
-use Rattle.vault.specs.Vaults.{CanMakePayment, PaymentMark, amount_of, brand_of, kind_of, no_mark, payments_from}
-use Rattle.vault.specs.Worlds.{CanDoAll, CanMove, Effect, HasRoom, IsAsset, IsValid, MintedWithin, WorldState, after, after_all, move, new_brand, new_purse}
-use Rattle.zoe_service.specs.Answered.{AnswersSo, IsAnswer}
+use Rattle.vault.specs.Made.{IsMade, made_as}
+use Rattle.vault.specs.Worlds.{CanDoAll, Effect, HasRoom, IsValid, MintedWithin, WorldState, after_all}
+use Rattle.vault.proofs.KnowingKept.{IsHanded-made}
+use Rattle.zoe_service.specs.Answered.{AnswersSo, IsAnswer, IsBound, IsOffer, left_by}
 use Rattle.zoe_service.specs.CallArguments.{arg}
-use Rattle.zoe_service.specs.ErtpRows.{is_live, make_empty_purse, make_issuer_kit, mint_payment}
-use Rattle.zoe_service.specs.Moved.{IsPassed, Moves}
-use Rattle.zoe_service.specs.PurseRows.{deposit, get_current_amount, withdraw}
+use Rattle.zoe_service.specs.OfferRows.{HaveInstances}
 use Rattle.zoe_service.specs.Rows.{Outcome, served}
-use Rattle.zoe_service.specs.Served.{KnowsArgs}
+use Rattle.zoe_service.specs.Served.{CanServe, KnowsArgs}
 use Rattle.zoe_service.specs.Services.{of_kind, serve}
-use Rattle.zoe_service.specs.ZoeRows.{install}
-use Rattle.vault.proofs.Growth.{grows-after_all, minted-added, minted-moved, minted_less, payments-from}
-use Rattle.zoe_service.proofs.OutcomeSteps.{after_check, after_need, after_step, next_payment_has, ok_has, payment_in_has}
-use Rattle.zoe_service.proofs.ServiceTransfers.{deposit_transfer, mint_transfer, nat_move, units_counted, withdraw_transfer}
-use Rattle.zoe_service.proofs.Units.{value_is_units}
+use Rattle.zoe_service.proofs.ActedRows.{ActsSo}
+use Rattle.zoe_service.proofs.ConsistentRows.{handed_known, handed_ordered, invitations_have_instances, payouts_handed}
+use Rattle.zoe_service.proofs.ErtpAnswered.{deposit_so, get_current_amount_so, is_live_so, make_empty_purse_so, make_issuer_kit_so, mint_payment_so, withdraw_so}
+use Rattle.zoe_service.proofs.MovesMade.{after-append, can_append}
+use Rattle.zoe_service.proofs.OutcomeSteps.{ok_has}
+use Rattle.zoe_service.proofs.RowsAnswered.{get_offer_result_so, get_payout_so, get_payouts_so, has_exited_so, install_so, offer_so, start_instance_so, try_exit_so}
 
--- each answer is so
-abbrev AnswersWell : WorldState → Outcome → Type 0
-AnswersWell w row = IfOk row (λ d. IsAnswer w d.0 d.1)
+-- ---- which method a call is
 
--- ---- answers
+abbrev AnswersWell : WorldState → Obj → List ℕ → Outcome → Type 0
+AnswersWell w on method row = IfOk row (λ d. IsAnswer w on method d.0 d.1)
 
--- a value of a brand of whole numbers is shown as its number
-value_of_nat : (w : Worth) → w.kind ≡ Nat → value_tree w ≡ number_tree (count w.content unit)
-unfolding value_tree
-value_of_nat w is = rw is refl
-
-record IsShown (w : WorldState) (t : Tree) : Type 0 where
-  known : AllObjects (IsMade w) t
-  ordered : Ordered t
-  shallow : nesting t ≤ 32
-
--- an amount names its brand alone
-shown_amount : (w : WorldState) (a : Amount) → a.value.kind ≡ Nat → IsBrand w.draft.now a.value.kind a.brand → IsShown w (amount_tree a)
-unfolding amount_tree
-shown_amount w a nat made = subst (λ t. IsShown w (fields (field (codes "brand") (brand_tree a.value.kind a.brand) (field (codes "value") t no_fields)))) (sym (value_of_nat a.value nat)) (record {
-  known = (made, (tt, tt));
-  ordered = (tt, refl, (tt, tt, tt));
-  shallow = omega arith;
-})
-
--- ---- effects
-
--- a value goes to the next payment, which is the answer
-goes_out : (w : WorldState) (b p : ℕ) (from : Holder) (value : Worth) → CanMove w (movement b from (Payment p) value) → IsPassed from (Payment p) → counted value.content ≤ nat_bound → CanMakePayment w.draft.now p
-    → IsAnswer w (object_tree kinds.Payment p) (move (movement b from (Payment p) value) ∷ [])
-goes_out w b p from value can passed small next = record {
-  can = (can, tt);
-  moves = passed;
-  minted = λ n was. minted-moved w.draft.now (movement b from (Payment p) value) n can.transfer.brand small was;
-  known = omega (arith, next.next, payments-from w.draft.now.payments from, length-append (payments_from w.draft.now.payments from) (record { brand = b; is_live = true } ∷ []));
-  ordered = tt;
-  shallow = omega arith;
+-- a row answers so where it leaves and opens the seats that its method may
+answers : (w : WorldState) (on : Obj) (method : List ℕ) (left : List Departure) (opening : Bool) (row : Outcome) → left ≡ left_by on method → (IsTrue opening → IsOffer on method) → ActsSo w left opening row → AnswersWell w on method row
+answers w on method left opening (Err r) same only so = tt
+answers w on method left opening (Ok d) same only so = record {
+  acts = so.acts;
+  are = so.are;
+  can = so.can;
+  minted = so.minted;
+  bound = so.bound;
+  departures = so.departures ∙ same;
+  openings = λ some. only (subst IsTrue so.openings some);
+  proposals = so.proposals;
+  mints = so.mints;
+  deliveries = so.deliveries;
 }
 
-no_more : (w : WorldState) (n : ℕ) → MintedWithin w.draft.now n → MintedWithin w.draft.now (n + 1)
-no_more w n = minted_less w.draft.now w.draft.now n (λ b. omega arith)
+-- a method that is asked for by its name, or else the rest
+named_or : (w : WorldState) (on : Obj) (method name : List ℕ) (x y : Outcome) → (method ≡ name → AnswersWell w on method x) → AnswersWell w on method y → AnswersWell w on method (if bytes_eq method name then x else y)
+named_or w on method name x y here rest = by (bytes_eq method name) (bytes_eq-Decides method name).0
+  where
+    by : (b : Bool) → (b ≡ true → method ≡ name) → AnswersWell w on method (if b then x else y)
+    by true is = here (is refl)
+    by false is = rest
 
--- ---- the methods
+never : {A : Type 0} → IsTrue false → A
+never is = absurd (cc is)
 
-withdraw_so : (w : WorldState) (p : ℕ) (args : List Tree) → IsValid w → p < length w.draft.now.purses → AnswersWell w (withdraw w p args)
-unfolding withdraw
-withdraw_so w p args valid made =
-    let a = amount_of w.draft.now (Purse p) in
-    after_step _ _ _ (λ value is. after_need _ _ _ _ (λ enough. after_step _ _ _ (λ payment got.
-    let own = ok_has _ _ value is (amount_in_has (arg 1 args) 1 a.brand a.value.kind) in
-    let next = ok_has _ _ payment got (next_payment_has w.draft.now) in
-    let nat = (valid.ordinary.purses p made).nat in
-    let can = withdraw_transfer w valid p payment a.brand a.value.kind value refl refl made own (leb-true _ _ enough) next in
-    goes_out w a.brand payment (Purse p) value (nat_move w valid _ can nat) tt (units_counted value (value_is_units _ value nat own)) next)))
+module _ (w : WorldState) (args : List Tree) where
+  -- a method of an object that is no seat's, and no offer
+  plain : (k : ObjKind) (n : ℕ) (method name : List ℕ) (x y : Outcome) → [] ≡ left_by (record { kind = k; number = n }) method → ActsSo w [] false x → AnswersWell w (record { kind = k; number = n }) method y
+      → AnswersWell w (record { kind = k; number = n }) method (if bytes_eq method name then x else y)
+  plain k n method name x y none so rest = named_or w (record { kind = k; number = n }) method name x y (λ is. answers w (record { kind = k; number = n }) method [] false x none never so) rest
 
-mint_payment_so : (w : WorldState) (b : ℕ) (args : List Tree) → IsValid w → HasRoom w.draft.now → IsAsset w.draft.now b → AnswersWell w (mint_payment w b args)
-unfolding mint_payment
-mint_payment_so w b args valid room asset =
-    after_step _ _ _ (λ value is. after_need _ _ _ _ (λ fits. after_step _ _ _ (λ payment got.
-    let own = ok_has _ _ value is (amount_in_has (arg 1 args) 1 b (kind_of w.draft.now b)) in
-    let next = ok_has _ _ payment got (next_payment_has w.draft.now) in
-    let can = mint_transfer w valid payment b _ value refl room asset own (leb-true _ _ fits) next in
-    goes_out w b payment Outside value (nat_move w valid _ can asset.nat) tt (units_counted value (value_is_units _ value asset.nat own)) next)))
+  -- a method of a seat, which leaves it or not
+  of_one : (n : ℕ) (method name : List ℕ) (left : List Departure) (x y : Outcome) → left ≡ left_by (record { kind = kinds.Seat; number = n }) name → ActsSo w left false x → AnswersWell w (record { kind = kinds.Seat; number = n }) method y
+      → AnswersWell w (record { kind = kinds.Seat; number = n }) method (if bytes_eq method name then x else y)
+  of_one n method name left x y same so rest =
+      let seat : Obj = record { kind = kinds.Seat; number = n } in
+      named_or w seat method name x y (λ is. answers w seat method left false x (same ∙ ap (left_by seat) (sym is)) never so) rest
 
-make_issuer_kit_so : (w : WorldState) (args : List Tree) → IsValid w → AnswersWell w (make_issuer_kit w args)
-unfolding make_issuer_kit
-make_issuer_kit_so w args valid =
-    after_step _ _ _ (λ name is. after_need _ _ _ _ (λ short. after_need _ _ _ _ (λ kind. after_need _ _ _ _ (λ room.
-    let ss = w.draft.now.supplies in
-    let n = length w.brands.now in
-    let made : n < length (ss ++ new_supply Nat ∷ []) = omega (arith, valid.brands, length-append ss (new_supply Nat ∷ [])) in
-    let nat = ap (λ (s : BrandSupply). s.outstanding.kind) (get_or_push ss (new_supply Nat) (new_supply Nat) n (sym valid.brands)) in
-    record {
-      can = (record { room = ltb-true _ _ room; nat = refl }, tt);
-      moves = tt;
-      minted = λ m was. minted_less w.draft.now (after w (new_brand (record { name = name; kind = Nat }))).draft.now m (minted-added w Nat) was;
-      known = (record { made = made; kind_is = nat }, (record { made = made; nat = nat }, (record { made = made; nat = nat }, tt)));
-      ordered = (tt, refl, (tt, refl, (tt, tt, tt)));
-      shallow = omega arith;
-    }))))
+  module _ (may : (place : ℕ) → IsHanded w (arg place args)) (valid : IsValid w) (consistent : IsConsistent w) (room : HasRoom w.draft.now) where
+    knows : KnowsArgs w args
+    knows = handed_known w args may
 
-make_empty_purse_so : (w : WorldState) (b : ℕ) → IsAsset w.draft.now b → AnswersWell w (make_empty_purse w b)
-unfolding make_empty_purse
-make_empty_purse_so w b asset = after_need _ _ _ _ (λ room. record {
-  can = (record { asset = asset; room = ltb-true _ _ room }, tt);
-  moves = tt;
-  minted = λ n was. minted_less w.draft.now (after w (new_purse b)).draft.now n (λ e. omega arith) was;
-  known = omega (arith, length-append w.draft.now.purses (b ∷ []));
-  ordered = tt;
-  shallow = omega arith;
-})
+    instances : HaveInstances w
+    instances = invitations_have_instances w consistent
 
--- a truth value names nothing, and there is no effect
-is_live_so : (w : WorldState) (b : ℕ) (args : List Tree) → AnswersWell w (is_live w b args)
-unfolding is_live
-is_live_so w b args = after_step _ _ _ (λ payment is. record { can = tt; moves = tt; minted = no_more w; known = tt; ordered = tt; shallow = omega arith })
+    kind_so : (k : ObjKind) (n : ℕ) (m : List ℕ) → made_as w k n → AnswersWell w (record { kind = k; number = n }) m (of_kind w k n m args)
+    kind_so kinds.Ertp n m made = plain kinds.Ertp n m (codes "makeIssuerKit") _ _ refl (make_issuer_kit_so w args valid) tt
+    kind_so kinds.Mint n m made = plain kinds.Mint n m (codes "mintPayment") _ _ refl (mint_payment_so w n args valid room made) tt
+    kind_so kinds.Issuer n m made =
+        plain kinds.Issuer n m (codes "makeEmptyPurse") _ _ refl (make_empty_purse_so w n made)
+        (plain kinds.Issuer n m (codes "isLive") _ _ refl (is_live_so w n args) tt)
+    kind_so kinds.Purse n m made =
+        plain kinds.Purse n m (codes "getCurrentAmount") _ _ refl (get_current_amount_so w n valid made)
+        (plain kinds.Purse n m (codes "deposit") _ _ refl (deposit_so w n args valid made)
+        (plain kinds.Purse n m (codes "withdraw") _ _ refl (withdraw_so w n args valid made) tt))
+    kind_so kinds.Zoe n m made =
+        plain kinds.Zoe n m (codes "install") _ _ refl (install_so w args)
+        (plain kinds.Zoe n m (codes "startInstance") _ _ refl (start_instance_so w args knows)
+        (named_or w (record { kind = kinds.Zoe; number = n }) m (codes "offer") _ _
+        (λ is. answers w (record { kind = kinds.Zoe; number = n }) m [] true _ refl (λ _. record { on = refl; named = is }) (offer_so w args valid instances knows (handed_ordered w args may))) tt))
+    kind_so kinds.Seat n m made =
+        of_one n m (codes "hasExited") [] _ _ refl (has_exited_so w valid n made)
+        (of_one n m (codes "getPayouts") [] _ _ refl (get_payouts_so w valid n made)
+        (of_one n m (codes "getPayout") [] _ _ refl (get_payout_so w n args (payouts_handed w consistent n))
+        (of_one n m (codes "getOfferResult") [] _ _ refl (get_offer_result_so w valid n made)
+        (of_one n m (codes "tryExit") (record { seat = n; cause = Asked } ∷ []) _ _ refl (try_exit_so w valid n made) tt))))
+    kind_so kinds.Timer n m made = tt
+    kind_so (kinds.Brand kind) n m made = tt
+    kind_so kinds.Deposit n m made = tt
+    kind_so kinds.Payment n m made = tt
+    kind_so kinds.Installation n m made = tt
+    kind_so kinds.Instance n m made = tt
+    kind_so kinds.Zcf n m made = tt
+    kind_so kinds.Zseat n m made = tt
+    kind_so kinds.Zmint n m made = tt
+    kind_so kinds.Facet n m made = tt
+    kind_so kinds.Promise n m made = tt
 
-get_current_amount_so : (w : WorldState) (p : ℕ) → IsValid w → p < length w.draft.now.purses → AnswersWell w (get_current_amount w p)
-unfolding get_current_amount
-get_current_amount_so w p valid made =
-    let asset = valid.ordinary.purses p made in
-    let shown = shown_amount w (amount_of w.draft.now (Purse p)) asset.nat (record { made = asset.made; kind_is = refl }) in
-    record { can = tt; moves = tt; minted = no_more w; known = shown.known; ordered = shown.ordered; shallow = shown.shallow }
-
-live_made : (ps : List PaymentMark) (p : ℕ) → (get_or ps p no_mark).is_live ≡ true → p < length ps
-live_made [] p live = cc
-live_made (q ∷ qs) zero live = omega arith
-live_made (q ∷ qs) (suc p) live = let lt : p < length qs = live_made qs p live in omega arith
-
-deposit_so : (w : WorldState) (p : ℕ) (args : List Tree) → IsValid w → p < length w.draft.now.purses → AnswersWell w (deposit w p args)
-unfolding deposit
-deposit_so w p args valid made =
-    let v = w.draft.now in
-    let b = brand_of v (Purse p) in
-    after_step _ _ _ (λ q is. after_check _ _ _ (after_need _ _ _ _ (λ fits.
-    let paid = ok_has _ _ q is (payment_in_has v (arg 1 args) 1 b) in
-    let there = live_made v.payments q paid.live in
-    let a = amount_of v (Payment q) in
-    let can = deposit_transfer w valid p q b a.value refl refl made (record { made = there; brand = paid.brand; live = paid.live }) in
-    let nat : a.value.kind ≡ Nat = ap (kind_of v) paid.brand ∙ (valid.ordinary.purses p made).nat in
-    let shown = shown_amount (after w (move (movement b (Payment q) (Purse p) a.value))) a nat
-    ((grows-after_all w (move (movement b (Payment q) (Purse p) a.value) ∷ [])).each (record { kind = kinds.Brand a.value.kind; number = a.brand }) (record { made = valid.draft.payments q there; kind_is = refl })) in
-    record {
-      can = (nat_move w valid _ can (valid.ordinary.purses p made).nat, tt);
-      moves = tt;
-      minted = λ n was. minted_less v (after w (move (movement b (Payment q) (Purse p) a.value))).draft.now n (λ e. omega arith) was;
-      known = shown.known;
-      ordered = shown.ordered;
-      shallow = shown.shallow;
-    })))
-
-install_so : (w : WorldState) (args : List Tree) → AnswersWell w (install w args)
-unfolding install
-install_so w args = after_step _ _ _ (λ bytes is. after_step _ _ _ (λ m read. after_need _ _ _ _ (λ room. record {
-  can = (ltb-true _ _ room, tt);
-  moves = tt;
-  minted = no_more w;
-  known = omega (arith, length-append w.instances.now.installations (m ∷ []));
-  ordered = tt;
-  shallow = omega arith;
-})))
-
--- ---- each call
-
-by_test : (w : WorldState) (b : Bool) (x y : Outcome) → AnswersWell w x → AnswersWell w y → AnswersWell w (if b then x else y)
-by_test w true x y h k = h
-by_test w false x y h k = k
-
-module _ (w : WorldState) (valid : IsValid w) (room : HasRoom w.draft.now) where
-  kind_so : (k : ObjKind) (n : ℕ) (m : List ℕ) (args : List Tree) → made_as w k n → AnswersWell w (of_kind w k n m args)
-  kind_so kinds.Ertp n m args made = by_test w (bytes_eq m (codes "makeIssuerKit")) _ _ (make_issuer_kit_so w args valid) tt
-  kind_so kinds.Mint n m args made = by_test w (bytes_eq m (codes "mintPayment")) _ _ (mint_payment_so w n args valid room made) tt
-  kind_so kinds.Issuer n m args made =
-      by_test w (bytes_eq m (codes "makeEmptyPurse")) _ _ (make_empty_purse_so w n made)
-      (by_test w (bytes_eq m (codes "isLive")) _ _ (is_live_so w n args) tt)
-  kind_so kinds.Purse n m args made =
-      by_test w (bytes_eq m (codes "getCurrentAmount")) _ _ (get_current_amount_so w n valid made)
-      (by_test w (bytes_eq m (codes "deposit")) _ _ (deposit_so w n args valid made)
-      (by_test w (bytes_eq m (codes "withdraw")) _ _ (withdraw_so w n args valid made) tt))
-  kind_so kinds.Zoe n m args made = by_test w (bytes_eq m (codes "install")) _ _ (install_so w args) tt
-  kind_so kinds.Timer n m args made = tt
-  kind_so (kinds.Brand kind) n m args made = tt
-  kind_so kinds.Deposit n m args made = tt
-  kind_so kinds.Payment n m args made = tt
-  kind_so kinds.Installation n m args made = tt
-  kind_so kinds.Instance n m args made = tt
-  kind_so kinds.Zcf n m args made = tt
-  kind_so kinds.Seat n m args made = tt
-  kind_so kinds.Zseat n m args made = tt
-  kind_so kinds.Zmint n m args made = tt
-  kind_so kinds.Facet n m args made = tt
-  kind_so kinds.Promise n m args made = tt
-
-serve_so : (w : WorldState) (target : Obj) (method : List ℕ) (args : List Tree) → IsValid w → HasRoom w.draft.now → IsMade w target → AnswersWell w (serve w target method args)
+serve_so : (w : WorldState) (target : Obj) (method : List ℕ) (args : List Tree) → CanServe w target args → AnswersWell w target method (serve w target method args)
 unfolding serve
-serve_so w target method args valid room made = kind_so w valid room target.kind target.number method args made
+serve_so w target method args may = kind_so w args may.handed may.valid may.consistent may.room target.kind target.number method may.target
 
 -- whatever is called, the answer and the effects are so
 pub serve_answers : AnswersSo
-serve_answers w target method args answer effects valid room made known is =
-    ok_has (λ d. IsAnswer w d.0 d.1) (serve w target method args) (answer, effects) is (serve_so w target method args valid room made)
+serve_answers w target method args answer effects may is =
+    ok_has (λ d. IsAnswer w target method d.0 d.1) (serve w target method args) (answer, effects) is (serve_so w target method args may)
 
-module _ (w : WorldState) (target : Obj) (method : List ℕ) (args : List Tree) (answer : Tree) (effects : List Effect) (valid : IsValid w) (room : HasRoom w.draft.now) (made : IsMade w target) (known : KnowsArgs w args) (is : serve w target method args ≡ Ok (answer, effects)) where
+-- ---- what follows of an answer
+
+pub acts_can : (w : WorldState) (acts : List Act) → CanActAll w acts → CanDoAll w (effects_of_all acts)
+acts_can w [] can = tt
+acts_can w (a ∷ acts) can = can_append w (effects_of a) (effects_of_all acts) can.0.can (acts_can (after_act w a) acts can.1)
+
+pub acts_done : (w : WorldState) (acts : List Act) → after_all w (effects_of_all acts) ≡ after_acts w acts
+acts_done w [] = refl
+acts_done w (a ∷ acts) = after-append w (effects_of a) (effects_of_all acts) ∙ acts_done (after_act w a) acts
+
+module _ (w : WorldState) (t : Tree) (bound : IsBound w t) where
+  -- all that it names was made
+  pub bound_made : AllObjects (IsMade w) t
+  bound_made = elim bound.by [
+    | inl promise ↦ subst (AllObjects (IsMade w)) (sym promise.is) promise.made
+    | inr handed ↦ IsHanded-made w t handed
+  ]
+
+  pub bound_ordered : Ordered t
+  bound_ordered = elim bound.by [
+    | inl promise ↦ subst Ordered (sym promise.is) tt
+    | inr handed ↦ handed.ordered
+  ]
+
+  pub bound_shallow : nesting t ≤ 32
+  bound_shallow = elim bound.by [
+    | inl promise ↦ subst (λ x. nesting x ≤ 32) (sym promise.is) (omega arith)
+    | inr handed ↦ handed.shallow
+  ]
+
+module _ (w : WorldState) (target : Obj) (method : List ℕ) (answer : Tree) (effects : List Effect) (so : IsAnswer w target method answer effects) where
+  -- the effects can be had
+  pub answer_can : CanDoAll w effects
+  answer_can = subst (CanDoAll w) (sym so.are) (acts_can w so.acts so.can)
+
+  -- the world after them comes by the acts
+  pub answer_by : ByActs w (after_all w effects) so.acts
+  answer_by = record { can = so.can; done = ap (after_all w) so.are ∙ acts_done w so.acts }
+
+module _ (w : WorldState) (target : Obj) (method : List ℕ) (args : List Tree) (answer : Tree) (effects : List Effect) (may : CanServe w target args) (is : serve w target method args ≡ Ok (answer, effects)) where
+  abbrev so : IsAnswer w target method answer effects
+  so = serve_answers w target method args answer effects may is
+
   -- the effects can be had
   pub serve_can : CanDoAll w effects
-  serve_can = (serve_answers w target method args answer effects valid room made known is).can
+  serve_can = answer_can w target method answer effects so
 
   -- all that the answer names was made
   pub serve_known : AllObjects (IsMade (after_all w effects)) answer
-  serve_known = (serve_answers w target method args answer effects valid room made known is).known
+  serve_known = bound_made (after_all w effects) answer so.bound
 
   pub serve_ordered : Ordered answer
-  serve_ordered = (serve_answers w target method args answer effects valid room made known is).ordered
+  serve_ordered = bound_ordered (after_all w effects) answer so.bound
 
   pub serve_shallow : nesting answer ≤ 32
-  serve_shallow = (serve_answers w target method args answer effects valid room made known is).shallow
+  serve_shallow = bound_shallow (after_all w effects) answer so.bound
 
   -- at most one value is minted
   pub serve_minted : (n : ℕ) → MintedWithin w.draft.now n → MintedWithin (after_all w effects).draft.now (n + 1)
-  serve_minted = (serve_answers w target method args answer effects valid room made known is).minted
-
-  -- at most one value is moved, between outside, payments and purses
-  pub serve_moves : Moves effects
-  serve_moves = (serve_answers w target method args answer effects valid room made known is).moves
+  serve_minted = so.minted
 
 -- ---- a call that was served
 

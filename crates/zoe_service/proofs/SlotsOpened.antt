@@ -1,5 +1,5 @@
 -- The slots of a seat that was just opened, under the keywords of what is given.
-use Rattle.std.proofs.Common.{◌≡◌, ◌≢◌, ℕ, List, [], ◌∷◌, ◌++◌, map, true, false, cond, Option, Some, None, refl, sym, ◌∙◌, ap}
+use Rattle.std.proofs.Common.{◌≡◌, ◌≢◌, ℕ, List, [], ◌∷◌, ◌++◌, map, true, false, cond, Some, None, refl, sym, ◌∙◌, ap}
 use Rattle.std.specs.Str.{bytes_eq}
 use Rattle.std.proofs.lemmas.Slice.Eq.{bytes_eq-Decides}
 use Rattle.amount_math.specs.Amount.{holding}
@@ -12,7 +12,7 @@ use Rattle.proposals.specs.declared.offers.Proposal.{Proposal}
 use Rattle.proposals.proofs.RowLists.{bytes_eq-turned, not_first, not_later}
 use Rattle.seats.specs.Slots.{with_more}
 use Rattle.vault.proofs.SeatSteps.{EachUnder, each_under}
-use Rattle.vault.proofs.SlotRows.{Match, match, matches, under-more_other, under_first, under_later, unmatched}
+use Rattle.vault.proofs.SlotRows.{match, matches, under-more_other, under_first, under_later, unmatched}
 
 some_is : (x y : Amount) → Some x ≡ Some y → x ≡ y
 some_is x y e = cc

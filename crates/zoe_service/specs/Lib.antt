@@ -7,6 +7,7 @@ pub mod SeatRows
 pub mod OfferRows
 pub mod Services
 pub mod Served
-pub mod Moved
+pub mod Values
 pub mod Answered
 pub mod Fitting
+pub mod Told

@@ -2,7 +2,7 @@
 use Rattle.std.specs.Prelude.{ℕ, suc, zero, ◌<◌, ◌+◌, ◌==◌, ◌&&◌, nat_le, nat_lt, not, map, filter, List, [], ◌∷◌, ◌++◌, length, Bool, true, false, Option, Some, None, option_and_then, Result, Ok, if◌then◌else◌}
 use Rattle.std.specs.List.{list_any}
 use Rattle.std.specs.Str.{bytes_eq}
-use Rattle.amount_math.specs.Content.{Content, entries}
+use Rattle.amount_math.specs.Content.{entries}
 use Rattle.amount_math.specs.Worth.{Worth}
 use Rattle.call_data.specs.Amounts.{read_all}
 use Rattle.call_data.specs.Outcomes.{◌>>=◌, ◌>>◌, need, none_such, wanted}

@@ -8,7 +8,7 @@ use Rattle.host_text.specs.Words.{is_keyword}
 use Rattle.instances.specs.SeatPromises.{pair_at}
 use Rattle.jessie_tree.specs.Tree.{Ordered, Tree, boolean, field_of, nesting, null, text_of}
 use Rattle.jessie_tree.specs.declared.data.ObjKind.TheVariants as kinds
-use Rattle.promises.specs.States.{SettlementView, StateView, broken, ok, pending, settled, state_at}
+use Rattle.promises.specs.States.{StateView, broken, ok, pending, settled, state_at}
 use Rattle.proposals.specs.declared.offers.Exit.{Exit}
 use Rattle.proposals.specs.declared.offers.Exit.TheVariants.{AfterDeadline, OnDemand, Waived}
 use Rattle.seats.specs.Seats.{seat_at}

@@ -1,13 +1,16 @@
--- That a method did what its definition says, and which objects its arguments may name.
+-- That a method did what its definition says, which calls may be worked, and which objects their arguments may name.
 use Rattle.std.specs.Prelude.{◌≡◌, ℕ, List, Result, Ok, Err}
 use Rattle.call_data.specs.declared.refusals.Stop.{Stop}
 use Rattle.call_data.specs.declared.refusals.Stop.TheVariants.{NoMemory, Refused}
 use Rattle.jessie_tree.specs.Tree.{Tree}
 use Rattle.jessie_tree.specs.View.{tree}
 use Rattle.jessie_tree.specs.declared.data.Data.{Data}
+use Rattle.jessie_tree.specs.declared.data.Obj.{Obj}
+use Rattle.vault.specs.Consistent.{IsConsistent}
+use Rattle.vault.specs.InstanceKnowledge.{IsHanded}
 use Rattle.vault.specs.Known.{AllObjects}
 use Rattle.vault.specs.Made.{IsMade}
-use Rattle.vault.specs.Worlds.{WorldState}
+use Rattle.vault.specs.Worlds.{HasRoom, IsValid, WorldState}
 use Rattle.zoe_service.specs.CallArguments.{arg}
 use Rattle.zoe_service.specs.Rows.{Outcome, served}
 
@@ -23,3 +26,11 @@ Serves old new (Err e) row = Stops old new e row
 -- all that the arguments name was made
 pub record KnowsArgs (w : WorldState) (args : List Tree) : Type 0 where
   pub at : (place : ℕ) → AllObjects (IsMade w) (arg place args)
+
+-- a call may be worked: the world is valid and consistent and has room for one value more; the target was made, and the arguments can be handed in
+pub record CanServe (w : WorldState) (on : Obj) (args : List Tree) : Type 0 where
+  pub valid : IsValid w
+  pub consistent : IsConsistent w
+  pub room : HasRoom w.draft.now
+  pub target : IsMade w on
+  pub handed : (place : ℕ) → IsHanded w (arg place args)

@@ -8,9 +8,11 @@ use Rattle.jessie_tree.specs.declared.data.ObjKind.{ObjKind}
 use Rattle.jessie_tree.specs.declared.data.ObjKind.TheVariants as kinds
 use Rattle.vault.specs.Worlds.{WorldState}
 use Rattle.zoe_service.specs.ErtpRows.{is_live, make_empty_purse, make_issuer_kit, mint_payment}
+use Rattle.zoe_service.specs.OfferRows.{offer}
 use Rattle.zoe_service.specs.PurseRows.{deposit, get_current_amount, withdraw}
 use Rattle.zoe_service.specs.Rows.{Outcome}
-use Rattle.zoe_service.specs.ZoeRows.{install}
+use Rattle.zoe_service.specs.SeatRows.{get_offer_result, get_payout, get_payouts, has_exited, try_exit}
+use Rattle.zoe_service.specs.ZoeRows.{install, start_instance}
 
 abbrev pub of_ertp : WorldState → List ℕ → List Tree → Outcome
 of_ertp w method args = if bytes_eq method (codes "makeIssuerKit") then make_issuer_kit w args else Err (NoMethod method)
@@ -32,11 +34,20 @@ of_purse w n method args =
     else Err (NoMethod method)
 
 abbrev pub of_zoe : WorldState → List ℕ → List Tree → Outcome
-of_zoe w method args = if bytes_eq method (codes "install") then install w args else Err (NoMethod method)
+of_zoe w method args =
+    if bytes_eq method (codes "install") then install w args
+    else if bytes_eq method (codes "startInstance") then start_instance w args
+    else if bytes_eq method (codes "offer") then offer w args
+    else Err (NoMethod method)
 
--- of seats no method is served yet
 abbrev pub of_seat : WorldState → ℕ → List ℕ → List Tree → Outcome
-of_seat w n method args = Err (NoMethod method)
+of_seat w n method args =
+    if bytes_eq method (codes "hasExited") then has_exited w n
+    else if bytes_eq method (codes "getPayouts") then get_payouts w n
+    else if bytes_eq method (codes "getPayout") then get_payout w n args
+    else if bytes_eq method (codes "getOfferResult") then get_offer_result w n
+    else if bytes_eq method (codes "tryExit") then try_exit w n
+    else Err (NoMethod method)
 
 abbrev pub of_kind : WorldState → ObjKind → ℕ → List ℕ → List Tree → Outcome
 of_kind w kinds.Ertp n method args = of_ertp w method args

@@ -2,17 +2,16 @@
 //! seats.
 //! It stands on the world that a turn works on (`vault`), and on what calls are given and answered with
 //! (`call_data`). Its one contract is `serve::serve`'s: a call is its row, which is the first refusal, or
-//! the answer with its effects; what holds of all rows is stated in `service_laws`. The rows that start
-//! instances, take offers and answer of seats (`zoe_rows`, `offer_rows`, `seat_rows`) are no part of `serve` yet.
+//! the answer with its effects; what holds of all rows is stated in `service_laws`.
 #![tactic(auto)]
 
 mod call_arguments;
 mod checks;
 mod ertp_rows;
 mod holdings;
-pub mod offer_rows;
+mod offer_rows;
 mod purse_rows;
-pub mod seat_rows;
+mod seat_rows;
 pub mod serve;
 pub mod service_laws;
-pub mod zoe_rows;
+mod zoe_rows;

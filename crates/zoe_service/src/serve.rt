@@ -3,15 +3,17 @@
 
 ghost use Rattle.std.specs.Prelude.{◌≡◌, ◌<◌, length};
 ghost use Rattle.jessie_tree.specs.View.{trees};
-ghost use Rattle.vault.specs.Made.{IsMade};
 ghost use Rattle.vault.specs.Worlds.{HasRoom, IsAsset, IsValid, Keeps, world_of};
-ghost use Rattle.zoe_service.specs.Served.{KnowsArgs, Serves};
+ghost use Rattle.zoe_service.specs.OfferRows.{AreOrdered, HaveInstances};
+ghost use Rattle.zoe_service.specs.Served.{CanServe, KnowsArgs, Serves};
 ghost use Rattle.zoe_service.specs.Services as services;
 
 use crate::checks::no_method;
 use crate::ertp_rows::{is_live, make_empty_purse, make_issuer_kit, mint_payment};
+use crate::offer_rows::offer;
 use crate::purse_rows::{deposit, get_current_amount, withdraw};
-use crate::zoe_rows::install;
+use crate::seat_rows::{get_offer_result, get_payout, get_payouts, has_exited, try_exit};
+use crate::zoe_rows::{install, start_instance};
 use call_data::refusals::Stop;
 use host_text::text::Text;
 use jessie_tree::data::{Data, Obj, ObjKind};
@@ -31,11 +33,16 @@ fn serve_ertp(alloc: Global, world: &mut World, method: &str, args: &[Data]) -> 
 
 fn serve_zoe(alloc: Global, world: &mut World, method: &str, args: &[Data]) -> Result<Data, Stop>
     requires valid { IsValid (world_of world.old) }
+    requires instances { HaveInstances (world_of world.old) }
+    requires known { KnowsArgs (world_of world.old) (trees args.now) }
+    requires ordered { AreOrdered (trees args.now) }
     ensures row { Serves (world_of world.old) (world_of world.new) result (services.of_zoe (world_of world.old) method.now (trees args.now)) }
     ensures keeps { Keeps (world_of world.old) (world_of world.new) }
 {
     match method {
         "install" => install(alloc, world, args),
+        "startInstance" => start_instance(alloc, world, args),
+        "offer" => offer(alloc, world, args),
         _ => Err(no_method(alloc, method)),
     }
 }
@@ -99,7 +106,6 @@ fn serve_purse(
     }
 }
 
-/// Seats have no method yet.
 fn serve_seat(
     alloc: Global,
     world: &mut World,
@@ -108,12 +114,18 @@ fn serve_seat(
     args: &[Data],
 ) -> Result<Data, Stop>
     requires valid { IsValid (world_of world.old) }
-    requires known { KnowsArgs (world_of world.old) (trees args.now) }
     requires made { seat < length world.old.draft.now.seats }
     ensures row { Serves (world_of world.old) (world_of world.new) result (services.of_seat (world_of world.old) seat method.now (trees args.now)) }
     ensures keeps { Keeps (world_of world.old) (world_of world.new) }
 {
-    Err(no_method(alloc, method))
+    match method {
+        "hasExited" => has_exited(world, seat),
+        "getPayouts" => get_payouts(world, seat),
+        "getPayout" => get_payout(alloc, world, seat, args),
+        "getOfferResult" => get_offer_result(world, seat),
+        "tryExit" => try_exit(alloc, world, seat),
+        _ => Err(no_method(alloc, method)),
+    }
 }
 
 /// A brand's number, as the stores have it.
@@ -128,7 +140,7 @@ fn brand_number(world: &World, number: u32) -> u16
 /// Works a call of a method on an object: `NoMethod` with the method where the object has none of that
 /// name, else as the method's row says. A refusal leaves the world as it was; for want of memory it may
 /// be half changed, and the turn is to be undone.
-#[tactic(auto, unfolding(crate::specs::Services::serve))]
+#[tactic(auto, using(crate::proofs::ConsistentRows::invitations_have_instances, crate::proofs::ConsistentRows::args_known, crate::proofs::ConsistentRows::args_ordered), unfolding(crate::specs::Services::serve))]
 pub fn serve(
     alloc: Global,
     world: &mut World,
@@ -136,10 +148,7 @@ pub fn serve(
     method: &Text,
     arguments: &[Data],
 ) -> Result<Data, Stop>
-    requires valid { IsValid (world_of world.old) }
-    requires room { HasRoom world.old.draft.now }
-    requires target { IsMade (world_of world.old) target }
-    requires known { KnowsArgs (world_of world.old) (trees arguments.now) }
+    requires can { CanServe (world_of world.old) target (trees arguments.now) }
     ensures row { Serves (world_of world.old) (world_of world.new) result (services.serve (world_of world.old) target method.now (trees arguments.now)) }
     ensures keeps { Keeps (world_of world.old) (world_of world.new) }
 {

@@ -268,7 +268,7 @@ fn what_is_no_exit_rule_is_refused(rt: HostRuntime) {
     }
 }
 
-/// An exit rule.
+/// An exit rule, or data that is none.
 fn exit(rt: &impl Abort, alloc: Global, case: u32) -> Data
     ensures { Ordered (tree result) }
 {
@@ -284,12 +284,16 @@ fn exit(rt: &impl Abort, alloc: Global, case: u32) -> Data
 #[test]
 fn exit_rules_are_read(rt: HostRuntime) -> Result<(), Fail> {
     let alloc = rt.alloc();
-    let last = Exit::AfterDeadline((1 << 63) - 1);
-    let rules = [Exit::OnDemand, Exit::OnDemand, Exit::Waived, last];
-    for (case, rule) in rules.iter().enumerate() {
-        let given = one(&rt, alloc, "exit", exit(&rt, alloc, case as u32));
+    for case in 0..2 {
+        let given = one(&rt, alloc, "exit", exit(&rt, alloc, case));
         let read = read_proposal(alloc, &issuers(&rt, alloc), Some(&given), None)?;
-        assert_eq!(rt; read.exit, *rule);
+        assert_eq!(rt; read.exit, Exit::OnDemand);
+    }
+    for case in 2..4 {
+        let given = one(&rt, alloc, "exit", exit(&rt, alloc, case));
+        let read = read_proposal(alloc, &issuers(&rt, alloc), Some(&given), None);
+        let is_refused = matches!(read, Err(Stop::Refused(Refusal::BadExit)));
+        assert!(rt; is_refused);
     }
     Ok(())
 }

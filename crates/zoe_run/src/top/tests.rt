@@ -194,7 +194,7 @@ fn ends_with(
     let input = text_of(rt.alloc(), &KITS[..3], &[r#"{"run":1}"#, KITS[3]])?;
     let journal = text_of(rt.alloc(), rows, &[close])?;
     let mut sink = MemorySink::new(rt.alloc(), 10_000)?;
-    let ended = run(rt.alloc(), input.as_bytes(), most, &mut sink);
+    let ended = run(rt.alloc(), input.as_bytes(), 1_000_000, most, &mut sink);
     assert!(rt; ended.is_ok());
     assert_eq!(rt; sink.bytes(), journal.as_bytes());
     Ok(())

@@ -2,7 +2,7 @@ use Rattle.jessie_tree.specs.View.{tree}
 use Rattle.host_core.specs.Delivered.{kept_with}
 use Rattle.host_core.specs.MessageLines.{give_view}
 use Rattle.vault.specs.Parties.{labels_of}
-use Rattle.host_core.proofs.HostSteps.{given_free}
+use Rattle.host_core.proofs.Addressed.{given_free}
 use Rattle.host_core.proofs.deliveries.give_turn.Goals as goal
 
 pub given_turn-requires : goal.given_turn-requires

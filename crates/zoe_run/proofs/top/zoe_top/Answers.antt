@@ -29,7 +29,7 @@ pub returns-in-Ok-run-clause-limits : goal.returns-in-Ok-run-clause-limits
 returns-in-Ok-run-clause-limits g c =
     let short : is_too_long c.in-Ok-read_all.input.items ≡ false =
     is_too_long-within _ c.in-Ok-read_all.ensures.within ∙ sym (rw (c.if-has_long_line.false, c.deref.ensures.value) at c.has_long_line.ensures) in
-    let few = rw (ap (λ (o : Options). o.turns) c.in-Ok.ensures.options, c.deref-2.ensures.value) at c.in-Ok-run.ensures.few in
+    let few = rw (ap (λ (o : Options). o.meter) c.in-Ok.ensures.options, ap (λ (o : Options). o.turns) c.in-Ok.ensures.options, c.deref-2.ensures.value) at c.in-Ok-run.ensures.few in
     weaker (g.S.Source.left c.args.source.now) (λ input. c.in-Ok-read_all.input.items ≡ input) _ (λ input same. subst (IsWithin _) same (record { bytes = short; turns = few })) c.in-Ok-read_all.ensures.all
 
 pub returns-in-Err-Failed-run-clause-limits : goal.returns-in-Err-Failed-run-clause-limits
@@ -42,5 +42,5 @@ pub returns-in-Err-TurnLimit-clause-limits : goal.returns-in-Err-TurnLimit-claus
 returns-in-Err-TurnLimit-clause-limits g c =
     let short : is_too_long c.in-Ok-read_all.input.items ≡ false =
     is_too_long-within _ c.in-Ok-read_all.ensures.within ∙ sym (rw (c.if-has_long_line.false, c.deref.ensures.value) at c.has_long_line.ensures) in
-    let past = rw (ap (λ (o : Options). o.turns) c.in-Ok.ensures.options, c.deref-2.ensures.value) at (limit_past _ _ _ (c.in-Err-TurnLimit.ensures.limit (ap Err c.in-Err-TurnLimit.field-0-is))) in
+    let past = rw (ap (λ (o : Options). o.meter) c.in-Ok.ensures.options, ap (λ (o : Options). o.turns) c.in-Ok.ensures.options, c.deref-2.ensures.value) at (limit_past _ _ _ (c.in-Err-TurnLimit.ensures.limit (ap Err c.in-Err-TurnLimit.field-0-is))) in
     weaker (g.S.Source.left c.args.source.now) (λ input. c.in-Ok-read_all.input.items ≡ input) _ (λ input same. subst (IsPast _) same (record { bytes = short; turns = past })) c.in-Ok-read_all.ensures.all

@@ -1,5 +1,4 @@
 use Rattle.std.proofs.Common.{ℕ, List, All, sym, subst}
-use Rattle.host_text.specs.declared.text.Text.{Text}
 use Rattle.jessie_tree.specs.Tree.{Ordered}
 use Rattle.jessie_tree.specs.View.{fields_of, named_trees}
 use Rattle.jessie_tree.specs.declared.data.Data.{Data}

@@ -1,4 +1,4 @@
-use Rattle.std.proofs.Common.{◌≡◌, Some, None, sym, ◌∙◌, arith}
+use Rattle.std.proofs.Common.{◌≡◌, sym, ◌∙◌, arith}
 use Rattle.zoe_service.proofs.KeysNamed.{named_none, named_some}
 use Rattle.zoe_service.proofs.offer_rows.named_by.Goals as goal
 

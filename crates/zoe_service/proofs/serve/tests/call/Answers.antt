@@ -1,13 +1,16 @@
-use Rattle.std.proofs.Common.{rules}
-use Rattle.jessie_tree.specs.View.{tree, trees}
+use Rattle.std.proofs.Common.{[], ◌∷◌, rules}
+use Rattle.jessie_tree.specs.View.{tree}
 use Rattle.vault.specs.Worlds.{world_of}
-use Rattle.zoe_service.proofs.CallsTried.{tried}
+use Rattle.zoe_service.proofs.CallsTried.{can_serve, four_handed, tried}
 use Rattle.zoe_service.proofs.serve.tests.call.Goals as goal
 
-pub returns-in-Ok-serve-clause-valid : goal.returns-in-Ok-serve-clause-valid
-returns-in-Ok-serve-clause-valid g c =
-    (tried (world_of c.args.world.now) c.args.target _ (trees c.args.arguments.now) (tree c.in-Ok-serve.answer) (world_of c.serve.new.world) c.args.before c.requires.valid c.requires.minted c.requires.few (search rules) (search rules) c.in-Ok-serve.ensures.row).valid
+pub serve-requires : goal.serve-requires
+serve-requires g c = record {
+  can = can_serve (world_of c.args.world.now) c.args.target (tree c.data_of.result ∷ tree c.data_of-2.result ∷ tree c.data_of-3.result ∷ tree c.data_of-4.result ∷ []) c.args.before c.requires.tried c.requires.few (search rules)
+      (four_handed _ _ _ _ _ c.data_of.ensures c.data_of-2.ensures c.data_of-3.ensures c.data_of-4.ensures);
+}
 
-pub returns-in-Ok-serve-clause-minted : goal.returns-in-Ok-serve-clause-minted
-returns-in-Ok-serve-clause-minted g c =
-    (tried (world_of c.args.world.now) c.args.target _ (trees c.args.arguments.now) (tree c.in-Ok-serve.answer) (world_of c.serve.new.world) c.args.before c.requires.valid c.requires.minted c.requires.few (search rules) (search rules) c.in-Ok-serve.ensures.row).minted
+pub returns-in-Ok-serve : goal.returns-in-Ok-serve
+returns-in-Ok-serve g c =
+    tried (world_of c.args.world.now) c.args.target (tree c.data_of.result ∷ tree c.data_of-2.result ∷ tree c.data_of-3.result ∷ tree c.data_of-4.result ∷ []) c.args.before c.requires.tried c.requires.few (search rules)
+    (four_handed _ _ _ _ _ c.data_of.ensures c.data_of-2.ensures c.data_of-3.ensures c.data_of-4.ensures) _ (tree c.in-Ok-serve.answer) (world_of c.serve.new.world) c.in-Ok-serve.ensures.row

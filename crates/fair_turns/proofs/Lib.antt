@@ -1,0 +1,17 @@
+pub mod Accounts
+pub mod OneMore
+pub mod RowOrder
+pub mod SlotsTold
+pub mod FirstSlots
+pub mod SeatsTelling
+pub mod Stages
+pub mod TableSlots
+pub mod ActsDone
+pub mod Whole
+pub mod PayoutsTold
+pub mod ActsTold
+pub mod CausesTold
+pub mod Balances
+pub mod TurnFair
+pub mod StaysFair
+pub mod SeatsInOrder
