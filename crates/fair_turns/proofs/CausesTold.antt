@@ -4,8 +4,9 @@ use Rattle.std.specs.List.{flat_map}
 use Rattle.std.proofs.lemmas.Grind.{flat_map-append}
 use Rattle.std.proofs.lemmas.List.{append-nil}
 use Rattle.std.proofs.lemmas.List.Elements.{All-append, All-cons, All-head, All-nil, All-tail}
-use Rattle.fair_turns.specs.Pieces.{IsLeftOfSpent, alone, events_of, leaving}
+use Rattle.fair_turns.specs.Pieces.{alone, events_of, leaving}
 use Rattle.fair_turns.specs.SeatsTold.{cause_at, causes_of}
+use Rattle.fair_turns.specs.LittleTold.{IsLeftOfSpent}
 use Rattle.fair_turns.specs.TurnsOfActs.{IsAfterSpent, IsQuiet, causes_for}
 use Rattle.fair_turns.proofs.ActsTold.{leaving_by, piece_of, piece_of_effect, pieces_of}
 use Rattle.rights_model.specs.declared.Movement.{Movement}

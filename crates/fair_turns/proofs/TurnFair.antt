@@ -1,18 +1,20 @@
 -- A turn that tells what was done, act by act, from where fair turns lead, is fair to those who hold seats.
-use Rattle.std.proofs.Common.{◌≡◌, ℕ, ◌<◌, false, List, [], ◌∷◌, ◌++◌, length, Some, inl, inr, refl, sym, ◌∙◌, ap, subst, arith}
+use Rattle.std.proofs.Common.{◌≡◌, ℕ, ◌<◌, false, List, [], ◌∷◌, ◌++◌, All, length, Some, inl, inr, refl, sym, ◌∙◌, ap, subst, arith}
 use Rattle.std.specs.List.{flat_map}
 use Rattle.std.specs.Option.{is_some, option_to_list}
 use Rattle.std.proofs.lemmas.Bool.{cases_lt}
 use Rattle.std.proofs.lemmas.Grind.{flat_map-append}
 use Rattle.std.proofs.lemmas.List.{append-nil, get_or_past}
+use Rattle.std.proofs.lemmas.List.Elements.{All-nil, All-weaker}
 use Rattle.std.proofs.lemmas.Option.{slice_get_within}
 use Rattle.amount_math.specs.Worth.{IsValue}
 use Rattle.amount_math.specs.declared.Kind.{Kind}
 use Rattle.fair_turns.specs.ExitCauses.{cause_in}
 use Rattle.fair_turns.specs.Fair.{AreFair}
 use Rattle.fair_turns.specs.Leaves.{HasWholeStores, Leaves, opening_told}
-use Rattle.fair_turns.specs.Pieces.{AreFairPieces, IsFairTurn, TellsRefused, events_of}
+use Rattle.fair_turns.specs.Pieces.{AreFairPieces, ChangesNothing, IsFairTurn, events_of}
 use Rattle.fair_turns.specs.SeatsTold.{IsOpenBy, IsSafe, causes_of, has_left, opening_of, openings_in}
+use Rattle.fair_turns.specs.LittleTold.{IsSettlement, TellsLittle, TellsRefused}
 use Rattle.fair_turns.specs.Told.{events_by, table_told}
 use Rattle.fair_turns.specs.TurnsOfActs.{IsTurnOf}
 use Rattle.fair_turns.proofs.ActsTold.{AreActsTold, IsTold, acts_told, pieces_of}
@@ -20,11 +22,12 @@ use Rattle.fair_turns.proofs.CausesTold.{acts_causes, acts_left}
 use Rattle.fair_turns.proofs.OneMore.{HasLast, last, last_of, none}
 use Rattle.fair_turns.proofs.Stages.{IsStage}
 use Rattle.fair_turns.proofs.Whole.{IsWhole, whole-acts}
-use Rattle.journal_text.specs.Turns.{TurnRecord}
+use Rattle.journal_text.specs.Turns.{Delivery, TurnRecord}
+use Rattle.journal_text.specs.Turns as turns
 use Rattle.rights_model.specs.Table.{Table, holds}
 use Rattle.rights_model.specs.declared.Holder.TheVariants.{Slot}
 use Rattle.seats.specs.Seats.{IsOpen, SeatState, no_seat, seat_at}
-use Rattle.turn_log.specs.Events.{EventView}
+use Rattle.turn_log.specs.Events.{EventView, called, exited, moved, opened, settled}
 use Rattle.turn_log.specs.declared.events.Opening.{Opening}
 use Rattle.vault.specs.Acts.{Act, CanActAll, after_act, after_acts, effects_of}
 use Rattle.vault.specs.Vaults.{kind_of}
@@ -85,6 +88,24 @@ module _ (ts : List TurnRecord) (r : Rested) (fair : AreFair ts) (leaves : Leave
 pub whole_first : (r : Rested) → HasWholeStores r → IsWhole (kind_of r.vault) r.vault
 whole_first r whole = record { of_kind = λ b. refl; idle = whole.idle; slots = whole.slots }
 
+-- ---- a refused turn
+
+settling_changes_nothing : (e : EventView) → IsSettlement e → ChangesNothing e
+settling_changes_nothing (settled promise s) is = tt
+settling_changes_nothing (called c) is = tt
+settling_changes_nothing (opened o) is = is
+settling_changes_nothing (moved m) is = is
+settling_changes_nothing (exited x) is = is
+
+-- one that tells nothing, or settlements alone, changes nothing
+refused_changes_nothing : (d : Delivery) (es : List EventView) → TellsRefused d es → All ChangesNothing es
+refused_changes_nothing (turns.start instance) es told = All-weaker IsSettlement ChangesNothing settling_changes_nothing es told
+refused_changes_nothing (turns.handler instance seat function arguments) es told = All-weaker IsSettlement ChangesNothing settling_changes_nothing es told
+refused_changes_nothing (turns.service by on method arguments) es told = subst (All ChangesNothing) (sym told) (All-nil ChangesNothing)
+refused_changes_nothing (turns.give by to label given) es told = subst (All ChangesNothing) (sym told) (All-nil ChangesNothing)
+refused_changes_nothing turns.bad es told = subst (All ChangesNothing) (sym told) (All-nil ChangesNothing)
+refused_changes_nothing (turns.message by method) es told = subst (All ChangesNothing) (sym told) (All-nil ChangesNothing)
+
 -- ---- a turn's end
 
 valid_after : (w : WorldState) (acts : List Act) → IsValid w → CanActAll w acts → IsValid (after_acts w acts)
@@ -134,6 +155,12 @@ module _ (ts : List TurnRecord) (r : Rested) (u : WorldState) (t : TurnRecord) (
     | inr past ↦ ap (λ (s : SeatState). is_some s.last) (get_or_past r.vault.seats seat no_seat past)
   ]
 
+  pub little : TellsLittle t
+  little = record {
+    refused = λ reason is. subst (TellsRefused t.delivery) (sym turn.events) (turn.refused reason is);
+    spent = λ meter is. record { pieces = pieces_of (begins r) turn.acts; told = events_are; each = acts_left (begins r) turn.acts (turn.spent meter is) };
+  }
+
   pub fair_turn : IsFairTurn (events_by ts) t
   fair_turn = record {
     pieces = pieces_of (begins r) turn.acts;
@@ -148,6 +175,5 @@ module _ (ts : List TurnRecord) (r : Rested) (u : WorldState) (t : TurnRecord) (
         subst (λ es. IsSafe (table_told es) open_now.opening) (sym all_events)
         (subst (λ (x : Opening). IsSafe (table_told (events_by ts ++ u.log)) x) (opening_is seat open_now.opening open_now.was_opened)
         (subst (λ (x : Table). IsSafe x (opening_told seat (seat_at u.draft.now.seats seat))) told_end.stage.accounts.table (told_end.covered seat made still)));
-    refused = λ reason is. subst (TellsRefused t.delivery) (sym turn.events) (turn.refused reason is);
-    spent = λ meter is. acts_left (begins r) turn.acts (turn.spent meter is);
+    refused = λ reason is. refused_changes_nothing t.delivery t.events (little.refused reason is);
   }

@@ -81,5 +81,5 @@ pub record AreFair (ts : List TurnRecord) : Type 0 where
   -- a payment that a turn takes from is empty at the turn's end, and is named by no later movement
   pub spent : (first later : List TurnRecord) (t : TurnRecord) (p b : ℕ) → ts ≡ first ++ t ∷ later → takes_from p (movements_in t) ≡ true → holds (table_by (first ++ t ∷ [])) (holders.Payment p) b ≡ nothing
   pub dead : (first later : List TurnRecord) (t : TurnRecord) (p : ℕ) → ts ≡ first ++ t ∷ later → takes_from p (movements_in t) ≡ true → names p (movements_of later) ≡ false
-  -- each amount that a purse answers is what it has by the table
+  -- each amount that getCurrentAmount answers is what the purse has by the table
   pub read : (first later : List TurnRecord) (t : TurnRecord) (purse : ℕ) (answer : Tree) → ts ≡ first ++ t ∷ later → IsReading t purse answer → IsAmountAt (table_by first) kinds purse answer

@@ -7,7 +7,7 @@ use Rattle.fair_turns.specs.SeatsTold.{IsOpenBy, IsSafe, SlotTold, brand_under, 
 use Rattle.fair_turns.specs.Told.{names, table_told}
 use Rattle.jessie_tree.specs.Tree.{Tree}
 use Rattle.jessie_tree.specs.declared.data.ObjKind.TheVariants.{Zoe}
-use Rattle.journal_text.specs.Turns.{Delivery, TurnRecord, answered, handler, refused, service, spent, start}
+use Rattle.journal_text.specs.Turns.{TurnRecord, answered, refused, service}
 use Rattle.proposals.specs.Slots.{in_byte_order}
 use Rattle.proposals.specs.declared.allocations.Row.{Row}
 use Rattle.proposals.specs.declared.offers.Proposal.{Proposal}
@@ -118,21 +118,11 @@ abbrev pub AreFairPieces : List EventView → TurnRecord → List Piece → Type
 AreFairPieces before t [] = Unit {0}
 AreFairPieces before t (p ∷ ps) = IsFairPiece before t p × AreFairPieces (before ++ events_of p) t ps
 
-abbrev pub IsSettlement : EventView → Type 0
-IsSettlement (settled promise s) = Unit {0}
-IsSettlement _ = ⊥
-
--- nothing happens where a call is refused; where a start or a handler is, its promise is settled, and what hangs on it
-abbrev pub TellsRefused : Delivery → List EventView → Type 0
-TellsRefused (start instance) es = All IsSettlement es
-TellsRefused (handler instance seat function arguments) es = All IsSettlement es
-TellsRefused _ es = es ≡ []
-
--- what is left of a turn that spent its meter: seats are left, and promises settled
-abbrev pub IsLeftOfSpent : Piece → Type 0
-IsLeftOfSpent (alone e) = IsSettlement e
-IsLeftOfSpent (opening o burn escrows) = ⊥
-IsLeftOfSpent (leaving x moves) = Unit {0}
+-- neither an opening, nor a movement, nor an exit
+abbrev pub ChangesNothing : EventView → Type 0
+ChangesNothing (called c) = Unit {0}
+ChangesNothing (settled promise s) = Unit {0}
+ChangesNothing _ = ⊥
 
 -- A turn after these events is fair to those who hold seats.
 pub record IsFairTurn (before : List EventView) (t : TurnRecord) : Type 0 where
@@ -143,5 +133,5 @@ pub record IsFairTurn (before : List EventView) (t : TurnRecord) : Type 0 where
   pub exits : (seat : ℕ) (o : Opening) → opening_of seat (before ++ t.events) ≡ Some o → has_left seat before ≡ false → causes_of seat t.events ≡ option_to_list (cause_in t.delivery t.answer o.instance seat)
   -- after it every open seat is covered
   pub safe : (seat : ℕ) (is_open : IsOpenBy (before ++ t.events) seat) → IsSafe (table_told (before ++ t.events)) is_open.opening
-  pub refused : (r : Refusal) → t.answer ≡ refused r → TellsRefused t.delivery t.events
-  pub spent : (meter : ℕ) → t.answer ≡ spent meter → All IsLeftOfSpent pieces
+  -- a refused one opens, moves and leaves nothing
+  pub refused : (r : Refusal) → t.answer ≡ refused r → All ChangesNothing t.events

@@ -7,7 +7,8 @@ use Rattle.call_data.specs.Values.{amount_tree}
 use Rattle.call_data.specs.declared.refusals.Refusal.{Refusal}
 use Rattle.fair_turns.specs.ExitCauses.{cause_in}
 use Rattle.fair_turns.specs.Fair.{IsReading}
-use Rattle.fair_turns.specs.Pieces.{IsOffer, TellsRefused}
+use Rattle.fair_turns.specs.Pieces.{IsOffer}
+use Rattle.fair_turns.specs.LittleTold.{TellsRefused}
 use Rattle.jessie_tree.specs.Tree.{Tree}
 use Rattle.journal_text.specs.Turns.{TurnRecord, refused, spent}
 use Rattle.proposals.specs.declared.allocations.Row.{Row}

@@ -3,6 +3,7 @@
 ghost use Rattle.std.specs.Prelude.{◌≡◌, ◌≤◌, ℕ, ◌+◌, List, [], ◌∷◌, ◌++◌, Some, length};
 ghost use Rattle.fair_turns.specs.Fair.{AreFair};
 ghost use Rattle.fair_turns.specs.Leaves.{HasWholeStores, Leaves};
+ghost use Rattle.fair_turns.specs.LittleTold.{TellsLittle};
 ghost use Rattle.fair_turns.specs.SeatsTold.{causes_of, opening_of};
 ghost use Rattle.fair_turns.specs.Told.{events_by};
 ghost use Rattle.fair_turns.specs.TurnsOfActs.{IsTurnOf};
@@ -18,10 +19,12 @@ pub fn no_turns_are_fair()
 {}
 
 /// Where turns are fair and leave what lies there, one more turn, which tells what was done from there,
-/// act by act, is fair with them, and they leave what lies there then.
+/// act by act, is fair with them, and they leave what lies there then. Of a refused turn, and of one that
+/// spent its meter, it tells less than fairness allows: settlements alone, and the exits of a spent one.
 pub fn turns_stay_fair()
     ensures fair { (ts : List TurnRecord) (r : Rested) (u : WorldState) (t : TurnRecord) → AreFair ts → Leaves ts r → HasWholeStores r → IsValid (begins r) → t.number ≡ length ts + 1 → IsTurnOf (begins r) u t → AreFair (ts ++ t ∷ []) }
     ensures leaves { (ts : List TurnRecord) (r : Rested) (u : WorldState) (t : TurnRecord) → AreFair ts → Leaves ts r → HasWholeStores r → IsValid (begins r) → t.number ≡ length ts + 1 → IsTurnOf (begins r) u t → Leaves (ts ++ t ∷ []) (ends u) }
+    ensures little { (ts : List TurnRecord) (r : Rested) (u : WorldState) (t : TurnRecord) → AreFair ts → Leaves ts r → HasWholeStores r → IsValid (begins r) → IsTurnOf (begins r) u t → TellsLittle t }
     ensures whole { (r : Rested) (u : WorldState) (t : TurnRecord) → HasWholeStores r → IsValid (begins r) → IsTurnOf (begins r) u t → HasWholeStores (ends u) }
 {}
 

@@ -6,7 +6,7 @@ use Rattle.std.proofs.lemmas.List.Elements.{All-cons, All-head, All-nil, All-pus
 use Rattle.call_data.specs.declared.refusals.Refusal.{Refusal}
 use Rattle.ertp_mint.specs.BrandSupply.{supply_at}
 use Rattle.fair_turns.specs.ExitCauses.{cause_in}
-use Rattle.fair_turns.specs.Pieces.{IsSettlement, TellsRefused}
+use Rattle.fair_turns.specs.LittleTold.{IsSettlement, TellsRefused}
 use Rattle.fair_turns.specs.TurnsOfActs.{IsAfterSpent, IsTurnOf, causes_for}
 use Rattle.host_core.specs.Deliveries.{Done, Kept, delivery_turn, ended, named_delivery, told_answer, world_at}
 use Rattle.jessie_tree.specs.Tree.{Tree}

@@ -1,8 +1,9 @@
 -- The turns of a run are fair, and leave its host.
-use Rattle.std.proofs.Common.{◌≡◌, ℕ, zero, suc, ◌+◌, ◌<◌, ◌≤◌, List, [], ◌∷◌, ◌++◌, length, map, Option, Some, None, refl, sym, ap, subst, arith, append-nil, append_assoc, length-append}
+use Rattle.std.proofs.Common.{◌≡◌, ℕ, zero, suc, ◌+◌, ◌<◌, ◌≤◌, List, [], ◌∷◌, ◌++◌, length, map, All, Option, Some, None, refl, sym, ap, subst, arith, append-nil, append_assoc, length-append}
 use Rattle.std.specs.Option.{option_map_or}
 use Rattle.fair_turns.specs.Fair.{AreFair}
 use Rattle.fair_turns.specs.Leaves.{Leaves}
+use Rattle.fair_turns.specs.LittleTold.{TellsLittle}
 use Rattle.host_core.specs.Delivered.{IsInOrder}
 use Rattle.host_core.specs.Hosts.{HostState, IsValidHost, first_host, most_turns, step_of, with_message}
 use Rattle.host_core.specs.Leaves.{LeavesHost}
@@ -11,6 +12,8 @@ use Rattle.host_core.specs.MessageLines as read
 use Rattle.host_core.specs.Runs.{AreFairToLimit, after, drained, end_of, line_host, line_turns, lines_host, lines_turns, meanings_of, turns_of}
 use Rattle.journal_text.specs.Turns.{TurnRecord}
 use Rattle.fair_turns.proofs.StaysFair.{none_fair, none_left, stays_fair, stays_left}
+use Rattle.fair_turns.proofs.TurnFair.{little}
+use Rattle.std.proofs.lemmas.List.Elements.{All-append, All-cons, All-nil}
 use Rattle.host_core.proofs.HostSteps.{IsStepped, step_worked, GoesOn, valid_goes_on}
 use Rattle.host_core.proofs.RunStarts.{first_goes, message_goes}
 use Rattle.host_core.proofs.MessagesRead.{line_in_order}
@@ -18,45 +21,62 @@ use Rattle.host_core.specs.InputLines.{lines_of}
 
 -- ---- where turns lead
 
--- they are fair, and leave this host, which goes on
+-- they are fair, and tell little where they were refused or spent the meter
+pub record FairAndLittle (ts : List TurnRecord) : Type 0 where
+  pub fair : AreFair ts
+  pub little : All TellsLittle ts
+
+-- such turns leave this host, which goes on
 pub record Lead (done : List TurnRecord) (s : HostState) : Type 0 where
-  pub fair : AreFair done
+  pub good : FairAndLittle done
   pub leaves : LeavesHost done s
   pub goes : GoesOn s
 
 first_lead : (meter : ℕ) → Lead [] (first_host meter)
-first_lead meter = record { fair = none_fair; leaves = record { taken = refl; rested = none_left }; goes = first_goes meter }
+first_lead meter = record { good = record { fair = none_fair; little = All-nil TellsLittle }; leaves = record { taken = refl; rested = none_left }; goes = first_goes meter }
 
--- with the turn of the next step they lead to the host after it
-module _ (done : List TurnRecord) (s new : HostState) (t : TurnRecord) (lead : Lead done s) (few : s.turns < 4000000000) (is : step_of s ≡ Some (new, t)) where
+-- with the turn of the next step they are fair, and leave the host after it
+module _ (done : List TurnRecord) (s new : HostState) (t : TurnRecord) (fair : AreFair done) (leaves : LeavesHost done s) (goes : GoesOn s) (few : s.turns < 4000000000) (is : step_of s ≡ Some (new, t)) where
   stepped : IsStepped s new t
-  stepped = step_worked s new t lead.goes few is
+  stepped = step_worked s new t goes few is
 
   numbered : t.number ≡ length done + 1
-  numbered = omega (arith, stepped.number, lead.leaves.taken)
+  numbered = omega (arith, stepped.number, leaves.taken)
 
-  step_lead : Lead (done ++ t ∷ []) new
-  step_lead = record {
-    fair = stays_fair done s.kept.rested stepped.world t lead.fair lead.leaves.rested lead.goes.whole lead.goes.world numbered stepped.turn;
-    leaves = record {
-      taken = omega (arith, length-append done (t ∷ []), lead.leaves.taken, stepped.turns);
-      rested = subst (Leaves (done ++ t ∷ [])) (sym stepped.kept) (stays_left done s.kept.rested stepped.world t lead.fair lead.leaves.rested lead.goes.whole lead.goes.world numbered stepped.turn);
-    };
-    goes = stepped.goes;
+  step_fair : AreFair (done ++ t ∷ [])
+  step_fair = stays_fair done s.kept.rested stepped.world t fair leaves.rested goes.whole goes.world numbered stepped.turn
+
+  step_little : TellsLittle t
+  step_little = little done s.kept.rested stepped.world t fair leaves.rested goes.whole goes.world stepped.turn
+
+  step_leaves : LeavesHost (done ++ t ∷ []) new
+  step_leaves = record {
+    taken = omega (arith, length-append done (t ∷ []), leaves.taken, stepped.turns);
+    rested = subst (Leaves (done ++ t ∷ [])) (sym stepped.kept) (stays_left done s.kept.rested stepped.world t fair leaves.rested goes.whole goes.world numbered stepped.turn);
   }
 
+step_lead : (done : List TurnRecord) (s new : HostState) (t : TurnRecord) → Lead done s → s.turns < 4000000000 → step_of s ≡ Some (new, t) → Lead (done ++ t ∷ []) new
+step_lead done s new t lead few is = record {
+  good = record {
+    fair = step_fair done s new t lead.good.fair lead.leaves lead.goes few is;
+    little = All-append TellsLittle done (t ∷ []) lead.good.little (All-cons TellsLittle t [] (step_little done s new t lead.good.fair lead.leaves lead.goes few is) (All-nil TellsLittle));
+  };
+  leaves = step_leaves done s new t lead.good.fair lead.leaves lead.goes few is;
+  goes = (stepped done s new t lead.good.fair lead.leaves lead.goes few is).goes;
+}
+
 pub fair_after_step : (ts : List TurnRecord) (s new : HostState) (t : TurnRecord) → AreFair ts → LeavesHost ts s → IsValidHost s → s.turns < most_turns → step_of s ≡ Some (new, t) → AreFair (ts ++ t ∷ [])
-fair_after_step ts s new t fair leaves valid few is = (step_lead ts s new t (record { fair = fair; leaves = leaves; goes = valid_goes_on s valid }) few is).fair
+fair_after_step ts s new t fair leaves valid few is = step_fair ts s new t fair leaves (valid_goes_on s valid) few is
 
 pub leaves_after_step : (ts : List TurnRecord) (s new : HostState) (t : TurnRecord) → AreFair ts → LeavesHost ts s → IsValidHost s → s.turns < most_turns → step_of s ≡ Some (new, t) → LeavesHost (ts ++ t ∷ []) new
-leaves_after_step ts s new t fair leaves valid few is = (step_lead ts s new t (record { fair = fair; leaves = leaves; goes = valid_goes_on s valid }) few is).leaves
+leaves_after_step ts s new t fair leaves valid few is = step_leaves ts s new t fair leaves (valid_goes_on s valid) few is
 
 -- ---- turns one after another
 
 -- these are fair with those before them, one after another, up to the last that may be run
 abbrev FairOn : List TurnRecord → List TurnRecord → Type 0
-FairOn done [] = AreFair done
-FairOn done (t ∷ ts) = AreFair done × (length done < most_turns → FairOn (done ++ t ∷ []) ts)
+FairOn done [] = FairAndLittle done
+FairOn done (t ∷ ts) = FairAndLittle done × (length done < most_turns → FairOn (done ++ t ∷ []) ts)
 
 -- so are those that follow them, where they may be run
 fair_then : (done ts us : List TurnRecord) → length done ≤ most_turns → FairOn done ts → (length (done ++ ts) ≤ most_turns → FairOn (done ++ ts) us) → FairOn done (ts ++ us)
@@ -69,15 +89,15 @@ fair_then done (t ∷ ts) us few fair more = (
 )
 
 -- each of their fronts that may be run is fair
-fronts_fair : (done ts first later : List TurnRecord) → ts ≡ first ++ later → length (done ++ first) ≤ most_turns → FairOn done ts → AreFair (done ++ first)
-fronts_fair done [] [] later is few fair = subst AreFair (sym (append-nil done)) fair
-fronts_fair done (u ∷ ts) [] later is few fair = subst AreFair (sym (append-nil done)) fair.0
+fronts_fair : (done ts first later : List TurnRecord) → ts ≡ first ++ later → length (done ++ first) ≤ most_turns → FairOn done ts → FairAndLittle (done ++ first)
+fronts_fair done [] [] later is few fair = subst FairAndLittle (sym (append-nil done)) fair
+fronts_fair done (u ∷ ts) [] later is few fair = subst FairAndLittle (sym (append-nil done)) fair.0
 fronts_fair done [] (t ∷ first) later is few fair = absurd (cc)
 fronts_fair done (u ∷ ts) (t ∷ first) later is few fair =
     let same : u ≡ t = cc in
     let rest : ts ≡ first ++ later = cc in
     let shorter : length (done ++ t ∷ []) + length first ≤ most_turns = omega (arith, few, length-append done (t ∷ first), length-append done (t ∷ [])) in
-    subst AreFair (append_assoc done (t ∷ []) first) (fronts_fair (done ++ t ∷ []) ts first later rest (omega (arith, shorter, length-append (done ++ t ∷ []) first))
+    subst FairAndLittle (append_assoc done (t ∷ []) first) (fronts_fair (done ++ t ∷ []) ts first later rest (omega (arith, shorter, length-append (done ++ t ∷ []) first))
     (subst (λ x. FairOn (done ++ x ∷ []) ts) same (fair.1 (omega (arith, few, length-append done (t ∷ first))))))
 
 -- ---- a run
@@ -88,7 +108,7 @@ record Run (done ts : List TurnRecord) (end : HostState) : Type 0 where
   lead : length (done ++ ts) ≤ most_turns → Lead (done ++ ts) end
 
 run_none : (done : List TurnRecord) (s : HostState) → Lead done s → Run done [] s
-run_none done s lead = record { fair = lead.fair; lead = λ few. subst (λ ts. Lead ts s) (sym (append-nil done)) lead }
+run_none done s lead = record { fair = lead.good; lead = λ few. subst (λ ts. Lead ts s) (sym (append-nil done)) lead }
 
 run_then : (done ts us : List TurnRecord) (mid end : HostState) → length done ≤ most_turns → Run done ts mid → (length (done ++ ts) ≤ most_turns → Lead (done ++ ts) mid → Run (done ++ ts) us end) → Run done (ts ++ us) end
 run_then done ts us mid end few one more = record {
@@ -100,7 +120,7 @@ run_then done ts us mid end few one more = record {
 
 run_step : (done : List TurnRecord) (s new : HostState) (t : TurnRecord) → Lead done s → step_of s ≡ Some (new, t) → Run done (t ∷ []) new
 run_step done s new t lead is = record {
-  fair = (lead.fair, λ room. (step_lead done s new t lead (omega (arith, room, lead.leaves.taken)) is).fair);
+  fair = (lead.good, λ room. (step_lead done s new t lead (omega (arith, room, lead.leaves.taken)) is).good);
   lead = λ few. step_lead done s new t lead (omega (arith, few, length-append done (t ∷ []), lead.leaves.taken)) is;
 }
 
@@ -122,7 +142,7 @@ IsOrdered (run n) = Unit {0}
 
 run_line : (m : Meaning) (s : HostState) (done : List TurnRecord) → IsOrdered m → length done ≤ most_turns → Lead done s → Run done (line_turns s m) (line_host s m)
 run_line blank s done order few lead = run_none done s lead
-run_line (read.message m) s done order few lead = run_none done (with_message s m) (record { fair = lead.fair; leaves = record { taken = lead.leaves.taken; rested = lead.leaves.rested }; goes = message_goes s m order lead.goes })
+run_line (read.message m) s done order few lead = run_none done (with_message s m) (record { good = lead.good; leaves = record { taken = lead.leaves.taken; rested = lead.leaves.rested }; goes = message_goes s m order lead.goes })
 run_line (run n) s done order few lead = run_drained n s done few lead
 
 abbrev AreOrdered : List Meaning → Type 0
@@ -148,7 +168,13 @@ run_of : (meter most : ℕ) (input : List ℕ) → Run [] (turns_of meter most i
 run_of meter most input = run_lines (meanings_of most input) (first_host meter) [] (meanings_ordered (lines_of input) most) (omega arith) (first_lead meter)
 
 pub runs_fair : (meter most : ℕ) (input : List ℕ) → AreFairToLimit (turns_of meter most input)
-runs_fair meter most input = record { fair = λ first later is few. fronts_fair [] (turns_of meter most input) first later is few (run_of meter most input).fair }
+runs_fair meter most input = record {
+  fair = λ first later is few. (good first later is few).fair;
+  little = λ first later is few. (good first later is few).little;
+}
+  where
+    good : (first later : List TurnRecord) → turns_of meter most input ≡ first ++ later → length first ≤ most_turns → FairAndLittle first
+    good first later is few = fronts_fair [] (turns_of meter most input) first later is few (run_of meter most input).fair
 
 pub runs_leave : (meter most : ℕ) (input : List ℕ) → length (turns_of meter most input) ≤ most_turns → LeavesHost (turns_of meter most input) (end_of meter most input)
 runs_leave meter most input few = ((run_of meter most input).lead few).leaves

@@ -6,7 +6,7 @@ use Rattle.call_data.specs.declared.refusals.Refusal.{Refusal}
 use Rattle.ertp_mint.specs.Stocks.{most_made}
 use Rattle.fair_turns.specs.ExitCauses.{cause_in}
 use Rattle.fair_turns.specs.Fair.{IsReading}
-use Rattle.fair_turns.specs.Pieces.{IsSettlement, TellsRefused}
+use Rattle.fair_turns.specs.LittleTold.{IsSettlement, TellsRefused}
 use Rattle.fair_turns.specs.TurnsOfActs.{BringsValues, IsAfterSpent, IsTurnOf}
 use Rattle.host_core.specs.Delivered.{AreGood, IsSteady}
 use Rattle.host_core.specs.Deliveries.{Done, Kept, give_turn, given_by, refused, world_at}

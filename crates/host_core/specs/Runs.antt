@@ -1,9 +1,10 @@
 -- A run: from the bytes of the input to the turns, and to the journal.
-use Rattle.std.specs.Prelude.{◌≡◌, ◌≤◌, ◌+◌, ℕ, zero, suc, map, List, [], ◌∷◌, ◌++◌, length, Option}
+use Rattle.std.specs.Prelude.{◌≡◌, ◌≤◌, ◌+◌, ℕ, zero, suc, map, take, List, [], ◌∷◌, ◌++◌, All, length, Option}
 use Rattle.std.specs.Option.{option_map_or}
 use Rattle.std.specs.Io.KnownBytes.{Appends}
 use Rattle.host_core.specs.Deliveries.{Kept, turn_of}
 use Rattle.fair_turns.specs.Fair.{AreFair}
+use Rattle.fair_turns.specs.LittleTold.{TellsLittle}
 use Rattle.host_core.specs.Hosts.{HostState, first_host, first_kept, most_turns, step_of, with_message}
 use Rattle.host_core.specs.InputLines.{lines_of}
 use Rattle.journal_text.specs.Journal.{close_text, journal_text, turn_texts}
@@ -66,9 +67,10 @@ closes s = close_text (length s.queue) s.turns
 unfoldable pub journal_of : ℕ → ℕ → List ℕ → List ℕ
 journal_of meter most input = journal_text (turns_of meter most input) (left_of meter most input)
 
--- the turns as far as they can be run are fair
+-- The turns as far as they can be run are fair; and one that was refused tells settlements alone, if anything, one that spent its meter exits and settlements.
 pub record AreFairToLimit (ts : List TurnRecord) : Type 0 where
   pub fair : (first later : List TurnRecord) → ts ≡ first ++ later → length first ≤ most_turns → AreFair first
+  pub little : (first later : List TurnRecord) → ts ≡ first ++ later → length first ≤ most_turns → All TellsLittle first
 
 -- ---- in which order entries have their turns
 
@@ -89,12 +91,21 @@ abbrev pub delivered_in_order : ℕ → ℕ → Kept → List Entry → List Del
 delivered_in_order meter n k [] = []
 delivered_in_order meter n k (e ∷ es) = (turn_of meter (n + 1) k e).deliveries ++ delivered_in_order meter (n + 1) (turn_of meter (n + 1) k e).kept es
 
--- First in first out: of all that was appended to the queue the turns are those of the first entries, one for each, in their order, and the others are left. What was appended are the messages of the lines, in the order of these, and what the turns delivered to instances, in the order of those.
-pub record AreInOrder (meter : ℕ) (messages : List MessageRead) (ts : List TurnRecord) (left : ℕ) : Type 0 where
+-- What was appended by the end of some of the lines stands before all that was appended later: the messages of these lines, and what the turns up to there delivered to instances.
+pub record IsFront (meter : ℕ) (lines : List Meaning) (all : List Entry) : Type 0 where
+  pub so_far : List Entry
+  pub later : List Entry
+  pub whole : all ≡ so_far ++ later
+  pub said : messages_in so_far ≡ messages_of lines
+  pub owed : deliveries_in so_far ≡ delivered_in_order meter 0 first_kept (take (length (lines_turns (first_host meter) lines)) so_far)
+
+-- First in first out: of all that was appended to the queue the turns are those of the first entries, one for each, in their order, and the others are left. What was appended are the messages of the lines, in the order of these, and what the turns delivered to instances, in the order of those; and of these two kinds what was appended earlier stands before what was appended later.
+pub record AreInOrder (meter : ℕ) (lines : List Meaning) (ts : List TurnRecord) (left : ℕ) : Type 0 where
   pub taken : List Entry
   pub waiting : List Entry
-  pub said : messages_in (taken ++ waiting) ≡ messages
+  pub said : messages_in (taken ++ waiting) ≡ messages_of lines
   pub owed : deliveries_in (taken ++ waiting) ≡ delivered_in_order meter 0 first_kept taken
+  pub fronts : (first later : List Meaning) → lines ≡ first ++ later → IsFront meter first (taken ++ waiting)
   pub turns : ts ≡ turns_in_order meter 0 first_kept taken
   pub left_are : left ≡ length waiting
 

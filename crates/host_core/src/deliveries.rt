@@ -136,7 +136,10 @@ fn bind_answer(
         None => Ok(()),
         Some(label) => {
             let value = answer.copy(alloc)?;
-            parties.bind(alloc, &call.by, label, value)
+            match parties.bind(alloc, &call.by, label, value) {
+                Ok(()) => Ok(()),
+                Err(_) => Err(AllocError),
+            }
         }
     }
 }
@@ -360,7 +363,9 @@ fn given_turn(
 {
     let value = given.copy(alloc)?;
     let delivered = Delivered::Give(given_name(alloc, give, given)?);
-    parties.bind(alloc, &give.to, &give.label, value)?;
+    if parties.bind(alloc, &give.to, &give.label, value).is_err() {
+        return Err(AllocError);
+    }
     Ok(Turn {
         number,
         delivered,

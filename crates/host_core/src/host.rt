@@ -29,6 +29,7 @@ pub enum StepFault {
     /// The last turn that may be run was run, and a delivery is left.
     #[error("the last turn was run")]
     TurnLimit,
+    /// Memory was wanted; nothing happened.
     #[error("there is no memory")]
     NoMemory,
 }

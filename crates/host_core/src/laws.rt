@@ -6,7 +6,7 @@ ghost use Rattle.std.specs.List.{list_any};
 ghost use Rattle.fair_turns.specs.Fair.{AreFair, IsRising};
 ghost use Rattle.host_core.specs.Hosts.{HostState, IsValidHost, most_meter, most_turns, step_of};
 ghost use Rattle.host_core.specs.Leaves.{LeavesHost};
-ghost use Rattle.host_core.specs.Runs.{AreFairToLimit, AreInOrder, end_of, journal_of, left_of, meanings_of, messages_of, turns_of};
+ghost use Rattle.host_core.specs.Runs.{AreFairToLimit, AreInOrder, end_of, journal_of, left_of, meanings_of, turns_of};
 ghost use Rattle.jessie_rules.specs.Keeping.{AllHave, NextHas, RepliesHave};
 ghost use Rattle.jessie_rules.specs.Play.{Reply, after};
 ghost use Rattle.jessie_rules.specs.Ranges.{IsModuleInRange, StartInRange};
@@ -22,17 +22,17 @@ ghost use Rattle.rights_model.specs.declared.Movement.{Movement};
 /// Whatever input is read, however many deliveries its run lines and its end ask for, and whatever a
 /// contract's function may cost, the turns are fair, as far as they can be run: the movements are all
 /// defined, after each turn every brand's purses, live payments and slots add up to its minted less
-/// burned, the sums tell that, no payment is taken from twice, and each turn is fair to those who hold
-/// seats.
+/// burned, the sums tell that, a payment is empty at the end of a turn that takes from it and is never
+/// named again, and each turn is fair to those who hold seats.
 pub fn runs_are_fair()
     ensures { (meter most : ℕ) (input : List ℕ) → AreFairToLimit (turns_of meter most input) }
 {}
 
-/// First in first out: messages have their turns in the order of their lines, what turns deliver to
-/// instances in the order of those, each in one turn, and those that have none are the last. Run lines
+/// First in first out: the messages of lines and what turns deliver to instances have their turns in the
+/// order in which they were appended, each in one turn, and those that have none are the last. Run lines
 /// say how many turns there are, and never whose turn it is.
 pub fn runs_take_messages_in_order()
-    ensures { (meter most : ℕ) (input : List ℕ) → AreInOrder meter (messages_of (meanings_of most input)) (turns_of meter most input) (left_of meter most input) }
+    ensures { (meter most : ℕ) (input : List ℕ) → AreInOrder meter (meanings_of most input) (turns_of meter most input) (left_of meter most input) }
 {}
 
 /// The host at the end of a run is the one that its turns leave: what their rows tell of the table, the

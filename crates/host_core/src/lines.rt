@@ -29,6 +29,7 @@ impl<'a> Model for Lines<'a> {
 }
 
 impl<'a> Lines<'a> {
+    /// The lines of the bytes.
     pub fn new(bytes: &'a [u8]) -> Self
         ensures { result ≡ lines_of bytes.entry.now }
     {

@@ -27,6 +27,7 @@ pub struct TurnQueue {
 }
 
 impl TurnQueue {
+    /// A queue in which nothing waits.
     pub fn new(alloc: Global) -> TurnQueue
         ensures { waiting result ≡ [] }
     {

@@ -1,8 +1,6 @@
 -- The least of numbers.
-use Rattle.std.proofs.Common.{◌≡◌, ℕ, min, Bool, true, false, cond, not, Option, Some, None, List, [], ◌∷◌, ◌++◌, map, refl, sym, ap, ◌∙◌, arith}
-use Rattle.std.specs.List.{filter}
-use Rattle.proposals.specs.Reading.{RowData, is_known, least, least_of, least_strange}
-use Rattle.proposals.specs.declared.issuer_records.Issuer.{Issuer}
+use Rattle.std.proofs.Common.{◌≡◌, ℕ, Option, Some, None, refl, ap, arith}
+use Rattle.proposals.specs.Reading.{least_of}
 
 pub least_of_three : (a b c : Option ℕ) → least_of a (least_of b c) ≡ least_of (least_of a b) c
 least_of_three None b c = refl

@@ -1,4 +1,5 @@
 pub mod RowLists
+pub mod RowsKeyed
 pub mod SlotLists
 pub mod Coverings
 pub mod IssuerLists

@@ -1,8 +1,7 @@
 -- What holds of a proposal and payments that are read from data whose fields are in order.
-use Rattle.std.proofs.Common.{◌≡◌, ℕ, zero, suc, ◌+◌, ◌<◌, ◌≤◌, Bool, true, false, cond, ◌||◌, Option, Some, None, Result, Ok, Err, IsTrue, List, [], ◌∷◌, length, map, get_or, refl, sym, ap, subst, ◌∙◌, arith, codes}
+use Rattle.std.proofs.Common.{◌≡◌, ℕ, ◌+◌, Bool, true, false, cond, ◌||◌, Option, Some, None, Result, Ok, Err, IsTrue, List, [], ◌∷◌, length, map, get_or, refl, sym, ap, subst, ◌∙◌, arith, codes}
 use Rattle.std.proofs.lemmas.Bool.{false≢true, leb-true}
 use Rattle.std.proofs.lemmas.List.{get_or-map, length-map}
-use Rattle.std.proofs.lemmas.List.Elements.{All-from_get_or, All-nil, All-cons}
 use Rattle.std.proofs.lemmas.Option.{none-some, same_Some}
 use Rattle.std.specs.List.{All}
 use Rattle.std.specs.Option.{option_and_then, option_map, unwrap_or}
@@ -15,7 +14,7 @@ use Rattle.call_data.specs.declared.refusals.Refusal.{Refusal}
 use Rattle.call_data.specs.declared.refusals.Refusal.TheVariants.{BadArgs, BadKeyword, KeywordMismatch, WrongBrand}
 use Rattle.call_data.specs.declared.refusals.Stop.{Stop}
 use Rattle.call_data.specs.declared.refusals.Stop.TheVariants.{NoMemory, Refused}
-use Rattle.proposals.specs.Reading.{IsRising, RowData, all_valued, first_ill, first_shared, has_parts, is_among, is_small, keywords, least_alone, least_of, least_strange, names, part, read_proposal, record_in, row_in, rows_data, rows_in, valued}
+use Rattle.proposals.specs.Reading.{IsRising, RowData, all_valued, first_ill, first_shared, has_parts, is_among, is_small, keywords, least_of, least_strange, names, part, read_proposal, record_in, row_in, rows_data, rows_in, valued}
 use Rattle.proposals.specs.Rows.{AreApart, amount_under, most_rows}
 use Rattle.proposals.specs.Slots.{FitsSeat}
 use Rattle.proposals.specs.declared.allocations.Row.{Row}

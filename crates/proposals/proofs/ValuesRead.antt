@@ -1,14 +1,12 @@
 -- Rows that get their values one after another, and rows whose keywords and brands passed.
-use Rattle.std.proofs.Common.{◌≡◌, ℕ, zero, suc, ◌+◌, ◌<◌, ◌≤◌, Bool, true, false, cond, not, Option, Some, None, Result, Ok, Err, IsTrue, List, [], ◌∷◌, ◌++◌, length, map, drop, get_or, refl, sym, ap, subst, ◌∙◌, arith}
-use Rattle.std.proofs.lemmas.Bool.{false≢true}
+use Rattle.std.proofs.Common.{◌≡◌, ℕ, zero, suc, ◌+◌, ◌<◌, ◌≤◌, Bool, true, false, cond, not, Option, Some, None, Result, Ok, Err, IsTrue, List, [], ◌∷◌, ◌++◌, length, drop, get_or, refl, sym, ap, subst, ◌∙◌, arith}
 use Rattle.std.proofs.lemmas.List.{append-nil, append_assoc, drop_all, drop_more}
-use Rattle.std.specs.List.{filter, find}
 use Rattle.host_text.specs.Words.{is_keyword}
 use Rattle.call_data.specs.Outcomes.{Fails, bind}
 use Rattle.call_data.specs.declared.refusals.Refusal.{Refusal}
 use Rattle.call_data.specs.declared.refusals.Stop.{Stop}
 use Rattle.call_data.specs.declared.refusals.Stop.TheVariants.{NoMemory, Refused}
-use Rattle.proposals.specs.Reading.{RowData, all_valued, first_ill, is_known, keywords, least, least_of, least_strange, row_data, rows_data, valued}
+use Rattle.proposals.specs.Reading.{all_valued, first_ill, is_known, keywords, least, least_of, least_strange, row_data, rows_data, valued}
 use Rattle.proposals.specs.declared.allocations.Row.{Row}
 use Rattle.proposals.specs.declared.issuer_records.Issuer.{Issuer}
 use Rattle.proposals.specs.declared.reading.GivenRow.{GivenRow}

@@ -1,5 +1,5 @@
 -- Reading a proposal and the payments of an offer from data (Zoe; the order of the refusals is our own). Fields are taken as they stand: in data that the host makes, in byte order of their names, each name once.
-use Rattle.std.specs.Prelude.{◌≡◌, ℕ, ◌+◌, min, ◌==◌, nat_le, length, map, filter, List, [], ◌∷◌, ◌++◌, Bool, true, false, not, ◌&&◌, ◌||◌, Option, Some, None, unwrap_or, option_map, option_and_then, Result, Ok, Err, if◌then◌else◌, codes}
+use Rattle.std.specs.Prelude.{◌≡◌, ℕ, ◌+◌, min, ◌==◌, nat_le, length, map, filter, List, [], ◌∷◌, Bool, false, not, ◌||◌, Option, Some, None, unwrap_or, option_map, option_and_then, Result, Ok, if◌then◌else◌, codes}
 use Rattle.std.specs.Cmp.Lexicographic.{slice_cmp}
 use Rattle.std.specs.List.{All, find, list_all, list_any}
 use Rattle.std.specs.Option.{option_map_or}

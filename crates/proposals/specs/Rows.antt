@@ -1,8 +1,10 @@
 -- Rows, each a keyword with an amount: what a proposal gives and wants, and what the slots of a seat have.
-use Rattle.std.specs.Prelude.{◌≡◌, ℕ, ◌≤◌, List, [], ◌∷◌, length, Option, Some, None, if◌then◌else◌, refl}
+use Rattle.std.specs.Prelude.{◌≡◌, ℕ, ◌≤◌, List, [], ◌∷◌, length, Option, Some, None, if◌then◌else◌, refl, All, String, string_bytes}
 use Rattle.std.specs.Coded.{Coded, code_by, coded×, coded_list, coded_ℕ}
+use Rattle.std.specs.Map.{values_of}
 use Rattle.std.specs.Option.{option_map_or}
 use Rattle.std.specs.Str.{bytes_eq}
+use Rattle.std.specs.declared.alloc.Global.{Global}
 use Rattle.amount_math.specs.Amount.{coded_amount}
 use Rattle.amount_math.specs.Content.{Content, nothing}
 use Rattle.amount_math.specs.declared.Amount.{Amount}
@@ -37,3 +39,8 @@ AreApart (r ∷ rs) = (amount_under r.keyword rs ≡ None) × AreApart rs
 pub record AreRows (rs : List Row) : Type 0 where
   pub few : length rs ≤ most_rows
   pub apart : AreApart rs
+
+-- the entries of a map from texts to rows: each row is under the text of its keyword
+pub record AreKeyed (es : List (String Global × Row)) : Type 0 where
+  pub rows : AreRows (values_of es)
+  pub texts : All (λ e. string_bytes e.0 ≡ e.1.keyword) es

@@ -6,6 +6,7 @@ ghost use Rattle.proposals.specs.Rows.{AreRows, amount_under, most_rows, row_of}
 
 use amount_math::Amount;
 use host_text::keyword::Keyword;
+use indexmap::IndexMap;
 use std::alloc::{AllocError, Global};
 use std::marker::Model;
 
@@ -34,54 +35,50 @@ impl Row {
     }
 }
 
-/// What stands under a keyword in a list of rows.
-fn amount_under<'a>(rows: &'a [Row], keyword: &Keyword) -> Option<&'a Amount>
-    ensures { option_copied result ≡ amount_under keyword.now rows.now }
-{
-    for row in rows {
-        if keyword.is(&row.keyword) {
-            return Some(&row.amount);
-        }
-    }
-    None
-}
-
 /// A record from keyword to amount (Zoe's AmountKeywordRecord). It keeps the order of adding (own).
 /// Contracts see it as its rows.
 #[derive(Debug, Drop)]
 pub struct Allocation {
-    rows: Vec<Row>,
+    /// Each row by the text of its keyword.
+    rows: IndexMap<String, Row>,
 }
 
 impl Model for Allocation {
     ghost use Rattle.std.specs.Prelude.{List};
     ghost use Rattle.std.specs.Coded.{coded_list};
     ghost use Rattle.proposals.specs.declared.allocations.Row.{Row};
-    ghost use Rattle.proposals.specs.Rows.{AreRows, coded_row};
+    ghost use Rattle.indexmap.specs.IndexMap.{values};
+    ghost use Rattle.proposals.specs.Rows.{AreKeyed, coded_row};
 
     ghost Value = { List Row };
 
     ghost coded = { coded_list coded_row };
 
-    ghost view = { λ a. a.rows.items };
+    ghost view = { λ a. values a.rows };
 
-    ghost invariant = { λ a. AreRows a.rows.items };
+    ghost invariant = { λ a. AreKeyed a.rows.entries };
 }
 
 impl Allocation {
+    /// An allocation without rows.
     pub fn new(alloc: Global) -> Allocation
         ensures { result ≡ [] }
     {
-        let rows = Vec::new(alloc);
-        Allocation { rows }
+        Allocation {
+            rows: IndexMap::new(alloc),
+        }
     }
 
     /// The allocation of rows, each of a keyword of its own.
-    pub fn from_rows(rows: Vec<Row>) -> Allocation
+    pub fn from_rows(alloc: Global, rows: Vec<Row>) -> Result<Allocation, AllocError>
         requires { AreRows rows.items }
-        ensures { result ≡ rows.items }
+        ensures { IfOk result (λ a. a ≡ rows.items) }
     {
-        Allocation { rows }
+        let mut made = Allocation::new(alloc);
+        for row in rows {
+            made.push(alloc, row.keyword, row.amount)?;
+        }
+        Ok(made)
     }
 
     /// How many rows it has.
@@ -103,24 +100,31 @@ impl Allocation {
         ensures value { result.now ≡ self.now }
         ensures rows { AreRows self.now }
     {
-        self.rows.as_slice()
+        self.rows.values().as_slice()
     }
 
     /// What stands under a keyword.
     pub fn get(&self, keyword: &Keyword) -> Option<&Amount>
         ensures { option_copied result ≡ amount_under keyword.now self.now }
     {
-        amount_under(self.rows.as_slice(), keyword)
+        let row = self.rows.get(keyword.as_str())?;
+        Some(&row.amount)
     }
 
     /// Adds a row of a keyword that isn't there, last. On an error all is as before.
-    pub fn push(&mut self, keyword: Keyword, amount: Amount) -> Result<(), AllocError>
+    pub fn push(
+        &mut self,
+        alloc: Global,
+        keyword: Keyword,
+        amount: Amount,
+    ) -> Result<(), AllocError>
         requires free { amount_under keyword self.old ≡ None }
         requires room { length self.old < most_rows }
         ensures ok { OnOk result (self.new ≡ self.old ++ row_of keyword amount ∷ []) }
         ensures err { OnErr result (self.new ≡ self.old) }
     {
-        self.rows.push(Row { keyword, amount })?;
+        let name = String::from_str(alloc, keyword.as_str())?;
+        self.rows.insert(name, Row { keyword, amount })?;
         Ok(())
     }
 
@@ -128,10 +132,11 @@ impl Allocation {
     pub fn copy(&self, alloc: Global) -> Result<Allocation, AllocError>
         ensures { IfOk result (λ copy. copy ≡ self.now) }
     {
-        let mut rows = Vec::new(alloc);
-        for row in &self.rows {
-            rows.push(row.copy(alloc)?)?;
+        let mut made = Allocation::new(alloc);
+        for row in self.rows() {
+            let copy = row.copy(alloc)?;
+            made.push(alloc, copy.keyword, copy.amount)?;
         }
-        Ok(Allocation { rows })
+        Ok(made)
     }
 }

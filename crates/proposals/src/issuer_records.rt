@@ -70,6 +70,7 @@ fn brand_under(issuers: &[Issuer], keyword: &Keyword) -> Option<u16>
 }
 
 impl IssuerRecord {
+    /// A record without keywords.
     pub fn new(alloc: Global) -> IssuerRecord
         ensures { result ≡ [] }
     {

@@ -23,7 +23,7 @@ use call_data::refusals::{Refusal, Stop};
 use host_text::keyword::{Keyword, KeywordFault};
 use host_text::text::Text;
 use jessie_tree::data::{Data, copy_fields};
-use std::alloc::Global;
+use std::alloc::{AllocError, Global};
 use std::cmp::Ordering;
 
 #[cfg(test)]
@@ -50,12 +50,12 @@ impl Offered {
     }
 
     /// The proposal, and the payments in the order of give.
-    pub fn into_proposal(self) -> (Proposal, Vec<(Text, Data)>)
+    pub fn into_proposal(self, alloc: Global) -> Result<(Proposal, Vec<(Text, Data)>), AllocError>
         requires small { IsTrue (is_small (offered self).0) }
         requires apart { IsOffered self }
-        ensures proposal { result.0 ≡ (offered self).0 }
-        ensures payments { result.1.items ≡ self.payments.items }
-        ensures fits { FitsSeat result.0 }
+        ensures proposal { IfOk result (λ r. r.0 ≡ (offered self).0) }
+        ensures payments { IfOk result (λ r. r.1.items ≡ self.payments.items) }
+        ensures fits { IfOk result (λ r. FitsSeat r.0) }
     {
         let Offered {
             give,
@@ -64,11 +64,11 @@ impl Offered {
             payments,
         } = self;
         let proposal = Proposal {
-            give: Allocation::from_rows(give),
-            want: Allocation::from_rows(want),
+            give: Allocation::from_rows(alloc, give)?,
+            want: Allocation::from_rows(alloc, want)?,
             exit,
         };
-        (proposal, payments)
+        Ok((proposal, payments))
     }
 }
 

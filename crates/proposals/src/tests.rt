@@ -26,7 +26,7 @@ fn coins(rt: &impl Abort, alloc: Global, rows: &[(&str, u32)]) -> Allocation
         let value = Value::nat(u128::from(*number));
         assert!(rt; made.len() < MOST_ROWS);
         assert!(rt; made.get(&keyword).is_none());
-        made.push(keyword, Amount { brand: 0, value })
+        made.push(alloc, keyword, Amount { brand: 0, value })
             .expect(rt, "memory for a row");
     }
     made
@@ -56,7 +56,10 @@ fn safe_and_covered(
 fn rows_are_found_by_their_keywords(rt: HostRuntime) {
     let allocation = coins(&rt, rt.alloc(), &[("Price", 3), ("Asset", 1)]);
     let copy = allocation.copy(rt.alloc()).expect(&rt, "memory for a copy");
-    let made = Allocation::from_rows(Vec::new(rt.alloc()));
+    let made = Allocation::from_rows(rt.alloc(), Vec::new(rt.alloc())).expect(
+        &rt,
+        "memory for no rows",
+    );
     assert!(rt; made.is_empty() && !copy.is_empty());
     for (text, number) in [("Price", Some(3)), ("Asset", Some(1)), ("Other", None)] {
         let keyword = keyword(&rt, rt.alloc(), text);

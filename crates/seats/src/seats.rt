@@ -68,6 +68,7 @@ impl Model for Seats {
 }
 
 impl Seats {
+    /// No seats.
     pub fn new(alloc: Global) -> Seats
         ensures { result ≡ [] }
     {

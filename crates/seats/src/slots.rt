@@ -212,7 +212,7 @@ impl Slots {
         for slot in &self.slots {
             rows.push(slot.row(alloc)?)?;
         }
-        Ok(Allocation::from_rows(rows))
+        Allocation::from_rows(alloc, rows)
     }
 
     /// How much of a brand they have together.

@@ -28,7 +28,7 @@ fn keyword(rt: &impl Abort, alloc: Global, text: &str) -> Keyword {
 fn coins(rt: &impl Abort, alloc: Global, text: &str, brand: u16, number: u32) -> Allocation {
     let mut made = Allocation::new(alloc);
     let value = Value::nat(u128::from(number));
-    made.push(keyword(rt, alloc, text), Amount { brand, value })
+    made.push(alloc, keyword(rt, alloc, text), Amount { brand, value })
         .expect(rt, "memory for a row");
     made
 }

@@ -12,7 +12,6 @@ use Rattle.ertp_mint.specs.BrandSupply.{BrandSupply, new_supply}
 use Rattle.instances.specs.Tables.{InstanceView, Tables, halted_now, installed, state_kept}
 use Rattle.instances.specs.Turns.{InstancesState}
 use Rattle.invitations.specs.Details.{DetailsView}
-use Rattle.invitations.specs.Elements.{element}
 use Rattle.jessie_tree.specs.Tree.{Tree}
 use Rattle.promises.specs.States.{SettlementView}
 use Rattle.promises.specs.Turns.{PromisesState}
@@ -388,7 +387,7 @@ first_invitations = record {
   brand = omega arith;
   set = refl;
   once = omega arith;
-  made = λ n unmade small. ap (λ c. count c (element n)) (nothing_out 0) ∙ count-nothing (element n);
+  made = λ k other. ap (λ c. count c k) (nothing_out 0) ∙ count-nothing k;
 }
 
 first_seats : AreSeatPromises (begins first_rested)

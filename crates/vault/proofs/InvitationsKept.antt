@@ -8,7 +8,6 @@ use Rattle.amount_math.specs.declared.Kind.{Kind}
 use Rattle.amount_math.specs.declared.Kind.TheVariants.{Nat}
 use Rattle.ertp_mint.specs.BrandSupply.{BrandSupply, issued, new_supply, retired, supply_at}
 use Rattle.invitations.specs.Details.{DetailsView}
-use Rattle.invitations.specs.Elements.{element}
 use Rattle.rights_model.specs.Place.{place}
 use Rattle.rights_model.specs.Supply.{is_outside, share_of}
 use Rattle.rights_model.specs.declared.Holder.{Holder}
@@ -65,11 +64,11 @@ AreInvitations-moved w m can valid = record {
     minted_to (supplies_from w.draft.now.supplies m.from m.brand m.value.content) m.to m.brand m.value.content 0,
     minted_from w.draft.now.supplies m.from m.brand m.value.content (length w.invitations.now) can.transfer.brand can.once valid.invitations.once,
   );
-  made = λ n unmade small. omega (
+  made = λ k other. omega (
     arith,
-    out_moved w.draft m valid.draft valid.unspoiled can.transfer 0 (element n),
-    none_brought m.from m.brand m.value.content (element n) (λ outside first. can.made outside first n unmade small),
-    valid.invitations.made n unmade small,
+    out_moved w.draft m valid.draft valid.unspoiled can.transfer 0 k,
+    none_brought m.from m.brand m.value.content k (λ outside first. can.made outside first k other),
+    valid.invitations.made k other,
   );
 }
 
@@ -81,7 +80,7 @@ AreInvitations-same w x supplies invitations is = record {
   brand = subst (λ (ss : List BrandSupply). 0 < length ss) (sym supplies) is.brand;
   set = ap (λ (ss : List BrandSupply). (supply_at ss 0).outstanding.kind) supplies ∙ is.set;
   once = omega (arith, is.once, ap (λ (ss : List BrandSupply). (supply_at ss 0).minted) supplies, ap (λ (ds : List DetailsView). length ds) invitations);
-  made = λ n unmade small. ap (λ (ss : List BrandSupply). count (supply_at ss 0).outstanding.content (element n)) supplies ∙ is.made n (omega (arith, unmade, ap (λ (ds : List DetailsView). length ds) invitations)) small;
+  made = λ k other. ap (λ (ss : List BrandSupply). count (supply_at ss 0).outstanding.content k) supplies ∙ is.made k (λ n within. other n (omega (arith, within, ap (λ (ds : List DetailsView). length ds) invitations)));
 }
 
 -- an invitation more was made
@@ -92,7 +91,7 @@ AreInvitations-more w x d supplies invitations is =
       brand = subst (λ (ss : List BrandSupply). 0 < length ss) (sym supplies) is.brand;
       set = ap (λ (ss : List BrandSupply). (supply_at ss 0).outstanding.kind) supplies ∙ is.set;
       once = omega (arith, is.once, ap (λ (ss : List BrandSupply). (supply_at ss 0).minted) supplies, more);
-      made = λ n unmade small. ap (λ (ss : List BrandSupply). count (supply_at ss 0).outstanding.content (element n)) supplies ∙ is.made n (omega (arith, unmade, more)) small;
+      made = λ k other. ap (λ (ss : List BrandSupply). count (supply_at ss 0).outstanding.content k) supplies ∙ is.made k (λ n within. other n (omega (arith, within, more)));
     }
 
 -- a brand more was made
@@ -104,5 +103,5 @@ AreInvitations-added w x kind supplies invitations is =
       brand = omega (arith, is.brand, ap (λ (rs : List BrandSupply). length rs) supplies, length-append ss (new_supply kind ∷ []));
       set = ap (λ (s : BrandSupply). s.outstanding.kind) first ∙ is.set;
       once = omega (arith, is.once, ap (λ (s : BrandSupply). s.minted) first, ap (λ (ds : List DetailsView). length ds) invitations);
-      made = λ n unmade small. ap (λ (s : BrandSupply). count s.outstanding.content (element n)) first ∙ is.made n (omega (arith, unmade, ap (λ (ds : List DetailsView). length ds) invitations)) small;
+      made = λ k other. ap (λ (s : BrandSupply). count s.outstanding.content k) first ∙ is.made k (λ n within. other n (omega (arith, within, ap (λ (ds : List DetailsView). length ds) invitations)));
     }

@@ -230,11 +230,11 @@ pub record CanKeep (w : WorldState) (n : ℕ) (vs : List Tree) : Type 0 where
   pub made : n < length w.instances.now.instances
   pub as_many : length vs ≡ length (instance_at w.instances.now.instances n).state
 
--- a value can be moved; what of brand 0 comes from outside is of invitations that were made, each once
+-- a value can be moved; what of brand 0 comes from outside is the elements of invitations that were made, each once
 pub record CanMove (w : WorldState) (m : Movement) : Type 0 where
   pub transfer : CanTransfer w.draft.now m
   pub once : m.from ≡ Outside → m.brand ≡ 0 → (supply_at w.draft.now.supplies 0).minted + counted m.value.content ≤ length w.invitations.now
-  pub made : m.from ≡ Outside → m.brand ≡ 0 → (n : ℕ) → length w.invitations.now ≤ n → n < 2 ^ 32 → count m.value.content (element n) ≡ 0
+  pub made : m.from ≡ Outside → m.brand ≡ 0 → (k : List ℕ) → ((n : ℕ) → n < length w.invitations.now → k ≢ element n) → count m.value.content k ≡ 0
 
 abbrev pub CanDo : WorldState → Effect → Type 0
 CanDo w (new_brand b) = CanAdd w b
@@ -283,12 +283,12 @@ pub record IsOrdinary (v : VaultState) : Type 0 where
   pub fresh : AreFresh v
   pub totals : AreTotals v
 
--- brand 0 is that of invitations: a set of them, of which none is out that wasn't made
+-- brand 0 is that of invitations: a set, of which nothing is out but elements of invitations that were made
 pub record AreInvitations (w : WorldState) : Type 0 where
   pub brand : 0 < length w.draft.now.supplies
   pub set : kind_of w.draft.now 0 ≡ Set
   pub once : (supply_at w.draft.now.supplies 0).minted ≤ length w.invitations.now
-  pub made : (n : ℕ) → length w.invitations.now ≤ n → n < 2 ^ 32 → count (out_of w.draft.now 0) (element n) ≡ 0
+  pub made : (k : List ℕ) → ((n : ℕ) → n < length w.invitations.now → k ≢ element n) → count (out_of w.draft.now 0) k ≡ 0
 
 -- each seat is of an instance that was made, and has two promises of its own, which no other seat has; that of its payouts is pending as long as it is open
 pub record AreSeatPromises (w : WorldState) : Type 0 where

@@ -6,7 +6,7 @@
 //! defines it, so that the table of a draft is the kept one after the draft's movements. Whatever calls
 //! are made, each brand's purses, live payments and slots add up to what is out of it.
 
-ghost use Rattle.std.specs.Prelude.{◌≡◌, ◌<◌, ◌≤◌, ◌+◌, ◌^◌, ◌↔◌, [], false, length, IsOk, IfErr, IfOk, OnErr, OnOk};
+ghost use Rattle.std.specs.Prelude.{◌≡◌, ◌<◌, ◌≤◌, ◌+◌, ◌^◌, ◌↔◌, [], false, length, IsOk, IsSome, IfErr, IfOk, OnErr, OnOk};
 ghost use Rattle.amount_math.specs.Content.{Contains, sum};
 ghost use Rattle.amount_math.specs.Worth.{IsIssueRefusal, IsPutRefusal, IsTakeRefusal};
 ghost use Rattle.ertp_mint.specs.BrandSupply.{supply_at};
@@ -26,7 +26,7 @@ use ertp_mint::{Parcel, Supply};
 use proposals::allocations::{Allocation, Row};
 use proposals::offers::Proposal;
 use rights_model::{Holder, Movement};
-use seats::seats::{OpenFault as SeatFault, Seats};
+use seats::seats::{CloseFault, OpenFault as SeatFault, Seats};
 use std::alloc::{AllocError, Global};
 use std::marker::Model;
 use turn_log::events::Payout;
@@ -113,6 +113,7 @@ impl Vault {
         }
     }
 
+    /// What is out of each brand.
     pub fn supply(&self) -> &Supply
         ensures supply { result.now ≡ self.now.supplies }
         ensures sound { IsSound self.now }
@@ -120,18 +121,21 @@ impl Vault {
         &self.stores.supply
     }
 
+    /// The purses, to read.
     pub fn purses(&self) -> &Purses
         ensures { ArePurses self.now result.now }
     {
         &self.stores.purses
     }
 
+    /// The payments, to read.
     pub fn payments(&self) -> &Payments
         ensures { ArePayments self.now result.now }
     {
         &self.stores.payments
     }
 
+    /// The seats, to read.
     pub fn seats(&self) -> &Seats
         ensures { result.now ≡ self.now.seats }
     {
@@ -206,6 +210,7 @@ impl Draft {
         self.is_spoiled
     }
 
+    /// What is out of each brand, in the turn so far.
     pub fn supply(&self) -> &Supply
         ensures supply { result.now ≡ self.now.now.supplies }
         ensures valid { IsDraft self.now }
@@ -213,18 +218,21 @@ impl Draft {
         &self.stores.supply
     }
 
+    /// The purses in the turn so far, to read.
     pub fn purses(&self) -> &Purses
         ensures { ArePurses self.now.now result.now }
     {
         &self.stores.purses
     }
 
+    /// The payments in the turn so far, to read.
     pub fn payments(&self) -> &Payments
         ensures { ArePayments self.now.now result.now }
     {
         &self.stores.payments
     }
 
+    /// The seats in the turn so far, to read.
     pub fn seats(&self) -> &Seats
         ensures { result.now ≡ self.now.now.seats }
     {
@@ -465,11 +473,32 @@ impl Draft {
         self.stores.seats.open(self.alloc, instance, proposal)
     }
 
-    /// Closes an open seat, which keeps its allocation, and pays each of its slots out whole, empty ones
-    /// too, to a payment of its own (Zoe). It answers the payments, in the order of slots. After the
-    /// error, which is want of memory, the draft may be half changed and spoiled: it is sound, its hand
-    /// and what was kept are as before, and it is to be undone.
-    pub fn close_seat(&mut self, seat: u32) -> Result<Vec<Payout>, AllocError>
+    /// Closes a seat, which keeps its allocation, and pays each of its slots out whole, empty ones too, to
+    /// a payment of its own (Zoe). It answers the payments, in the order of slots, or `SeatExited` exactly
+    /// where it was closed before, with all as before. After want of memory the draft may be half changed
+    /// and spoiled: it is sound, its hand and what was kept are as before, and it is to be undone.
+    pub fn close_seat(&mut self, seat: u32) -> Result<Vec<Payout>, CloseFault>
+        requires { seat < length self.old.now.seats }
+        ensures ok { OnOk result (self.new ≡ paid_out self.old seat) }
+        ensures payouts { IfOk result (λ payouts. payouts.items ≡ payouts_of (length self.old.now.payments) (seat_at self.old.now.seats seat).slots) }
+        ensures was_open { IsOk result → IsOpen (seat_at self.old.now.seats seat) }
+        ensures exited { IfErr result (λ fault. (fault ≡ CloseFault.SeatExited) ↔ IsSome (seat_at self.old.now.seats seat).last) }
+        ensures refused { IfErr result (λ fault. fault ≡ CloseFault.SeatExited → self.new ≡ self.old) }
+        ensures hand { KeepsHand self.old self.new }
+        ensures valid { IsDraft self.new }
+        ensures kept { self.new.kept ≡ self.old.kept }
+    {
+        if !self.stores.seats.is_open(seat) {
+            return Err(CloseFault::SeatExited);
+        }
+        match self.pay_seat_out(seat) {
+            Ok(payouts) => Ok(payouts),
+            Err(_) => Err(CloseFault::NoMemory),
+        }
+    }
+
+    /// Closes an open seat and pays each of its slots out.
+    fn pay_seat_out(&mut self, seat: u32) -> Result<Vec<Payout>, AllocError>
         requires made { seat < length self.old.now.seats }
         requires is_open { IsOpen (seat_at self.old.now.seats seat) }
         ensures ok { OnOk result (self.new ≡ paid_out self.old seat) }

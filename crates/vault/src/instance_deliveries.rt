@@ -26,6 +26,7 @@ pub struct OfferDelivery {
     pub promise: u32,
 }
 
+/// What waits to be delivered to an instance.
 #[derive(Debug, Drop)]
 pub enum InstanceDelivery {
     Start(StartDelivery),

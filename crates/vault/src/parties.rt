@@ -3,14 +3,16 @@
 //! beside them, what was bound for it, and nothing else. A path follows each promise on its way that is
 //! fulfilled; a promise that is pending or broken, and a path that isn't there, are refused.
 
-ghost use Rattle.std.specs.Prelude.{◌≡◌, ◌∷◌, [], map, option_map, is_some, string_bytes, IfOk, OnErr, OnOk, None};
+ghost use Rattle.std.specs.Prelude.{◌≡◌, ◌∷◌, [], ℕ, List, true, map, option_map, is_some, string_bytes, IfErr, IfOk, IsOk, IsSome, OnErr, OnOk, None, Some};
 ghost use Rattle.std.specs.Option.{option_map_or};
+ghost use Rattle.host_text.specs.Words.{is_label};
+ghost use Rattle.jessie_tree.specs.Tree.{Tree};
 ghost use Rattle.jessie_tree.specs.View.{tree, trees, named_trees};
 ghost use Rattle.jessie_tree.specs.View as views;
 ghost use Rattle.call_data.specs.Outcomes.{Gives, Refuses};
 ghost use Rattle.promises.specs.States.{pending, state_at, state_view};
 ghost use Rattle.promises.specs.Turns.{promises_of};
-ghost use Rattle.vault.specs.Parties.{bound_to, followed, item_at, label_in, labels_of, of_state, own, part_at, part_met, resolved, resolved_all, resolved_fields, service_of, value_at, walked, walked_from, with_label};
+ghost use Rattle.vault.specs.Parties.{Labels, bound_to, followed, item_at, label_in, labels_of, of_state, own, part_at, part_met, resolved, resolved_all, resolved_fields, service_of, value_at, walked, walked_from, with_label};
 ghost use Rattle.vault.specs.Parts.{steps_of};
 ghost use Rattle.vault.specs.PartViews.{fields_of, items_of, named_part_trees, part_tree, part_trees};
 ghost use Rattle.call_data.specs.declared.refusals.Refusal.TheVariants.{UnknownName};
@@ -23,6 +25,14 @@ use indexmap::IndexMap;
 use jessie_tree::data::{Data, Obj, ObjKind};
 use promises::{PromiseState, Promises, Settlement};
 use std::alloc::{AllocError, Global};
+
+/// Why no label is bound.
+#[derive(Clone, Copy, Debug, PartialEq, Eq)]
+pub enum BindFault {
+    /// The label is bound already (own).
+    NameTaken,
+    NoMemory,
+}
 
 /// What the parties have under their labels. A party exists from its first mention and has from the
 /// start `ertp`, `zoe` and `timer`. Contracts see the labels that were bound since (specs/Parties.antt).
@@ -53,21 +63,52 @@ impl Parties {
         Ok(found.is_some())
     }
 
-    /// Binds a label that is free to the value. On an error all is as before.
+    /// Binds a label to the value, or hands it back: `NameTaken` only where the label is bound already.
+    /// On an error all is as before.
     pub fn bind(
         &mut self,
         alloc: Global,
         party: &Text,
         label: &Text,
         value: Data,
-    ) -> Result<(), AllocError>
-        requires { bound_to (labels_of self.old) party.now label.now ≡ None }
+    ) -> Result<(), (Data, BindFault)>
         ensures ok { OnOk result (labels_of self.new ≡ with_label (labels_of self.old) party.now label.now (tree value)) }
+        ensures free { IsOk result → bound_to (labels_of self.old) party.now label.now ≡ None }
+        ensures taken { IfErr result (λ (_, fault). fault ≡ BindFault.NameTaken → IsSome (bound_to (labels_of self.old) party.now label.now)) }
+        ensures back { IfErr result (λ (back, _). back ≡ value) }
         ensures err { OnErr result (labels_of self.new ≡ labels_of self.old) }
     {
-        let name = full_name(alloc, party, label.as_str())?;
-        self.labels.insert(name, value)?;
-        Ok(())
+        match self.is_bound(alloc, party, label) {
+            Ok(false) => self.bind_free(alloc, party, label, value),
+            Ok(true) => Err((value, BindFault::NameTaken)),
+            Err(_) => Err((value, BindFault::NoMemory)),
+        }
+    }
+
+    /// Binds a label that is free.
+    fn bind_free(
+        &mut self,
+        alloc: Global,
+        party: &Text,
+        label: &Text,
+        value: Data,
+    ) -> Result<(), (Data, BindFault)>
+        requires { bound_to (labels_of self.old) party.now label.now ≡ None }
+        ensures ok { OnOk result (labels_of self.new ≡ with_label (labels_of self.old) party.now label.now (tree value)) }
+        ensures memory { IfErr result (λ (_, fault). fault ≡ BindFault.NoMemory) }
+        ensures back { IfErr result (λ (back, _). back ≡ value) }
+        ensures err { OnErr result (labels_of self.new ≡ labels_of self.old) }
+    {
+        let Ok(name) = full_name(alloc, party, label.as_str()) else {
+            return Err((value, BindFault::NoMemory));
+        };
+        match self.labels.insert(name, value) {
+            Ok(_) => Ok(()),
+            Err(failed) => {
+                let (_, value) = failed.value;
+                Err((value, BindFault::NoMemory))
+            }
+        }
     }
 
     /// A copy of what stands at a path of the party's, each promise on the way, and at its end, followed to
@@ -365,6 +406,14 @@ fn resolve_fields(
     }
     Ok(found)
 }
+
+/// A label that is bound for a party stands for its value there; each other label, also the same one of
+/// another party, stands for what it did. Parties have names of the form of labels, and so no dots.
+pub fn labels_are_apart()
+    ensures here { (ls : Labels) (party label : List ℕ) (t : Tree) → bound_to ls party label ≡ None → bound_to (with_label ls party label t) party label ≡ Some t }
+    ensures elsewhere { (ls : Labels) (party label other name : List ℕ) (t : Tree) → is_label party ≡ true → is_label other ≡ true → ((other ≡ party) × (name ≡ label) → ⊥)
+        → bound_to (with_label ls party label t) other name ≡ bound_to ls other name }
+{}
 
 #[cfg(test)]
 mod tests;

@@ -39,6 +39,7 @@ impl Model for PaymentRef {
 }
 
 impl PaymentRef {
+    /// The payment's number.
     pub fn number(self) -> u32
         ensures { result ≡ self }
     {
@@ -84,6 +85,7 @@ impl Model for Payments {
 }
 
 impl Payments {
+    /// No payments.
     pub fn new(alloc: Global) -> Payments
         ensures { result ≡ [] }
     {
@@ -98,7 +100,7 @@ impl Payments {
         self.payments.len() as u32
     }
 
-    /// How many may still be made.
+    /// How many numbers of payments are left. `Draft::left` counts the slots of open seats too.
     pub fn left(&self) -> u32
         ensures { result ≡ most_made - length self.now }
     {
@@ -117,6 +119,7 @@ impl Payments {
         }
     }
 
+    /// Whether a payment wasn't spent yet.
     pub fn is_live(&self, payment: PaymentRef) -> bool
         requires { payment < length self.now }
         ensures { result ≡ (payment_at self.now payment).is_live }

@@ -43,6 +43,7 @@ impl Model for Purses {
 }
 
 impl Purses {
+    /// No purses.
     pub fn new(alloc: Global) -> Purses
         ensures { result ≡ [] }
     {

@@ -424,7 +424,9 @@ impl World {
         ensures keeps { Keeps (world_of self.old) (world_of self.new) }
     {
         let before = self.draft.movements().len();
-        let payouts = self.draft.close_seat(seat)?;
+        let Ok(payouts) = self.draft.close_seat(seat) else {
+            return Err(AllocError);
+        };
         let told = copy_payouts(self.alloc, payouts.as_slice())?;
         let leaving = Leaving {
             seat,

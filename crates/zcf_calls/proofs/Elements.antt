@@ -77,7 +77,7 @@ apart_by false m n large few less same =
     let most : 10 ^ 10 ≤ m = grind arith in
     omega (arith, long-ten_digits m most, length-ten_digits n few, ap (λ (ds : List ℕ). length ds) same)
 
-elements_apart : (m n : ℕ) → n < 2 ^ 32 → n < m → element m ≡ element n → ⊥
+pub elements_apart : (m n : ℕ) → n < 2 ^ 32 → n < m → element m ≡ element n → ⊥
 unfolding element
 elements_apart m n few less same = apart_by (nat_lt m (10 ^ 10)) m n refl few less (append_cancel_left (codes "inv:") (ten_digits m) (ten_digits n) same)
 
@@ -99,10 +99,10 @@ pub counted-one_of : (k : List ℕ) → counted (one_of k) ≡ 1
 unfolding one_of
 counted-one_of k = omega (arith, total-put by_count counts (λ _. refl) nothing k 1, count-nothing k, counted-nothing)
 
--- a later invitation isn't in the value of one
-pub none_later : (m n : ℕ) → n < 2 ^ 32 → n < m → count (one_of (element n)) (element m) ≡ 0
-none_later m n few less = count-one_of (element n) (element m) ∙ by_test (eq_by_cmp key_cmp (element m) (element n)) refl
+-- another key isn't in the value of one
+pub none_other : (k q : List ℕ) → (q ≡ k → ⊥) → count (one_of k) q ≡ 0
+none_other k q other = count-one_of k q ∙ by_test (eq_by_cmp key_cmp q k) refl
   where
-    by_test : (b : Bool) → eq_by_cmp key_cmp (element m) (element n) ≡ b → ◌≡◌ {A = ℕ} (cond b 1 0) 0
-    by_test true same = absurd (elements_apart m n few less (same_key (element m) (element n) same))
-    by_test false other = refl
+    by_test : (b : Bool) → eq_by_cmp key_cmp q k ≡ b → ◌≡◌ {A = ℕ} (cond b 1 0) 0
+    by_test true same = absurd (other (same_key q k same))
+    by_test false apart = refl

@@ -24,7 +24,7 @@ use Rattle.vault.specs.Vaults.{CanMakePayment, VaultState, kind_of, out_of}
 use Rattle.vault.specs.Worlds.{CanDoAll, Effect, IsValid, WorldState, add_invitation, move}
 use Rattle.zcf_calls.specs.Plans.{CanInvite}
 use Rattle.zcf_calls.specs.Rows.{Outcome, invitation_value, make_invitation, next_payment, of_kind, of_zcf, serve}
-use Rattle.zcf_calls.proofs.Elements.{counted-one_of, none_later}
+use Rattle.zcf_calls.proofs.Elements.{counted-one_of, elements_apart, none_other}
 use Rattle.zcf_calls.proofs.Steps.{after_need, after_step, ok_has}
 
 -- ---- a key that is new
@@ -53,14 +53,14 @@ invites w p valid room payment =
         brand = valid.invitations.brand;
         kind = sym valid.invitations.set;
         from = record {
-          fits = Fits-one_more (kind_of v 0) (out_of v 0) (element n) valid.invitations.set (valid.invitations.made n (omega arith) (omega (arith, room))) (valid.draft.bounded 0);
+          fits = Fits-one_more (kind_of v 0) (out_of v 0) (element n) valid.invitations.set (valid.invitations.made (element n) (λ i earlier same. elements_apart n i (omega (arith, earlier, room)) earlier same)) (valid.draft.bounded 0);
           room = omega (arith, one, valid.invitations.once, room);
         };
         to = payment;
         apart = λ is. cc;
       };
       once = omega (arith, one, valid.invitations.once);
-      made = λ m later few. none_later m n (omega (arith, room)) (omega (arith, later));
+      made = λ k other. none_other (element n) k other;
     }
 
 pub next_payment_has : (v : VaultState) → IfOk (next_payment v) (CanMakePayment v)
@@ -87,7 +87,7 @@ invited_can w d m can = (
     record {
       transfer = can.transfer;
       once = λ outside first. omega (arith, can.once, length-append w.invitations.now (d ∷ []));
-      made = λ outside first n later few. can.made n (omega (arith, later, length-append w.invitations.now (d ∷ []))) few;
+      made = λ outside first k other. can.made k (other (length w.invitations.now) (omega (arith, length-append w.invitations.now (d ∷ []))));
     },
     tt,
   ),

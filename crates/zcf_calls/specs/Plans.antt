@@ -1,5 +1,5 @@
 -- What the code has made ready of a call that is not refused, before anything is changed.
-use Rattle.std.specs.Prelude.{◌≡◌, ℕ, ◌+◌, ◌^◌, ◌<◌, ◌≤◌, List, [], ◌∷◌}
+use Rattle.std.specs.Prelude.{◌≡◌, ◌≢◌, ℕ, ◌+◌, ◌<◌, ◌≤◌, List, [], ◌∷◌}
 use Rattle.amount_math.specs.Content.{count}
 use Rattle.amount_math.specs.Counted.{counted}
 use Rattle.call_data.specs.Values.{object_tree}
@@ -24,9 +24,9 @@ coming new = movement 0 Outside (Payment new.payment) new.value
 abbrev pub planned : NewInvitation → Tree × List Effect
 planned new = (object_tree kinds.Payment new.payment, add_invitation (details_view new.details) ∷ move (coming new) ∷ [])
 
--- where so many invitations were made, one more can be, and can come from outside by this movement
+-- where so many invitations were made, one more can be, and it alone can come from outside by this movement
 pub record CanInvite (v : VaultState) (invitations : ℕ) (m : Movement) : Type 0 where
   pub room : invitations < most_made
   pub transfer : CanTransfer v m
   pub once : (supply_at v.supplies 0).minted + counted m.value.content ≤ invitations + 1
-  pub made : (n : ℕ) → invitations + 1 ≤ n → n < 2 ^ 32 → count m.value.content (element n) ≡ 0
+  pub made : (k : List ℕ) → k ≢ element invitations → count m.value.content k ≡ 0

@@ -4,7 +4,7 @@
 ghost use Rattle.std.specs.Prelude.{◌≡◌, ℕ, List, map, true, false, string_bytes, IfSome};
 ghost use Rattle.std.specs.Io.KnownBytes.{IsAtEnd};
 ghost use Rattle.zoe_run.specs.Causes.{Rose};
-ghost use Rattle.host_core.specs.Runs.{AreFairToLimit, AreInOrder, left_of, meanings_of, messages_of, turns_of};
+ghost use Rattle.host_core.specs.Runs.{AreFairToLimit, AreInOrder, left_of, meanings_of, turns_of};
 ghost use Rattle.zoe_run.specs.Top.{Ends, IsRefused, IsWithin, MeetsLimits, SinkFaults, SourceFaults, Writes, WritesNothing, exit_code, status_name};
 ghost use Rattle.zoe_run.specs.Words.{options_of, takes_words};
 
@@ -77,7 +77,7 @@ pub fn zoe_top<S: Source, K: Sink>(
 
     // The turns of the run are fair, and stand in the order of their messages, whatever the input.
     ensures fair { (meter most : ℕ) (input : List ℕ) → AreFairToLimit (turns_of meter most input) }
-    ensures in_order { (meter most : ℕ) (input : List ℕ) → AreInOrder meter (messages_of (meanings_of most input)) (turns_of meter most input) (left_of meter most input) }
+    ensures in_order { (meter most : ℕ) (input : List ℕ) → AreInOrder meter (meanings_of most input) (turns_of meter most input) (left_of meter most input) }
 
     // Where nothing stands against it, the run is done.
     ensures complete { IfSome (S.left source.old) (λ input. takes_words (map (λ w. string_bytes w) words.now) ≡ true → IsWithin (options_of (map (λ w. string_bytes w) words.now)) input → (Rose (S.faults source.old) (S.faults source.new) → ⊥) → (Rose (K.faults sink.old) (K.faults sink.new) → ⊥) → Ends result) }

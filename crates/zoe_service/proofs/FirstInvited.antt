@@ -13,8 +13,7 @@ use Rattle.amount_math.specs.declared.Kind.TheVariants.{Nat, Set}
 use Rattle.amount_math.proofs.Listed.{same_key}
 use Rattle.ertp_mint.specs.BrandSupply.{supply_at}
 use Rattle.invitations.specs.Details.{DetailsView}
-use Rattle.invitations.specs.Elements.{element, number_in, ten_digits}
-use Rattle.invitations.proofs.Texts.{element_all}
+use Rattle.invitations.specs.Elements.{element}
 use Rattle.jessie_tree.specs.Syntax.{routines}
 use Rattle.jessie_tree.specs.Tree.{Tree, null}
 use Rattle.jessie_tree.specs.declared.syntax.Module.{Module}
@@ -38,22 +37,12 @@ use Rattle.zoe_service.proofs.ConsistentRows.{null_handed}
 
 -- ---- the first invitation's text
 
-first_apart : (n : ℕ) → 0 < n → n < 2 ^ 32 → element n ≡ element 0 → ⊥
-unfolding element
-first_apart n some few same =
-    let found = element_all (element 0) (ten_digits 0) (number_in (ten_digits 0)) refl refl in
-    let zeroth = found 0 (omega arith) refl in
-    let nth = found n few (sym same) in
-    let equal : Some 0 ≡ Some n = sym zeroth ∙ nth in
-    let is : 0 ≡ n = cc in
-    omega (arith, is, some)
-
-not_first : (n : ℕ) → 0 < n → n < 2 ^ 32 → count (one_of (element 0)) (element n) ≡ 0
-not_first n some few = count-one_of (element 0) (element n) ∙ by (eq_by_cmp key_cmp (element n) (element 0)) refl
+none_but_first : (k : List ℕ) → (k ≡ element 0 → ⊥) → count (one_of (element 0)) k ≡ 0
+none_but_first k other = count-one_of (element 0) k ∙ by (eq_by_cmp key_cmp k (element 0)) refl
   where
-    by : (b : Bool) → eq_by_cmp key_cmp (element n) (element 0) ≡ b → ◌≡◌ {A = ℕ} (cond b 1 0) 0
-    by true same = absurd (first_apart n some few (same_key (element n) (element 0) same))
-    by false other = refl
+    by : (b : Bool) → eq_by_cmp key_cmp k (element 0) ≡ b → ◌≡◌ {A = ℕ} (cond b 1 0) 0
+    by true same = absurd (other (same_key k (element 0) same))
+    by false apart = refl
 
 abbrev by_count : List ℕ → ℕ → ℕ
 by_count k n = n
@@ -104,7 +93,7 @@ module _ (b : Brand) (m : Module) (issuers : List Issuer) (d : DetailsView) wher
         apart = λ is. cc;
       };
       once = λ outside first. omega (arith, counted-one_of (element 0));
-      made = λ outside first n later small. not_first n (omega arith) small;
+      made = λ outside first k other. none_but_first k (other 0 (omega arith));
     }
 
     can : CanDoAll start effects

@@ -322,7 +322,7 @@ fn accepted(alloc: Global, world: &World, args: &[Data]) -> Result<AcceptedOffer
         offer.payments.as_slice(),
     )?;
     check_room(world, &offer)?;
-    let (proposal, _) = offer.into_proposal();
+    let (proposal, _) = offer.into_proposal(alloc)?;
     Ok(AcceptedOffer {
         by,
         proposal,

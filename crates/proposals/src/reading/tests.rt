@@ -343,7 +343,7 @@ fn a_proposal_is_read_with_its_payments(rt: HostRuntime) -> Result<(), Fail> {
     let paid = two(&rt, alloc, "Asset", first, "Price", second);
     let read = read_proposal(alloc, &issuers(&rt, alloc), Some(&given), Some(&paid))?;
     assert!(rt; read.is_small());
-    let (proposal, payments) = read.into_proposal();
+    let (proposal, payments) = read.into_proposal(alloc)?;
     assert!(rt; proposal.fits_seat());
     assert_eq!(rt; (proposal.give.len(), proposal.want.len()), (2, 0));
     assert_eq!(rt; payments.len(), 2);

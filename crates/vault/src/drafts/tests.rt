@@ -109,7 +109,7 @@ fn coins(rt: &impl Abort, alloc: Global, text: &str, number: u32) -> Allocation
 {
     let mut made = Allocation::new(alloc);
     let value = Value::nat(u128::from(number));
-    made.push(keyword(rt, alloc, text), Amount { brand: 0, value })
+    made.push(alloc, keyword(rt, alloc, text), Amount { brand: 0, value })
         .expect(rt, "memory for a row");
     made
 }

@@ -2,7 +2,7 @@ ghost use Rattle.std.specs.Prelude.{◌≡◌, ◌<◌, IsTrue, length};
 ghost use Rattle.promises.specs.States.{pending, state_at};
 ghost use Rattle.promises.specs.Turns.{promises_of};
 
-use super::Parties;
+use super::{BindFault, Parties};
 use crate::parts::Part;
 use call_data::refusals::{Refusal, Stop};
 use host_text::text::Text;
@@ -45,6 +45,10 @@ fn bind(rt: &impl Abort, alloc: Global, parties: &mut Parties, label: &str, valu
     parties
         .bind(alloc, &alice, &label, value)
         .expect(rt, "memory for a label");
+    match parties.bind(alloc, &alice, &label, Data::Null) {
+        Err((_, BindFault::NameTaken)) => {}
+        Err((_, BindFault::NoMemory)) | Ok(()) => panic!(rt; "a label that is bound twice"),
+    }
 }
 
 /// Parties of which alice has `{items: [7, 8]}` under `box`, and the first three promises under labels.

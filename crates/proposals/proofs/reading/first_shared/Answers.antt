@@ -1,4 +1,4 @@
-use Rattle.std.proofs.Common.{◌≡◌, ◌<◌, ◌≤◌, length, sym, ap, ◌∙◌, arith, Some}
+use Rattle.std.proofs.Common.{sym, ◌∙◌, arith}
 use Rattle.proposals.proofs.NamesAt.{length-keywords, row_at, shared_ends, shared_equal_at, shared_greater_at, shared_less_at, shared_other_ends}
 use Rattle.proposals.proofs.reading.first_shared.Goals as goal
 use Rattle.proposals.proofs.reading.first_shared.Goals.{then-loop-i-test+else-j-others, else-loop-i-test}

@@ -2,4 +2,4 @@ use Rattle.std.proofs.Common.{◌≡◌, take}
 use Rattle.proposals.proofs.allocations.Allocation.copy.Given as goal
 
 abbrev pub invariant-loop-row : goal.invariant-loop-row
-invariant-loop-row l = l.rows.items ≡ take l.row-index l.row-items
+invariant-loop-row l = l.made ≡ take l.row-index l.row-items

@@ -7,8 +7,8 @@ use Rattle.vault.proofs.SeatsLeft.{left_world, noted_before}
 use Rattle.vault.proofs.WorldsKept.{keeps_draft}
 use Rattle.vault.proofs.world.World.leave_seat.Goals as goal
 
-pub returns-in_err-payouts-clause-keeps : goal.returns-in_err-payouts-clause-keeps
-returns-in_err-payouts-clause-keeps c = keeps_draft _ _ _ c.close_seat.ensures.kept (HandIsEmpty-kept _ _ c.close_seat.ensures.hand)
+pub returns-in_default-clause-keeps : goal.returns-in_default-clause-keeps
+returns-in_default-clause-keeps c = keeps_draft _ _ _ c.close_seat.ensures.kept (HandIsEmpty-kept _ _ c.close_seat.ensures.hand)
 
 pub returns-in_err-told-clause-keeps : goal.returns-in_err-told-clause-keeps
 returns-in_err-told-clause-keeps c = keeps_draft _ _ _ c.close_seat.ensures.kept (HandIsEmpty-kept _ _ c.close_seat.ensures.hand)
@@ -25,7 +25,7 @@ returns-clause-keeps c = keeps_draft _ _ _ c.close_seat.ensures.kept (HandIsEmpt
 pub slice_bounds-tell_movements-count : goal.slice_bounds-tell_movements-count
 slice_bounds-tell_movements-count c = omega (
   arith,
-  noted_before c.args.self.now.draft c.close_seat.new.self c.args.seat c.in_ok-payouts.ensures.ok,
+  noted_before c.args.self.now.draft c.close_seat.new.self c.args.seat c.in-Ok.ensures.ok,
   ap (λ (ms : List Movement). length ms) c.movements-before.ensures,
   ap (λ (ms : List Movement). length ms) c.movements.ensures,
 )
@@ -34,7 +34,7 @@ pub slice_bounds-tell_movements-start : goal.slice_bounds-tell_movements-start
 slice_bounds-tell_movements-start c =
     let within : length c.movements-before.result.now ≤ length c.movements.result.now = omega (
       arith,
-      noted_before c.args.self.now.draft c.close_seat.new.self c.args.seat c.in_ok-payouts.ensures.ok,
+      noted_before c.args.self.now.draft c.close_seat.new.self c.args.seat c.in-Ok.ensures.ok,
       ap (λ (ms : List Movement). length ms) c.movements-before.ensures,
       ap (λ (ms : List Movement). length ms) c.movements.ensures,
     ) in
@@ -42,5 +42,5 @@ slice_bounds-tell_movements-start c =
 
 pub returns-clause-ok : goal.returns-clause-ok
 returns-clause-ok c = left_world (world_of c.args.self.now) c.close_seat.new.self (log_of c.reserve.new.self) (log_of c.push_reserved.new.self) (log_of c.tell_movements.new.log) c.args.seat c.args.cause c.in_ok-told.told.items
-    c.movements-before.result.now c.movements.result.now c.in_ok-payouts.ensures.ok (c.in_ok-told.ensures ∙ c.as_slice.ensures.value ∙ c.in_ok-payouts.ensures.payouts) c.movements-before.ensures c.movements.ensures
+    c.movements-before.result.now c.movements.result.now c.in-Ok.ensures.ok (c.in_ok-told.ensures ∙ c.as_slice.ensures.value ∙ c.in-Ok.ensures.payouts) c.movements-before.ensures c.movements.ensures
     c.in_ok-reserve.ensures.same c.push_reserved.ensures c.in_ok-tell_movements.ensures

@@ -3,7 +3,7 @@ use Rattle.ertp_mint.specs.Stocks.{most_made}
 use Rattle.seats.specs.Seats.{open_slots}
 use Rattle.proposals.specs.Rows.{AreRows}
 use Rattle.vault.proofs.SeatSteps.{can_pay_first, next_item, paying_goes_on, paying_starts}
-use Rattle.vault.proofs.drafts.Draft.close_seat.Goals as goal
+use Rattle.vault.proofs.drafts.Draft.pay_seat_out.Goals as goal
 
 pub loop-slot-init : goal.loop-slot-init
 loop-slot-init c =
