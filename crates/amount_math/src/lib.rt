@@ -18,8 +18,6 @@ mod made;
 mod merges;
 mod outstanding;
 mod shape;
-#[cfg(test)]
-mod tests;
 
 pub use amounts::{AddFault, CoerceFault, CompareFault, WrongBrand, coerce, make};
 use keyed::Keyed;

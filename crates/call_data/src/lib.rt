@@ -7,6 +7,4 @@
 pub mod amounts;
 pub mod outcomes;
 pub mod refusals;
-#[cfg(test)]
-mod tests;
 pub mod values;

@@ -92,6 +92,3 @@ pub fn amount_data(alloc: Global, brand: u16, value: &Value) -> Result<Data, All
     fields.push((Text::from_str(alloc, "value")?, value))?;
     Ok(Data::Record(fields))
 }
-
-#[cfg(test)]
-mod tests;

@@ -5,8 +5,6 @@
 
 mod parcel;
 mod supply;
-#[cfg(test)]
-mod tests;
 
 pub use parcel::{Parcel, Stock};
 pub use supply::Supply;

@@ -7,7 +7,5 @@
 pub mod keyword;
 pub mod label;
 pub mod number;
-#[cfg(test)]
-mod tests;
 pub mod text;
 pub mod word;

@@ -252,6 +252,3 @@ impl Instances {
         undo(&mut self.instances, &mut self.notes);
     }
 }
-
-#[cfg(test)]
-mod tests;

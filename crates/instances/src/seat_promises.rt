@@ -87,6 +87,3 @@ impl SeatPromises {
         self.pairs.truncate(self.kept);
     }
 }
-
-#[cfg(test)]
-mod tests;

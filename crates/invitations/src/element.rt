@@ -51,6 +51,3 @@ fn are_digits(bytes: &[u8]) -> bool
 {
     bytes.iter().all(|byte| byte.is_ascii_digit())
 }
-
-#[cfg(test)]
-mod tests;

@@ -107,6 +107,3 @@ impl Invitations {
         self.details.truncate(self.kept);
     }
 }
-
-#[cfg(test)]
-mod tests;

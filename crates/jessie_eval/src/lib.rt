@@ -11,5 +11,3 @@ mod record;
 pub mod run;
 pub mod scripted;
 mod stop;
-#[cfg(test)]
-mod tests;

@@ -5,5 +5,3 @@
 
 pub mod meaning;
 pub mod read;
-#[cfg(test)]
-mod tests;

@@ -8,5 +8,3 @@
 
 pub mod data;
 pub mod syntax;
-#[cfg(test)]
-mod tests;

@@ -172,6 +172,3 @@ fn undo(states: &mut Vec<PromiseState>, kept: usize, settled: &[u32])
         states[*number as usize] = PromiseState::Pending;
     }
 }
-
-#[cfg(test)]
-mod tests;

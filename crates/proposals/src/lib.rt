@@ -10,5 +10,3 @@ pub mod issuer_records;
 pub mod offer_safety;
 pub mod offers;
 pub mod reading;
-#[cfg(test)]
-mod tests;

@@ -26,9 +26,6 @@ use jessie_tree::data::{Data, copy_fields};
 use std::alloc::{AllocError, Global};
 use std::cmp::Ordering;
 
-#[cfg(test)]
-mod tests;
-
 // ---- what is read
 
 /// What an offer gives and wants, when it may be left, and its payments by keyword, in the order of give.

@@ -8,8 +8,6 @@
 ghost use Rattle.std.specs.Prelude.{◌≡◌, ◌↔◌, IfOk, IsTrue};
 
 pub mod laws;
-#[cfg(test)]
-mod tests;
 
 use amount_math::Value;
 use host_text::keyword::Keyword;

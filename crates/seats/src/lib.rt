@@ -8,5 +8,3 @@
 mod seat;
 pub mod seats;
 mod slots;
-#[cfg(test)]
-mod tests;

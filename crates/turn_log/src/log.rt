@@ -75,6 +75,3 @@ impl Log {
         events
     }
 }
-
-#[cfg(test)]
-mod tests;

@@ -116,6 +116,3 @@ impl Brands {
         self.brands.truncate(self.kept);
     }
 }
-
-#[cfg(test)]
-mod tests;

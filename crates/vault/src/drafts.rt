@@ -553,6 +553,3 @@ impl Draft {
         Ok(Payout { keyword, payment })
     }
 }
-
-#[cfg(test)]
-mod tests;

@@ -414,6 +414,3 @@ pub fn labels_are_apart()
     ensures elsewhere { (ls : Labels) (party label other name : List ℕ) (t : Tree) → is_label party ≡ true → is_label other ≡ true → ((other ≡ party) × (name ≡ label) → ⊥)
         → bound_to (with_label ls party label t) other name ≡ bound_to ls other name }
 {}
-
-#[cfg(test)]
-mod tests;

@@ -213,6 +213,3 @@ impl Payments {
         Ok(Payments { payments })
     }
 }
-
-#[cfg(test)]
-mod tests;

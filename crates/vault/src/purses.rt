@@ -142,6 +142,3 @@ impl Purses {
         Ok(Purses { stocks })
     }
 }
-
-#[cfg(test)]
-pub(crate) mod tests;

@@ -511,6 +511,3 @@ fn copy_payout(alloc: Global, payout: &Payout) -> Result<Payout, AllocError>
     let payment = payout.payment;
     Ok(Payout { keyword, payment })
 }
-
-#[cfg(test)]
-mod tests;

@@ -1,0 +1,248 @@
+ghost use Rattle.std.specs.Prelude.{◌≡◌, ◌≤◌, None, length, IsSome};
+ghost use Rattle.amount_math.specs.Amount.{Meet};
+ghost use Rattle.amount_math.specs.Content.{of_nat};
+ghost use Rattle.amount_math.specs.Worth.{nat_bound};
+ghost use Rattle.proposals.specs.Rows.{amount_under};
+ghost use Rattle.proposals.specs.Slots.{FitsSeat};
+ghost use Rattle.seats.specs.Slots.{slot_at};
+
+use crate::fixtures::nat_value;
+use crate::keywords::keyword;
+use amount_math::{Amount, Kind, Value};
+use ertp_mint::{Parcel, Stock, Supply};
+use host_text::keyword::Keyword;
+use proposals::allocations::{Allocation, MOST_ROWS};
+use proposals::offers::{Exit, Proposal};
+use seats::seats::{CloseFault, Seats, SlotFault};
+use std::alloc::Global;
+use std::process::Abort;
+
+const MOST: u128 = 9_223_372_036_854_775_807;
+
+/// A row of so many units of a brand.
+fn coins(rt: &impl Abort, alloc: Global, text: &str, brand: u16, number: u32) -> Allocation {
+    let mut made = Allocation::new(alloc);
+    let value = nat_value(number);
+    made.push(alloc, keyword(rt, alloc, text), Amount { brand, value })
+        .expect(rt, "memory for a row");
+    made
+}
+
+/// Gives 5 of brand 0 as Bid and wants 2 of brand 1 as Asset.
+fn bid(rt: &impl Abort, alloc: Global) -> Proposal
+    ensures { FitsSeat result }
+{
+    let proposal = Proposal {
+        give: coins(rt, alloc, "Bid", 0, 5),
+        want: coins(rt, alloc, "Asset", 1, 2),
+        exit: Exit::Waived,
+    };
+    assert!(rt; proposal.fits_seat());
+    proposal
+}
+
+/// A parcel of so many units of brand 0, of a supply of its own.
+fn parcel(rt: &impl Abort, alloc: Global, number: u128) -> Parcel
+    requires { number ≤ nat_bound }
+    ensures { result ≡ record { brand = 0; value = record { kind = Kind.Nat; content = of_nat number } } }
+{
+    let mut supply = Supply::new(alloc);
+    supply.add_brand(Kind::Nat).expect(rt, "memory for a brand");
+    let value = Value::nat(number);
+    assert!(rt; supply.minted(0) <= MOST);
+    assert!(rt; value.total() <= MOST);
+    supply.issue(0, value).expect(rt, "within the bound")
+}
+
+/// How many units a parcel has, which is put in a stock.
+fn units(rt: &impl Abort, parcel: Parcel) -> Option<u128> {
+    let mut stock = Stock::empty(parcel.brand(), parcel.value().kind());
+    match stock.put(parcel) {
+        Ok(()) => stock.value().number(),
+        Err(_back) => panic!(rt; "within the bound"),
+    }
+}
+
+/// Ends the test where the slot of a keyword doesn't meet a parcel.
+fn assert_meets(rt: &impl Abort, slots: &Allocation, keyword: &Keyword, parcel: &Parcel)
+    ensures { IsSome (amount_under keyword.now slots.now) → Meet (slot_at keyword.now slots.now) parcel.now }
+{
+    if let Some(amount) = slots.get(keyword) {
+        assert!(rt; amount.brand == parcel.brand());
+        assert!(rt; amount.value.kind() == parcel.value().kind());
+    }
+}
+
+/// Puts a parcel of so many units of brand 0 in an open seat.
+fn put(rt: &impl Abort, alloc: Global, seats: &mut Seats, seat: u32, text: &str, number: u32) {
+    let keyword = keyword(rt, alloc, text);
+    assert!(rt; seat < seats.made());
+    assert!(rt; seats.is_open(seat));
+    let slots = seats.allocation(alloc, seat).expect(rt, "memory for rows");
+    assert!(rt; slots.len() < MOST_ROWS);
+    let parcel = parcel(rt, alloc, u128::from(number));
+    assert_meets(rt, &slots, &keyword, &parcel);
+    if let Err(_back) = seats.put(alloc, seat, &keyword, parcel) {
+        panic!(rt; "within the bound");
+    }
+}
+
+/// Ends the test where a closed seat takes a parcel, or refuses it otherwise.
+fn assert_takes_nothing(rt: &impl Abort, alloc: Global, seats: &mut Seats, seat: u32) {
+    assert!(rt; seat < seats.made());
+    assert!(rt; !seats.is_open(seat));
+    let keyword = keyword(rt, alloc, "Bid");
+    let parcel = parcel(rt, alloc, 4);
+    match seats.put(alloc, seat, &keyword, parcel) {
+        Ok(()) => panic!(rt; "it is closed"),
+        Err((parcel, fault)) => {
+            assert!(rt; units(rt, parcel) == Some(4));
+            assert!(rt; fault == SlotFault::SeatExited);
+        }
+    }
+}
+
+/// How many units a seat shows under a keyword.
+fn shown(rt: &impl Abort, alloc: Global, seats: &Seats, seat: u32, text: &str) -> Option<u128> {
+    assert!(rt; seat < seats.made());
+    let slots = seats.allocation(alloc, seat).expect(rt, "memory for rows");
+    match slots.get(&keyword(rt, alloc, text)) {
+        Some(amount) => amount.value.number(),
+        None => None,
+    }
+}
+
+/// Takes so many units out of a slot of an open seat.
+fn take(
+    rt: &impl Abort,
+    alloc: Global,
+    seats: &mut Seats,
+    seat: u32,
+    text: &str,
+    number: u32,
+) -> Option<u128> {
+    let keyword = keyword(rt, alloc, text);
+    assert!(rt; seat < seats.made());
+    assert!(rt; seats.is_open(seat));
+    let slots = seats.allocation(alloc, seat).expect(rt, "memory for rows");
+    let slot = slots.get(&keyword).expect(rt, "a slot");
+    let part = nat_value(number);
+    assert!(rt; slot.value.kind() == Kind::Nat);
+    match seats.take(seat, &keyword, &part) {
+        Ok(parcel) => units(rt, parcel),
+        Err(_fault) => None,
+    }
+}
+
+/// Closes a seat and takes so many units out of a slot of it.
+fn close_and_take(
+    rt: &impl Abort,
+    alloc: Global,
+    seats: &mut Seats,
+    seat: u32,
+    text: &str,
+    number: u32,
+) -> Option<u128> {
+    let keyword = keyword(rt, alloc, text);
+    assert!(rt; seat < seats.made());
+    let last = match seats.close(alloc, seat) {
+        Ok(last) => last,
+        Err(_fault) => panic!(rt; "it is open"),
+    };
+    let slot = last.get(&keyword).expect(rt, "a slot");
+    let part = nat_value(number);
+    assert!(rt; slot.value.kind() == Kind::Nat);
+    match seats.take(seat, &keyword, &part) {
+        Ok(parcel) => units(rt, parcel),
+        Err(_fault) => None,
+    }
+}
+
+/// Two seats, of the instances 7 and 8.
+fn two_seats(rt: &impl Abort, alloc: Global) -> Seats
+    ensures { length result ≡ 2 }
+{
+    let mut seats = Seats::new(alloc);
+    let first = seats
+        .open(alloc, 7, bid(rt, alloc))
+        .expect(rt, "memory for a seat");
+    let second = seats
+        .open(alloc, 8, bid(rt, alloc))
+        .expect(rt, "memory for a seat");
+    assert!(rt; first == 0 && second == 1 && seats.made() == 2);
+    seats
+}
+
+#[test]
+fn a_seat_has_a_slot_for_each_row(rt: HostRuntime) {
+    let seats = two_seats(&rt, rt.alloc());
+    assert!(rt; seats.instance(0) == 7 && seats.instance(1) == 8);
+    assert!(rt; seats.is_open(0) && seats.proposal(1).exit == Exit::Waived);
+    for (text, wanted) in [("Bid", Some(0)), ("Asset", Some(0)), ("Extra", None)] {
+        assert!(rt; shown(&rt, rt.alloc(), &seats, 1, text) == wanted, "{text}");
+    }
+}
+
+#[test]
+fn a_further_slot_stands_last(rt: HostRuntime) {
+    let mut seats = two_seats(&rt, rt.alloc());
+    for (seat, text, number) in [
+        (1, "Bid", 5),
+        (1, "Extra", 3),
+        (0, "Bid", 1),
+        (1, "Extra", 4),
+    ] {
+        put(&rt, rt.alloc(), &mut seats, seat, text, number);
+    }
+    assert!(rt; seats.total(0) == 13 && seats.total(1) == 0);
+    assert!(rt; seats.made() == 2);
+    let slots = seats
+        .allocation(rt.alloc(), 1)
+        .expect(&rt, "memory for rows");
+    let wanted = [("Bid", Some(5)), ("Asset", Some(0)), ("Extra", Some(7))];
+    assert!(rt; slots.len() == wanted.len());
+    for (place, (text, number)) in wanted.iter().enumerate() {
+        let row = slots.rows().get(place).expect(&rt, "a row");
+        assert!(rt; row.keyword.as_str() == *text, "{text}");
+        assert!(rt; row.amount.value.number() == *number);
+    }
+}
+
+#[test]
+fn a_closed_seat_keeps_its_allocation(rt: HostRuntime) {
+    let alloc = rt.alloc();
+    let mut seats = two_seats(&rt, alloc);
+    put(&rt, alloc, &mut seats, 0, "Bid", 5);
+    assert!(rt; take(&rt, alloc, &mut seats, 0, "Bid", 6) == None);
+    assert!(rt; take(&rt, alloc, &mut seats, 0, "Bid", 2) == Some(2));
+    let twin = seats.twin(alloc).expect(&rt, "memory for a twin");
+    assert!(rt; close_and_take(&rt, alloc, &mut seats, 0, "Bid", 3) == Some(3));
+    assert!(rt; shown(&rt, alloc, &seats, 0, "Bid") == Some(3));
+    assert!(rt; seats.total(0) == 0 && twin.total(0) == 3);
+    assert!(rt; seats.made() == 2 && twin.made() == 2);
+    assert!(rt; !seats.is_open(0) && seats.is_open(1) && twin.is_open(0));
+    assert_takes_nothing(&rt, alloc, &mut seats, 0);
+    assert!(rt; seats.made() == 2);
+    match seats.close(alloc, 0) {
+        Ok(_again) => panic!(rt; "it is closed once"),
+        Err(fault) => assert!(rt; fault == CloseFault::SeatExited),
+    }
+}
+
+#[test]
+fn slots_of_open_seats_are_counted(rt: HostRuntime) {
+    let alloc = rt.alloc();
+    let mut seats = two_seats(&rt, alloc);
+    for (text, wanted) in [("Bid", Some(0)), ("Asset", Some(1)), ("Extra", None)] {
+        let brand = seats.brand(1, &keyword(&rt, alloc, text));
+        assert!(rt; brand == wanted, "{text}");
+    }
+    assert!(rt; seats.open_slots() == 4);
+    put(&rt, alloc, &mut seats, 1, "Extra", 3);
+    assert!(rt; seats.open_slots() == 5);
+    assert!(rt; seats.made() == 2);
+    if let Err(_fault) = seats.close(alloc, 1) {
+        panic!(rt; "it is open");
+    }
+    assert!(rt; seats.open_slots() == 2);
+}
