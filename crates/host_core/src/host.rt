@@ -135,6 +135,3 @@ impl Host {
         self.turns
     }
 }
-
-#[cfg(test)]
-mod tests;

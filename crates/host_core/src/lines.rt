@@ -3,7 +3,7 @@
 
 ghost use Rattle.std.specs.Prelude.{◌≡◌, ◌==◌, Some, position};
 ghost use Rattle.std.specs.List.{list_any};
-ghost use Rattle.host_core.specs.InputLines.{is_blank, is_long, is_too_long, lines_of};
+ghost use Rattle.host_core.specs.InputLines.{is_blank, is_long, lines_of};
 
 use std::marker::Model;
 
@@ -82,14 +82,3 @@ pub fn has_long_line(input: &[u8]) -> bool
 {
     Lines::new(input).any(|line| line.len() > MAX_LINE)
 }
-
-/// Whether the input or one of its lines is longer than its limit.
-#[tactic(auto, unfolding(crate::specs::InputLines::is_too_long))]
-pub fn is_too_long(input: &[u8]) -> bool
-    ensures { result ≡ is_too_long input.now }
-{
-    input.len() > MAX_INPUT || has_long_line(input)
-}
-
-#[cfg(test)]
-mod tests;

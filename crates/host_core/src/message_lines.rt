@@ -513,6 +513,3 @@ fn label_of(alloc: Global, label: Option<&str>) -> Result<Option<Text>, AllocErr
         None => Ok(None),
     }
 }
-
-#[cfg(test)]
-mod tests;

@@ -88,6 +88,3 @@ impl TurnQueue {
         self.entries.len() as u64
     }
 }
-
-#[cfg(test)]
-mod tests;

@@ -363,6 +363,3 @@ pub fn write_close(alloc: Global, left: u64, turns: u32) -> Result<String, Alloc
 pub fn one_text()
     ensures { OneText }
 {}
-
-#[cfg(test)]
-mod tests;

@@ -10,7 +10,6 @@ pub mod Runs
 pub mod Sets
 pub mod Kept
 pub mod Answered
-pub mod Started
 pub mod SeatsLeaving
 pub mod TurnsEnding
 pub mod RefusalsForm

@@ -18,7 +18,5 @@ pub mod laws;
 mod powers;
 mod rows;
 pub mod running;
-#[cfg(test)]
-mod tests;
 pub mod turn_answers;
 pub mod turns;

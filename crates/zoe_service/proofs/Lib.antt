@@ -8,8 +8,6 @@ pub mod RefusalData
 pub mod ServedData
 pub mod OffersTold
 pub mod CallsTold
-pub mod CallsTried
-pub mod FirstInvited
 pub mod Walks
 pub mod SlotsOpened
 pub mod PaymentsMoved

@@ -5,7 +5,7 @@ use Rattle.vault.specs.Consistent.{CanBringAll, IsConsistent}
 use Rattle.vault.specs.InstanceDeliveries.{DeliveryView}
 use Rattle.vault.specs.InstanceKnowledge.{IsHanded}
 use Rattle.vault.specs.Waiting.{AreWaiting, LetsWaitAll}
-use Rattle.vault.specs.Worlds.{Effect, IsValid, MintedWithin, WorldState}
+use Rattle.vault.specs.Worlds.{Effect, IsValid, WorldState}
 use Rattle.zoe_service.specs.CallArguments.{arg}
 use Rattle.zoe_service.specs.Rows.{Outcome}
 
@@ -24,10 +24,3 @@ pub record AreFitting (queue : List DeliveryView) (w : WorldState) (effects : Li
 -- the effects of a row are so, where it has any
 abbrev pub Fits : List DeliveryView → WorldState → Outcome → Type 0
 Fits queue w row = IfOk row (λ d. AreFitting queue w d.1)
-
--- what calls leave, so many one after another: the world is valid and consistent, what waits of the turn is due, and each call minted at most one value
-pub record CanGoOn (calls : ℕ) (w : WorldState) : Type 0 where
-  pub valid : IsValid w
-  pub consistent : IsConsistent w
-  pub waiting : AreWaiting w w.deliveries
-  pub minted : MintedWithin w.draft.now calls

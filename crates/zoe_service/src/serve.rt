@@ -170,6 +170,3 @@ pub fn serve(
         _ => Err(no_method(alloc, method)),
     }
 }
-
-#[cfg(test)]
-mod tests;

@@ -182,6 +182,3 @@ pub fn event_value(alloc: Global, event: &Event) -> Result<Value, AllocError>
         Event::Settled(promise, settlement) => settle_value(alloc, *promise, settlement),
     }
 }
-
-#[cfg(test)]
-mod tests;
