@@ -1,6 +1,6 @@
 // Cutting a text into tokens.
-ghost use Rattle.std.specs.Prelude.{◌≡◌, ◌≤◌, [], ◌∷◌, length, take_while, IfOk, IfSome, drop, false, None, Some, Option};
-ghost use Rattle.std.specs.Str.{is_utf8, IsUtf8};
+ghost use Rattle.std.specs.Prelude.{if◌then◌else◌, codes, ◌≡◌, ◌≤◌, [], ◌∷◌, ◌==◌, length, take_while, IfOk, IfSome, drop, false, None, Some, Option};
+ghost use Rattle.std.specs.Str.{is_utf8, IsUtf8, bytes_eq};
 ghost use Rattle.jessie_tokens.specs.Lex as lex;
 
 use crate::token::{Kind, Token};
@@ -35,6 +35,16 @@ fn head(bytes: &[u8]) -> Option<u8>
     }
 }
 
+/// Whether it is that byte.
+fn is_byte(found: Option<u8>, b: u8) -> bool
+    ensures { result ≡ lex.is_byte b found }
+{
+    match found {
+        None => false,
+        Some(c) => c == b,
+    }
+}
+
 /// What follows blanks and comments.
 #[tactic(auto, unfolding(crate::specs::Lex::skip))]
 fn skip(bytes: &[u8]) -> &[u8]
@@ -45,7 +55,7 @@ fn skip(bytes: &[u8]) -> &[u8]
     'blanks: while let [b, after @ ..] = rest {
         if comment {
             comment = *b != b'\n';
-        } else if *b == b'/' && head(after) == Some(b'/') {
+        } else if *b == b'/' && is_byte(head(after), b'/') {
             comment = true;
         } else if !is_blank(*b) {
             return rest;
@@ -66,6 +76,19 @@ fn escape(c: u8) -> Option<u8>
     }
 }
 
+/// The byte that a byte of a text stands for, where it may stand there: after a backslash, or not.
+fn meant(escaped: bool, b: u8) -> Option<u8>
+    ensures { result ≡ (if escaped then lex.escape b else if b == 10 then None else Some b) }
+{
+    if escaped {
+        escape(b)
+    } else if b == b'\n' {
+        None
+    } else {
+        Some(b)
+    }
+}
+
 /// The text up to its closing quote, and what follows.
 #[tactic(auto, unfolding(crate::specs::Lex::quoted))]
 fn quoted(alloc: Global, quote: u8, bytes: &[u8]) -> Result<Option<(Vec<u8>, &[u8])>, AllocError>
@@ -77,62 +100,83 @@ fn quoted(alloc: Global, quote: u8, bytes: &[u8]) -> Result<Option<(Vec<u8>, &[u
     'bytes: while let [b, after @ ..] = rest {
         let b = *b;
         rest = after;
-        if escaped {
-            let Some(d) = escape(b) else {
+        if !escaped && b == quote {
+            return Ok(Some((found, after)));
+        }
+        if !escaped && b == b'\\' {
+            escaped = true;
+        } else {
+            let Some(d) = meant(escaped, b) else {
                 return Ok(None);
             };
             found.push(d)?;
             escaped = false;
-        } else if b == quote {
-            return Ok(Some((found, after)));
-        } else if b == b'\n' {
-            return Ok(None);
-        } else if b == b'\\' {
-            escaped = true;
-        } else {
-            found.push(b)?;
         }
     }
     Ok(None)
+}
+
+fn is(word: &[u8], name: &str) -> bool
+    ensures { result ≡ bytes_eq word.now name.now }
+{
+    word == name.as_bytes()
 }
 
 /// The kind of a word.
 fn keyword(word: &[u8]) -> Kind
     ensures { result ≡ lex.keyword word.now }
 {
-    if word == b"export".as_slice() {
+    if is(word, "export") {
         Kind::Export
-    } else if word == b"of".as_slice() {
+    } else if is(word, "of") {
         Kind::Of
-    } else if word == b"catch".as_slice() {
+    } else if is(word, "catch") {
         Kind::Catch
-    } else if word == b"else".as_slice() {
+    } else if is(word, "else") {
         Kind::Else
-    } else if word == b"const".as_slice() {
+    } else if is(word, "const") {
         Kind::Const
-    } else if word == b"let".as_slice() {
+    } else if is(word, "let") {
         Kind::Let
-    } else if word == b"if".as_slice() {
+    } else if is(word, "if") {
         Kind::If
-    } else if word == b"while".as_slice() {
+    } else if is(word, "while") {
         Kind::While
-    } else if word == b"for".as_slice() {
+    } else {
+        late_keyword(word)
+    }
+}
+
+/// The kind of a word that is none of those before.
+fn late_keyword(word: &[u8]) -> Kind
+    ensures { result ≡ (if bytes_eq word.now (codes "for") then Kind.For
+        else if bytes_eq word.now (codes "return") then Kind.Return
+        else if bytes_eq word.now (codes "throw") then Kind.Throw
+        else if bytes_eq word.now (codes "try") then Kind.Try
+        else if bytes_eq word.now (codes "E") then Kind.Eventually
+        else if bytes_eq word.now (codes "AmountMath") then Kind.AmountMath
+        else if bytes_eq word.now (codes "true") then Kind.True
+        else if bytes_eq word.now (codes "false") then Kind.False
+        else if bytes_eq word.now (codes "null") then Kind.Null
+        else Kind.Word) }
+{
+    if is(word, "for") {
         Kind::For
-    } else if word == b"return".as_slice() {
+    } else if is(word, "return") {
         Kind::Return
-    } else if word == b"throw".as_slice() {
+    } else if is(word, "throw") {
         Kind::Throw
-    } else if word == b"try".as_slice() {
+    } else if is(word, "try") {
         Kind::Try
-    } else if word == b"E".as_slice() {
+    } else if is(word, "E") {
         Kind::Eventually
-    } else if word == b"AmountMath".as_slice() {
+    } else if is(word, "AmountMath") {
         Kind::AmountMath
-    } else if word == b"true".as_slice() {
+    } else if is(word, "true") {
         Kind::True
-    } else if word == b"false".as_slice() {
+    } else if is(word, "false") {
         Kind::False
-    } else if word == b"null".as_slice() {
+    } else if is(word, "null") {
         Kind::Null
     } else {
         Kind::Word
@@ -172,20 +216,20 @@ fn short_mark(b: u8) -> Kind
 fn mark(b: u8, next: Option<u8>, after: Option<u8>) -> (Kind, usize)
     ensures { result ≡ lex.mark b next after }
 {
-    let equals = next == Some(b'=') && after == Some(b'=');
+    let equals = is_byte(next, b'=') && is_byte(after, b'=');
     if b == b'=' && equals {
         (Kind::Same, 3)
     } else if b == b'!' && equals {
         (Kind::Differs, 3)
-    } else if b == b'=' && next == Some(b'>') {
+    } else if b == b'=' && is_byte(next, b'>') {
         (Kind::Arrow, 2)
-    } else if b == b'|' && next == Some(b'|') {
+    } else if b == b'|' && is_byte(next, b'|') {
         (Kind::Or, 2)
-    } else if b == b'&' && next == Some(b'&') {
+    } else if b == b'&' && is_byte(next, b'&') {
         (Kind::And, 2)
-    } else if b == b'<' && next == Some(b'=') {
+    } else if b == b'<' && is_byte(next, b'=') {
         (Kind::AtMost, 2)
-    } else if b == b'>' && next == Some(b'=') {
+    } else if b == b'>' && is_byte(next, b'=') {
         (Kind::AtLeast, 2)
     } else {
         (short_mark(b), 1)
@@ -254,6 +298,13 @@ fn plain(alloc: Global, kind: Kind, at: usize) -> Result<Token, AllocError>
     worded(alloc, kind, at, "")
 }
 
+/// No token, and nothing after it.
+fn bad<'a>(alloc: Global, at: usize) -> Result<(Token, &'a [u8]), AllocError>
+    ensures { IfOk result (λ x. lex.bad at ≡ (x.0, x.1.now)) }
+{
+    Ok((plain(alloc, Kind::Bad, at)?, &[]))
+}
+
 fn of_number(alloc: Global, at: usize, value: Option<u128>) -> Result<Token, AllocError>
     requires { IfSome value (λ n. n ≤ lex.limit) }
     ensures { IfOk result (λ t. t ≡ lex.of_number at value) }
@@ -283,12 +334,11 @@ fn piece(alloc: Global, at: usize, bytes: &[u8]) -> Result<(Token, &[u8]), Alloc
     ensures { IfOk result (λ x. lex.piece at bytes.now ≡ (x.0, x.1.now)) }
 {
     let [first, after @ ..] = bytes else {
-        return Ok((plain(alloc, Kind::Bad, at)?, &[]));
+        return bad(alloc, at);
     };
     let b = *first;
     if is_word_start(b) {
-        let (word, rest) = bytes.split_at(word_len(bytes));
-        return Ok((word_at(alloc, at, word)?, rest));
+        return word_piece(alloc, at, bytes);
     }
     if is_digit(b) {
         let (digits, rest) = bytes.split_at(digits_len(bytes));
@@ -319,6 +369,17 @@ fn word_at(alloc: Global, at: usize, word: &[u8]) -> Result<Token, AllocError>
         unreachable!()
     };
     worded(alloc, keyword(word), at, text)
+}
+
+/// The word at the front, and what follows it.
+fn word_piece(alloc: Global, at: usize, bytes: &[u8]) -> Result<(Token, &[u8]), AllocError>
+    ensures word { IfOk result (λ x. let w = take_while lex.is_word_byte bytes.now in
+        x.0 ≡ lex.simple (lex.keyword w) at w) }
+    ensures rest { IfOk result (λ x. let w = take_while lex.is_word_byte bytes.now in
+        x.1.now ≡ drop (length w) bytes.now) }
+{
+    let (word, rest) = bytes.split_at(word_len(bytes));
+    Ok((word_at(alloc, at, word)?, rest))
 }
 
 fn mark_at(
@@ -352,7 +413,7 @@ fn digits_at<'a>(
 {
     match rest {
         [b'n', after @ ..] => Ok((of_number(alloc, at, number(digits))?, after)),
-        _ => Ok((plain(alloc, Kind::Bad, at)?, &[])),
+        _ => bad(alloc, at),
     }
 }
 
@@ -365,7 +426,7 @@ fn quoted_at(
     ensures { IfOk result (λ x. lex.of_quoted at (lex.quoted quote false [] bytes.now) ≡ (x.0, x.1.now)) }
 {
     let Some((found, rest)) = quoted(alloc, quote, bytes)? else {
-        return Ok((plain(alloc, Kind::Bad, at)?, &[]));
+        return bad(alloc, at);
     };
     text_at(alloc, at, found.as_slice(), rest)
 }
@@ -380,7 +441,7 @@ fn text_at<'a>(
 {
     match str::from_utf8(found) {
         Ok(text) => Ok((worded(alloc, Kind::Quoted, at, text)?, rest)),
-        Err(_) => Ok((plain(alloc, Kind::Bad, at)?, &[])),
+        Err(_) => bad(alloc, at),
     }
 }
 

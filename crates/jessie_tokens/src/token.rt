@@ -7,7 +7,7 @@ use host_text::text::Text;
 /// What a token is. Each word that the grammar quotes has a kind of its own, and may be a name
 /// elsewhere. Words stand first, by where they may be names: those up to `Else` where a statement
 /// begins, those up to `Try` where an expression begins, all of them where only a name may stand.
-#[derive(Clone, Copy, Debug)]
+#[derive(Clone, Copy)]
 pub enum Kind {
     /// The end of the text.
     End,
@@ -66,7 +66,7 @@ pub enum Kind {
 }
 
 /// A token, and the place of its first byte in the text.
-#[derive(Debug, Drop)]
+#[derive(Drop)]
 pub struct Token {
     pub kind: Kind,
     pub at: usize,

@@ -9,7 +9,7 @@ returns-in_ok-worded-in-Ok c =
     let good : is_utf8 c.args.found.now ≡ true = is_utf8-from_IsUtf8 c.args.found.now c.in-Ok.ensures.cases.1 in
     rw (good, c.in_ok-worded-in-Ok.ensures, c.in-Ok.ensures.cases.0) refl
 
-pub returns-in_ok-plain-in-Err : goal.returns-in_ok-plain-in-Err
-returns-in_ok-plain-in-Err c =
+pub returns-in-Err : goal.returns-in-Err
+returns-in-Err c =
     let wrong : is_utf8 c.args.found.now ≡ false = no_utf8 c.args.found.now c.in-Err.ensures.cases.0 in
-    rw (wrong, c.in_ok-plain-in-Err.ensures) refl
+    rw wrong c.bad.ensures
