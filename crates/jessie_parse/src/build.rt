@@ -1,5 +1,5 @@
 // What is made of what was read: trees, each with what the text does with names there.
-ghost use Rattle.std.specs.Prelude.{[], ◌∷◌, ◌++◌, ◌≡◌, IfOk};
+ghost use Rattle.std.specs.Prelude.{[], ◌∷◌, ◌++◌, ◌≡◌, IfOk, OnOk};
 ghost use Rattle.jessie_grammar.specs.Words as words;
 
 use host_text::text::Text;
@@ -7,6 +7,20 @@ use jessie_grammar::event::Event;
 use jessie_tree::syntax::{Expr, Function, Module, Step, Stmt};
 use sqlite_items::{Boxed, Items};
 use std::alloc::{AllocError, Global};
+
+/// Puts what was read behind the trees, and what it does behind the events.
+fn add<T: Drop>(
+    trees: &mut Items<T>,
+    events: &mut Items<Event>,
+    item: (T, Items<Event>),
+) -> Result<(), AllocError>
+    ensures trees { OnOk result (trees.new ≡ trees.old ++ item.0 ∷ []) }
+    ensures events { OnOk result (events.new ≡ events.old ++ item.1) }
+{
+    let (tree, more) = item;
+    trees.push(tree)?;
+    events.append(more)
+}
 
 /// The trees of a list, and all that it does with names.
 fn split<T: Drop>(
@@ -18,21 +32,68 @@ fn split<T: Drop>(
 {
     let mut trees = Items::new(alloc);
     let mut events = Items::new(alloc);
-    for (tree, more) in found {
-        trees.push(tree)?;
-        events.append(more)?;
+    for item in found {
+        add(&mut trees, &mut events, item)?;
     }
     Ok((trees, events))
+}
+
+/// One thing that is done, and no more.
+pub fn only(alloc: Global, event: Event) -> Result<Items<Event>, AllocError>
+    ensures { IfOk result (λ events. events ≡ event ∷ []) }
+{
+    let mut events = Items::new(alloc);
+    events.push(event)?;
+    Ok(events)
+}
+
+/// What is done first, and then the rest.
+fn before(alloc: Global, event: Event, inner: Items<Event>) -> Result<Items<Event>, AllocError>
+    ensures { IfOk result (λ events. events ≡ event ∷ inner) }
+{
+    let mut events = only(alloc, event)?;
+    events.append(inner)?;
+    Ok(events)
 }
 
 fn enclosed(alloc: Global, inner: Items<Event>) -> Result<Items<Event>, AllocError>
     ensures { IfOk result (λ events. events ≡ words.enclosed inner) }
 {
-    let mut events = Items::new(alloc);
-    events.push(Event::Opens)?;
-    events.append(inner)?;
+    let mut events = before(alloc, Event::Opens, inner)?;
     events.push(Event::Closes)?;
     Ok(events)
+}
+
+/// What a declaration does, whose value does `inner`.
+pub fn declaring(
+    alloc: Global,
+    at: usize,
+    name: &Text,
+    inner: Items<Event>,
+) -> Result<Items<Event>, AllocError>
+    ensures { IfOk result (λ events.
+        events ≡ Event.Declares at name.now ∷ (inner ++ Event.Binds name.now ∷ [])) }
+{
+    let copy = name.copy(alloc)?;
+    let mut events = before(alloc, Event::Declares(at, copy), inner)?;
+    let copy = name.copy(alloc)?;
+    events.push(Event::Binds(copy))?;
+    Ok(events)
+}
+
+/// A field with what stands in it.
+fn field<T: Drop>(
+    alloc: Global,
+    at: usize,
+    name: Text,
+    value: (T, Items<Event>),
+) -> Result<((Text, T), Items<Event>), AllocError>
+    ensures { IfOk result (λ field. field ≡ ((name, value.0), Event.Field at name ∷ value.1)) }
+{
+    let copy = name.copy(alloc)?;
+    let (value, inner) = value;
+    let events = before(alloc, Event::Field(at, copy), inner)?;
+    Ok(((name, value), events))
 }
 
 pub fn field_of(
@@ -43,11 +104,7 @@ pub fn field_of(
 ) -> Result<((Text, Expr), Items<Event>), AllocError>
     ensures { IfOk result (λ field. field ≡ words.field_of (at, name) value) }
 {
-    let (value, inner) = value;
-    let mut events = Items::new(alloc);
-    events.push(Event::Field(at, name.copy(alloc)?))?;
-    events.append(inner)?;
-    Ok(((name, value), events))
+    field(alloc, at, name, value)
 }
 
 pub fn shorthand_of(
@@ -57,10 +114,10 @@ pub fn shorthand_of(
 ) -> Result<((Text, Expr), Items<Event>), AllocError>
     ensures { IfOk result (λ field. field ≡ words.shorthand_of (at, name)) }
 {
-    let mut events = Items::new(alloc);
-    events.push(Event::Shorthand(at, name.copy(alloc)?))?;
-    let value = Expr::Name(name.copy(alloc)?);
-    Ok(((name, value), events))
+    let value = name.copy(alloc)?;
+    let copy = name.copy(alloc)?;
+    let events = only(alloc, Event::Shorthand(at, copy))?;
+    Ok(((name, Expr::Name(value)), events))
 }
 
 pub fn record_of(
@@ -70,7 +127,8 @@ pub fn record_of(
     ensures { IfOk result (λ expr. expr ≡ words.record_of fields.items) }
 {
     let (fields, events) = split(alloc, fields)?;
-    Ok((Expr::Record(fields), enclosed(alloc, events)?))
+    let events = enclosed(alloc, events)?;
+    Ok((Expr::Record(fields), events))
 }
 
 pub fn method_of(
@@ -84,6 +142,22 @@ pub fn method_of(
     Ok((Step::Method(name, args), events))
 }
 
+/// What stands before steps, and the steps behind it.
+fn stepped<T: Drop, S: Drop>(
+    alloc: Global,
+    first: (T, Items<Event>),
+    steps: Vec<(S, Items<Event>)>,
+) -> Result<((Boxed<T>, Items<S>), Items<Event>), AllocError>
+    ensures { IfOk result (λ r.
+        r ≡ ((first.0, words.trees_of steps.items), first.1 ++ words.events_of steps.items)) }
+{
+    let (steps, more) = split(alloc, steps)?;
+    let (first, mut events) = first;
+    events.append(more)?;
+    let first = Boxed::new(alloc, first)?;
+    Ok(((first, steps), events))
+}
+
 pub fn steps_from(
     alloc: Global,
     first: (Expr, Items<Event>),
@@ -94,10 +168,23 @@ pub fn steps_from(
     if steps.is_empty() {
         return Ok(first);
     }
-    let (first, mut events) = first;
-    let (steps, more) = split(alloc, steps)?;
-    events.append(more)?;
-    Ok((Expr::Steps(Boxed::new(alloc, first)?, steps), events))
+    let ((first, steps), events) = stepped(alloc, first, steps)?;
+    Ok((Expr::Steps(first, steps), events))
+}
+
+/// A declaration with what stands in it.
+fn constant<T: Drop>(
+    alloc: Global,
+    at: usize,
+    name: Text,
+    value: (T, Items<Event>),
+) -> Result<((Text, T), Items<Event>), AllocError>
+    ensures { IfOk result (λ found.
+        found ≡ ((name, value.0), Event.Declares at name ∷ (value.1 ++ Event.Binds name ∷ []))) }
+{
+    let (value, inner) = value;
+    let events = declaring(alloc, at, &name, inner)?;
+    Ok(((name, value), events))
 }
 
 pub fn const_of(
@@ -108,11 +195,7 @@ pub fn const_of(
 ) -> Result<(Stmt, Items<Event>), AllocError>
     ensures { IfOk result (λ statement. statement ≡ words.const_of (at, name) value) }
 {
-    let (value, inner) = value;
-    let mut events = Items::new(alloc);
-    events.push(Event::Declares(at, name.copy(alloc)?))?;
-    events.append(inner)?;
-    events.push(Event::Binds(name.copy(alloc)?))?;
+    let ((name, value), events) = constant(alloc, at, name, value)?;
     Ok((Stmt::Const(name, value), events))
 }
 
@@ -123,7 +206,26 @@ pub fn block_of(
     ensures { IfOk result (λ block. block ≡ words.block_of statements.items) }
 {
     let (statements, events) = split(alloc, statements)?;
-    Ok((statements, enclosed(alloc, events)?))
+    let events = enclosed(alloc, events)?;
+    Ok((statements, events))
+}
+
+/// The parameters of a function, and what it does: its name, then in brackets its parameters and body.
+fn calling(
+    alloc: Global,
+    name: Items<Event>,
+    params: Vec<(Text, Items<Event>)>,
+    body: Items<Event>,
+) -> Result<(Items<Text>, Items<Event>), AllocError>
+    ensures { IfOk result (λ r.
+        r ≡ (words.trees_of params.items, name ++ words.enclosed (words.events_of params.items ++ body))) }
+{
+    let (params, mut inner) = split(alloc, params)?;
+    inner.append(body)?;
+    let inner = enclosed(alloc, inner)?;
+    let mut events = name;
+    events.append(inner)?;
+    Ok((params, events))
 }
 
 pub fn function_of(
@@ -134,11 +236,9 @@ pub fn function_of(
 ) -> Result<(Function, Items<Event>), AllocError>
     ensures { IfOk result (λ function. function ≡ words.function_of name params.items body) }
 {
-    let (name, mut events) = name;
-    let (params, mut inner) = split(alloc, params)?;
+    let (name, events) = name;
     let (body, more) = body;
-    inner.append(more)?;
-    events.append(enclosed(alloc, inner)?)?;
+    let (params, events) = calling(alloc, events, params, more)?;
     Ok((Function { name, params, body }, events))
 }
 

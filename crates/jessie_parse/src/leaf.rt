@@ -5,6 +5,7 @@ ghost use Rattle.jessie_grammar.specs.Parse.{Gives, symbol, opening, one};
 ghost use Rattle.jessie_grammar.specs.Words as words;
 ghost use Rattle.jessie_grammar.specs.Rules as rules;
 
+use crate::build::{declaring, only};
 use host_text::text::Text;
 use jessie_grammar::event::Event;
 use jessie_grammar::fault::{Fault, ParseError, Refusal};
@@ -140,8 +141,8 @@ fn used_at(alloc: Global, token: &Token, left: usize) -> Result<(Expr, Items<Eve
     ensures { Gives (λ x. x) result (words.at_place left (words.used token.now)) }
 {
     let name = name_at(alloc, token, left)?;
-    let mut events = Items::new(alloc);
-    events.push(Event::Uses(token.at, name.copy(alloc)?))?;
+    let copy = name.copy(alloc)?;
+    let events = only(alloc, Event::Uses(token.at, copy))?;
     Ok((Expr::Name(name), events))
 }
 
@@ -170,9 +171,7 @@ fn declared_at(
     if !room {
         return Err(fault_at(left, Refusal::TooMany));
     }
-    let mut events = Items::new(alloc);
-    events.push(Event::Declares(token.at, name.copy(alloc)?))?;
-    events.push(Event::Binds(name.copy(alloc)?))?;
+    let events = declaring(alloc, token.at, &name, Items::new(alloc))?;
     Ok((name, events))
 }
 

@@ -3,6 +3,7 @@ ghost use Rattle.std.specs.Prelude.{[], ◌∷◌, ◌≡◌, length};
 ghost use Rattle.jessie_grammar.specs.Parse.{Gives, many};
 ghost use Rattle.jessie_grammar.specs.Rules as rules;
 ghost use Rattle.jessie_grammar.specs.Words as words;
+ghost use Rattle.jessie_parse.specs.Parts as parts;
 
 use crate::build::{function_of, module_of};
 use crate::leaf::{begins_function, declared, expect, fault, is, is_word, open};
@@ -11,7 +12,7 @@ use host_text::text::Text;
 use jessie_grammar::event::Event;
 use jessie_grammar::fault::{ParseError, Refusal};
 use jessie_tokens::token::{Kind, Token, peek};
-use jessie_tree::syntax::{Function, Module};
+use jessie_tree::syntax::{Function, Module, Stmt};
 use sqlite_items::Items;
 use std::alloc::Global;
 
@@ -89,8 +90,55 @@ fn exported(tokens: &[Token]) -> Result<&[Token], ParseError>
     Ok(tokens)
 }
 
+/// What stands before a function's parameters: its name. There are `count` others before it.
+#[tactic(auto, unfolding(crate::specs::Parts::heading))]
+fn heading(
+    alloc: Global,
+    tokens: &[Token],
+    count: usize,
+) -> Result<((Text, Items<Event>), &[Token]), ParseError>
+    ensures { Gives (λ x. (x.0, x.1.now)) result (parts.heading words.language_limits count tokens.now) }
+{
+    let rest = exported(tokens)?;
+    let rest = expect(rest, Kind::Const)?;
+    let (name, rest) = declared(alloc, rest, count < MOST_FUNCTIONS)?;
+    let rest = expect(rest, Kind::Equals)?;
+    Ok((name, rest))
+}
+
+/// The parameters in their brackets.
+#[tactic(auto, unfolding(jessie_grammar::specs::Rules::bracketed))]
+fn bracketed_params(
+    alloc: Global,
+    tokens: &[Token],
+    room: u32,
+) -> Result<(Vec<(Text, Items<Event>)>, &[Token]), ParseError>
+    ensures { Gives (λ x. (x.0.items, x.1.now)) result
+        (rules.bracketed room Kind.LeftParen Kind.RightParen (rules.params words.language_limits) tokens.now) }
+{
+    let rest = open(tokens, room, Kind::LeftParen)?;
+    let (found, rest) = params(alloc, rest)?;
+    let rest = expect(rest, Kind::RightParen)?;
+    Ok((found, rest))
+}
+
+/// What stands behind a function's parameters: its body.
+#[tactic(auto, unfolding(crate::specs::Parts::behind))]
+fn behind(
+    alloc: Global,
+    tokens: &[Token],
+    room: u32,
+) -> Result<((Items<Stmt>, Items<Event>), &[Token]), ParseError>
+    ensures { Gives (λ x. (x.0, x.1.now)) result (parts.behind room tokens.now) }
+{
+    let rest = expect(tokens, Kind::Arrow)?;
+    let (body, rest) = block(alloc, rest, room)?;
+    let rest = expect(rest, Kind::Semicolon)?;
+    Ok((body, rest))
+}
+
 /// A function, after `count` others.
-#[tactic(auto, unfolding(jessie_grammar::specs::Rules::function, jessie_grammar::specs::Rules::bracketed))]
+#[tactic(auto, using(crate::proofs::Parts::function_is))]
 fn function(
     alloc: Global,
     tokens: &[Token],
@@ -99,16 +147,9 @@ fn function(
 ) -> Result<((Function, Items<Event>), &[Token]), ParseError>
     ensures { Gives (λ x. (x.0, x.1.now)) result (rules.function room words.language_limits count tokens.now) }
 {
-    let rest = exported(tokens)?;
-    let rest = expect(rest, Kind::Const)?;
-    let (name, rest) = declared(alloc, rest, count < MOST_FUNCTIONS)?;
-    let rest = expect(rest, Kind::Equals)?;
-    let rest = open(rest, room, Kind::LeftParen)?;
-    let (params, rest) = params(alloc, rest)?;
-    let rest = expect(rest, Kind::RightParen)?;
-    let rest = expect(rest, Kind::Arrow)?;
-    let (body, rest) = block(alloc, rest, room)?;
-    let rest = expect(rest, Kind::Semicolon)?;
+    let (name, rest) = heading(alloc, tokens, count)?;
+    let (params, rest) = bracketed_params(alloc, rest, room)?;
+    let (body, rest) = behind(alloc, rest, room)?;
     Ok((function_of(alloc, name, params, body)?, rest))
 }
 
