@@ -38,6 +38,9 @@ errs {K = K} {L = L} {X = X} {d = d} {f = f} {a = a} {s = s} {u = u} see r e h c
 pub as_halt : {A : Type 0} {K L : Known} {X : Type 0} {d f : List Exchange} {a : Action A} {s u : State} {h : Halt} (e : Stop) → halt e ≡ h → Runs K L X d f a s (halted h) u → Runs K L X d f a s (halted (halt e)) u
 as_halt {K = K} {L = L} {X = X} {d = d} {f = f} {a = a} {s = s} {u = u} e q c = subst (λ z. Runs K L X d f a s (halted z) u) (sym q) c
 
+pub halts_here : {A : Type 0} {a : Action A} {s u : State} {h : Halt} (e : Stop) → halt e ≡ h → Computes a s (halted h) u → Computes a s (halted (halt e)) u
+halts_here {a = a} {s = s} {u = u} e q c = subst (λ z. Computes a s (halted z) u) (sym q) c
+
 -- a bad step
 pub bad_runs : {A : Type 0} {K : Known} {X : Type 0} {d : List Exchange} {s : State} (x : X) (e : Stop) (r : Reason) → halt e ≡ throws (bad_step r) → Runs {A = A} K K X d d (throw (bad_step r)) s (halted (halt e)) s
 bad_runs {s = s} x e r q = as_halt e q (computed x (throw_computes (bad_step r) s))

@@ -1,9 +1,9 @@
 // Names and what they stand for.
-ghost use Rattle.std.specs.Prelude.{◌≡◌, List, IfOk, map, option_map, slice_index_or as get_or};
+ghost use Rattle.std.specs.Prelude.{◌≡◌, ◌++◌, ◌∷◌, [], List, Some, IfOk, OnOk, map, option_map, slice_index_or as get_or};
 ghost use Rattle.jessie_tree.specs.Tree.{Tree, null};
 ghost use Rattle.jessie_tree.specs.View.{tree, trees, named_trees};
 ghost use Rattle.jessie_tree.specs.Syntax.{routine, routines};
-ghost use Rattle.jessie_rules.specs.Rules.{look, pairs, find_routine, named_value};
+ghost use Rattle.jessie_rules.specs.Rules.{look, pairs, find_routine, function_named, named_value};
 ghost use Rattle.jessie_eval.specs.Machine.{variable_names, program, state};
 
 use crate::machine::Machine;
@@ -50,13 +50,30 @@ pub fn find_function<'a>(functions: &'a [Function], name: &str) -> Option<&'a Fu
     None
 }
 
+fn copy_of(alloc: Global, data: &Data) -> Result<Option<Data>, AllocError>
+    ensures { IfOk result (λ copy. option_map tree copy ≡ Some (tree «data».now)) }
+{
+    Ok(Some(data.copy(alloc)?))
+}
+
 /// The value at a place, null past the end.
-fn value_at(alloc: Global, values: &[Data], i: usize) -> Result<Data, AllocError>
-    ensures { IfOk result (λ copy. tree copy ≡ get_or (trees values.now) i null) }
+fn value_at(alloc: Global, values: &[Data], i: usize) -> Result<Option<Data>, AllocError>
+    ensures { IfOk result (λ copy. option_map tree copy ≡ Some (get_or (trees values.now) i null)) }
 {
     match values.get(i) {
-        Some(data) => data.copy(alloc),
-        None => Ok(Data::Null),
+        Some(data) => copy_of(alloc, data),
+        None => Ok(Some(Data::Null)),
+    }
+}
+
+/// The function as a value, where there is one.
+fn function_value(alloc: Global, function: Option<&Function>) -> Result<Option<Data>, AllocError>
+    ensures { IfOk result (λ found.
+        option_map tree found ≡ function_named (option_map (λ f. routine f.now) function.entry)) }
+{
+    match function {
+        Some(function) => Ok(Some(Data::Function(function.name.copy(alloc)?))),
+        None => Ok(None),
     }
 }
 
@@ -72,15 +89,40 @@ pub fn find_value(
     ensures { IfOk result (λ found. option_map tree found ≡ named_value (program (routines module.now) 0) name.now (state (named_trees locals.now) (variable_names module.now) machine.now)) }
 {
     if let Some(data) = find_local(locals, name) {
-        return Ok(Some(data.copy(alloc)?));
+        return copy_of(alloc, data);
     }
     if let Some(i) = find_variable(module.variables.as_slice(), name) {
-        return Ok(Some(value_at(alloc, machine.globals.as_slice(), i)?));
+        return value_at(alloc, machine.globals.as_slice(), i);
     }
-    match find_function(module.functions.as_slice(), name) {
-        Some(function) => Ok(Some(Data::Function(function.name.copy(alloc)?))),
-        None => Ok(None),
-    }
+    function_value(alloc, find_function(module.functions.as_slice(), name))
+}
+
+/// Puts a thing behind the others, under a copy of the name.
+pub fn bind_one<T: Drop>(
+    alloc: Global,
+    bound: &mut Vec<(Text, T)>,
+    name: &Text,
+    value: T,
+) -> Result<(), AllocError>
+    ensures { OnOk result (bound.new.items ≡ bound.old.items ++ (name.now, value) ∷ []) }
+{
+    let name = name.copy(alloc)?;
+    bound.push((name, value))?;
+    Ok(())
+}
+
+/// Puts a thing behind the others, under this name.
+pub fn name_one<T: Drop>(
+    alloc: Global,
+    bound: &mut Vec<(Text, T)>,
+    name: &str,
+    value: T,
+) -> Result<(), AllocError>
+    ensures { OnOk result (bound.new.items ≡ bound.old.items ++ (name.now, value) ∷ []) }
+{
+    let name = Text::from_str(alloc, name)?;
+    bound.push((name, value))?;
+    Ok(())
 }
 
 /// The names with their values: a missing value is null, surplus ones are dropped.
@@ -95,7 +137,7 @@ pub fn bind(
     let mut bound = Vec::new(alloc);
     for name in names {
         let data = values.next().unwrap_or(Data::Null);
-        bound.push((name.copy(alloc)?, data))?;
+        bind_one(alloc, &mut bound, name, data)?;
     }
     Ok(bound)
 }

@@ -13,7 +13,7 @@ use std::alloc::AllocError;
 pub type NoMemory = AllocError;
 
 /// What the host answers to a call.
-#[derive(Debug, Drop)]
+#[derive(Drop)]
 pub enum Answer {
     Value(Data),
     /// A refusal, as the data that is thrown.

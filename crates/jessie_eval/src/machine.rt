@@ -3,6 +3,7 @@ ghost use Rattle.std.specs.Prelude.{◌≡◌, ◌+◌, List, ℕ};
 ghost use Rattle.jessie_tree.specs.Tree.{size, items_size};
 ghost use Rattle.jessie_tree.specs.View.{tree, trees, items_of};
 ghost use Rattle.jessie_rules.specs.Actions.{Bindings, charge};
+ghost use Rattle.jessie_rules.specs.Play.{given, refused};
 ghost use Rattle.jessie_rules.specs.Rules.{heard};
 ghost use Rattle.jessie_rules.specs.Runs.{Computes};
 ghost use Rattle.jessie_eval.specs.Host.{reply_of};
@@ -14,7 +15,7 @@ use crate::stop::{Stop, Thrown};
 use jessie_tree::data::{Data, pay, pay_items};
 
 /// The values of the state variables, and what is left of the meter.
-#[derive(Debug, Drop)]
+#[derive(Drop)]
 pub struct Machine {
     pub globals: Vec<Data>,
     pub meter: u64,
@@ -68,6 +69,26 @@ pub fn take_call(machine: &mut Machine, shown: &[Data]) -> Result<(), Stop>
     Ok(())
 }
 
+/// The data, where the meter has its size.
+pub fn sized(machine: &mut Machine, data: Data) -> Result<Data, Stop>
+    ensures does { (locals : Bindings) (names : List (List ℕ)) →
+        Computes (heard (given (tree «data»))) (state locals names machine.old) (come tree result) (state locals names machine.new) }
+    ensures globals { machine.new.globals ≡ machine.old.globals }
+{
+    take_size(machine, &data)?;
+    Ok(data)
+}
+
+/// The data is thrown, where the meter has its size.
+fn throw(machine: &mut Machine, data: Data) -> Result<Data, Stop>
+    ensures does { (locals : Bindings) (names : List (List ℕ)) →
+        Computes (heard (refused (tree «data»))) (state locals names machine.old) (come tree result) (state locals names machine.new) }
+    ensures globals { machine.new.globals ≡ machine.old.globals }
+{
+    take_size(machine, &data)?;
+    Err(Stop::Throws(Thrown::Data(data)))
+}
+
 /// Takes the size of the answer, which is a value or is thrown.
 pub fn settle(machine: &mut Machine, answer: Answer) -> Result<Data, Stop>
     ensures does { (locals : Bindings) (names : List (List ℕ)) →
@@ -75,13 +96,7 @@ pub fn settle(machine: &mut Machine, answer: Answer) -> Result<Data, Stop>
     ensures globals { machine.new.globals ≡ machine.old.globals }
 {
     match answer {
-        Answer::Value(data) => {
-            take_size(machine, &data)?;
-            Ok(data)
-        }
-        Answer::Refused(data) => {
-            take_size(machine, &data)?;
-            Err(Stop::Throws(Thrown::Data(data)))
-        }
+        Answer::Value(data) => sized(machine, data),
+        Answer::Refused(data) => throw(machine, data),
     }
 }

@@ -2,26 +2,26 @@
 ghost use Rattle.std.specs.Prelude.{◌≡◌, ℕ, List, [], length, IfOk, OnOk, OnErr, Ok};
 ghost use Rattle.jessie_tree.specs.Tree.{object_of, no_fields};
 ghost use Rattle.jessie_tree.specs.View.{tree, trees, named_trees, fields_of};
-ghost use Rattle.jessie_tree.specs.Syntax.{routines, term_view, terms_view, named_terms_view, link_view, links_view, statement_view, block_view};
+ghost use Rattle.jessie_tree.specs.Syntax.{literal as a_literal, name as a_name, routines, term_view, terms_view, named_terms_view, link_view, links_view, statement_view, block_view};
 ghost use Rattle.jessie_rules.specs.Play.{Follows};
 ghost use Rattle.jessie_rules.specs.Actions.{Bindings};
-ghost use Rattle.jessie_rules.specs.Rules.{expr, exprs, named_exprs, behind, one_step, call_method, stmt, block, given_back, calls_of, play};
+ghost use Rattle.jessie_rules.specs.Rules.{Program, expr, exprs, named_exprs, behind, one_step, call_method, stmt, block, given_back, calls_of, play};
 ghost use Rattle.jessie_rules.specs.Keeping.{Reference, Within, AllHave, FunctionsKnown};
 ghost use Rattle.jessie_rules.specs.Licence.{Licensed};
-ghost use Rattle.jessie_rules.specs.Runs.{Runs};
+ghost use Rattle.jessie_rules.specs.Runs.{Runs, Computes};
 ghost use Rattle.jessie_eval.specs.Stops.{come};
 ghost use Rattle.jessie_eval.specs.Ends.{end_of, fields_seen, seen, outcome, OutcomeKnown};
 ghost use Rattle.jessie_eval.specs.Machine.{variable_names, program, state, Knows};
 
-use crate::bindings::{bind, find_function, find_value};
+use crate::bindings::{bind, bind_one, find_function, find_value};
 use crate::host::{NoMemory, Powers};
-use crate::machine::{Machine, settle, take, take_call, take_size};
-use crate::record::{made, put_field};
+use crate::machine::{Machine, settle, sized, take, take_call};
+use crate::record::{add_field, made};
 use crate::stop::Stop;
 use host_text::text::Text;
 use jessie_rules::reason::Reason;
 use jessie_tree::data::{Data, copy_items};
-use jessie_tree::syntax::{Expr, Module, Step, Stmt};
+use jessie_tree::syntax::{Expr, Literal, Module, Step, Stmt};
 use std::alloc::{AllocError, Global};
 
 /// How many calls stand within each other at most.
@@ -52,6 +52,36 @@ fn call_method<P: Powers>(
     }
 }
 
+/// What a literal comes to.
+fn evaluate_literal(alloc: Global, machine: &mut Machine, literal: &Literal) -> Result<Data, Stop>
+    ensures does { (m : Program) (locals : Bindings) (names : List (List ℕ)) →
+        Computes (expr m (a_literal literal.now)) (state locals names machine.old) (come tree result) (state locals names machine.new) }
+    ensures globals { machine.new.globals ≡ machine.old.globals }
+{
+    take(machine, 1)?;
+    let data = literal.data(alloc)?;
+    sized(machine, data)
+}
+
+/// What a name comes to.
+fn evaluate_name(
+    alloc: Global,
+    module: &Module,
+    locals: &[(Text, Data)],
+    machine: &mut Machine,
+    name: &str,
+) -> Result<Data, Stop>
+    ensures does { (room : ℕ) →
+        Computes (expr (program (routines «module».now) room) (a_name name.now)) (state (named_trees locals.now) (variable_names «module».now) machine.old) (come tree result) (state (named_trees locals.now) (variable_names «module».now) machine.new) }
+    ensures globals { machine.new.globals ≡ machine.old.globals }
+{
+    take(machine, 1)?;
+    match find_value(alloc, module, locals, machine, name)? {
+        None => Err(Stop::bad_step(Reason::WrongKind)),
+        Some(data) => sized(machine, data),
+    }
+}
+
 /// What the expression comes to.
 #[cycle(run)]
 fn evaluate_expr<P: Powers>(
@@ -69,22 +99,8 @@ fn evaluate_expr<P: Powers>(
     ensures globals { machine.new.globals ≡ machine.old.globals }
 {
     match expression {
-        Expr::Literal(literal) => {
-            take(machine, 1)?;
-            let data = literal.data(alloc)?;
-            take_size(machine, &data)?;
-            Ok(data)
-        }
-        Expr::Name(name) => {
-            take(machine, 1)?;
-            match find_value(alloc, module, locals, machine, name.as_str())? {
-                None => Err(Stop::bad_step(Reason::WrongKind)),
-                Some(data) => {
-                    take_size(machine, &data)?;
-                    Ok(data)
-                }
-            }
-        }
+        Expr::Literal(literal) => evaluate_literal(alloc, machine, literal),
+        Expr::Name(name) => evaluate_name(alloc, module, locals, machine, name.as_str()),
         Expr::Record(fields) => {
             take(machine, 1)?;
             let fields = fields.as_slice();
@@ -143,7 +159,7 @@ fn evaluate_fields<P: Powers>(
     let mut found = Vec::new(alloc);
     for (name, expression) in fields {
         let data = evaluate_expr(alloc, powers, module, room, locals, machine, expression)?;
-        put_field(&mut found, name.copy(alloc)?, data)?;
+        add_field(alloc, &mut found, name, data)?;
     }
     Ok(found)
 }
@@ -168,7 +184,7 @@ fn evaluate_steps<P: Powers>(
 {
     let mut data = first;
     for step in steps {
-        data = evaluate_step(alloc, powers, module, room, locals, machine, data, step)?;
+        data = evaluate_step(alloc, powers, module, room, locals, machine, &data, step)?;
     }
     Ok(data)
 }
@@ -182,13 +198,13 @@ fn evaluate_step<P: Powers>(
     room: u32,
     locals: &[(Text, Data)],
     machine: &mut Machine,
-    data: Data,
+    data: &Data,
     step: &Step,
 ) -> Result<Data, Stop>
     requires values { Knows (P.known powers.old) (routines «module».now) (state (named_trees locals.now) (variable_names «module».now) machine.old) }
-    requires before { Within (P.known powers.old) (tree «data») }
+    requires before { Within (P.known powers.old) (tree «data».now) }
     ensures runs { Runs (P.known powers.old) (P.known powers.new) (P.became powers.old powers.new) (P.dialogue powers.old) (P.dialogue powers.new)
-        (one_step (program (routines «module».now) room) (link_view step.now) (tree «data»)) (state (named_trees locals.now) (variable_names «module».now) machine.old) (come tree result) (state (named_trees locals.now) (variable_names «module».now) machine.new) }
+        (one_step (program (routines «module».now) room) (link_view step.now) (tree «data».now)) (state (named_trees locals.now) (variable_names «module».now) machine.old) (come tree result) (state (named_trees locals.now) (variable_names «module».now) machine.new) }
     ensures globals { machine.new.globals ≡ machine.old.globals }
 {
     match step {
@@ -197,13 +213,13 @@ fn evaluate_step<P: Powers>(
             let args = args.as_slice();
             take(machine, 1)?;
             let args = evaluate_exprs(alloc, powers, module, room, locals, machine, args)?;
-            call_method(powers, machine, &data, name, args)
+            call_method(powers, machine, data, name, args)
         }
     }
 }
 
 /// How a statement comes out: the next one follows, or it leaves the function.
-#[derive(Debug, Drop)]
+#[derive(Drop)]
 pub enum End {
     Next,
     Leaves(Data),
@@ -241,8 +257,7 @@ fn run_statement<P: Powers>(
         Stmt::Const(name, value) => {
             let known = locals.as_slice();
             let data = evaluate_expr(alloc, powers, module, room, known, machine, value)?;
-            let name = name.copy(alloc)?;
-            locals.push((name, data))?;
+            bind_one(alloc, locals, name, data)?;
             Ok(End::Next)
         }
         Stmt::Return(value) => match value {
@@ -316,7 +331,7 @@ fn invoke<P: Powers>(
 }
 
 /// What an evaluation comes to.
-#[derive(Debug, Drop)]
+#[derive(Drop)]
 pub enum Outcome {
     Returned(Data),
     /// What was thrown: a refusal's data, or a bad step's, which has the same form.

@@ -1,5 +1,5 @@
 // A host that answers as it was told to and keeps the dialogue, for tests: everything is known to it.
-ghost use Rattle.std.specs.Prelude.{◌≡◌, ◌↔◌, ◌++◌, ◌∷◌, [], map, length, IfOk, IfSome, IfNone, IsSome, OnErr};
+ghost use Rattle.std.specs.Prelude.{◌≡◌, ◌↔◌, ◌++◌, ◌∷◌, [], map, length, IfOk, IfSome, IfNone, IsSome, OnOk, OnErr};
 ghost use Rattle.jessie_tree.specs.View.{trees};
 ghost use Rattle.jessie_tree.specs.Syntax.{routines};
 ghost use Rattle.jessie_rules.specs.Play.{Exchange, Follows};
@@ -18,7 +18,7 @@ use jessie_tree::syntax::Module;
 use std::alloc::{AllocError, Global};
 
 /// What was asked.
-#[derive(Debug, Drop)]
+#[derive(Drop)]
 pub enum Question {
     Call(Obj, Text, Vec<Data>),
     Send(Obj, Text, Vec<Data>),
@@ -27,14 +27,14 @@ pub enum Question {
 }
 
 /// What was asked, and what was answered.
-#[derive(Debug, Drop)]
+#[derive(Drop)]
 pub struct Asked {
     pub question: Question,
     pub answer: Answer,
 }
 
 /// A host that gives these answers, the last of them first, and then null.
-#[derive(Debug, Drop)]
+#[derive(Drop)]
 pub struct Scripted {
     pub alloc: Global,
     pub answers: Vec<Answer>,
@@ -89,17 +89,24 @@ impl Scripted {
         }
     }
 
+    /// Keeps what was asked, with a copy of the answer.
+    fn keep(&mut self, question: Question, answer: &Answer) -> Result<(), AllocError>
+        ensures asked { OnOk result (map kept self.new.asked.items
+            ≡ map kept self.old.asked.items ++ (record { call = call_of question; reply = reply_of answer.now }) ∷ []) }
+        ensures silent { OnErr result (self.new.asked.items ≡ self.old.asked.items) }
+    {
+        let answer = answer.copy(self.alloc)?;
+        self.asked.push(Asked { question, answer })?;
+        Ok(())
+    }
+
     /// Gives the next answer, and keeps it.
     fn answer(&mut self, question: Question) -> Result<Answer, AllocError>
         ensures asked { IfOk result (λ a. map kept self.new.asked.items ≡ map kept self.old.asked.items ++ (record { call = call_of question; reply = reply_of a }) ∷ []) }
         ensures silent { OnErr result (self.new.asked.items ≡ self.old.asked.items) }
     {
         let answer = self.answers.pop().unwrap_or(Answer::Value(Data::Null));
-        let copy = answer.copy(self.alloc)?;
-        self.asked.push(Asked {
-            question,
-            answer: copy,
-        })?;
+        self.keep(question, &answer)?;
         Ok(answer)
     }
 }

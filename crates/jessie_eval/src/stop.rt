@@ -1,18 +1,20 @@
 // What keeps an evaluation from coming to a value.
 ghost use Rattle.std.specs.Prelude.{◌≡◌, IfOk};
+ghost use Rattle.jessie_tree.specs.Tree.{text};
 ghost use Rattle.jessie_tree.specs.View.{tree};
 ghost use Rattle.jessie_rules.specs.Rules.{reason_text, bad_step};
 ghost use Rattle.jessie_eval.specs.Stops.{thrown_tree, halt};
 ghost use Rattle.jessie_rules.specs.Runs.{throws};
 ghost use Rattle.jessie_eval.specs.declared.stop.Stop.TheVariants.{NoMemory};
 
+use crate::bindings::name_one;
 use host_text::text::Text;
 use jessie_rules::reason::Reason;
 use jessie_tree::data::Data;
 use std::alloc::{AllocError, AllocFailed, Global};
 
 /// What is thrown.
-#[derive(Debug, Drop)]
+#[derive(Drop)]
 pub enum Thrown {
     /// A refusal of the host, as its data.
     Data(Data),
@@ -21,7 +23,7 @@ pub enum Thrown {
 }
 
 /// Why an evaluation doesn't go on.
-#[derive(Debug, Drop)]
+#[derive(Drop)]
 pub enum Stop {
     Throws(Thrown),
     /// The meter doesn't have the next charge.
@@ -77,14 +79,19 @@ fn reason_text(reason: Reason) -> &'static str
     }
 }
 
+fn text_data(alloc: Global, shown: &str) -> Result<Data, AllocError>
+    ensures { IfOk result (λ made. tree made ≡ text shown.now) }
+{
+    Ok(Data::Text(Text::from_str(alloc, shown)?))
+}
+
 fn bad_step_data(alloc: Global, reason: Reason) -> Result<Data, AllocError>
     ensures { IfOk result (λ made. tree made ≡ bad_step reason) }
 {
     let mut shown = Vec::new(alloc);
-    shown.push(Data::Text(Text::from_str(alloc, reason_text(reason))?))?;
+    shown.push(text_data(alloc, reason_text(reason))?)?;
     let mut fields = Vec::new(alloc);
-    let code = Data::Text(Text::from_str(alloc, "BadStep")?);
-    fields.push((Text::from_str(alloc, "code")?, code))?;
-    fields.push((Text::from_str(alloc, "shown")?, Data::Array(shown)))?;
+    name_one(alloc, &mut fields, "code", text_data(alloc, "BadStep")?)?;
+    name_one(alloc, &mut fields, "shown", Data::Array(shown))?;
     Ok(Data::Record(fields))
 }

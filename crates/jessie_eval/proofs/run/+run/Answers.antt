@@ -1,88 +1,47 @@
-use Rattle.std.proofs.Common.{◌≡◌, rules, ap, sym, refl, ◌∙◌, arith, option_map, drop, ◌+◌}
-use Rattle.jessie_tree.specs.Tree.{no_fields, size}
+use Rattle.std.proofs.Common.{◌≡◌, rules, ap, sym, refl, ◌∙◌, arith, drop, ◌+◌}
+use Rattle.jessie_tree.specs.Tree.{no_fields}
 use Rattle.jessie_tree.specs.View.{tree, trees, named_trees, fields_of}
-use Rattle.jessie_tree.specs.Syntax.{routines, term_view, terms_view, method, named_terms_view, link_view, links_view}
+use Rattle.jessie_tree.specs.Syntax.{routines, name, term_view, terms_view, method, named_terms_view, link_view, links_view}
 use Rattle.jessie_tree.specs.declared.syntax.Step as P
 use Rattle.jessie_tree.proofs.Views.{tree-Record, term-Literal, term-Name, term-Record, term-Steps}
-use Rattle.jessie_rules.specs.Actions.{charge}
-use Rattle.jessie_rules.specs.Rules.{named_value, made, with_field, expr, exprs, named_exprs, behind, one_step}
+use Rattle.jessie_rules.specs.Rules.{made, expr, exprs, named_exprs, behind, one_step}
 use Rattle.jessie_rules.proofs.Known.{within_more}
-use Rattle.jessie_rules.proofs.Runs.{runs_as, computes_as, computed, then_runs, stop_runs, reaches_itself, reaches_as, reaches_more, reaches_runs, pure_computes}
+use Rattle.jessie_rules.proofs.Runs.{runs_as, computes_as, computed, then_runs, reaches_itself, reaches_as, reaches_more, reaches_runs, pure_computes}
 use Rattle.jessie_eval.specs.Ends.{seen, fields_seen}
-use Rattle.jessie_eval.specs.Machine.{variable_names, program, state}
+use Rattle.jessie_eval.specs.Machine.{variable_names, program}
 use Rattle.jessie_eval.proofs.Names.{trees-push}
-use Rattle.jessie_eval.proofs.Exits.{stops, as_halt}
-use Rattle.jessie_eval.proofs.Steps.{pure_as, value_came, value_none, knows_same, expr_came, exprs_came, step_came, exprs_open, exprs_end, fields_open, fields_end, steps_open, steps_end}
+use Rattle.jessie_eval.proofs.Exits.{stops}
+use Rattle.jessie_eval.proofs.Steps.{knows_same, expr_came, exprs_came, step_came, exprs_open, exprs_end, fields_open, fields_end, steps_open, steps_end}
 use Rattle.jessie_eval.proofs.Weights.{weight, named_weight, link_weight, links_weight, term_falls, named_falls, link_falls}
 use Rattle.jessie_eval.proofs.run.+run.Goals as goal
 
 -- a literal
 
-pub evaluate_expr-returns-in_err-take-in-Literal-clause-runs : goal.evaluate_expr-returns-in_err-take-in-Literal-clause-runs
-evaluate_expr-returns-in_err-take-in-Literal-clause-runs g t c =
+pub evaluate_expr-returns-in-Literal-clause-runs : goal.evaluate_expr-returns-in-Literal-clause-runs
+evaluate_expr-returns-in-Literal-clause-runs g t c =
     let m = program (routines c.args.module.now) c.args.room in
-    runs_as (ap (λ e. expr m (term_view e)) c.in-Literal.is ∙ ap (expr m) (term-Literal _)) (stops tree _ _ _ c.from_residual.ensures.1 (computed (g.met.P.Powers.stays _) (c.in_err-take-in-Literal.ensures.does _ _)))
-
-pub evaluate_expr-returns-in_err-take_size-in-Literal-clause-runs : goal.evaluate_expr-returns-in_err-take_size-in-Literal-clause-runs
-evaluate_expr-returns-in_err-take_size-in-Literal-clause-runs g t c =
-    let m = program (routines c.args.module.now) c.args.room in
-    runs_as (ap (λ e. expr m (term_view e)) c.in-Literal.is ∙ ap (expr m) (term-Literal _))
-    (then_runs (g.met.P.Powers.goes_on _ _ _) _ (computed (g.met.P.Powers.stays _) (c.in_ok-take-in-Literal.ensures.does _ _))
-    (stops tree _ _ _ c.from_residual-in_err-take_size-in-Literal.ensures.1 (computed (g.met.P.Powers.stays _) (computes_as (ap (λ v. charge (size v)) (sym c.in_ok-data-in-Literal.ensures)) (c.in_err-take_size-in-Literal.ensures.does _ _)))))
-
-pub evaluate_expr-returns-in_ok-take_size-in-Literal-clause-runs : goal.evaluate_expr-returns-in_ok-take_size-in-Literal-clause-runs
-evaluate_expr-returns-in_ok-take_size-in-Literal-clause-runs g t c =
-    let m = program (routines c.args.module.now) c.args.room in
-    runs_as (ap (λ e. expr m (term_view e)) c.in-Literal.is ∙ ap (expr m) (term-Literal _))
-    (then_runs (g.met.P.Powers.goes_on _ _ _) _ (computed (g.met.P.Powers.stays _) (c.in_ok-take-in-Literal.ensures.does _ _))
-    (then_runs (g.met.P.Powers.goes_on _ _ _) _ (computed (g.met.P.Powers.stays _) (computes_as (ap (λ v. charge (size v)) (sym c.in_ok-data-in-Literal.ensures)) (c.in_ok-take_size-in-Literal.ensures.does _ _)))
-    (computed (g.met.P.Powers.stays _) (pure_as _ _ (sym c.in_ok-data-in-Literal.ensures)))))
+    runs_as (ap (λ e. expr m (term_view e)) c.in-Literal.is ∙ ap (expr m) (term-Literal _)) (computed (g.met.P.Powers.stays _) (c.evaluate_literal.ensures.does m _ _))
 
 -- a name
 
-pub evaluate_expr-returns-in_err-take-in-Name-clause-runs : goal.evaluate_expr-returns-in_err-take-in-Name-clause-runs
-evaluate_expr-returns-in_err-take-in-Name-clause-runs g t c =
+pub evaluate_expr-returns-in-Name-clause-runs : goal.evaluate_expr-returns-in-Name-clause-runs
+evaluate_expr-returns-in-Name-clause-runs g t c =
     let m = program (routines c.args.module.now) c.args.room in
-    runs_as (ap (λ e. expr m (term_view e)) c.in-Name.is ∙ ap (expr m) (term-Name _)) (stops tree _ _ _ c.from_residual-in_err-take-in-Name.ensures.1 (computed (g.met.P.Powers.stays _) (c.in_err-take-in-Name.ensures.does _ _)))
-
-pub evaluate_expr-returns-in-None-clause-runs : goal.evaluate_expr-returns-in-None-clause-runs
-evaluate_expr-returns-in-None-clause-runs g t c =
-    let m = program (routines c.args.module.now) c.args.room in
-    let s = state (named_trees c.args.locals.now) (variable_names c.args.module.now) c.take-in-Name.new.machine in
-    let none = ap (λ x. named_value m x s) (sym c.as_str.ensures) ∙ (sym c.in_ok-find_value-in-Name.ensures ∙ ap (option_map tree) c.in-None.is) in
     runs_as (ap (λ e. expr m (term_view e)) c.in-Name.is ∙ ap (expr m) (term-Name _))
-    (then_runs (g.met.P.Powers.goes_on _ _ _) _ (computed (g.met.P.Powers.stays _) (c.in_ok-take-in-Name.ensures.does _ _)) (as_halt _ c.bad_step.ensures (stop_runs _ (computed (g.met.P.Powers.stays _) (value_none m _ s none)))))
-
-pub evaluate_expr-returns-in_err-take_size-in-Some-clause-runs : goal.evaluate_expr-returns-in_err-take_size-in-Some-clause-runs
-evaluate_expr-returns-in_err-take_size-in-Some-clause-runs g t c =
-    let m = program (routines c.args.module.now) c.args.room in
-    let s = state (named_trees c.args.locals.now) (variable_names c.args.module.now) c.take-in-Name.new.machine in
-    let some = ap (λ x. named_value m x s) (sym c.as_str.ensures) ∙ (sym c.in_ok-find_value-in-Name.ensures ∙ ap (option_map tree) c.in-Some.is) in
-    runs_as (ap (λ e. expr m (term_view e)) c.in-Name.is ∙ ap (expr m) (term-Name _))
-    (then_runs (g.met.P.Powers.goes_on _ _ _) _ (computed (g.met.P.Powers.stays _) (c.in_ok-take-in-Name.ensures.does _ _))
-    (then_runs (g.met.P.Powers.goes_on _ _ _) _ (computed (g.met.P.Powers.stays _) (value_came m _ s _ some)) (stops tree _ _ _ c.from_residual-in_err-take_size-in-Some.ensures.1 (computed (g.met.P.Powers.stays _) (c.in_err-take_size-in-Some.ensures.does _ _)))))
-
-pub evaluate_expr-returns-in_ok-take_size-in-Some-clause-runs : goal.evaluate_expr-returns-in_ok-take_size-in-Some-clause-runs
-evaluate_expr-returns-in_ok-take_size-in-Some-clause-runs g t c =
-    let m = program (routines c.args.module.now) c.args.room in
-    let s = state (named_trees c.args.locals.now) (variable_names c.args.module.now) c.take-in-Name.new.machine in
-    let some = ap (λ x. named_value m x s) (sym c.as_str.ensures) ∙ (sym c.in_ok-find_value-in-Name.ensures ∙ ap (option_map tree) c.in-Some.is) in
-    runs_as (ap (λ e. expr m (term_view e)) c.in-Name.is ∙ ap (expr m) (term-Name _))
-    (then_runs (g.met.P.Powers.goes_on _ _ _) _ (computed (g.met.P.Powers.stays _) (c.in_ok-take-in-Name.ensures.does _ _))
-    (then_runs (g.met.P.Powers.goes_on _ _ _) _ (computed (g.met.P.Powers.stays _) (value_came m _ s _ some)) (then_runs (g.met.P.Powers.goes_on _ _ _) _ (computed (g.met.P.Powers.stays _) (c.in_ok-take_size-in-Some.ensures.does _ _)) (computed (g.met.P.Powers.stays _) (pure_computes _ _)))))
+    (computed (g.met.P.Powers.stays _) (computes_as (ap (λ x. expr m (name x)) (sym c.as_str.ensures)) (c.evaluate_name.ensures.does c.args.room)))
 
 -- a record
 
 pub evaluate_expr-returns-in_err-take-in-Record-clause-runs : goal.evaluate_expr-returns-in_err-take-in-Record-clause-runs
 evaluate_expr-returns-in_err-take-in-Record-clause-runs g t c =
     let m = program (routines c.args.module.now) c.args.room in
-    runs_as (ap (λ e. expr m (term_view e)) c.in-Record.is ∙ ap (expr m) (term-Record _)) (stops tree _ _ _ c.from_residual-in_err-take-in-Record.ensures.1 (computed (g.met.P.Powers.stays _) (c.in_err-take-in-Record.ensures.does _ _)))
+    runs_as (ap (λ e. expr m (term_view e)) c.in-Record.is ∙ ap (expr m) (term-Record _)) (stops tree _ _ _ c.from_residual.ensures.1 (computed (g.met.P.Powers.stays _) (c.in_err-take-in-Record.ensures.does _ _)))
 
 pub evaluate_expr-evaluate_fields-requires : goal.evaluate_expr-evaluate_fields-requires
 evaluate_expr-evaluate_fields-requires g t c =
     let here : weight (term_view c.args.expression.now) ≡ named_weight (named_terms_view c.as_slice-fields.result.now) + 1 =
     ap (λ e. weight (term_view e)) c.in-Record.is ∙ (ap weight (term-Record _) ∙ ap (λ l. named_weight (named_terms_view l) + 1) (sym c.as_slice-fields.ensures)) in
-    λ κs h. (omega (arith, here, c.decreases), (search rules, knows_same (variable_names c.args.module.now) c.args.machine.now c.take-in-Record.new.machine c.in_ok-take-in-Record.ensures.globals c.requires))
+    λ κs h. (omega (arith, here, c.decreases), (search rules, knows_same (variable_names c.args.module.now) c.args.machine.now c.take.new.machine c.in_ok-take-in-Record.ensures.globals c.requires))
 
 pub evaluate_expr-returns-in_err-fields-in-Record-clause-runs : goal.evaluate_expr-returns-in_err-fields-in-Record-clause-runs
 evaluate_expr-returns-in_err-fields-in-Record-clause-runs g t c =
@@ -191,9 +150,8 @@ evaluate_fields-loop-name-preserved g t c =
     let l = c.loop-name in
     let xs = c.args.fields.now in
     let fs = fields_of (named_trees l.found.items) in
-    let put = c.in_ok-put_field.ensures ∙ ap (λ x. with_field x (tree c.in_ok-data.data) fs) c.in_ok-copy.ensures in
     record {
-      reaches = reaches_as (ap (named_exprs m (named_terms_view (drop (l.name-index + 1) xs))) (sym put))
+      reaches = reaches_as (ap (named_exprs m (named_terms_view (drop (l.name-index + 1) xs))) (sym c.in_ok-add_field.ensures))
           (reaches_more (g.met.P.Powers.goes_on _ _ _) _ (reaches_as (fields_open m fs xs l.name-index c.loop-name-item.result c.loop-name-test.true c.loop-name-item.is) l.invariant.reaches) c.in_ok-data.ensures.runs);
       knows = (expr_came c.args.room (term_view c.loop-name-item.result.1) l.invariant.knows c.in_ok-data.ensures.runs).1;
       globals = c.in_ok-data.ensures.globals ∙ l.invariant.globals;
@@ -255,7 +213,7 @@ pub evaluate_step-returns-in_err-take-clause-runs : goal.evaluate_step-returns-i
 evaluate_step-returns-in_err-take-clause-runs g t c =
     let m = program (routines c.args.module.now) c.args.room in
     let here : link_view c.args.step.now ≡ method c.as_str-name.result.now (terms_view c.as_slice-args.result.now) = search (rules, P.the_lemmas) in
-    runs_as (ap (λ a. one_step m a (tree c.args.data)) here) (stops tree _ _ _ c.from_residual.ensures.1 (computed (g.met.P.Powers.stays _) (c.in_err-take.ensures.does _ _)))
+    runs_as (ap (λ a. one_step m a (tree c.args.data.now)) here) (stops tree _ _ _ c.from_residual.ensures.1 (computed (g.met.P.Powers.stays _) (c.in_err-take.ensures.does _ _)))
 
 pub evaluate_step-evaluate_exprs-requires : goal.evaluate_step-evaluate_exprs-requires
 evaluate_step-evaluate_exprs-requires g t c =
@@ -267,11 +225,11 @@ pub evaluate_step-returns-in_err-args-clause-runs : goal.evaluate_step-returns-i
 evaluate_step-returns-in_err-args-clause-runs g t c =
     let m = program (routines c.args.module.now) c.args.room in
     let here : link_view c.args.step.now ≡ method c.as_str-name.result.now (terms_view c.as_slice-args.result.now) = search (rules, P.the_lemmas) in
-    runs_as (ap (λ a. one_step m a (tree c.args.data)) here)
+    runs_as (ap (λ a. one_step m a (tree c.args.data.now)) here)
     (then_runs (g.met.P.Powers.goes_on _ _ _) _ (computed (g.met.P.Powers.stays _) (c.in_ok-take.ensures.does _ _)) (stops tree _ _ _ c.from_residual-in_err-args.ensures.1 c.in_err-args.ensures.runs))
 
 pub evaluate_step-call_method-requires-clause-target : goal.evaluate_step-call_method-requires-clause-target
-evaluate_step-call_method-requires-clause-target g t c = within_more _ _ (c.in_ok-args.ensures.runs.hears tt).keeps (tree c.args.data) c.requires.before
+evaluate_step-call_method-requires-clause-target g t c = within_more _ _ (c.in_ok-args.ensures.runs.hears tt).keeps (tree c.args.data.now) c.requires.before
 
 pub evaluate_step-call_method-requires-clause-args : goal.evaluate_step-call_method-requires-clause-args
 evaluate_step-call_method-requires-clause-args g t c = (exprs_came c.args.room (terms_view c.as_slice-args.result.now) (knows_same (variable_names c.args.module.now) c.args.machine.now c.take.new.machine c.in_ok-take.ensures.globals c.requires.values) c.in_ok-args.ensures.runs).0
@@ -280,5 +238,5 @@ pub evaluate_step-returns-clause-runs : goal.evaluate_step-returns-clause-runs
 evaluate_step-returns-clause-runs g t c =
     let m = program (routines c.args.module.now) c.args.room in
     let here : link_view c.args.step.now ≡ method c.as_str-name.result.now (terms_view c.as_slice-args.result.now) = search (rules, P.the_lemmas) in
-    runs_as (ap (λ a. one_step m a (tree c.args.data)) here)
+    runs_as (ap (λ a. one_step m a (tree c.args.data.now)) here)
     (then_runs (g.met.P.Powers.goes_on _ _ _) _ (computed (g.met.P.Powers.stays _) (c.in_ok-take.ensures.does _ _)) (then_runs (g.met.P.Powers.goes_on _ _ _) _ c.in_ok-args.ensures.runs (c.call_method.ensures.runs _ _)))

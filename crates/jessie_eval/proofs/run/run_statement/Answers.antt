@@ -1,4 +1,4 @@
-use Rattle.std.proofs.Common.{ap, sym, ◌∙◌}
+use Rattle.std.proofs.Common.{ap, sym, refl, ◌∙◌}
 use Rattle.jessie_tree.specs.Syntax.{routines, statement_view, return_view}
 use Rattle.jessie_tree.proofs.Views.{tree-Null}
 use Rattle.jessie_rules.specs.Rules.{stmt, leaves}
@@ -26,13 +26,13 @@ returns-in_err-data-in-Const-clause-runs g c =
     (then_runs (g.met.P.Powers.goes_on _ _ _) _ (computed (g.met.P.Powers.stays _) (c.in_ok-take.ensures.does _ _))
     (stops end_of _ _ _ c.from_residual-in_err-data-in-Const.ensures.1 (runs_here (variable_names c.args.module.now) c.take.new.machine c.evaluate_expr.new.machine c.args.locals.now.items c.as_slice-known.result.now c.as_slice-known.ensures.value c.in_err-data-in-Const.ensures.runs)))
 
-pub returns-in_ok-push-in-Const-clause-runs : goal.returns-in_ok-push-in-Const-clause-runs
-returns-in_ok-push-in-Const-clause-runs g c =
+pub returns-in_ok-bind_one-in-Const-clause-runs : goal.returns-in_ok-bind_one-in-Const-clause-runs
+returns-in_ok-bind_one-in-Const-clause-runs g c =
     let m = program (routines c.args.module.now) c.args.room in
     runs_as (ap (λ a. stmt m (statement_view a)) c.in-Const.is)
     (then_runs (g.met.P.Powers.goes_on _ _ _) _ (computed (g.met.P.Powers.stays _) (c.in_ok-take.ensures.does _ _))
     (then_runs (g.met.P.Powers.goes_on _ _ _) _ (runs_here (variable_names c.args.module.now) c.take.new.machine c.evaluate_expr.new.machine c.args.locals.now.items c.as_slice-known.result.now c.as_slice-known.ensures.value c.in_ok-data-in-Const.ensures.runs)
-    (then_runs (g.met.P.Powers.goes_on _ _ _) _ (computed (g.met.P.Powers.stays _) (bind_push (variable_names c.args.module.now) c.evaluate_expr.new.machine c.args.locals.now.items c.push.new.self.items c.in_ok-name-in-Const.name c.in-Const.name c.in_ok-data-in-Const.data c.in_ok-push-in-Const.ensures.items c.in_ok-name-in-Const.ensures))
+    (then_runs (g.met.P.Powers.goes_on _ _ _) _ (computed (g.met.P.Powers.stays _) (bind_push (variable_names c.args.module.now) c.evaluate_expr.new.machine c.args.locals.now.items c.bind_one.new.bound.items c.in-Const.name c.in-Const.name c.in_ok-data-in-Const.data c.in_ok-bind_one-in-Const.ensures refl))
     (computed (g.met.P.Powers.stays _) (pure_computes _ _)))))
 
 -- a return
