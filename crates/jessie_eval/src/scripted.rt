@@ -53,6 +53,15 @@ impl Answer {
     }
 }
 
+/// What was asked, and a copy of the answer.
+fn beside<Q: Drop>(alloc: Global, question: Q, answer: &Answer) -> Result<(Q, Answer), AllocError>
+    ensures question { IfOk result (λ x. x.0 ≡ question) }
+    ensures answer { IfOk result (λ x. reply_of x.1 ≡ reply_of answer.now) }
+{
+    let copy = answer.copy(alloc)?;
+    Ok((question, copy))
+}
+
 impl Scripted {
     /// A host that has been asked nothing.
     pub fn new(alloc: Global, answers: Vec<Answer>) -> Scripted
@@ -95,7 +104,7 @@ impl Scripted {
             ≡ map kept self.old.asked.items ++ (record { call = call_of question; reply = reply_of answer.now }) ∷ []) }
         ensures silent { OnErr result (self.new.asked.items ≡ self.old.asked.items) }
     {
-        let answer = answer.copy(self.alloc)?;
+        let (question, answer) = beside(self.alloc, question, answer)?;
         self.asked.push(Asked { question, answer })?;
         Ok(())
     }
