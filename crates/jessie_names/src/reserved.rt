@@ -1,88 +1,95 @@
 // Reserved words.
 ghost use Rattle.std.specs.Prelude.{◌≡◌};
+ghost use Rattle.std.specs.Str.{bytes_eq};
 ghost use Rattle.jessie_names.specs.Reserved as reserved;
+
+fn is(word: &str, name: &str) -> bool
+    ensures { result ≡ bytes_eq word.now name.now }
+{
+    word == name
+}
 
 /// Whether it is one of the words that the grammar quotes, up to `return`.
 fn is_quoted_word(word: &str) -> bool
     ensures { result ≡ reserved.is_quoted_word word.now }
 {
-    word == "const"
-        || word == "let"
-        || word == "export"
-        || word == "if"
-        || word == "else"
-        || word == "while"
-        || word == "for"
-        || word == "of"
-        || word == "return"
+    is(word, "const")
+        || is(word, "let")
+        || is(word, "export")
+        || is(word, "if")
+        || is(word, "else")
+        || is(word, "while")
+        || is(word, "for")
+        || is(word, "of")
+        || is(word, "return")
 }
 
 /// Whether it is one of the words that the grammar quotes, from `throw` on.
 fn is_late_quoted_word(word: &str) -> bool
     ensures { result ≡ reserved.is_late_quoted_word word.now }
 {
-    word == "throw"
-        || word == "try"
-        || word == "catch"
-        || word == "E"
-        || word == "AmountMath"
-        || word == "true"
-        || word == "false"
-        || word == "null"
+    is(word, "throw")
+        || is(word, "try")
+        || is(word, "catch")
+        || is(word, "E")
+        || is(word, "AmountMath")
+        || is(word, "true")
+        || is(word, "false")
+        || is(word, "null")
 }
 
 /// Whether it is one of the built-in functions.
 fn is_built_in(word: &str) -> bool
     ensures { result ≡ reserved.is_built_in word.now }
 {
-    word == "when"
-        || word == "Far"
-        || word == "harden"
-        || word == "keys"
-        || word == "len"
-        || word == "push"
-        || word == "put"
+    is(word, "when")
+        || is(word, "Far")
+        || is(word, "harden")
+        || is(word, "keys")
+        || is(word, "len")
+        || is(word, "push")
+        || is(word, "put")
 }
 
 /// Whether it is one of words of JavaScript, up to `import`.
 fn is_early_word(word: &str) -> bool
     ensures { result ≡ reserved.is_early_word word.now }
 {
-    word == "async"
-        || word == "await"
-        || word == "break"
-        || word == "case"
-        || word == "class"
-        || word == "continue"
-        || word == "debugger"
-        || word == "default"
-        || word == "delete"
-        || word == "do"
-        || word == "enum"
-        || word == "extends"
-        || word == "finally"
-        || word == "function"
-        || word == "import"
+    is(word, "async")
+        || is(word, "await")
+        || is(word, "break")
+        || is(word, "case")
+        || is(word, "class")
+        || is(word, "continue")
+        || is(word, "debugger")
+        || is(word, "default")
+        || is(word, "delete")
+        || is(word, "do")
+        || is(word, "enum")
+        || is(word, "extends")
+        || is(word, "finally")
+        || is(word, "function")
+        || is(word, "import")
 }
 
 /// Whether it is one of words of JavaScript, from `in` on.
 fn is_late_word(word: &str) -> bool
     ensures { result ≡ reserved.is_late_word word.now }
 {
-    word == "in"
-        || word == "instanceof"
-        || word == "new"
-        || word == "super"
-        || word == "switch"
-        || word == "this"
-        || word == "typeof"
-        || word == "undefined"
-        || word == "var"
-        || word == "void"
-        || word == "with"
-        || word == "yield"
-        || word == "NaN"
-        || word == "Infinity"
+    is(word, "in")
+        || is(word, "instanceof")
+        || is(word, "new")
+        || is(word, "super")
+        || is(word, "switch")
+        || is(word, "this")
+        || is(word, "typeof")
+        || is(word, "undefined")
+        || is(word, "var")
+        || is(word, "void")
+        || is(word, "with")
+        || is(word, "yield")
+        || is(word, "NaN")
+        || is(word, "Infinity")
 }
 
 /// Whether the word is no name.
