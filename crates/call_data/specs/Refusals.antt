@@ -1,5 +1,5 @@
 -- A refusal as data: its code and what it shows.
-use Rattle.std.specs.Prelude.{ℕ, List, [], ◌∷◌, codes}
+use Rattle.std.specs.Prelude.{ℕ, List, [], ◌∷◌, Option, Some, None, codes}
 use Rattle.jessie_tree.specs.Tree.{Tree, number, text, array, fields, field, no_fields}
 use Rattle.jessie_tree.specs.View.{items_of}
 use Rattle.call_data.specs.Values.{number_tree, value_tree}
@@ -66,6 +66,17 @@ shown_by (SeatExited seat) = number_tree seat ∷ []
 shown_by (Limit limit) = number_tree limit ∷ []
 shown_by (TextRefused place kind) = number_tree place ∷ text kind ∷ []
 shown_by (Spent meter) = number_tree meter ∷ []
+
+-- the text of one that shows a text alone
+abbrev pub text_of : Refusal → Option (List ℕ)
+text_of (BadField name) = Some name
+text_of (BadLabel t) = Some t
+text_of (BadKeyword t) = Some t
+text_of (UnknownName path) = Some path
+text_of (NameTaken label) = Some label
+text_of (NoMethod method) = Some method
+text_of (KeywordMismatch keyword) = Some keyword
+text_of _ = None
 
 -- `{code, shown}`
 unfoldable pub refusal_tree : Refusal → Tree

@@ -2,21 +2,22 @@
 //! row is written or a contract catches it, and then the data `{code, shown}`. The codes are the ones of
 //! this host (our own), named after what ERTP and Zoe refuse.
 
-ghost use Rattle.std.specs.Prelude.{◌≡◌, ◌∷◌, [], IfOk};
+ghost use Rattle.std.specs.Prelude.{◌≡◌, ◌∷◌, [], Some, IfOk};
 ghost use Rattle.jessie_tree.specs.Tree.{text};
 ghost use Rattle.jessie_tree.specs.View.{tree, trees};
-ghost use Rattle.call_data.specs.Refusals.{code_of, refusal_tree, shown_by};
+ghost use Rattle.call_data.specs.Refusals.{code_of, refusal_tree, shown_by, text_of};
 ghost use Rattle.call_data.specs.Values.{number_tree, value_tree};
 ghost use Rattle.call_data.specs.declared.refusals.Stop.TheVariants.{NoMemory};
 
-use crate::values::value_data;
+use crate::values::{put, two, value_data};
 use amount_math::Value;
 use host_text::text::Text;
 use jessie_tree::data::Data;
 use std::alloc::{AllocError, AllocFailed, Global};
+use std::fmt;
 
 /// Why a line or a call is refused.
-#[derive(Debug, Drop)]
+#[derive(Drop)]
 pub enum Refusal {
     /// The line is no JSON object.
     BadLine,
@@ -76,6 +77,13 @@ pub enum Refusal {
     Spent(u32),
 }
 
+/// The name of its kind.
+impl fmt::Debug for Refusal {
+    fn fmt<W: fmt::Write>(&self, f: &mut fmt::Formatter<W>) -> fmt::Result {
+        f.write_str(self.code())
+    }
+}
+
 impl Refusal {
     /// A copy. Texts and the keys of values take memory.
     pub fn copy(&self, alloc: Global) -> Result<Refusal, AllocError>
@@ -83,30 +91,33 @@ impl Refusal {
     {
         match self {
             Refusal::BadLine => Ok(Refusal::BadLine),
-            Refusal::BadField(name) => Ok(Refusal::BadField(name.copy(alloc)?)),
-            Refusal::BadLabel(text) => Ok(Refusal::BadLabel(text.copy(alloc)?)),
-            Refusal::BadKeyword(text) => Ok(Refusal::BadKeyword(text.copy(alloc)?)),
-            Refusal::UnknownName(path) => Ok(Refusal::UnknownName(path.copy(alloc)?)),
-            Refusal::NameTaken(label) => Ok(Refusal::NameTaken(label.copy(alloc)?)),
+            Refusal::BadField(name) => self.copy_with(alloc, name),
+            Refusal::BadLabel(text) => self.copy_with(alloc, text),
+            Refusal::BadKeyword(text) => self.copy_with(alloc, text),
+            Refusal::UnknownName(path) => self.copy_with(alloc, path),
+            Refusal::NameTaken(label) => self.copy_with(alloc, label),
             Refusal::Pending => Ok(Refusal::Pending),
             Refusal::Broken(promise) => Ok(Refusal::Broken(*promise)),
             Refusal::WrongObject(place) => Ok(Refusal::WrongObject(*place)),
-            Refusal::NoMethod(method) => Ok(Refusal::NoMethod(method.copy(alloc)?)),
+            Refusal::NoMethod(method) => self.copy_with(alloc, method),
             Refusal::BadArgs(place) => Ok(Refusal::BadArgs(*place)),
             Refusal::LocalOnly => Ok(Refusal::LocalOnly),
             Refusal::BadValue => Ok(Refusal::BadValue),
             Refusal::WrongBrand(brand) => Ok(Refusal::WrongBrand(*brand)),
-            Refusal::NotEnough(held, asked) => Ok(Refusal::NotEnough(held.copy()?, asked.copy()?)),
+            Refusal::NotEnough(held, asked) => {
+                let (held, asked) = copies(held, asked)?;
+                Ok(Refusal::NotEnough(held, asked))
+            }
             Refusal::TooMuch(sum, bound) => Ok(Refusal::TooMuch(*sum, *bound)),
             Refusal::DeadPayment(payment) => Ok(Refusal::DeadPayment(*payment)),
             Refusal::RepeatedPayment(payment) => Ok(Refusal::RepeatedPayment(*payment)),
-            Refusal::WrongAmount(held, named) => Ok(Refusal::WrongAmount(
-                held.copy()?,
-                named.copy()?,
-            )),
+            Refusal::WrongAmount(held, named) => {
+                let (held, named) = copies(held, named)?;
+                Ok(Refusal::WrongAmount(held, named))
+            }
             Refusal::NotInvitation(payment) => Ok(Refusal::NotInvitation(*payment)),
             Refusal::Closed(instance) => Ok(Refusal::Closed(*instance)),
-            Refusal::KeywordMismatch(keyword) => Ok(Refusal::KeywordMismatch(keyword.copy(alloc)?)),
+            Refusal::KeywordMismatch(keyword) => self.copy_with(alloc, keyword),
             Refusal::BadExit => Ok(Refusal::BadExit),
             Refusal::NotOnDemand(seat) => Ok(Refusal::NotOnDemand(*seat)),
             Refusal::SeatExited(seat) => Ok(Refusal::SeatExited(*seat)),
@@ -118,6 +129,39 @@ impl Refusal {
             Refusal::Spent(meter) => Ok(Refusal::Spent(*meter)),
         }
     }
+}
+
+impl Refusal {
+    /// A copy of one that shows a text alone.
+    fn copy_with(&self, alloc: Global, text: &Text) -> Result<Refusal, AllocError>
+        requires { text_of self.now ≡ Some text.now }
+        ensures { IfOk result (λ copy. copy ≡ self.now) }
+    {
+        Ok(self.with(text.copy(alloc)?))
+    }
+
+    /// The one of its kind that shows the text.
+    fn with(&self, text: Text) -> Refusal
+        requires { text_of self.now ≡ Some text }
+        ensures { result ≡ self.now }
+    {
+        match self {
+            Refusal::BadField(_) => Refusal::BadField(text),
+            Refusal::BadLabel(_) => Refusal::BadLabel(text),
+            Refusal::BadKeyword(_) => Refusal::BadKeyword(text),
+            Refusal::UnknownName(_) => Refusal::UnknownName(text),
+            Refusal::NameTaken(_) => Refusal::NameTaken(text),
+            Refusal::NoMethod(_) => Refusal::NoMethod(text),
+            Refusal::KeywordMismatch(_) => Refusal::KeywordMismatch(text),
+            _ => unreachable!(),
+        }
+    }
+}
+
+fn copies(first: &Value, second: &Value) -> Result<(Value, Value), AllocError>
+    ensures { IfOk result (λ (copy, other). (copy ≡ first.now) × (other ≡ second.now)) }
+{
+    Ok((first.copy()?, second.copy()?))
 }
 
 /// Why the work on a call ends before its answer.
@@ -149,11 +193,10 @@ impl Refusal {
     pub fn data(&self, alloc: Global) -> Result<Data, AllocError>
         ensures { IfOk result (λ made. tree made ≡ refusal_tree self.now) }
     {
-        let code = Data::Text(Text::from_str(alloc, self.code())?);
-        let shown = Data::Array(self.shown(alloc)?);
+        let code = Text::from_str(alloc, self.code())?;
         let mut fields = Vec::new(alloc);
-        fields.push((Text::from_str(alloc, "code")?, code))?;
-        fields.push((Text::from_str(alloc, "shown")?, shown))?;
+        put(alloc, &mut fields, "code", Data::Text(code))?;
+        put(alloc, &mut fields, "shown", Data::Array(self.shown(alloc)?))?;
         Ok(Data::Record(fields))
     }
 
@@ -230,29 +273,24 @@ impl Refusal {
     }
 }
 
+fn one(alloc: Global, shown: Data) -> Result<Vec<Data>, AllocError>
+    ensures { IfOk result (λ made. trees made.items ≡ tree shown ∷ []) }
+{
+    let mut made = Vec::with_capacity(alloc, 1)?;
+    made.push_reserved(shown);
+    Ok(made)
+}
+
 fn one_text(alloc: Global, shown: &Text) -> Result<Vec<Data>, AllocError>
     ensures { IfOk result (λ made. trees made.items ≡ text shown.now ∷ []) }
 {
-    let mut made = Vec::new(alloc);
-    made.push(Data::Text(shown.copy(alloc)?))?;
-    Ok(made)
+    one(alloc, Data::Text(shown.copy(alloc)?))
 }
 
 fn one_number(alloc: Global, shown: u32) -> Result<Vec<Data>, AllocError>
     ensures { IfOk result (λ made. trees made.items ≡ number_tree shown ∷ []) }
 {
-    let mut made = Vec::new(alloc);
-    made.push(Data::Number(i128::from(shown)))?;
-    Ok(made)
-}
-
-fn two(alloc: Global, first: Data, second: Data) -> Result<Vec<Data>, AllocError>
-    ensures { IfOk result (λ made. trees made.items ≡ tree first ∷ tree second ∷ []) }
-{
-    let mut made = Vec::new(alloc);
-    made.push(first)?;
-    made.push(second)?;
-    Ok(made)
+    one(alloc, Data::Number(i128::from(shown)))
 }
 
 fn place_and_text(alloc: Global, place: u32, shown: &Text) -> Result<Vec<Data>, AllocError>
