@@ -68,15 +68,31 @@ shown_by (TextRefused place kind) = number_tree place ∷ text kind ∷ []
 shown_by (Spent meter) = number_tree meter ∷ []
 
 -- the text of one that shows a text alone
-abbrev pub text_of : Refusal → Option (List ℕ)
-text_of (BadField name) = Some name
-text_of (BadLabel t) = Some t
-text_of (BadKeyword t) = Some t
-text_of (UnknownName path) = Some path
-text_of (NameTaken label) = Some label
-text_of (NoMethod method) = Some method
-text_of (KeywordMismatch keyword) = Some keyword
-text_of _ = None
+abbrev pub text_in : Refusal → Option (List ℕ)
+text_in (BadField t) = Some t
+text_in (BadLabel t) = Some t
+text_in (BadKeyword t) = Some t
+text_in (UnknownName t) = Some t
+text_in (NameTaken t) = Some t
+text_in (NoMethod t) = Some t
+text_in (KeywordMismatch t) = Some t
+text_in _ = None
+
+-- the number of one that shows a number alone
+abbrev pub number_in : Refusal → Option ℕ
+number_in (Broken m) = Some m
+number_in (WrongObject m) = Some m
+number_in (BadArgs m) = Some m
+number_in (WrongBrand m) = Some m
+number_in (DeadPayment m) = Some m
+number_in (RepeatedPayment m) = Some m
+number_in (NotInvitation m) = Some m
+number_in (Closed m) = Some m
+number_in (NotOnDemand m) = Some m
+number_in (SeatExited m) = Some m
+number_in (Limit m) = Some m
+number_in (Spent m) = Some m
+number_in _ = None
 
 -- `{code, shown}`
 unfoldable pub refusal_tree : Refusal → Tree

@@ -2,10 +2,10 @@
 //! row is written or a contract catches it, and then the data `{code, shown}`. The codes are the ones of
 //! this host (our own), named after what ERTP and Zoe refuse.
 
-ghost use Rattle.std.specs.Prelude.{◌≡◌, ◌∷◌, [], Some, IfOk};
+ghost use Rattle.std.specs.Prelude.{◌≡◌, ◌∷◌, [], None, Some, IfOk, IfSome, IsNone};
 ghost use Rattle.jessie_tree.specs.Tree.{text};
 ghost use Rattle.jessie_tree.specs.View.{tree, trees};
-ghost use Rattle.call_data.specs.Refusals.{code_of, refusal_tree, shown_by, text_of};
+ghost use Rattle.call_data.specs.Refusals.{code_of, number_in, refusal_tree, shown_by, text_in};
 ghost use Rattle.call_data.specs.Values.{number_tree, value_tree};
 ghost use Rattle.call_data.specs.declared.refusals.Stop.TheVariants.{NoMemory};
 
@@ -89,60 +89,86 @@ impl Refusal {
     pub fn copy(&self, alloc: Global) -> Result<Refusal, AllocError>
         ensures { IfOk result (λ copy. copy ≡ self.now) }
     {
+        if let Some(text) = self.text() {
+            return Ok(self.with_text(text.copy(alloc)?));
+        }
+        if let Some(number) = self.number() {
+            return Ok(self.with_number(number));
+        }
+        self.copy_other(alloc)
+    }
+
+    /// A copy of one that shows neither a text alone nor a number alone.
+    fn copy_other(&self, alloc: Global) -> Result<Refusal, AllocError>
+        requires text { text_in self.now ≡ None }
+        requires number { number_in self.now ≡ None }
+        ensures { IfOk result (λ copy. copy ≡ self.now) }
+    {
         match self {
             Refusal::BadLine => Ok(Refusal::BadLine),
-            Refusal::BadField(name) => self.copy_with(alloc, name),
-            Refusal::BadLabel(text) => self.copy_with(alloc, text),
-            Refusal::BadKeyword(text) => self.copy_with(alloc, text),
-            Refusal::UnknownName(path) => self.copy_with(alloc, path),
-            Refusal::NameTaken(label) => self.copy_with(alloc, label),
             Refusal::Pending => Ok(Refusal::Pending),
-            Refusal::Broken(promise) => Ok(Refusal::Broken(*promise)),
-            Refusal::WrongObject(place) => Ok(Refusal::WrongObject(*place)),
-            Refusal::NoMethod(method) => self.copy_with(alloc, method),
-            Refusal::BadArgs(place) => Ok(Refusal::BadArgs(*place)),
             Refusal::LocalOnly => Ok(Refusal::LocalOnly),
             Refusal::BadValue => Ok(Refusal::BadValue),
-            Refusal::WrongBrand(brand) => Ok(Refusal::WrongBrand(*brand)),
+            Refusal::BadExit => Ok(Refusal::BadExit),
+            Refusal::TooMuch(sum, bound) => Ok(Refusal::TooMuch(*sum, *bound)),
             Refusal::NotEnough(held, asked) => {
                 let (held, asked) = copies(held, asked)?;
                 Ok(Refusal::NotEnough(held, asked))
             }
-            Refusal::TooMuch(sum, bound) => Ok(Refusal::TooMuch(*sum, *bound)),
-            Refusal::DeadPayment(payment) => Ok(Refusal::DeadPayment(*payment)),
-            Refusal::RepeatedPayment(payment) => Ok(Refusal::RepeatedPayment(*payment)),
             Refusal::WrongAmount(held, named) => {
                 let (held, named) = copies(held, named)?;
                 Ok(Refusal::WrongAmount(held, named))
             }
-            Refusal::NotInvitation(payment) => Ok(Refusal::NotInvitation(*payment)),
-            Refusal::Closed(instance) => Ok(Refusal::Closed(*instance)),
-            Refusal::KeywordMismatch(keyword) => self.copy_with(alloc, keyword),
-            Refusal::BadExit => Ok(Refusal::BadExit),
-            Refusal::NotOnDemand(seat) => Ok(Refusal::NotOnDemand(*seat)),
-            Refusal::SeatExited(seat) => Ok(Refusal::SeatExited(*seat)),
-            Refusal::Limit(limit) => Ok(Refusal::Limit(*limit)),
             Refusal::TextRefused(place, kind) => Ok(Refusal::TextRefused(
                 *place,
                 kind.copy(alloc)?,
             )),
-            Refusal::Spent(meter) => Ok(Refusal::Spent(*meter)),
+            _ => unreachable!(),
         }
     }
-}
 
-impl Refusal {
-    /// A copy of one that shows a text alone.
-    fn copy_with(&self, alloc: Global, text: &Text) -> Result<Refusal, AllocError>
-        requires { text_of self.now ≡ Some text.now }
-        ensures { IfOk result (λ copy. copy ≡ self.now) }
+    /// The text of one that shows a text alone.
+    fn text(&self) -> Option<&Text>
+        ensures some { IfSome result (λ text. text_in self.now ≡ Some text.now) }
+        ensures none { IsNone result → text_in self.now ≡ None }
     {
-        Ok(self.with(text.copy(alloc)?))
+        match self {
+            Refusal::BadField(name) => Some(name),
+            Refusal::BadLabel(text) => Some(text),
+            Refusal::BadKeyword(text) => Some(text),
+            Refusal::UnknownName(path) => Some(path),
+            Refusal::NameTaken(label) => Some(label),
+            Refusal::NoMethod(method) => Some(method),
+            Refusal::KeywordMismatch(keyword) => Some(keyword),
+            _ => None,
+        }
+    }
+
+    /// The number of one that shows a number alone.
+    fn number(&self) -> Option<u32>
+        ensures some { IfSome result (λ number. number_in self.now ≡ Some number) }
+        ensures none { IsNone result → number_in self.now ≡ None }
+    {
+        match self {
+            Refusal::Broken(promise) => Some(*promise),
+            Refusal::WrongObject(place) => Some(*place),
+            Refusal::BadArgs(place) => Some(*place),
+            Refusal::WrongBrand(brand) => Some(*brand),
+            Refusal::DeadPayment(payment) => Some(*payment),
+            Refusal::RepeatedPayment(payment) => Some(*payment),
+            Refusal::NotInvitation(payment) => Some(*payment),
+            Refusal::Closed(instance) => Some(*instance),
+            Refusal::NotOnDemand(seat) => Some(*seat),
+            Refusal::SeatExited(seat) => Some(*seat),
+            Refusal::Limit(limit) => Some(*limit),
+            Refusal::Spent(meter) => Some(*meter),
+            _ => None,
+        }
     }
 
     /// The one of its kind that shows the text.
-    fn with(&self, text: Text) -> Refusal
-        requires { text_of self.now ≡ Some text }
+    fn with_text(&self, text: Text) -> Refusal
+        requires { text_in self.now ≡ Some text }
         ensures { result ≡ self.now }
     {
         match self {
@@ -153,6 +179,28 @@ impl Refusal {
             Refusal::NameTaken(_) => Refusal::NameTaken(text),
             Refusal::NoMethod(_) => Refusal::NoMethod(text),
             Refusal::KeywordMismatch(_) => Refusal::KeywordMismatch(text),
+            _ => unreachable!(),
+        }
+    }
+
+    /// The one of its kind that shows the number.
+    fn with_number(&self, number: u32) -> Refusal
+        requires { number_in self.now ≡ Some number }
+        ensures { result ≡ self.now }
+    {
+        match self {
+            Refusal::Broken(_) => Refusal::Broken(number),
+            Refusal::WrongObject(_) => Refusal::WrongObject(number),
+            Refusal::BadArgs(_) => Refusal::BadArgs(number),
+            Refusal::WrongBrand(_) => Refusal::WrongBrand(number),
+            Refusal::DeadPayment(_) => Refusal::DeadPayment(number),
+            Refusal::RepeatedPayment(_) => Refusal::RepeatedPayment(number),
+            Refusal::NotInvitation(_) => Refusal::NotInvitation(number),
+            Refusal::Closed(_) => Refusal::Closed(number),
+            Refusal::NotOnDemand(_) => Refusal::NotOnDemand(number),
+            Refusal::SeatExited(_) => Refusal::SeatExited(number),
+            Refusal::Limit(_) => Refusal::Limit(number),
+            Refusal::Spent(_) => Refusal::Spent(number),
             _ => unreachable!(),
         }
     }
@@ -240,35 +288,32 @@ impl Refusal {
     fn shown(&self, alloc: Global) -> Result<Vec<Data>, AllocError>
         ensures { IfOk result (λ shown. trees shown.items ≡ shown_by self.now) }
     {
+        if let Some(text) = self.text() {
+            return one_text(alloc, text);
+        }
+        if let Some(number) = self.number() {
+            return one_number(alloc, number);
+        }
+        self.shown_other(alloc)
+    }
+
+    /// What one shows that shows neither a text alone nor a number alone.
+    fn shown_other(&self, alloc: Global) -> Result<Vec<Data>, AllocError>
+        requires text { text_in self.now ≡ None }
+        requires number { number_in self.now ≡ None }
+        ensures { IfOk result (λ shown. trees shown.items ≡ shown_by self.now) }
+    {
         match self {
-            Refusal::BadLine => Ok(Vec::new(alloc)),
-            Refusal::BadField(name) => one_text(alloc, name),
-            Refusal::BadLabel(text) => one_text(alloc, text),
-            Refusal::BadKeyword(text) => one_text(alloc, text),
-            Refusal::UnknownName(path) => one_text(alloc, path),
-            Refusal::NameTaken(label) => one_text(alloc, label),
-            Refusal::Pending => Ok(Vec::new(alloc)),
-            Refusal::Broken(promise) => one_number(alloc, *promise),
-            Refusal::WrongObject(place) => one_number(alloc, *place),
-            Refusal::NoMethod(method) => one_text(alloc, method),
-            Refusal::BadArgs(place) => one_number(alloc, *place),
-            Refusal::LocalOnly => Ok(Vec::new(alloc)),
-            Refusal::BadValue => Ok(Vec::new(alloc)),
-            Refusal::WrongBrand(brand) => one_number(alloc, *brand),
             Refusal::NotEnough(held, asked) => two_values(alloc, held, asked),
             Refusal::TooMuch(sum, bound) => two(alloc, Data::Number(*sum), Data::Number(*bound)),
-            Refusal::DeadPayment(payment) => one_number(alloc, *payment),
-            Refusal::RepeatedPayment(payment) => one_number(alloc, *payment),
             Refusal::WrongAmount(held, named) => two_values(alloc, held, named),
-            Refusal::NotInvitation(payment) => one_number(alloc, *payment),
-            Refusal::Closed(instance) => one_number(alloc, *instance),
-            Refusal::KeywordMismatch(keyword) => one_text(alloc, keyword),
-            Refusal::BadExit => Ok(Vec::new(alloc)),
-            Refusal::NotOnDemand(seat) => one_number(alloc, *seat),
-            Refusal::SeatExited(seat) => one_number(alloc, *seat),
-            Refusal::Limit(limit) => one_number(alloc, *limit),
             Refusal::TextRefused(place, kind) => place_and_text(alloc, *place, kind),
-            Refusal::Spent(meter) => one_number(alloc, *meter),
+            Refusal::BadLine => Ok(Vec::new(alloc)),
+            Refusal::Pending => Ok(Vec::new(alloc)),
+            Refusal::LocalOnly => Ok(Vec::new(alloc)),
+            Refusal::BadValue => Ok(Vec::new(alloc)),
+            Refusal::BadExit => Ok(Vec::new(alloc)),
+            _ => unreachable!(),
         }
     }
 }
