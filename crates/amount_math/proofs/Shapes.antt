@@ -7,7 +7,7 @@ use Rattle.amount_math.specs.declared.shape.Shape.TheVariants.{Nat, Set, Bag}
 use Rattle.amount_math.specs.Content.{Contains, nothing, of_nat, of_nat_zero, unit, count-of_nat_unit, count, sum, sum-of_nat, difference, count-difference}
 use Rattle.amount_math.specs.Worth.{Worth, Fits, HasFew, IsNat, IsOutstanding, IsValue, with_content, nat_bound}
 use Rattle.amount_math.specs.NatLaws.{IsNat-of_nat}
-use Rattle.amount_math.specs.KindLaws.{outstanding_fits, outstanding_part, outstanding_sum, value_of_part, value_of_sum}
+use Rattle.amount_math.specs.KindLaws.{nothing_is_value, outstanding_fits, outstanding_part, outstanding_sum, value_of_part, value_of_sum}
 use Rattle.amount_math.specs.Shapes.{worth, IsCounted, IsShape}
 
 pub of_nat-injective : (m n : ℕ) → of_nat m ≡ of_nat n → m ≡ n
@@ -89,6 +89,11 @@ counted_fits w s e h = subst (λ (v : Worth). Fits v.kind v.content) e (outstand
 pub same_worth : (a b : Worth) → a.kind ≡ b.kind → a.content ≡ b.content → a ≡ b
 same_worth a b kinds contents i = record { kind = kinds i; content = contents i }
 
+-- ---- what has nothing
+
+pub nothing_is_shape : (s u : Shape) → worth u ≡ with_content (worth s) nothing → IsShape u
+nothing_is_shape s u is = is_shape _ u is (nothing_is_value (worth s).kind)
+
 -- ---- numbers
 
 pub sum_bounded : (m n : ℕ) → Fits kind.Nat (sum (of_nat m) (of_nat n)) → m + n ≤ nat_bound
@@ -99,3 +104,6 @@ sum_fits m n h = subst (λ c. Fits kind.Nat c) (sym (sum-of_nat m n)) (IsNat-of_
 
 pub nat_is_no_set : kind.Nat ≢ kind.Set
 nat_is_no_set e = cc
+
+pub bag_is_no_set : kind.Bag ≢ kind.Set
+bag_is_no_set e = cc

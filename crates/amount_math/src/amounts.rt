@@ -1,21 +1,22 @@
 //! Operations on the amounts of one brand, refused for two.
 
-ghost use Rattle.std.specs.Prelude.{◌≡◌, ◌≢◌, ◌↔◌, IsTrue, IsOk, IsErr, IfOk, IfErr};
+ghost use Rattle.std.specs.Prelude.{◌≡◌, ◌≢◌, ◌↔◌, IsTrue, IsOk, IsErr, IfOk, IfErr, OnOk, OnErr};
 ghost use Rattle.amount_math.specs.Content.{Content, Contains, difference, nothing, sum};
 ghost use Rattle.amount_math.specs.Worth.{IsGreatest, IsIncomparable, IsLeast};
 ghost use Rattle.amount_math.specs.Amount.{OneKind, holding};
 ghost use Rattle.amount_math.specs.Brands.{IsAddRefusal, IsCoerceRefusal, IsCompareRefusal, IsWrongBrand};
 
+use crate::handed::{choose, or_both};
 use crate::{Amount, AmountKind, Key, Kind, PutFault, TooMuch, Value};
 
 /// Two brands meet: the number of the brand that was given.
-#[derive(Clone, Copy, Debug, PartialEq, Eq)]
+#[derive(Clone, Copy, PartialEq, Eq)]
 pub struct WrongBrand {
     pub given: u16,
 }
 
 /// Why an amount isn't added to another: two brands, or as `PutFault`.
-#[derive(Debug, Drop, PartialEq, Eq)]
+#[derive(Drop, PartialEq, Eq)]
 pub enum AddFault {
     WrongBrand(WrongBrand),
     Overlap(Key),
@@ -24,14 +25,14 @@ pub enum AddFault {
 }
 
 /// Why an amount isn't taken from another, or neither is the lesser or the greater.
-#[derive(Clone, Copy, Debug, PartialEq, Eq)]
+#[derive(Clone, Copy, PartialEq, Eq)]
 pub enum CompareFault {
     WrongBrand(WrongBrand),
     NotEnough,
 }
 
 /// Why an amount isn't one of the brand.
-#[derive(Clone, Copy, Debug, PartialEq, Eq)]
+#[derive(Clone, Copy, PartialEq, Eq)]
 pub enum CoerceFault {
     WrongBrand(WrongBrand),
     BadValue,
@@ -109,46 +110,64 @@ impl Amount {
     }
 
     /// The sum, or both handed back.
-    pub fn add(mut self, other: Amount) -> Result<Amount, (Amount, Amount, AddFault)>
+    pub fn add(mut self, mut other: Amount) -> Result<Amount, (Amount, Amount, AddFault)>
         requires { OneKind self other }
         ensures ok { IfOk result (λ both. both ≡ holding self (sum self.value.content other.value.content)) }
         ensures one_brand { IsOk result → self.brand ≡ other.brand }
         ensures back { IfErr result (λ (left, right, _). (left ≡ self) × (right ≡ other)) }
         ensures refused { IfErr result (λ (_, _, fault). IsAddRefusal self other fault) }
     {
-        if let Err(wrong) = self.one_brand(&other) {
-            return Err((self, other, AddFault::WrongBrand(wrong)));
+        let done = self.put(&mut other);
+        or_both(done, self, other)
+    }
+
+    /// Takes over all that the other has, or leaves both as they were.
+    fn put(&mut self, other: &mut Amount) -> Result<(), AddFault>
+        requires { OneKind self.old other.old }
+        ensures ok { OnOk result (self.new ≡ holding self.old (sum self.old.value.content other.old.value.content)) }
+        ensures one_brand { OnOk result (self.old.brand ≡ other.old.brand) }
+        ensures err { OnErr result ((self.new ≡ self.old) × (other.new ≡ other.old)) }
+        ensures refused { IfErr result (IsAddRefusal self.old other.old) }
+    {
+        if let Err(wrong) = self.one_brand(other) {
+            return Err(AddFault::WrongBrand(wrong));
         }
-        let Amount { brand, value } = other;
-        match self.value.absorb(value) {
-            Ok(()) => Ok(self),
-            Err((value, fault)) => {
-                let fault = match fault {
-                    PutFault::Overlap(key) => AddFault::Overlap(key),
-                    PutFault::TooMuch(over) => AddFault::TooMuch(over),
-                    PutFault::NoMemory => AddFault::NoMemory,
-                };
-                Err((self, Amount { brand, value }, fault))
-            }
+        match self.value.put(&mut other.value) {
+            Ok(()) => Ok(()),
+            Err(PutFault::Overlap(key)) => Err(AddFault::Overlap(key)),
+            Err(PutFault::TooMuch(over)) => Err(AddFault::TooMuch(over)),
+            Err(PutFault::NoMemory) => Err(AddFault::NoMemory),
         }
     }
 
     /// It less the other, or both handed back.
-    pub fn subtract(self, other: Amount) -> Result<Amount, (Amount, Amount, CompareFault)>
+    pub fn subtract(mut self, other: Amount) -> Result<Amount, (Amount, Amount, CompareFault)>
         requires { OneKind self other }
         ensures ok { IfOk result (λ rest. rest ≡ holding self (difference self.value.content other.value.content)) }
         ensures enough { IsOk result → (self.brand ≡ other.brand) × Contains self.value.content other.value.content }
         ensures back { IfErr result (λ (left, right, _). (left ≡ self) × (right ≡ other)) }
         ensures refused { IfErr result (λ (_, _, fault). IsCompareRefusal self other (¬ Contains self.value.content other.value.content) fault) }
     {
-        if let Err(wrong) = self.one_brand(&other) {
-            return Err((self, other, CompareFault::WrongBrand(wrong)));
+        let done = self.take_away(&other);
+        or_both(done, self, other)
+    }
+
+    /// Takes away what the other has, or stays as it was.
+    fn take_away(&mut self, other: &Amount) -> Result<(), CompareFault>
+        requires { OneKind self.old other.now }
+        ensures ok { OnOk result (self.new ≡ holding self.old (difference self.old.value.content other.now.value.content)) }
+        ensures enough { OnOk result ((self.old.brand ≡ other.now.brand) × Contains self.old.value.content other.now.value.content) }
+        ensures err { OnErr result (self.new ≡ self.old) }
+        ensures refused { IfErr result (IsCompareRefusal self.old other.now (¬ Contains self.old.value.content other.now.value.content)) }
+    {
+        if let Err(wrong) = self.one_brand(other) {
+            return Err(CompareFault::WrongBrand(wrong));
         }
-        let Amount { brand, value } = self;
-        match value.subtract(&other.value) {
-            Ok(value) => Ok(Amount { brand, value }),
-            Err(value) => Err((Amount { brand, value }, other, CompareFault::NotEnough)),
+        if !self.value.is_gte(&other.value) {
+            return Err(CompareFault::NotEnough);
         }
+        self.value.lessen(&other.value);
+        Ok(())
     }
 
     /// The one of the two that both contain, or both handed back.
@@ -162,10 +181,11 @@ impl Amount {
         if let Err(wrong) = self.one_brand(&other) {
             return Err((self, other, CompareFault::WrongBrand(wrong)));
         }
-        let brand = self.brand;
-        match self.value.min(other.value) {
-            Ok(value) => Ok(Amount { brand, value }),
-            Err((left, right)) => Err(neither(brand, left, right)),
+        let is_least = other.value.is_gte(&self.value);
+        let is_other = self.value.is_gte(&other.value);
+        match choose(is_least, is_other, self, other) {
+            Ok(least) => Ok(least),
+            Err((left, right)) => Err((left, right, CompareFault::NotEnough)),
         }
     }
 
@@ -180,22 +200,11 @@ impl Amount {
         if let Err(wrong) = self.one_brand(&other) {
             return Err((self, other, CompareFault::WrongBrand(wrong)));
         }
-        let brand = self.brand;
-        match self.value.max(other.value) {
-            Ok(value) => Ok(Amount { brand, value }),
-            Err((left, right)) => Err(neither(brand, left, right)),
+        let is_greatest = self.value.is_gte(&other.value);
+        let is_other = other.value.is_gte(&self.value);
+        match choose(is_greatest, is_other, self, other) {
+            Ok(greatest) => Ok(greatest),
+            Err((left, right)) => Err((left, right, CompareFault::NotEnough)),
         }
     }
-}
-
-/// Both amounts of a brand, of which neither is enough for the other.
-fn neither(brand: u16, left: Value, right: Value) -> (Amount, Amount, CompareFault)
-    ensures { result ≡ (record { brand = brand; value = left }, record { brand = brand; value = right }, CompareFault.NotEnough) }
-{
-    let left = Amount { brand, value: left };
-    let right = Amount {
-        brand,
-        value: right,
-    };
-    (left, right, CompareFault::NotEnough)
 }

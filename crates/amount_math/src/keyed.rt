@@ -135,10 +135,10 @@ impl Keyed {
     }
 
     /// That no count of both together passes a bag's bound, or the first that does.
-    pub fn excess(&self, more: &Keyed) -> Result<(), TooMuch>
+    pub fn excess(&self, more: &Keyed) -> Result<(), PutFault>
         requires { Fits Kind.Bag self.now }
         ensures ok { IsOk result → Fits Kind.Bag (sum self.now more.now) }
-        ensures too_much { IfErr result (PassesBound Kind.Bag (sum self.now more.now)) }
+        ensures refused { IfErr result (IsIssueRefusal Kind.Bag (sum self.now more.now)) }
     {
         let held = self.entries();
         let others = more.entries();
@@ -148,7 +148,7 @@ impl Keyed {
         let entry = &others[at];
         let sum = u128::from(entries::count_of(held, entry.key())) + u128::from(entry.count());
         let bound = u128::from(COUNT_BOUND);
-        Err(TooMuch { sum, bound })
+        Err(PutFault::TooMuch(TooMuch { sum, bound }))
     }
 
     /// That both together have few enough keys, or how many they have.
@@ -165,29 +165,21 @@ impl Keyed {
         Ok(())
     }
 
-    /// Puts the other's entries in, or hands it back and stays as it was.
-    pub fn absorb(&mut self, other: Keyed) -> Result<(), Keyed>
-        requires { (k : List ℕ) → count (sum self.old other) k ≤ most_of_key }
-        ensures ok { OnOk result (self.new ≡ sum self.old other) }
-        ensures back { IfErr result (λ back. back ≡ other) }
-        ensures err { OnErr result (self.new ≡ self.old) }
+    /// Takes over all the other's entries, or leaves both as they were.
+    pub fn absorb(&mut self, other: &mut Keyed) -> Result<(), AllocError>
+        requires { (k : List ℕ) → count (sum self.old other.old) k ≤ most_of_key }
+        ensures ok { OnOk result (self.new ≡ sum self.old other.old) }
+        ensures taken { OnOk result (other.new ≡ nothing) }
+        ensures err { OnErr result ((self.new ≡ self.old) × (other.new ≡ other.old)) }
     {
-        let Keyed { entries } = other;
-        let Some(more) = entries else {
+        let Some(held) = &mut self.entries else {
+            std::mem::swap(self, other);
             return Ok(());
         };
-        match &mut self.entries {
-            None => {
-                self.entries = Some(more);
-                Ok(())
-            }
-            Some(held) => match merge(held, more) {
-                Ok(()) => Ok(()),
-                Err(back) => Err(Keyed {
-                    entries: Some(back),
-                }),
-            },
-        }
+        let Some(more) = &mut other.entries else {
+            return Ok(());
+        };
+        merge(held, more)
     }
 
     /// Takes away what it is known to contain, which takes no memory.

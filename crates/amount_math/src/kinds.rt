@@ -5,6 +5,7 @@ ghost use Rattle.amount_math.specs.Content.{Content, Contains, difference, nothi
 ghost use Rattle.amount_math.specs.Worth.{IsGreatest, IsIncomparable, IsLeast};
 ghost use Rattle.amount_math.specs.declared.Kind.{Kind};
 
+use crate::handed::or_both;
 use crate::keyed::Keyed;
 use crate::made::{each_counted, each_once, within_bound};
 use crate::shape::Shape;
@@ -202,10 +203,8 @@ impl AmountKind for NatKind {
     }
 
     fn add(mut left: Value, right: Value) -> Result<Value, (Value, Value, TooMuch)> {
-        match left.absorb_nat(right) {
-            Ok(()) => Ok(left),
-            Err((right, over)) => Err((left, right, over)),
-        }
+        let done = left.put_nat(&right);
+        or_both(done, left, right)
     }
 }
 
@@ -270,11 +269,9 @@ impl AmountKind for SetKind {
         }
     }
 
-    fn add(mut left: Value, right: Value) -> Result<Value, (Value, Value, PutFault)> {
-        match left.absorb(right) {
-            Ok(()) => Ok(left),
-            Err((right, fault)) => Err((left, right, fault)),
-        }
+    fn add(mut left: Value, mut right: Value) -> Result<Value, (Value, Value, PutFault)> {
+        let done = left.put(&mut right);
+        or_both(done, left, right)
     }
 }
 
@@ -337,11 +334,9 @@ impl AmountKind for BagKind {
         }
     }
 
-    fn add(mut left: Value, right: Value) -> Result<Value, (Value, Value, PutFault)> {
-        match left.absorb(right) {
-            Ok(()) => Ok(left),
-            Err((right, fault)) => Err((left, right, fault)),
-        }
+    fn add(mut left: Value, mut right: Value) -> Result<Value, (Value, Value, PutFault)> {
+        let done = left.put(&mut right);
+        or_both(done, left, right)
     }
 }
 

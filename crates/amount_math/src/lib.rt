@@ -11,6 +11,7 @@ ghost use Rattle.amount_math.specs.Worth.{IsGreatest, IsIncomparable, IsLeast, I
 
 mod amounts;
 mod entries;
+mod handed;
 mod keyed;
 mod keys;
 mod kinds;
@@ -20,6 +21,7 @@ mod outstanding;
 mod shape;
 
 pub use amounts::{AddFault, CoerceFault, CompareFault, WrongBrand, coerce, make};
+use handed::{choose, or_back};
 use keyed::Keyed;
 pub use keys::{COUNT_BOUND, Entry, KEY_BYTES, Key};
 pub use kinds::{AmountKind, BadValue, BagKind, MakeFault, NatKind, SetKind, credit, is_between};
@@ -210,7 +212,7 @@ impl Value {
     }
 
     /// Adds the other to it, or hands the other back and stays as it was. Keys take memory.
-    pub fn absorb(&mut self, other: Value) -> Result<(), (Value, PutFault)>
+    pub fn absorb(&mut self, mut other: Value) -> Result<(), (Value, PutFault)>
         requires { self.old.kind ≡ other.kind }
         ensures ok { OnOk result (self.new ≡ record self.old { content = sum self.old.content other.content }) }
         ensures value { OnOk result (IsValue self.old.kind (sum self.old.content other.content)) }
@@ -218,36 +220,34 @@ impl Value {
         ensures err { OnErr result (self.new ≡ self.old) }
         ensures refused { IfErr result (λ (_, fault). IsPutRefusal self.old.kind (sum self.old.content other.content) fault) }
     {
-        if let Err(fault) = self.shape.check_counts(&other.shape) {
-            return Err((other, fault));
-        }
-        if let Err(over) = self.shape.check_keys(&other.shape) {
-            return Err((other, PutFault::TooMuch(over)));
-        }
-        let Value { shape } = other;
-        if let Err(shape) = self.shape.add(shape) {
-            return Err((Value { shape }, PutFault::NoMemory));
-        }
-        Ok(())
+        let done = self.put(&mut other);
+        or_back(done, other)
     }
 
-    /// `absorb` at nat values, which takes no memory.
-    pub(crate) fn absorb_nat(&mut self, other: Value) -> Result<(), (Value, TooMuch)>
+    /// Takes over all that the other has, or leaves both as they were. Keys take memory.
+    pub(crate) fn put(&mut self, other: &mut Value) -> Result<(), PutFault>
+        requires { self.old.kind ≡ other.old.kind }
+        ensures ok { OnOk result (self.new ≡ record self.old { content = sum self.old.content other.old.content }) }
+        ensures value { OnOk result (IsValue self.old.kind (sum self.old.content other.old.content)) }
+        ensures err { OnErr result ((self.new ≡ self.old) × (other.new ≡ other.old)) }
+        ensures refused { IfErr result (IsPutRefusal self.old.kind (sum self.old.content other.old.content)) }
+    {
+        self.shape.put(&mut other.shape)
+    }
+
+    /// `put` at nat values, which takes no memory and leaves the other as it was.
+    pub(crate) fn put_nat(&mut self, other: &Value) -> Result<(), TooMuch>
         requires nat { self.old.kind ≡ Kind.Nat }
-        requires kinds { self.old.kind ≡ other.kind }
-        ensures ok { OnOk result (self.new ≡ record self.old { content = sum self.old.content other.content }) }
-        ensures value { OnOk result (IsNat (sum self.old.content other.content)) }
-        ensures back { IfErr result (λ (back, _). back ≡ other) }
+        requires kinds { self.old.kind ≡ other.now.kind }
+        ensures ok { OnOk result (self.new ≡ record self.old { content = sum self.old.content other.now.content }) }
+        ensures value { OnOk result (IsNat (sum self.old.content other.now.content)) }
         ensures err { OnErr result (self.new ≡ self.old) }
-        ensures too_much { IfErr result (λ (_, over). PassesBound Kind.Nat (sum self.old.content other.content) over) }
+        ensures too_much { IfErr result (PassesBound Kind.Nat (sum self.old.content other.now.content)) }
     {
         let Some(number) = other.number() else {
             unreachable!()
         };
-        match self.add_number(number) {
-            Ok(()) => Ok(()),
-            Err(over) => Err((other, over)),
-        }
+        self.add_number(number)
     }
 
     fn add_number(&mut self, number: u128) -> Result<(), TooMuch>
@@ -329,13 +329,7 @@ impl Value {
         ensures back { IfErr result (λ (left, right). (left ≡ self) × (right ≡ other)) }
         ensures not_enough { IsErr result → IsIncomparable self.content other.content }
     {
-        if other.is_gte(&self) {
-            Ok(self)
-        } else if self.is_gte(&other) {
-            Ok(other)
-        } else {
-            Err((self, other))
-        }
+        choose(other.is_gte(&self), self.is_gte(&other), self, other)
     }
 
     /// The one of the two that contains both, or both handed back where neither contains the other.
@@ -345,12 +339,6 @@ impl Value {
         ensures back { IfErr result (λ (left, right). (left ≡ self) × (right ≡ other)) }
         ensures not_enough { IsErr result → IsIncomparable self.content other.content }
     {
-        if self.is_gte(&other) {
-            Ok(self)
-        } else if other.is_gte(&self) {
-            Ok(other)
-        } else {
-            Err((self, other))
-        }
+        choose(self.is_gte(&other), other.is_gte(&self), self, other)
     }
 }

@@ -17,7 +17,7 @@ pub(crate) fn copied(entries: &Vec<Entry>) -> Result<Vec<Entry>, AllocError>
 {
     let mut copy = Vec::with_capacity(*entries.allocator(), entries.len())?;
     for entry in entries {
-        copy.push(entry.copy()?)?;
+        copy.push_reserved(entry.copy()?);
     }
     Ok(copy)
 }
@@ -63,6 +63,7 @@ fn pour(left: &mut Vec<Entry>, right: &mut Vec<Entry>, poured: &mut Vec<Entry>)
     requires right { AreEntries right.old.items }
     requires empty { poured.old.items ≡ [] }
     requires room { vec_len left.old + vec_len right.old ≤ vec_capacity poured.old }
+    ensures taken { right.new.items ≡ [] }
     ensures rising { IsRising (reverse poured.new.items) }
     ensures raised { All IsRaised (reverse poured.new.items) }
     ensures counts { (k : List ℕ) → tally (reverse poured.new.items) k ≡ tally left.old.items k + tally right.old.items k }
@@ -72,23 +73,19 @@ fn pour(left: &mut Vec<Entry>, right: &mut Vec<Entry>, poured: &mut Vec<Entry>)
     }
 }
 
-/// Puts the others in, or hands them back and leaves all as it was.
-pub(crate) fn merge(entries: &mut Vec<Entry>, mut more: Vec<Entry>) -> Result<(), Vec<Entry>>
+/// Takes all the others over, or leaves both as they were.
+pub(crate) fn merge(entries: &mut Vec<Entry>, more: &mut Vec<Entry>) -> Result<(), AllocError>
     requires entries { AreEntries entries.old.items }
-    requires more { AreEntries more.items }
-    requires within { (k : List ℕ) → count (sum (of_entries entries.old.items) (of_entries more.items)) k ≤ most_of_key }
-    ensures content { OnOk result (of_entries entries.new.items ≡ sum (of_entries entries.old.items) (of_entries more.items)) }
+    requires more { AreEntries more.old.items }
+    requires within { (k : List ℕ) → count (sum (of_entries entries.old.items) (of_entries more.old.items)) k ≤ most_of_key }
+    ensures content { OnOk result (of_entries entries.new.items ≡ sum (of_entries entries.old.items) (of_entries more.old.items)) }
+    ensures taken { OnOk result (more.new.items ≡ []) }
     ensures entries { AreEntries entries.new.items }
-    ensures back { IfErr result (λ back. back ≡ more) }
-    ensures err { OnErr result (entries.new ≡ entries.old) }
+    ensures err { OnErr result ((entries.new ≡ entries.old) × (more.new ≡ more.old)) }
 {
-    let Some(room) = entries.len().checked_add(more.len()) else {
-        return Err(more);
-    };
-    let Ok(mut both) = Vec::with_capacity(*entries.allocator(), room) else {
-        return Err(more);
-    };
-    pour(entries, &mut more, &mut both);
+    let room = entries.len() + more.len();
+    let mut both = Vec::with_capacity(*entries.allocator(), room)?;
+    pour(entries, more, &mut both);
     both.reverse();
     *entries = both;
     Ok(())

@@ -5,6 +5,7 @@ ghost use Rattle.amount_math.specs.Content.{Contains, difference, entries, nothi
 ghost use Rattle.amount_math.specs.Counted.{counted};
 ghost use Rattle.amount_math.specs.Worth.{Fits, IsIssueRefusal, nat_bound};
 
+use crate::handed::or_back;
 use crate::shape::Shape;
 use crate::{Entry, Kind, PutFault, Value};
 use std::alloc::AllocError;
@@ -97,7 +98,7 @@ impl Outstanding {
     }
 
     /// Adds a value to what is out, or hands it back and stays as it was. Keys take memory.
-    pub fn absorb(&mut self, value: Value) -> Result<(), (Value, PutFault)>
+    pub fn absorb(&mut self, mut value: Value) -> Result<(), (Value, PutFault)>
         requires { self.old.kind ≡ value.kind }
         ensures ok { OnOk result (self.new ≡ record self.old { content = sum self.old.content value.content }) }
         ensures fits { OnOk result (Fits self.old.kind (sum self.old.content value.content)) }
@@ -105,14 +106,19 @@ impl Outstanding {
         ensures err { OnErr result (self.new ≡ self.old) }
         ensures refused { IfErr result (λ (_, fault). IsIssueRefusal self.old.kind (sum self.old.content value.content) fault) }
     {
-        if let Err(fault) = self.shape.check_counts(&value.shape) {
-            return Err((value, fault));
-        }
-        let Value { shape } = value;
-        if let Err(shape) = self.shape.add(shape) {
-            return Err((Value { shape }, PutFault::NoMemory));
-        }
-        Ok(())
+        let done = self.put(&mut value);
+        or_back(done, value)
+    }
+
+    /// Takes over all that the value has, or leaves both as they were.
+    fn put(&mut self, value: &mut Value) -> Result<(), PutFault>
+        requires { self.old.kind ≡ value.old.kind }
+        ensures ok { OnOk result (self.new ≡ record self.old { content = sum self.old.content value.old.content }) }
+        ensures fits { OnOk result (Fits self.old.kind (sum self.old.content value.old.content)) }
+        ensures err { OnErr result ((self.new ≡ self.old) × (value.new ≡ value.old)) }
+        ensures refused { IfErr result (IsIssueRefusal self.old.kind (sum self.old.content value.old.content)) }
+    {
+        self.shape.issue(&mut value.shape)
     }
 
     /// Takes away what it is known to contain.

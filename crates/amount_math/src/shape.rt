@@ -1,10 +1,10 @@
 //! What a value has, by its kind. It doesn't know how many keys a value may have.
 
 ghost use Rattle.std.specs.Prelude.{◌≡◌, ◌≢◌, ◌<◌, ◌≤◌, ◌+◌, ◌↔◌, IfOk, IfErr, IsErr, IsOk, OnOk, OnErr, IsTrue};
-ghost use Rattle.amount_math.specs.Content.{Contains, difference, nothing, sum};
+ghost use Rattle.amount_math.specs.Content.{Contains, difference, nothing, of_nat, sum};
 ghost use Rattle.amount_math.specs.Counted.{counted};
-ghost use Rattle.amount_math.specs.Shapes.{IsCounted, worth};
-ghost use Rattle.amount_math.specs.Worth.{Fits, HasFew, IsIssueRefusal, IsNat, PassesBound, PassesKeys, nat_bound, with_content};
+ghost use Rattle.amount_math.specs.Shapes.{IsCounted, IsShape, worth};
+ghost use Rattle.amount_math.specs.Worth.{Fits, HasFew, IsIssueRefusal, IsNat, IsPutRefusal, IsValue, PassesBound, PassesKeys, nat_bound, with_content};
 
 use crate::keyed::Keyed;
 use crate::{Kind, NAT_BOUND, PutFault, TooMuch};
@@ -30,6 +30,19 @@ pub(crate) fn nat_sum(held: u128, more: u128) -> Result<u128, TooMuch>
         return Err(TooMuch { sum, bound });
     }
     Ok(sum)
+}
+
+/// That the sum of two numbers within the bound is within too.
+fn check_nat(held: u128, more: u128) -> Result<(), PutFault>
+    requires held { held ≤ nat_bound }
+    requires more { more ≤ nat_bound }
+    ensures ok { IsOk result → Fits Kind.Nat (sum (of_nat held) (of_nat more)) }
+    ensures refused { IfErr result (IsIssueRefusal Kind.Nat (sum (of_nat held) (of_nat more))) }
+{
+    match nat_sum(held, more) {
+        Ok(_) => Ok(()),
+        Err(over) => Err(PutFault::TooMuch(over)),
+    }
 }
 
 impl Shape {
@@ -93,15 +106,9 @@ impl Shape {
         ensures refused { IfErr result (IsIssueRefusal (worth self.now).kind (sum (worth self.now).content (worth more.now).content)) }
     {
         match (self, more) {
-            (Shape::Nat(held), Shape::Nat(number)) => match nat_sum(*held, *number) {
-                Ok(_) => Ok(()),
-                Err(over) => Err(PutFault::TooMuch(over)),
-            },
+            (Shape::Nat(held), Shape::Nat(number)) => check_nat(*held, *number),
             (Shape::Set(held), Shape::Set(more)) => held.overlap(more),
-            (Shape::Bag(held), Shape::Bag(more)) => match held.excess(more) {
-                Ok(()) => Ok(()),
-                Err(over) => Err(PutFault::TooMuch(over)),
-            },
+            (Shape::Bag(held), Shape::Bag(more)) => held.excess(more),
             _ => unreachable!(),
         }
     }
@@ -122,40 +129,62 @@ impl Shape {
         }
     }
 
-    /// Puts the other in, or hands it back and stays as it was.
-    pub(crate) fn add(&mut self, more: Shape) -> Result<(), Shape>
-        requires kinds { (worth self.old).kind ≡ (worth more).kind }
-        requires fits { Fits (worth self.old).kind (sum (worth self.old).content (worth more).content) }
-        ensures ok { OnOk result (worth self.new ≡ with_content (worth self.old) (sum (worth self.old).content (worth more).content)) }
-        ensures back { IfErr result (λ back. back ≡ more) }
-        ensures err { OnErr result (self.new ≡ self.old) }
+    /// Takes over all that the other has, so that it is a value too, or leaves both as they were.
+    pub(crate) fn put(&mut self, more: &mut Shape) -> Result<(), PutFault>
+        requires kinds { (worth self.old).kind ≡ (worth more.old).kind }
+        requires held { IsShape self.old }
+        requires more { IsShape more.old }
+        ensures ok { OnOk result (worth self.new ≡ with_content (worth self.old) (sum (worth self.old).content (worth more.old).content)) }
+        ensures value { OnOk result (IsValue (worth self.old).kind (sum (worth self.old).content (worth more.old).content)) }
+        ensures shapes { IsShape self.new × IsShape more.new }
+        ensures err { OnErr result ((self.new ≡ self.old) × (more.new ≡ more.old)) }
+        ensures refused { IfErr result (IsPutRefusal (worth self.old).kind (sum (worth self.old).content (worth more.old).content)) }
     {
-        match self {
-            Shape::Nat(held) => {
-                let Shape::Nat(number) = more else {
-                    unreachable!()
-                };
-                *held += number;
+        self.check_counts(more)?;
+        if let Err(over) = self.check_keys(more) {
+            return Err(PutFault::TooMuch(over));
+        }
+        match self.add(more) {
+            Ok(()) => Ok(()),
+            Err(_) => Err(PutFault::NoMemory),
+        }
+    }
+
+    /// `put` where there may be any number of keys.
+    pub(crate) fn issue(&mut self, more: &mut Shape) -> Result<(), PutFault>
+        requires kinds { (worth self.old).kind ≡ (worth more.old).kind }
+        requires held { IsCounted self.old }
+        requires more { IsShape more.old }
+        ensures ok { OnOk result (worth self.new ≡ with_content (worth self.old) (sum (worth self.old).content (worth more.old).content)) }
+        ensures fits { OnOk result (Fits (worth self.old).kind (sum (worth self.old).content (worth more.old).content)) }
+        ensures shapes { IsCounted self.new × IsShape more.new }
+        ensures err { OnErr result ((self.new ≡ self.old) × (more.new ≡ more.old)) }
+        ensures refused { IfErr result (IsIssueRefusal (worth self.old).kind (sum (worth self.old).content (worth more.old).content)) }
+    {
+        self.check_counts(more)?;
+        match self.add(more) {
+            Ok(()) => Ok(()),
+            Err(_) => Err(PutFault::NoMemory),
+        }
+    }
+
+    /// Takes over all that the other has, or leaves both as they were.
+    fn add(&mut self, more: &mut Shape) -> Result<(), AllocError>
+        requires kinds { (worth self.old).kind ≡ (worth more.old).kind }
+        requires fits { Fits (worth self.old).kind (sum (worth self.old).content (worth more.old).content) }
+        ensures ok { OnOk result (worth self.new ≡ with_content (worth self.old) (sum (worth self.old).content (worth more.old).content)) }
+        ensures taken { OnOk result (worth more.new ≡ with_content (worth more.old) nothing) }
+        ensures err { OnErr result ((self.new ≡ self.old) × (more.new ≡ more.old)) }
+    {
+        match (self, more) {
+            (Shape::Nat(held), Shape::Nat(number)) => {
+                *held += *number;
+                *number = 0;
                 Ok(())
             }
-            Shape::Set(held) => {
-                let Shape::Set(more) = more else {
-                    unreachable!()
-                };
-                match held.absorb(more) {
-                    Ok(()) => Ok(()),
-                    Err(back) => Err(Shape::Set(back)),
-                }
-            }
-            Shape::Bag(held) => {
-                let Shape::Bag(more) = more else {
-                    unreachable!()
-                };
-                match held.absorb(more) {
-                    Ok(()) => Ok(()),
-                    Err(back) => Err(Shape::Bag(back)),
-                }
-            }
+            (Shape::Set(held), Shape::Set(more)) => held.absorb(more),
+            (Shape::Bag(held), Shape::Bag(more)) => held.absorb(more),
+            _ => unreachable!(),
         }
     }
 

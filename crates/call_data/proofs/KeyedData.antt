@@ -1,8 +1,8 @@
 -- Keys with their counts in any order: which of them are the entries of a set or a bag, and of which.
-use Rattle.std.proofs.Common.{inl, inr, ◌≡◌, ◌≢◌, ℕ, zero, suc, ◌+◌, ◌<◌, ◌≤◌, Bool, true, false, cond, not, ◌&&◌, ◌||◌, Option, Some, None, Result, Ok, Err, if◌then◌else◌, List, [], ◌∷◌, length, map, nat_le, refl, sym, ap, subst, ◌∙◌, arith, ℤ, pos, negsuc}
+use Rattle.std.proofs.Common.{◌≡◌, ◌≢◌, ℕ, zero, suc, ◌+◌, ◌<◌, ◌≤◌, Bool, true, false, cond, not, ◌&&◌, ◌||◌, Option, Some, None, Result, Ok, Err, if◌then◌else◌, List, [], ◌∷◌, length, map, nat_le, refl, sym, ap, subst, ◌∙◌, arith, ℤ, pos, negsuc}
 use Rattle.std.proofs.lemmas.Bool.{and_parts, and_from, leb-true, le-leb, false≢true}
 use Rattle.std.proofs.lemmas.List.Elements.{All-cons, All-head, All-tail, All-nil}
-use Rattle.std.proofs.lemmas.List.Sorted.{IsPermutation-refl, IsPermutation-cons, IsPermutation-trans, IsPermutation-middle, length_permutation, All-permutation, sum_by-IsPermutation}
+use Rattle.std.proofs.lemmas.List.Sorted.{IsPermutation-refl, IsPermutation-cons, IsPermutation-trans, IsPermutation-middle, length_permutation, sum_by-IsPermutation}
 use Rattle.std.proofs.lemmas.List.Sums.{sum_by-cons}
 use Rattle.std.proofs.lemmas.Option.{none-some, same_Some}
 use Rattle.std.proofs.Math.IntN.{nat_abs}
@@ -16,10 +16,10 @@ use Rattle.std.specs.Ordering.{eq_by_cmp, is_eq, is_lt, nat_cmp}
 use Rattle.std.specs.Str.{bytes_eq}
 use Rattle.std.specs.declared.cmp.Ordering.TheVariants.{Less, Equal, Greater}
 use Rattle.std.specs.FinMap as fin
-use Rattle.std.specs.FinMap.{find, is_sorted}
+use Rattle.std.specs.FinMap.{find}
 use Rattle.std.specs.FinMap.Entries.{below_all, by_order}
-use Rattle.amount_math.specs.Content.{Content, key_cmp, counts, count, count-of_entries, entries, of_entries, of_entries-entries, of_entries-nil, nothing, of_nat, same_content, count_listed, unit}
-use Rattle.amount_math.specs.Entries.{Entries, IsEntry, IsKey, IsRising, as_one, most_of_key, tally}
+use Rattle.amount_math.specs.Content.{Content, key_cmp, counts, count, count-of_entries, entries, of_entries, of_entries-entries, of_entries-nil, of_nat, same_content, count_listed}
+use Rattle.amount_math.specs.Entries.{Entries, IsEntry, IsRising, as_one, most_of_key, tally}
 use Rattle.amount_math.specs.KindData.{IsKeysOf, IsPairsOf, signed}
 use Rattle.amount_math.specs.Sparse.{at-put, put, put_by, same_found}
 use Rattle.amount_math.specs.Totals.{first, less, second}

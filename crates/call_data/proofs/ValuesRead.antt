@@ -1,21 +1,21 @@
 -- What is read as a value is one, of the kind.
-use Rattle.std.proofs.Common.{◌≡◌, ℕ, ◌≤◌, Bool, true, false, Option, Some, None, Result, Ok, Err, IfOk, List, map, ℤ, pos, negsuc, nat_le, refl, sym, subst, ap}
+use Rattle.std.proofs.Common.{◌≡◌, ℕ, Bool, true, false, Option, Some, None, Result, Ok, Err, IfOk, map, ℤ, pos, negsuc, nat_le, refl}
 use Rattle.std.proofs.lemmas.Bool.{leb-true}
 use Rattle.std.proofs.lemmas.List.Sorted.{IsPermutation-refl}
 use Rattle.std.proofs.lemmas.Result.{IfOk-at_ok}
-use Rattle.amount_math.specs.Content.{Content, of_entries, of_nat}
+use Rattle.amount_math.specs.Content.{of_entries}
 use Rattle.amount_math.specs.Entries.{Entries, as_one}
 use Rattle.amount_math.specs.NatLaws.{IsNat-of_nat}
 use Rattle.amount_math.specs.Worth.{IsValue, Worth, nat_bound}
 use Rattle.amount_math.specs.declared.Kind.{Kind}
 use Rattle.amount_math.specs.declared.Kind.TheVariants.{Nat, Set, Bag}
 use Rattle.amount_math.proofs.Permuted.{made_set}
-use Rattle.jessie_tree.specs.Tree.{Tree, list_of, number_of, text_of}
-use Rattle.call_data.specs.Amounts.{AmountData, IsValueOf, amount_fields, amount_in, are_entries, bag_in, counted_key, keyed_value, nat_from, nat_value, pair_in, read_all, set_in, value_in}
-use Rattle.call_data.specs.Outcomes.{Gives, bind, need, wanted}
+use Rattle.jessie_tree.specs.Tree.{Tree, number_of}
+use Rattle.call_data.specs.Amounts.{AmountData, IsValueOf, amount_in, are_entries, bag_in, keyed_value, nat_from, nat_value, set_in, value_in}
+use Rattle.call_data.specs.Outcomes.{Gives, bind, need}
 use Rattle.call_data.specs.declared.refusals.Refusal.{Refusal}
 use Rattle.call_data.specs.declared.refusals.Stop.{Stop}
-use Rattle.call_data.specs.declared.refusals.Refusal.TheVariants.{BadArgs, BadValue, WrongBrand}
+use Rattle.call_data.specs.declared.refusals.Refusal.TheVariants.{BadValue}
 use Rattle.call_data.proofs.KeyedData.{entries_make_bag, entries_permute, nat_if}
 
 -- what a reader returned, where it gives what the definition reads

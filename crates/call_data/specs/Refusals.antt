@@ -1,5 +1,5 @@
 -- A refusal as data: its code and what it shows.
-use Rattle.std.specs.Prelude.{ℕ, List, [], ◌∷◌, codes}
+use Rattle.std.specs.Prelude.{ℕ, List, [], ◌∷◌, Option, Some, None, codes}
 use Rattle.jessie_tree.specs.Tree.{Tree, number, text, array, fields, field, no_fields}
 use Rattle.jessie_tree.specs.View.{items_of}
 use Rattle.call_data.specs.Values.{number_tree, value_tree}
@@ -66,6 +66,33 @@ shown_by (SeatExited seat) = number_tree seat ∷ []
 shown_by (Limit limit) = number_tree limit ∷ []
 shown_by (TextRefused place kind) = number_tree place ∷ text kind ∷ []
 shown_by (Spent meter) = number_tree meter ∷ []
+
+-- the text of one that shows a text alone
+abbrev pub text_in : Refusal → Option (List ℕ)
+text_in (BadField t) = Some t
+text_in (BadLabel t) = Some t
+text_in (BadKeyword t) = Some t
+text_in (UnknownName t) = Some t
+text_in (NameTaken t) = Some t
+text_in (NoMethod t) = Some t
+text_in (KeywordMismatch t) = Some t
+text_in _ = None
+
+-- the number of one that shows a number alone
+abbrev pub number_in : Refusal → Option ℕ
+number_in (Broken m) = Some m
+number_in (WrongObject m) = Some m
+number_in (BadArgs m) = Some m
+number_in (WrongBrand m) = Some m
+number_in (DeadPayment m) = Some m
+number_in (RepeatedPayment m) = Some m
+number_in (NotInvitation m) = Some m
+number_in (Closed m) = Some m
+number_in (NotOnDemand m) = Some m
+number_in (SeatExited m) = Some m
+number_in (Limit m) = Some m
+number_in (Spent m) = Some m
+number_in _ = None
 
 -- `{code, shown}`
 unfoldable pub refusal_tree : Refusal → Tree

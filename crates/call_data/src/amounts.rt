@@ -99,14 +99,22 @@ fn bag_of(pairs: Vec<(Key, i128)>) -> Result<Value, Stop>
 fn keys(alloc: Global, items: &[Data]) -> Result<Vec<Key>, Stop>
     ensures { Gives (λ keys. keys.items) result (wanted (read_all text_of (trees items.now)) refusals.BadValue) }
 {
-    let mut keys = Vec::new(alloc);
+    let mut keys = Vec::with_capacity(alloc, items.len())?;
     for item in items {
-        let Some(text) = item.text() else {
-            return Err(Stop::Refused(Refusal::BadValue));
-        };
-        keys.push(Key::new(String::from_str(alloc, text.as_str())?))?;
+        keys.push_reserved(key(alloc, item)?);
     }
     Ok(keys)
+}
+
+/// A text.
+#[tactic(auto, unfolding(crate::specs::Outcomes::wanted))]
+fn key(alloc: Global, given: &Data) -> Result<Key, Stop>
+    ensures { Gives (λ key. key) result (wanted (text_of (tree given.now)) refusals.BadValue) }
+{
+    let Some(text) = given.text() else {
+        return Err(Stop::Refused(Refusal::BadValue));
+    };
+    Ok(Key::new(String::from_str(alloc, text.as_str())?))
 }
 
 /// The pairs of an array, where all its items are arrays of a text and a number.
@@ -114,9 +122,9 @@ fn keys(alloc: Global, items: &[Data]) -> Result<Vec<Key>, Stop>
 fn pairs(alloc: Global, items: &[Data]) -> Result<Vec<(Key, i128)>, Stop>
     ensures { Gives (λ pairs. pairs.items) result (wanted (read_all pair_in (trees items.now)) refusals.BadValue) }
 {
-    let mut pairs = Vec::new(alloc);
+    let mut pairs = Vec::with_capacity(alloc, items.len())?;
     for item in items {
-        pairs.push(pair(alloc, item)?)?;
+        pairs.push_reserved(pair(alloc, item)?);
     }
     Ok(pairs)
 }
@@ -126,13 +134,13 @@ fn pairs(alloc: Global, items: &[Data]) -> Result<Vec<(Key, i128)>, Stop>
 fn pair(alloc: Global, given: &Data) -> Result<(Key, i128), Stop>
     ensures { Gives (λ pair. pair) result (wanted (pair_in (tree given.now)) refusals.BadValue) }
 {
-    let Some([key, count]) = given.items() else {
+    let Some([first, count]) = given.items() else {
         return Err(Stop::Refused(Refusal::BadValue));
     };
-    let (Some(key), Some(count)) = (key.text(), count.number()) else {
+    let Some(count) = count.number() else {
         return Err(Stop::Refused(Refusal::BadValue));
     };
-    Ok((Key::new(String::from_str(alloc, key.as_str())?), count))
+    Ok((key(alloc, first)?, count))
 }
 
 /// What stands in an amount: the brand's number and kind, and the data of the value.

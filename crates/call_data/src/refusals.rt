@@ -2,21 +2,22 @@
 //! row is written or a contract catches it, and then the data `{code, shown}`. The codes are the ones of
 //! this host (our own), named after what ERTP and Zoe refuse.
 
-ghost use Rattle.std.specs.Prelude.{◌≡◌, ◌∷◌, [], IfOk};
+ghost use Rattle.std.specs.Prelude.{◌≡◌, ◌∷◌, [], None, Some, IfOk, IfSome, IsNone};
 ghost use Rattle.jessie_tree.specs.Tree.{text};
 ghost use Rattle.jessie_tree.specs.View.{tree, trees};
-ghost use Rattle.call_data.specs.Refusals.{code_of, refusal_tree, shown_by};
+ghost use Rattle.call_data.specs.Refusals.{code_of, number_in, refusal_tree, shown_by, text_in};
 ghost use Rattle.call_data.specs.Values.{number_tree, value_tree};
 ghost use Rattle.call_data.specs.declared.refusals.Stop.TheVariants.{NoMemory};
 
-use crate::values::value_data;
+use crate::values::{put, two, value_data};
 use amount_math::Value;
 use host_text::text::Text;
 use jessie_tree::data::Data;
 use std::alloc::{AllocError, AllocFailed, Global};
+use std::fmt;
 
 /// Why a line or a call is refused.
-#[derive(Debug, Drop)]
+#[derive(Drop)]
 pub enum Refusal {
     /// The line is no JSON object.
     BadLine,
@@ -76,48 +77,139 @@ pub enum Refusal {
     Spent(u32),
 }
 
+/// The name of its kind.
+impl fmt::Debug for Refusal {
+    fn fmt<W: fmt::Write>(&self, f: &mut fmt::Formatter<W>) -> fmt::Result {
+        f.write_str(self.code())
+    }
+}
+
 impl Refusal {
     /// A copy. Texts and the keys of values take memory.
     pub fn copy(&self, alloc: Global) -> Result<Refusal, AllocError>
         ensures { IfOk result (λ copy. copy ≡ self.now) }
     {
+        if let Some(text) = self.text() {
+            return Ok(self.with_text(text.copy(alloc)?));
+        }
+        if let Some(number) = self.number() {
+            return Ok(self.with_number(number));
+        }
+        self.copy_other(alloc)
+    }
+
+    /// A copy of one that shows neither a text alone nor a number alone.
+    fn copy_other(&self, alloc: Global) -> Result<Refusal, AllocError>
+        requires text { text_in self.now ≡ None }
+        requires number { number_in self.now ≡ None }
+        ensures { IfOk result (λ copy. copy ≡ self.now) }
+    {
         match self {
             Refusal::BadLine => Ok(Refusal::BadLine),
-            Refusal::BadField(name) => Ok(Refusal::BadField(name.copy(alloc)?)),
-            Refusal::BadLabel(text) => Ok(Refusal::BadLabel(text.copy(alloc)?)),
-            Refusal::BadKeyword(text) => Ok(Refusal::BadKeyword(text.copy(alloc)?)),
-            Refusal::UnknownName(path) => Ok(Refusal::UnknownName(path.copy(alloc)?)),
-            Refusal::NameTaken(label) => Ok(Refusal::NameTaken(label.copy(alloc)?)),
             Refusal::Pending => Ok(Refusal::Pending),
-            Refusal::Broken(promise) => Ok(Refusal::Broken(*promise)),
-            Refusal::WrongObject(place) => Ok(Refusal::WrongObject(*place)),
-            Refusal::NoMethod(method) => Ok(Refusal::NoMethod(method.copy(alloc)?)),
-            Refusal::BadArgs(place) => Ok(Refusal::BadArgs(*place)),
             Refusal::LocalOnly => Ok(Refusal::LocalOnly),
             Refusal::BadValue => Ok(Refusal::BadValue),
-            Refusal::WrongBrand(brand) => Ok(Refusal::WrongBrand(*brand)),
-            Refusal::NotEnough(held, asked) => Ok(Refusal::NotEnough(held.copy()?, asked.copy()?)),
-            Refusal::TooMuch(sum, bound) => Ok(Refusal::TooMuch(*sum, *bound)),
-            Refusal::DeadPayment(payment) => Ok(Refusal::DeadPayment(*payment)),
-            Refusal::RepeatedPayment(payment) => Ok(Refusal::RepeatedPayment(*payment)),
-            Refusal::WrongAmount(held, named) => Ok(Refusal::WrongAmount(
-                held.copy()?,
-                named.copy()?,
-            )),
-            Refusal::NotInvitation(payment) => Ok(Refusal::NotInvitation(*payment)),
-            Refusal::Closed(instance) => Ok(Refusal::Closed(*instance)),
-            Refusal::KeywordMismatch(keyword) => Ok(Refusal::KeywordMismatch(keyword.copy(alloc)?)),
             Refusal::BadExit => Ok(Refusal::BadExit),
-            Refusal::NotOnDemand(seat) => Ok(Refusal::NotOnDemand(*seat)),
-            Refusal::SeatExited(seat) => Ok(Refusal::SeatExited(*seat)),
-            Refusal::Limit(limit) => Ok(Refusal::Limit(*limit)),
+            Refusal::TooMuch(sum, bound) => Ok(Refusal::TooMuch(*sum, *bound)),
+            Refusal::NotEnough(held, asked) => {
+                let (held, asked) = copies(held, asked)?;
+                Ok(Refusal::NotEnough(held, asked))
+            }
+            Refusal::WrongAmount(held, named) => {
+                let (held, named) = copies(held, named)?;
+                Ok(Refusal::WrongAmount(held, named))
+            }
             Refusal::TextRefused(place, kind) => Ok(Refusal::TextRefused(
                 *place,
                 kind.copy(alloc)?,
             )),
-            Refusal::Spent(meter) => Ok(Refusal::Spent(*meter)),
+            _ => unreachable!(),
         }
     }
+
+    /// The text of one that shows a text alone.
+    fn text(&self) -> Option<&Text>
+        ensures some { IfSome result (λ text. text_in self.now ≡ Some text.now) }
+        ensures none { IsNone result → text_in self.now ≡ None }
+    {
+        match self {
+            Refusal::BadField(name) => Some(name),
+            Refusal::BadLabel(text) => Some(text),
+            Refusal::BadKeyword(text) => Some(text),
+            Refusal::UnknownName(path) => Some(path),
+            Refusal::NameTaken(label) => Some(label),
+            Refusal::NoMethod(method) => Some(method),
+            Refusal::KeywordMismatch(keyword) => Some(keyword),
+            _ => None,
+        }
+    }
+
+    /// The number of one that shows a number alone.
+    fn number(&self) -> Option<u32>
+        ensures some { IfSome result (λ number. number_in self.now ≡ Some number) }
+        ensures none { IsNone result → number_in self.now ≡ None }
+    {
+        match self {
+            Refusal::Broken(promise) => Some(*promise),
+            Refusal::WrongObject(place) => Some(*place),
+            Refusal::BadArgs(place) => Some(*place),
+            Refusal::WrongBrand(brand) => Some(*brand),
+            Refusal::DeadPayment(payment) => Some(*payment),
+            Refusal::RepeatedPayment(payment) => Some(*payment),
+            Refusal::NotInvitation(payment) => Some(*payment),
+            Refusal::Closed(instance) => Some(*instance),
+            Refusal::NotOnDemand(seat) => Some(*seat),
+            Refusal::SeatExited(seat) => Some(*seat),
+            Refusal::Limit(limit) => Some(*limit),
+            Refusal::Spent(meter) => Some(*meter),
+            _ => None,
+        }
+    }
+
+    /// The one of its kind that shows the text.
+    fn with_text(&self, text: Text) -> Refusal
+        requires { text_in self.now ≡ Some text }
+        ensures { result ≡ self.now }
+    {
+        match self {
+            Refusal::BadField(_) => Refusal::BadField(text),
+            Refusal::BadLabel(_) => Refusal::BadLabel(text),
+            Refusal::BadKeyword(_) => Refusal::BadKeyword(text),
+            Refusal::UnknownName(_) => Refusal::UnknownName(text),
+            Refusal::NameTaken(_) => Refusal::NameTaken(text),
+            Refusal::NoMethod(_) => Refusal::NoMethod(text),
+            Refusal::KeywordMismatch(_) => Refusal::KeywordMismatch(text),
+            _ => unreachable!(),
+        }
+    }
+
+    /// The one of its kind that shows the number.
+    fn with_number(&self, number: u32) -> Refusal
+        requires { number_in self.now ≡ Some number }
+        ensures { result ≡ self.now }
+    {
+        match self {
+            Refusal::Broken(_) => Refusal::Broken(number),
+            Refusal::WrongObject(_) => Refusal::WrongObject(number),
+            Refusal::BadArgs(_) => Refusal::BadArgs(number),
+            Refusal::WrongBrand(_) => Refusal::WrongBrand(number),
+            Refusal::DeadPayment(_) => Refusal::DeadPayment(number),
+            Refusal::RepeatedPayment(_) => Refusal::RepeatedPayment(number),
+            Refusal::NotInvitation(_) => Refusal::NotInvitation(number),
+            Refusal::Closed(_) => Refusal::Closed(number),
+            Refusal::NotOnDemand(_) => Refusal::NotOnDemand(number),
+            Refusal::SeatExited(_) => Refusal::SeatExited(number),
+            Refusal::Limit(_) => Refusal::Limit(number),
+            Refusal::Spent(_) => Refusal::Spent(number),
+            _ => unreachable!(),
+        }
+    }
+}
+
+fn copies(first: &Value, second: &Value) -> Result<(Value, Value), AllocError>
+    ensures { IfOk result (λ (copy, other). (copy ≡ first.now) × (other ≡ second.now)) }
+{
+    Ok((first.copy()?, second.copy()?))
 }
 
 /// Why the work on a call ends before its answer.
@@ -149,11 +241,10 @@ impl Refusal {
     pub fn data(&self, alloc: Global) -> Result<Data, AllocError>
         ensures { IfOk result (λ made. tree made ≡ refusal_tree self.now) }
     {
-        let code = Data::Text(Text::from_str(alloc, self.code())?);
-        let shown = Data::Array(self.shown(alloc)?);
+        let code = Text::from_str(alloc, self.code())?;
         let mut fields = Vec::new(alloc);
-        fields.push((Text::from_str(alloc, "code")?, code))?;
-        fields.push((Text::from_str(alloc, "shown")?, shown))?;
+        put(alloc, &mut fields, "code", Data::Text(code))?;
+        put(alloc, &mut fields, "shown", Data::Array(self.shown(alloc)?))?;
         Ok(Data::Record(fields))
     }
 
@@ -197,62 +288,54 @@ impl Refusal {
     fn shown(&self, alloc: Global) -> Result<Vec<Data>, AllocError>
         ensures { IfOk result (λ shown. trees shown.items ≡ shown_by self.now) }
     {
+        if let Some(text) = self.text() {
+            return one_text(alloc, text);
+        }
+        if let Some(number) = self.number() {
+            return one_number(alloc, number);
+        }
+        self.shown_other(alloc)
+    }
+
+    /// What one shows that shows neither a text alone nor a number alone.
+    fn shown_other(&self, alloc: Global) -> Result<Vec<Data>, AllocError>
+        requires text { text_in self.now ≡ None }
+        requires number { number_in self.now ≡ None }
+        ensures { IfOk result (λ shown. trees shown.items ≡ shown_by self.now) }
+    {
         match self {
-            Refusal::BadLine => Ok(Vec::new(alloc)),
-            Refusal::BadField(name) => one_text(alloc, name),
-            Refusal::BadLabel(text) => one_text(alloc, text),
-            Refusal::BadKeyword(text) => one_text(alloc, text),
-            Refusal::UnknownName(path) => one_text(alloc, path),
-            Refusal::NameTaken(label) => one_text(alloc, label),
-            Refusal::Pending => Ok(Vec::new(alloc)),
-            Refusal::Broken(promise) => one_number(alloc, *promise),
-            Refusal::WrongObject(place) => one_number(alloc, *place),
-            Refusal::NoMethod(method) => one_text(alloc, method),
-            Refusal::BadArgs(place) => one_number(alloc, *place),
-            Refusal::LocalOnly => Ok(Vec::new(alloc)),
-            Refusal::BadValue => Ok(Vec::new(alloc)),
-            Refusal::WrongBrand(brand) => one_number(alloc, *brand),
             Refusal::NotEnough(held, asked) => two_values(alloc, held, asked),
             Refusal::TooMuch(sum, bound) => two(alloc, Data::Number(*sum), Data::Number(*bound)),
-            Refusal::DeadPayment(payment) => one_number(alloc, *payment),
-            Refusal::RepeatedPayment(payment) => one_number(alloc, *payment),
             Refusal::WrongAmount(held, named) => two_values(alloc, held, named),
-            Refusal::NotInvitation(payment) => one_number(alloc, *payment),
-            Refusal::Closed(instance) => one_number(alloc, *instance),
-            Refusal::KeywordMismatch(keyword) => one_text(alloc, keyword),
-            Refusal::BadExit => Ok(Vec::new(alloc)),
-            Refusal::NotOnDemand(seat) => one_number(alloc, *seat),
-            Refusal::SeatExited(seat) => one_number(alloc, *seat),
-            Refusal::Limit(limit) => one_number(alloc, *limit),
             Refusal::TextRefused(place, kind) => place_and_text(alloc, *place, kind),
-            Refusal::Spent(meter) => one_number(alloc, *meter),
+            Refusal::BadLine => Ok(Vec::new(alloc)),
+            Refusal::Pending => Ok(Vec::new(alloc)),
+            Refusal::LocalOnly => Ok(Vec::new(alloc)),
+            Refusal::BadValue => Ok(Vec::new(alloc)),
+            Refusal::BadExit => Ok(Vec::new(alloc)),
+            _ => unreachable!(),
         }
     }
+}
+
+fn one(alloc: Global, shown: Data) -> Result<Vec<Data>, AllocError>
+    ensures { IfOk result (λ made. trees made.items ≡ tree shown ∷ []) }
+{
+    let mut made = Vec::with_capacity(alloc, 1)?;
+    made.push_reserved(shown);
+    Ok(made)
 }
 
 fn one_text(alloc: Global, shown: &Text) -> Result<Vec<Data>, AllocError>
     ensures { IfOk result (λ made. trees made.items ≡ text shown.now ∷ []) }
 {
-    let mut made = Vec::new(alloc);
-    made.push(Data::Text(shown.copy(alloc)?))?;
-    Ok(made)
+    one(alloc, Data::Text(shown.copy(alloc)?))
 }
 
 fn one_number(alloc: Global, shown: u32) -> Result<Vec<Data>, AllocError>
     ensures { IfOk result (λ made. trees made.items ≡ number_tree shown ∷ []) }
 {
-    let mut made = Vec::new(alloc);
-    made.push(Data::Number(i128::from(shown)))?;
-    Ok(made)
-}
-
-fn two(alloc: Global, first: Data, second: Data) -> Result<Vec<Data>, AllocError>
-    ensures { IfOk result (λ made. trees made.items ≡ tree first ∷ tree second ∷ []) }
-{
-    let mut made = Vec::new(alloc);
-    made.push(first)?;
-    made.push(second)?;
-    Ok(made)
+    one(alloc, Data::Number(i128::from(shown)))
 }
 
 fn place_and_text(alloc: Global, place: u32, shown: &Text) -> Result<Vec<Data>, AllocError>

@@ -1,8 +1,8 @@
 //! Values and amounts as data. Its one contract: the data is what the definition says.
 
-ghost use Rattle.std.specs.Prelude.{◌≡◌, ◌≢◌, IfOk, map};
+ghost use Rattle.std.specs.Prelude.{◌≡◌, ◌≢◌, ◌++◌, ◌∷◌, [], IfOk, OnOk, map};
 ghost use Rattle.jessie_tree.specs.Tree.{array, text};
-ghost use Rattle.jessie_tree.specs.View.{items_of, tree, trees};
+ghost use Rattle.jessie_tree.specs.View.{items_of, named_trees, tree, trees};
 ghost use Rattle.call_data.specs.Values.{amount_tree, counted_tree, key_tree, object_tree, value_tree};
 
 use amount_math::{Entry, Key, Kind, Value};
@@ -17,6 +17,30 @@ pub fn object_data(kind: ObjKind, number: u32) -> Data
     Data::Object(Obj { kind, number })
 }
 
+/// Puts a field at the end of a record that is being made.
+pub(crate) fn put(
+    alloc: Global,
+    fields: &mut Vec<(Text, Data)>,
+    name: &str,
+    value: Data,
+) -> Result<(), AllocError>
+    ensures { OnOk result (named_trees fields.new.items ≡ named_trees fields.old.items ++ (name.now, tree value) ∷ []) }
+{
+    let name = Text::from_str(alloc, name)?;
+    fields.push((name, value))?;
+    Ok(())
+}
+
+/// Two as an array's parts.
+pub(crate) fn two(alloc: Global, first: Data, second: Data) -> Result<Vec<Data>, AllocError>
+    ensures { IfOk result (λ made. trees made.items ≡ tree first ∷ tree second ∷ []) }
+{
+    let mut made = Vec::with_capacity(alloc, 2)?;
+    made.push_reserved(first);
+    made.push_reserved(second);
+    Ok(made)
+}
+
 fn key_data(alloc: Global, key: &Key) -> Result<Data, AllocError>
     ensures { IfOk result (λ made. tree made ≡ text key.now) }
 {
@@ -27,9 +51,8 @@ fn key_data(alloc: Global, key: &Key) -> Result<Data, AllocError>
 fn counted_data(alloc: Global, entry: &Entry) -> Result<Data, AllocError>
     ensures { IfOk result (λ made. tree made ≡ counted_tree entry.now) }
 {
-    let mut pair = Vec::new(alloc);
-    pair.push(key_data(alloc, entry.key())?)?;
-    pair.push(Data::Number(i128::from(entry.count())))?;
+    let count = Data::Number(i128::from(entry.count()));
+    let pair = two(alloc, key_data(alloc, entry.key())?, count)?;
     Ok(Data::Array(pair))
 }
 
@@ -86,9 +109,8 @@ pub fn amount_data(alloc: Global, brand: u16, value: &Value) -> Result<Data, All
     ensures { IfOk result (λ made. tree made ≡ amount_tree (record { brand = brand; value = value.now })) }
 {
     let named = object_data(ObjKind::Brand(value.kind()), u32::from(brand));
-    let value = value_data(alloc, value)?;
     let mut fields = Vec::new(alloc);
-    fields.push((Text::from_str(alloc, "brand")?, named))?;
-    fields.push((Text::from_str(alloc, "value")?, value))?;
+    put(alloc, &mut fields, "brand", named)?;
+    put(alloc, &mut fields, "value", value_data(alloc, value)?)?;
     Ok(Data::Record(fields))
 }

@@ -1,6 +1,5 @@
-use Rattle.std.proofs.Common.{◌≡◌, ap, sym, subst, ◌∙◌, ℤ, Err, Ok}
+use Rattle.std.proofs.Common.{ap, sym, ◌∙◌}
 use Rattle.std.proofs.Math.Facts.{to_z-of_z}
-use Rattle.amount_math.specs.Worth.{IsNumber}
 use Rattle.call_data.specs.Amounts.{nat_value}
 use Rattle.call_data.proofs.KeyedData.{nat_is, nat_is_not}
 use Rattle.call_data.proofs.amounts.nat_of.Goals as goal

@@ -1,14 +1,23 @@
-use Rattle.std.proofs.Common.{◌≡◌, ◌∙◌, ap, sym}
-use Rattle.amount_math.specs.Content.{nothing, sum, nothing-sum, sum-nothing, of_entries-nil}
+use Rattle.std.proofs.Common.{◌≡◌, [], ◌∙◌, ap, sym}
+use Rattle.std.proofs.lemmas.Result.{on_ok_weaker}
+use Rattle.amount_math.specs.Content.{nothing, sum, nothing-sum, sum-nothing, of_entries, of_entries-nil}
 use Rattle.amount_math.proofs.keyed.Keyed.absorb.Goals as goal
 
 pub returns-in_default-clause-ok : goal.returns-in_default-clause-ok
 returns-in_default-clause-ok c =
-    let empty : c.args.other ≡ nothing = sym (rw c.in_default.is at c.other.view_is) ∙ of_entries-nil in
-    sym (ap (sum c.args.self.now) empty ∙ sum-nothing c.args.self.now)
+    let empty : c.args.self.now ≡ nothing = sym (rw c.in_default.is at c.self.view_is) ∙ of_entries-nil in
+    c.swap.ensures.x_after ∙ sym (ap (λ a. sum a c.args.other.now) empty ∙ nothing-sum c.args.other.now)
 
-pub returns-in-None-clause-ok : goal.returns-in-None-clause-ok
-returns-in-None-clause-ok c =
-    let empty : c.args.self.now ≡ nothing = sym (rw c.in-None.is at c.self.view_is) ∙ of_entries-nil in
-    let more = rw c.in-Some.is at c.other.view_is in
-    more ∙ sym (ap (λ a. sum a c.args.other) empty ∙ nothing-sum c.args.other)
+pub returns-in_default-clause-taken : goal.returns-in_default-clause-taken
+returns-in_default-clause-taken c = c.swap.ensures.y_after ∙ rw c.in_default.is of_entries-nil
+
+pub returns-in_default-entries-clause-ok : goal.returns-in_default-entries-clause-ok
+returns-in_default-entries-clause-ok c =
+    let empty : c.args.other.now ≡ nothing = sym (rw c.in_default-entries.is at c.other.view_is) ∙ of_entries-nil in
+    (rw c.in-Some.is at c.self.view_is) ∙ sym (ap (sum c.args.self.now) empty ∙ sum-nothing c.args.self.now)
+
+pub returns-in_default-entries-clause-taken : goal.returns-in_default-entries-clause-taken
+returns-in_default-entries-clause-taken c = rw c.in_default-entries.is of_entries-nil
+
+pub returns-clause-taken : goal.returns-clause-taken
+returns-clause-taken c = on_ok_weaker _ (λ (gone : c.merge.new.more.items ≡ []). ap of_entries gone ∙ of_entries-nil) c.merge.ensures.taken
