@@ -381,14 +381,20 @@ fn push_sums(alloc: Global, text: &mut String, sums: &[Sum]) -> Result<(), Alloc
     Ok(())
 }
 
+fn push_turn(alloc: Global, text: &mut String, turn: &Turn) -> Result<(), AllocError>
+    ensures { OnOk result (string_bytes text.new ≡ string_bytes text.old ++ row_text (turn_row (turn_view turn.now))) }
+{
+    let row = turn_value(alloc, turn)?;
+    push_row(alloc, text, &row)
+}
+
 /// The rows of a turn.
 #[tactic(auto, unfolding(crate::specs::Journal::turn_text))]
 pub fn write_turn(alloc: Global, turn: &Turn) -> Result<String, AllocError>
     ensures { IfOk result (λ text. string_bytes text ≡ turn_text (turn_view turn.now)) }
 {
     let mut text = String::new(alloc);
-    let row = turn_value(alloc, turn)?;
-    push_row(alloc, &mut text, &row)?;
+    push_turn(alloc, &mut text, turn)?;
     push_events(alloc, &mut text, turn.events.as_slice())?;
     push_sums(alloc, &mut text, turn.sums.as_slice())?;
     Ok(text)
