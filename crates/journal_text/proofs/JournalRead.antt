@@ -12,7 +12,6 @@ use Rattle.serde_json.specs.Find.{get, as_str, as_number, as_u64, as_array, as_o
 use Rattle.serde_json.specs.Read.{read}
 use Rattle.serde_json.specs.Written.{compact_text}
 use Rattle.jessie_tree.specs.Tree.{Tree, listed, null, number}
-use Rattle.jessie_tree.specs.declared.data.Obj.{Obj}
 use Rattle.jessie_tree.specs.declared.data.ObjKind.{ObjKind}
 use Rattle.jessie_tree.specs.declared.data.ObjKind.TheVariants.{Brand, Instance, Payment, Zseat}
 use Rattle.promises.specs.States as settlements
@@ -29,7 +28,7 @@ use Rattle.turn_log.specs.declared.events.Cause.{Cause}
 use Rattle.turn_log.specs.declared.events.Cause.TheVariants.{Asked, Threw, Halted, Spent}
 use Rattle.turn_log.specs.declared.events.Opening.{Opening}
 use Rattle.turn_log.specs.declared.events.Payout.{Payout}
-use Rattle.journal_text.specs.Journal.{amount_field, amounts_tree, answer_json, call_answer_json, call_row, called, cause_word, close_text, event_row, exit_json, exit_row, is_beyond, journal_text, json_of, move_row, name_at, open_row, payout_field, payouts_tree, row_text, rows_of, settle_row, settlement_json, sum_row, turn_json, turn_row, turn_text, turn_texts}
+use Rattle.journal_text.specs.Journal.{amount_field, amounts_tree, answer_json, call_answer_json, call_row, called, cause_word, close_text, event_row, exit_json, exit_row, is_beyond, journal_text, json_of, move_row, name_at, open_row, payout_field, payouts_tree, row_text, rows_of, settlement_json, sum_row, turn_json, turn_row, turn_text, turn_texts}
 use Rattle.journal_text.specs.JournalLaws as told
 use Rattle.journal_text.specs.JournalLaws.{AreKeywordRows, IsAnswer, IsCall, IsData, IsDelivery, IsEvent, IsExit, IsJournal, IsKeywordRow, IsLeaving, IsMove, IsOpening, IsPayout, IsResult, IsSum, IsTurn, ToldAnswer, ToldEvent, ToldMove, ToldOpening, ToldRow, ToldTurn, named, settled_with, sorted, told_answer, told_call, told_delivery, told_event, told_leaving, told_move, told_opening, told_result, told_row, told_rows, told_settlement, written}
 use Rattle.journal_text.specs.Turns.{Answer, answered, refused, threw, spent, Delivery, service, start, handler, give, bad, message, TurnRecord}

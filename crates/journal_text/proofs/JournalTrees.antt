@@ -1,5 +1,5 @@
 -- The JSON of lists of data and of what is shown as fields, one more at the end.
-use Rattle.std.proofs.Common.{◌≡◌, ℕ, sym, List, [], ◌∷◌, ◌++◌, refl, ap, ◌+◌, ◌<◌, length, take, get_or, map}
+use Rattle.std.proofs.Common.{◌≡◌, ℕ, List, [], ◌∷◌, ◌++◌, refl, ap, ◌+◌, ◌<◌, length, take, get_or, map}
 use Rattle.std.proofs.lemmas.List.{take_more}
 use Rattle.serde_json.specs.Data.{item, Members, put}
 use Rattle.serde_json.specs.View.{items_of as json_items}

@@ -1,5 +1,5 @@
 -- The rows of a journal are JSON that is read back as it was written.
-use Rattle.std.proofs.Common.{◌≡◌, ℕ, ℤ, suc, pos, negsuc, ◌+◌, ◌^◌, ◌<◌, ◌≤◌, List, [], ◌∷◌, ◌++◌, map, length, Bool, true, false, Result, Ok, Err, refl, ◌∙◌, sym, ap, subst, arith}
+use Rattle.std.proofs.Common.{◌≡◌, ℕ, ℤ, suc, pos, negsuc, ◌+◌, ◌^◌, ◌<◌, ◌≤◌, List, [], ◌∷◌, ◌++◌, map, length, Bool, true, false, Result, Ok, Err, refl, ap, subst, arith}
 use Rattle.std.specs.List.{All, flat_map}
 use Rattle.std.proofs.lemmas.List.Elements.{All-cons, All-nil, All-weaker}
 use Rattle.serde_json.specs.Data as json
@@ -15,7 +15,7 @@ use Rattle.proposals.specs.declared.offers.Exit.{Exit}
 use Rattle.proposals.specs.declared.offers.Exit.TheVariants.{OnDemand, Waived, AfterDeadline}
 use Rattle.rights_model.specs.declared.Movement.{Movement}
 use Rattle.rights_model.specs.declared.Sum.{Sum}
-use Rattle.journal_text.specs.Journal.{amount_field, amounts_tree, answer_json, call_answer_json, call_row, called, close_row, event_row, exit_json, exit_row, is_beyond, items_json, json_of, move_row, number_json, open_row, payout_field, payouts_tree, rows_of, settle_row, settlement_json, sum_row, turn_row}
+use Rattle.journal_text.specs.Journal.{amount_field, amounts_tree, answer_json, call_answer_json, call_row, called, close_row, event_row, exit_json, exit_row, is_beyond, items_json, json_of, move_row, number_json, open_row, payout_field, rows_of, settle_row, settlement_json, sum_row, turn_row}
 use Rattle.journal_text.specs.JournalLaws.{AreApart, AreKeywordRows, IsAnswer, IsCall, IsData, IsDelivery, IsEvent, IsJournal, IsKeywordRow, IsLeaving, IsMove, IsOpening, IsResult, IsTurn, settled_with, sorted}
 use Rattle.call_data.specs.Refusals.{refusal_tree}
 use Rattle.journal_text.specs.Turns.{Answer, answered, refused, threw, spent, Delivery, service, start, handler, give, bad, message, TurnRecord}

@@ -1,5 +1,5 @@
 -- What stands under keywords is shown in byte order of them, in whatever order it was made.
-use Rattle.std.proofs.Common.{◌≡◌, ◌≢◌, ℕ, suc, ◌+◌, ◌<◌, ◌≤◌, List, [], ◌∷◌, length, map, true, false, Bool, cond, Ordering, Less, Equal, Greater, refl, sym, ap, subst, ◌∙◌, arith}
+use Rattle.std.proofs.Common.{◌≡◌, ◌≢◌, ℕ, suc, ◌≤◌, List, [], ◌∷◌, map, true, false, Bool, cond, Ordering, Less, Equal, Greater, refl, sym, ap, ◌∙◌, arith}
 use Rattle.std.proofs.lemmas.Cmp.{nat_list_cmp_total}
 use Rattle.std.proofs.lemmas.List.Elements.{All-nil, All-cons, All-head, All-tail}
 use Rattle.std.specs.FinMap.{nat_cmp-IsAntisymmetric, slice_cmp-IsAntisymmetric}
@@ -7,7 +7,7 @@ use Rattle.std.specs.List.{All, AllPairs}
 use Rattle.std.specs.Ordering.{nat_cmp, ordering_reverse, is_le}
 use Rattle.std.specs.Cmp.Lexicographic.{slice_cmp}
 use Rattle.serde_json.specs.Data.{Data, Members, no_members, member, put}
-use Rattle.jessie_tree.specs.Tree.{Tree, Fields, no_fields, field, Before, Ordered, OrderedFields, nesting, fields_nesting}
+use Rattle.jessie_tree.specs.Tree.{Tree, Fields, Before, Ordered, OrderedFields, nesting, fields_nesting}
 use Rattle.jessie_tree.specs.View.{fields_of}
 use Rattle.proposals.specs.Slots.{is_upto}
 use Rattle.journal_text.specs.Journal.{json_of, fields_json}

@@ -1,3 +1,4 @@
 pub mod Turns
 pub mod Journal
 pub mod JournalLaws
+pub mod JsonRows

@@ -4,24 +4,29 @@
 
 ghost use Rattle.std.specs.Prelude.{◌≡◌, ◌++◌, false, map, IfOk, OnOk, string_bytes, decimal};
 ghost use Rattle.std.specs.List.{flat_map};
-ghost use Rattle.serde_json.specs.Data.{no_members};
-ghost use Rattle.serde_json.specs.View.{view, items_view, members_view};
+ghost use Rattle.serde_json.specs.Data.{array, item as item_at, no_items, no_members, object};
+ghost use Rattle.serde_json.specs.View.{view};
 ghost use Rattle.serde_json.specs.Written.{has_float};
-ghost use Rattle.jessie_tree.specs.Tree.{object as object_at};
+ghost use Rattle.jessie_tree.specs.Tree.{function as function_at, object as object_at};
 ghost use Rattle.jessie_tree.specs.View.{tree, trees, named_trees, items_of, fields_of};
 ghost use Rattle.journal_text.specs.Journal.{word_of, is_single, name_at, name_of, number_json, json_of, items_json, fields_json, only, answer_json, called, turn_json, turn_row, event_row, sum_row, close_row, row_text, turn_text, close_text, brand_name};
 ghost use Rattle.journal_text.specs.JournalLaws.{OneText};
+ghost use Rattle.journal_text.specs.JsonRows.{call_json};
+ghost use Rattle.journal_text.specs.Turns as answers;
 ghost use Rattle.journal_text.specs.Turns.{answer_of, turn_view, service, start, handler, give, bad, message};
-ghost use Rattle.turn_log.specs.Events.{event_views};
+ghost use Rattle.turn_log.specs.Events.{event_view, event_views};
 
 mod event_rows;
+mod json_row;
 
 use crate::turns::{Answer, Delivered, GivenName, HandlerCall, ServiceCall, Turn};
+use call_data::refusals::Refusal;
 use event_rows::event_value;
 use host_text::text::Text;
 use jessie_tree::data::{Data, Obj, ObjKind};
+use json_row::{JsonRow, only_field};
 use rights_model::Sum;
-use serde_json::{Map, Value, json};
+use serde_json::{Map, Value, json, push, put};
 use std::alloc::{AllocError, Global};
 use turn_log::events::Event;
 
@@ -94,7 +99,7 @@ fn number_value(alloc: Global, number: i128) -> Result<Value, AllocError>
         return Ok(Value::from(number as i64));
     }
     let decimal = format!(in alloc; "{}", number)?;
-    json!(in alloc; {"#": decimal})
+    only_field(alloc, "#", Value::String(decimal))
 }
 
 #[cycle(value)]
@@ -106,10 +111,10 @@ fn data_value(alloc: Global, data: &Data) -> Result<Value, AllocError>
         Data::Text(text) => Value::try_from_str(alloc, text.as_str()),
         Data::Bool(truth) => Ok(Value::Bool(*truth)),
         Data::Null => Ok(Value::Null),
-        Data::Array(items) => Ok(Value::Array(item_values(alloc, items.as_slice())?)),
-        Data::Record(fields) => Ok(Value::Object(field_values(alloc, fields.as_slice())?)),
+        Data::Array(items) => items_value(alloc, items.as_slice()),
+        Data::Record(fields) => fields_value(alloc, fields.as_slice()),
         Data::Object(object) => object_value(alloc, *object),
-        Data::Function(name) => json!(in alloc; {"=>": name.as_str()}),
+        Data::Function(name) => function_value(alloc, name.as_str()),
     }
 }
 
@@ -117,31 +122,49 @@ fn object_value(alloc: Global, object: Obj) -> Result<Value, AllocError>
     ensures { IfOk result (λ v. view v ≡ json_of (object_at object)) }
 {
     let name = object_name(alloc, object)?;
-    json!(in alloc; {"@": name})
+    only_field(alloc, "@", Value::String(name))
+}
+
+fn function_value(alloc: Global, name: &str) -> Result<Value, AllocError>
+    ensures { IfOk result (λ v. view v ≡ json_of (function_at name.now)) }
+{
+    let name = Value::try_from_str(alloc, name)?;
+    only_field(alloc, "=>", name)
 }
 
 #[cycle(value)]
-fn item_values(alloc: Global, items: &[Data]) -> Result<Vec<Value>, AllocError>
-    ensures { IfOk result (λ values. items_view values.items ≡ items_json (items_of (trees items.now))) }
+fn items_value(alloc: Global, items: &[Data]) -> Result<Value, AllocError>
+    ensures { IfOk result (λ v. view v ≡ array (items_json (items_of (trees items.now)))) }
 {
     let mut values = Vec::new(alloc);
     for item in items {
-        values.push(data_value(alloc, item)?)?;
+        push(&mut values, data_value(alloc, item)?)?;
     }
-    Ok(values)
+    Ok(Value::Array(values))
 }
 
 #[cycle(value)]
-fn field_values(alloc: Global, fields: &[(Text, Data)]) -> Result<Map<String, Value>, AllocError>
-    ensures { IfOk result (λ values. members_view values.entries
-        ≡ fields_json (fields_of (named_trees fields.now)) no_members) }
+fn fields_value(alloc: Global, fields: &[(Text, Data)]) -> Result<Value, AllocError>
+    ensures { IfOk result (λ v. view v ≡ object (fields_json (fields_of (named_trees fields.now)) no_members)) }
 {
     let mut values = Map::new(alloc);
     for (name, item) in fields {
-        let key = String::from_str(alloc, name.as_str())?;
-        drop(values.insert(key, data_value(alloc, item)?)?);
+        put(&mut values, alloc, name.as_str(), data_value(alloc, item)?)?;
     }
-    Ok(values)
+    Ok(Value::Object(values))
+}
+
+fn no_arguments(alloc: Global) -> Value
+    ensures { view result ≡ array no_items }
+{
+    Value::Array(Vec::new(alloc))
+}
+
+fn one_argument(alloc: Global, argument: &Data) -> Result<Value, AllocError>
+    ensures { IfOk result (λ v. view v ≡ array (item_at (json_of (tree argument.now)) no_items)) }
+{
+    let argument = data_value(alloc, argument)?;
+    json!(in alloc; [argument])
 }
 
 /// Data under a name, alone: `{"ok":d}`.
@@ -149,7 +172,14 @@ fn under(alloc: Global, name: &str, inner: &Data) -> Result<Value, AllocError>
     ensures { IfOk result (λ v. view v ≡ only name.now (json_of (tree inner.now))) }
 {
     let inner = data_value(alloc, inner)?;
-    json!(in alloc; {name: inner})
+    only_field(alloc, name, inner)
+}
+
+fn refusal_value(alloc: Global, refusal: &Refusal) -> Result<Value, AllocError>
+    ensures { IfOk result (λ v. view v ≡ answer_json (answers.refused refusal.now)) }
+{
+    let refusal = refusal.data(alloc)?;
+    under(alloc, "refused", &refusal)
 }
 
 fn answer_value(alloc: Global, answer: &Answer) -> Result<Value, AllocError>
@@ -157,121 +187,133 @@ fn answer_value(alloc: Global, answer: &Answer) -> Result<Value, AllocError>
 {
     match answer {
         Answer::Given(given) => under(alloc, "ok", given),
-        Answer::Refused(refusal) => {
-            let refusal = refusal.data(alloc)?;
-            under(alloc, "refused", &refusal)
-        }
+        Answer::Refused(refusal) => refusal_value(alloc, refusal),
         Answer::Threw(thrown) => under(alloc, "threw", thrown),
-        Answer::Spent(meter) => json!(in alloc; {"spent": *meter}),
+        Answer::Spent(meter) => only_field(alloc, "spent", Value::from(*meter)),
     }
 }
 
-fn service_value(
+/// What a turn row has beside its number, its answer and its arguments.
+#[derive(Clone, Copy)]
+struct CallNames<'a> {
+    kind: &'static str,
+    by: &'a str,
+    on: &'a str,
+    method: &'a str,
+}
+
+fn delivered_value(
     alloc: Global,
-    number: u32,
-    answer: Value,
-    call: &ServiceCall,
+    turn: &Turn,
+    names: CallNames,
+    arguments: Value,
 ) -> Result<Value, AllocError>
-    ensures { IfOk result (λ v. view v ≡ turn_json (view answer)
-        (called (service call.now.by call.now.on call.now.method (trees call.now.arguments.items))) number) }
+    ensures { IfOk result (λ v. view v ≡ call_json (answer_json (answer_of turn.now.answer)) (view arguments) names.entry turn.now.number) }
+{
+    JsonRow::new(alloc)
+        .value("answer", answer_value(alloc, &turn.answer))
+        .value("args", Ok(arguments))
+        .text("by", names.by)
+        .text("do", names.method)
+        .text("kind", names.kind)
+        .number("n", turn.number)
+        .text("on", names.on)
+        .text("row", "turn")
+        .finish()
+}
+
+fn service_value(alloc: Global, turn: &Turn, call: &ServiceCall) -> Result<Value, AllocError>
+    ensures { IfOk result (λ v. view v ≡ turn_json (answer_json (answer_of turn.now.answer))
+        (called (service call.now.by call.now.on call.now.method (trees call.now.arguments.items))) turn.now.number) }
 {
     let on = object_name(alloc, call.on)?;
-    let arguments = Value::Array(item_values(alloc, call.arguments.as_slice())?);
-    let (by, method) = (call.by.as_str(), call.method.as_str());
-    json!(in alloc; {
-        "answer": answer, "args": arguments, "by": by, "do": method,
-        "kind": "service", "n": number, "on": on, "row": "turn"
-    })
+    let arguments = items_value(alloc, call.arguments.as_slice())?;
+    let names = CallNames {
+        kind: "service",
+        by: call.by.as_str(),
+        on: on.as_str(),
+        method: call.method.as_str(),
+    };
+    delivered_value(alloc, turn, names, arguments)
 }
 
-fn start_value(
-    alloc: Global,
-    number: u32,
-    answer: Value,
-    instance: u32,
-) -> Result<Value, AllocError>
-    ensures { IfOk result (λ v. view v ≡ turn_json (view answer) (called (start instance)) number) }
+fn start_value(alloc: Global, turn: &Turn, instance: u32) -> Result<Value, AllocError>
+    ensures { IfOk result (λ v. view v ≡ turn_json (answer_json (answer_of turn.now.answer)) (called (start instance)) turn.now.number) }
 {
     let instance = numbered_name(alloc, ObjKind::Instance, instance)?;
-    let name = instance.as_str();
-    json!(in alloc; {
-        "answer": answer, "args": [], "by": name, "do": "start",
-        "kind": "start", "n": number, "on": name, "row": "turn"
-    })
+    let names = CallNames {
+        kind: "start",
+        by: instance.as_str(),
+        on: instance.as_str(),
+        method: "start",
+    };
+    delivered_value(alloc, turn, names, no_arguments(alloc))
 }
 
-fn handler_value(
-    alloc: Global,
-    number: u32,
-    answer: Value,
-    call: &HandlerCall,
-) -> Result<Value, AllocError>
-    ensures { IfOk result (λ v. view v ≡ turn_json (view answer)
-        (called (handler call.now.instance call.now.seat call.now.function (tree call.now.offer_arguments))) number) }
+fn handler_value(alloc: Global, turn: &Turn, call: &HandlerCall) -> Result<Value, AllocError>
+    ensures { IfOk result (λ v. view v ≡ turn_json (answer_json (answer_of turn.now.answer))
+        (called (handler call.now.instance call.now.seat call.now.function (tree call.now.offer_arguments))) turn.now.number) }
 {
     let instance = numbered_name(alloc, ObjKind::Instance, call.instance)?;
     let seat = numbered_name(alloc, ObjKind::Zseat, call.seat)?;
-    let given = data_value(alloc, &call.offer_arguments)?;
-    let function = call.function.as_str();
-    json!(in alloc; {
-        "answer": answer, "args": [given], "by": instance, "do": function,
-        "kind": "handler", "n": number, "on": seat, "row": "turn"
-    })
+    let arguments = one_argument(alloc, &call.offer_arguments)?;
+    let names = CallNames {
+        kind: "handler",
+        by: instance.as_str(),
+        on: seat.as_str(),
+        method: call.function.as_str(),
+    };
+    delivered_value(alloc, turn, names, arguments)
 }
 
-fn give_value(
-    alloc: Global,
-    number: u32,
-    answer: Value,
-    given: &GivenName,
-) -> Result<Value, AllocError>
-    ensures { IfOk result (λ v. view v ≡ turn_json (view answer)
-        (called (give given.now.by given.now.to given.now.label (tree given.now.given))) number) }
+fn give_value(alloc: Global, turn: &Turn, given: &GivenName) -> Result<Value, AllocError>
+    ensures { IfOk result (λ v. view v ≡ turn_json (answer_json (answer_of turn.now.answer))
+        (called (give given.now.by given.now.to given.now.label (tree given.now.given))) turn.now.number) }
 {
-    let what = data_value(alloc, &given.given)?;
-    let (by, to, label) = (given.by.as_str(), given.to.as_str(), given.label.as_str());
-    json!(in alloc; {
-        "answer": answer, "args": [what], "by": by, "do": label,
-        "kind": "give", "n": number, "on": to, "row": "turn"
-    })
+    let arguments = one_argument(alloc, &given.given)?;
+    let names = CallNames {
+        kind: "give",
+        by: given.by.as_str(),
+        on: given.to.as_str(),
+        method: given.label.as_str(),
+    };
+    delivered_value(alloc, turn, names, arguments)
 }
 
-fn bad_value(alloc: Global, number: u32, answer: Value) -> Result<Value, AllocError>
-    ensures { IfOk result (λ v. view v ≡ turn_json (view answer) (called bad) number) }
+fn bad_value(alloc: Global, turn: &Turn) -> Result<Value, AllocError>
+    ensures { IfOk result (λ v. view v ≡ turn_json (answer_json (answer_of turn.now.answer)) (called bad) turn.now.number) }
 {
-    json!(in alloc; {
-        "answer": answer, "args": [], "by": "", "do": "",
-        "kind": "bad", "n": number, "on": "", "row": "turn"
-    })
+    let names = CallNames {
+        kind: "bad",
+        by: "",
+        on: "",
+        method: "",
+    };
+    delivered_value(alloc, turn, names, no_arguments(alloc))
 }
 
-fn message_value(
-    alloc: Global,
-    number: u32,
-    answer: Value,
-    by: &Text,
-    method: &Text,
-) -> Result<Value, AllocError>
-    ensures { IfOk result (λ v. view v ≡ turn_json (view answer) (called (message by.now method.now)) number) }
+fn message_value(alloc: Global, turn: &Turn, by: &Text, method: &Text) -> Result<Value, AllocError>
+    ensures { IfOk result (λ v. view v ≡ turn_json (answer_json (answer_of turn.now.answer)) (called (message by.now method.now)) turn.now.number) }
 {
-    let (by, method) = (by.as_str(), method.as_str());
-    json!(in alloc; {
-        "answer": answer, "args": [], "by": by, "do": method,
-        "kind": "message", "n": number, "on": "", "row": "turn"
-    })
+    let names = CallNames {
+        kind: "message",
+        by: by.as_str(),
+        on: "",
+        method: method.as_str(),
+    };
+    delivered_value(alloc, turn, names, no_arguments(alloc))
 }
 
 fn turn_value(alloc: Global, turn: &Turn) -> Result<Value, AllocError>
     ensures { IfOk result (λ v. view v ≡ turn_row (turn_view turn.now)) }
 {
-    let answer = answer_value(alloc, &turn.answer)?;
     match &turn.delivered {
-        Delivered::Service(call) => service_value(alloc, turn.number, answer, call),
-        Delivered::Start(instance) => start_value(alloc, turn.number, answer, *instance),
-        Delivered::Handler(call) => handler_value(alloc, turn.number, answer, call),
-        Delivered::Give(given) => give_value(alloc, turn.number, answer, given),
-        Delivered::Bad => bad_value(alloc, turn.number, answer),
-        Delivered::Message(by, method) => message_value(alloc, turn.number, answer, by, method),
+        Delivered::Service(call) => service_value(alloc, turn, call),
+        Delivered::Start(instance) => start_value(alloc, turn, *instance),
+        Delivered::Handler(call) => handler_value(alloc, turn, call),
+        Delivered::Give(given) => give_value(alloc, turn, given),
+        Delivered::Bad => bad_value(alloc, turn),
+        Delivered::Message(by, method) => message_value(alloc, turn, by, method),
     }
 }
 
@@ -284,16 +326,15 @@ fn decimal_text(alloc: Global, total: u128) -> Result<String, AllocError>
 fn sum_value(alloc: Global, sum: &Sum) -> Result<Value, AllocError>
     ensures { IfOk result (λ v. view v ≡ sum_row sum.now) }
 {
-    let brand = brand_text(alloc, sum.brand)?;
-    let burned = decimal_text(alloc, sum.burned)?;
-    let minted = decimal_text(alloc, sum.minted)?;
-    let payments = decimal_text(alloc, sum.payments)?;
-    let purses = decimal_text(alloc, sum.purses)?;
-    let slots = decimal_text(alloc, sum.slots)?;
-    json!(in alloc; {
-        "brand": brand, "burned": burned, "minted": minted, "payments": payments,
-        "purses": purses, "row": "sum", "slots": slots
-    })
+    JsonRow::new(alloc)
+        .string("brand", brand_text(alloc, sum.brand))
+        .string("burned", decimal_text(alloc, sum.burned))
+        .string("minted", decimal_text(alloc, sum.minted))
+        .string("payments", decimal_text(alloc, sum.payments))
+        .string("purses", decimal_text(alloc, sum.purses))
+        .text("row", "sum")
+        .string("slots", decimal_text(alloc, sum.slots))
+        .finish()
 }
 
 /// Adds a row to the text.
@@ -308,24 +349,43 @@ fn push_row(alloc: Global, text: &mut String, row: &Value) -> Result<(), AllocEr
     Ok(())
 }
 
+fn push_event(alloc: Global, text: &mut String, event: &Event) -> Result<(), AllocError>
+    ensures { OnOk result (string_bytes text.new ≡ string_bytes text.old ++ row_text (event_row (event_view event.now))) }
+{
+    let row = event_value(alloc, event)?;
+    push_row(alloc, text, &row)
+}
+
 fn push_events(alloc: Global, text: &mut String, events: &[Event]) -> Result<(), AllocError>
     ensures { OnOk result (string_bytes text.new ≡ string_bytes text.old ++ flat_map row_text (map event_row (event_views events.now))) }
 {
     for event in events {
-        let row = event_value(alloc, event)?;
-        push_row(alloc, text, &row)?;
+        push_event(alloc, text, event)?;
     }
     Ok(())
+}
+
+fn push_sum(alloc: Global, text: &mut String, sum: &Sum) -> Result<(), AllocError>
+    ensures { OnOk result (string_bytes text.new ≡ string_bytes text.old ++ row_text (sum_row sum.now)) }
+{
+    let row = sum_value(alloc, sum)?;
+    push_row(alloc, text, &row)
 }
 
 fn push_sums(alloc: Global, text: &mut String, sums: &[Sum]) -> Result<(), AllocError>
     ensures { OnOk result (string_bytes text.new ≡ string_bytes text.old ++ flat_map row_text (map sum_row sums.now)) }
 {
     for sum in sums {
-        let row = sum_value(alloc, sum)?;
-        push_row(alloc, text, &row)?;
+        push_sum(alloc, text, sum)?;
     }
     Ok(())
+}
+
+fn push_turn(alloc: Global, text: &mut String, turn: &Turn) -> Result<(), AllocError>
+    ensures { OnOk result (string_bytes text.new ≡ string_bytes text.old ++ row_text (turn_row (turn_view turn.now))) }
+{
+    let row = turn_value(alloc, turn)?;
+    push_row(alloc, text, &row)
 }
 
 /// The rows of a turn.
@@ -334,8 +394,7 @@ pub fn write_turn(alloc: Global, turn: &Turn) -> Result<String, AllocError>
     ensures { IfOk result (λ text. string_bytes text ≡ turn_text (turn_view turn.now)) }
 {
     let mut text = String::new(alloc);
-    let row = turn_value(alloc, turn)?;
-    push_row(alloc, &mut text, &row)?;
+    push_turn(alloc, &mut text, turn)?;
     push_events(alloc, &mut text, turn.events.as_slice())?;
     push_sums(alloc, &mut text, turn.sums.as_slice())?;
     Ok(text)
@@ -344,7 +403,11 @@ pub fn write_turn(alloc: Global, turn: &Turn) -> Result<String, AllocError>
 fn close_value(alloc: Global, left: u64, turns: u32) -> Result<Value, AllocError>
     ensures { IfOk result (λ v. view v ≡ close_row left turns) }
 {
-    json!(in alloc; {"left": left, "row": "close", "turns": turns})
+    JsonRow::new(alloc)
+        .value("left", Ok(Value::from(left)))
+        .text("row", "close")
+        .number("turns", turns)
+        .finish()
 }
 
 /// The close row: how many deliveries are left, and how many turns were run.

@@ -7,7 +7,7 @@ use rights_model::Sum;
 use turn_log::events::Event;
 
 /// A call that was worked, once its paths were resolved.
-#[derive(Debug, Drop)]
+#[derive(Drop)]
 pub struct ServiceCall {
     /// The party, by its label.
     pub by: Text,
@@ -17,7 +17,7 @@ pub struct ServiceCall {
 }
 
 /// A name that was given.
-#[derive(Debug, Drop)]
+#[derive(Drop)]
 pub struct GivenName {
     /// The giver and the receiver, by their labels.
     pub by: Text,
@@ -29,7 +29,7 @@ pub struct GivenName {
 }
 
 /// A handler that was called for an offer (Zoe's offer handler).
-#[derive(Debug, Drop)]
+#[derive(Drop)]
 pub struct HandlerCall {
     /// The instance and the seat, by their numbers.
     pub instance: u32,
@@ -40,7 +40,7 @@ pub struct HandlerCall {
 }
 
 /// What was delivered.
-#[derive(Debug, Drop)]
+#[derive(Drop)]
 pub enum Delivered {
     Service(ServiceCall),
     /// The start of an instance, by its number.
@@ -54,7 +54,7 @@ pub enum Delivered {
 }
 
 /// What was answered.
-#[derive(Debug, Drop)]
+#[derive(Drop)]
 pub enum Answer {
     Given(Data),
     Refused(Refusal),
@@ -65,7 +65,7 @@ pub enum Answer {
 }
 
 /// A turn's record.
-#[derive(Debug, Drop)]
+#[derive(Drop)]
 pub struct Turn {
     /// From 1.
     pub number: u32,

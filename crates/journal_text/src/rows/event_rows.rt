@@ -1,15 +1,14 @@
 //! The rows of a turn's events.
 
-ghost use Rattle.std.specs.Prelude.{◌≡◌, map, IfOk, string_bytes};
-ghost use Rattle.serde_json.specs.Data.{no_members};
-ghost use Rattle.serde_json.specs.View.{view, members_view};
-ghost use Rattle.jessie_tree.specs.View.{fields_of};
+ghost use Rattle.std.specs.Prelude.{◌≡◌, IfOk, string_bytes};
+ghost use Rattle.serde_json.specs.View.{view};
 ghost use Rattle.promises.specs.States.{settlement_view};
 ghost use Rattle.call_data.specs.Values.{amount_tree, value_tree};
-ghost use Rattle.journal_text.specs.Journal.{amount_field, call_answer_json, call_row, cause_word, event_row, exit_json, exit_row, fields_json, holder_name as name_of_holder, json_of, move_row, open_row, payout_field, settle_row, settlement_json};
+ghost use Rattle.journal_text.specs.Journal.{amounts_tree, call_answer_json, call_row, cause_word, event_row, exit_json, exit_row, holder_name as name_of_holder, json_of, move_row, open_row, payouts_tree, settle_row, settlement_json};
 ghost use Rattle.turn_log.specs.Events.{answer_view, call_view, event_view, leaving_view};
 
-use super::{brand_text, data_value, item_values, number_value, numbered_name, object_name, under};
+use super::json_row::{JsonRow, only_field};
+use super::{brand_text, data_value, items_value, number_value, numbered_name, object_name, under};
 use amount_math::{Amount, Value as Held};
 use call_data::values::{amount_data, value_data};
 use jessie_tree::data::ObjKind;
@@ -17,7 +16,7 @@ use promises::Settlement;
 use proposals::allocations::Row;
 use proposals::offers::Exit;
 use rights_model::{Holder, Movement};
-use serde_json::{Map, Value, json};
+use serde_json::{Map, Value, put};
 use std::alloc::{AllocError, Global};
 use turn_log::events::{CallAnswer, Cause, Event, HostCall, Leaving, Opening, Payout};
 
@@ -33,13 +32,14 @@ fn call_answer_value(alloc: Global, answer: &CallAnswer) -> Result<Value, AllocE
 fn call_value(alloc: Global, call: &HostCall) -> Result<Value, AllocError>
     ensures { IfOk result (λ v. view v ≡ call_row (call_view call.now)) }
 {
-    let answer = call_answer_value(alloc, &call.answer)?;
-    let arguments = Value::Array(item_values(alloc, call.arguments.as_slice())?);
-    let method = call.method.as_str();
-    let on = object_name(alloc, call.on)?;
-    json!(in alloc; {
-        "answer": answer, "args": arguments, "do": method, "how": "call", "on": on, "row": "call"
-    })
+    JsonRow::new(alloc)
+        .value("answer", call_answer_value(alloc, &call.answer))
+        .value("args", items_value(alloc, call.arguments.as_slice()))
+        .text("do", call.method.as_str())
+        .text("how", "call")
+        .string("on", object_name(alloc, call.on))
+        .text("row", "call")
+        .finish()
 }
 
 fn exit_value(alloc: Global, exit: Exit) -> Result<Value, AllocError>
@@ -50,7 +50,7 @@ fn exit_value(alloc: Global, exit: Exit) -> Result<Value, AllocError>
         Exit::Waived => Value::try_from_str(alloc, "waived"),
         Exit::AfterDeadline(time) => {
             let time = number_value(alloc, i128::from(time))?;
-            json!(in alloc; {"afterDeadline": time})
+            only_field(alloc, "afterDeadline", time)
         }
     }
 }
@@ -64,30 +64,32 @@ fn amount_value(alloc: Global, amount: &Amount) -> Result<Value, AllocError>
 }
 
 /// The amounts of rows, under their keywords.
-fn amounts_value(alloc: Global, rows: &[Row]) -> Result<Map<String, Value>, AllocError>
-    ensures { IfOk result (λ values. members_view values.entries
-        ≡ fields_json (fields_of (map amount_field rows.now)) no_members) }
+fn amounts_value(alloc: Global, rows: &[Row]) -> Result<Value, AllocError>
+    ensures { IfOk result (λ v. view v ≡ json_of (amounts_tree rows.now)) }
 {
     let mut values = Map::new(alloc);
     for row in rows {
-        let key = String::from_str(alloc, row.keyword.as_str())?;
-        drop(values.insert(key, amount_value(alloc, &row.amount)?)?);
+        let amount = amount_value(alloc, &row.amount)?;
+        put(&mut values, alloc, row.keyword.as_str(), amount)?;
     }
-    Ok(values)
+    Ok(Value::Object(values))
 }
 
 fn open_value(alloc: Global, opening: &Opening) -> Result<Value, AllocError>
     ensures { IfOk result (λ v. view v ≡ open_row opening.now) }
 {
     let proposal = &opening.proposal;
-    let exit = exit_value(alloc, proposal.exit)?;
-    let give = Value::Object(amounts_value(alloc, proposal.give.rows())?);
-    let instance = numbered_name(alloc, ObjKind::Instance, opening.instance)?;
-    let want = Value::Object(amounts_value(alloc, proposal.want.rows())?);
-    json!(in alloc; {
-        "exit": exit, "give": give, "instance": instance, "row": "open",
-        "seat": opening.seat, "want": want
-    })
+    JsonRow::new(alloc)
+        .value("exit", exit_value(alloc, proposal.exit))
+        .value("give", amounts_value(alloc, proposal.give.rows()))
+        .string(
+            "instance",
+            numbered_name(alloc, ObjKind::Instance, opening.instance),
+        )
+        .text("row", "open")
+        .number("seat", opening.seat)
+        .value("want", amounts_value(alloc, proposal.want.rows()))
+        .finish()
 }
 
 #[tactic(auto, unfolding(crate::specs::Journal::holder_name))]
@@ -114,11 +116,13 @@ fn held_value(alloc: Global, held: &Held) -> Result<Value, AllocError>
 fn move_value(alloc: Global, movement: &Movement) -> Result<Value, AllocError>
     ensures { IfOk result (λ v. view v ≡ move_row movement.now) }
 {
-    let brand = brand_text(alloc, movement.brand)?;
-    let from = holder_text(alloc, &movement.from)?;
-    let to = holder_text(alloc, &movement.to)?;
-    let value = held_value(alloc, &movement.value)?;
-    json!(in alloc; {"brand": brand, "from": from, "row": "move", "to": to, "value": value})
+    JsonRow::new(alloc)
+        .string("brand", brand_text(alloc, movement.brand))
+        .string("from", holder_text(alloc, &movement.from))
+        .text("row", "move")
+        .string("to", holder_text(alloc, &movement.to))
+        .value("value", held_value(alloc, &movement.value))
+        .finish()
 }
 
 fn cause_text(cause: Cause) -> &'static str
@@ -133,25 +137,31 @@ fn cause_text(cause: Cause) -> &'static str
 }
 
 /// The names of payments, under their keywords.
-fn payouts_value(alloc: Global, payouts: &[Payout]) -> Result<Map<String, Value>, AllocError>
-    ensures { IfOk result (λ values. members_view values.entries
-        ≡ fields_json (fields_of (map payout_field payouts.now)) no_members) }
+fn payouts_value(alloc: Global, payouts: &[Payout]) -> Result<Value, AllocError>
+    ensures { IfOk result (λ v. view v ≡ json_of (payouts_tree payouts.now)) }
 {
     let mut values = Map::new(alloc);
     for payout in payouts {
-        let key = String::from_str(alloc, payout.keyword.as_str())?;
         let name = numbered_name(alloc, ObjKind::Payment, payout.payment)?;
-        drop(values.insert(key, Value::String(name))?);
+        put(
+            &mut values,
+            alloc,
+            payout.keyword.as_str(),
+            Value::String(name),
+        )?;
     }
-    Ok(values)
+    Ok(Value::Object(values))
 }
 
 fn leaving_value(alloc: Global, leaving: &Leaving) -> Result<Value, AllocError>
     ensures { IfOk result (λ v. view v ≡ exit_row (leaving_view leaving.now)) }
 {
-    let payouts = Value::Object(payouts_value(alloc, leaving.payouts.as_slice())?);
-    let cause = cause_text(leaving.cause);
-    json!(in alloc; {"cause": cause, "payouts": payouts, "row": "exit", "seat": leaving.seat})
+    JsonRow::new(alloc)
+        .text("cause", cause_text(leaving.cause))
+        .value("payouts", payouts_value(alloc, leaving.payouts.as_slice()))
+        .text("row", "exit")
+        .number("seat", leaving.seat)
+        .finish()
 }
 
 fn settlement_value(alloc: Global, settlement: &Settlement) -> Result<Value, AllocError>
@@ -166,8 +176,11 @@ fn settlement_value(alloc: Global, settlement: &Settlement) -> Result<Value, All
 fn settle_value(alloc: Global, promise: u32, settlement: &Settlement) -> Result<Value, AllocError>
     ensures { IfOk result (λ v. view v ≡ settle_row promise (settlement_view settlement.now)) }
 {
-    let to = settlement_value(alloc, settlement)?;
-    json!(in alloc; {"promise": promise, "row": "settle", "to": to})
+    JsonRow::new(alloc)
+        .number("promise", promise)
+        .text("row", "settle")
+        .value("to", settlement_value(alloc, settlement))
+        .finish()
 }
 
 /// The row of an event.

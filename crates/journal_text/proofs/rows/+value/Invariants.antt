@@ -5,8 +5,8 @@ use Rattle.jessie_tree.specs.View.{tree, named_trees, fields_of}
 use Rattle.journal_text.specs.Journal.{json_of, fields_json}
 use Rattle.journal_text.proofs.rows.+value.Given as goal
 
-abbrev pub invariant-field_values-loop-name : goal.invariant-field_values-loop-name
-invariant-field_values-loop-name l = members_view l.values.entries ≡ fields_json (fields_of (named_trees (take l.name-index l.fields))) no_members
+abbrev pub invariant-fields_value-loop-name : goal.invariant-fields_value-loop-name
+invariant-fields_value-loop-name l = members_view l.values.entries ≡ fields_json (fields_of (named_trees (take l.name-index l.fields))) no_members
 
-abbrev pub invariant-item_values-loop-item : goal.invariant-item_values-loop-item
-invariant-item_values-loop-item l = map view l.values.items ≡ map (λ d. json_of (tree d)) (take l.item-index l.items)
+abbrev pub invariant-items_value-loop-item : goal.invariant-items_value-loop-item
+invariant-items_value-loop-item l = map view l.values.items ≡ map (λ d. json_of (tree d)) (take l.item-index l.items)

@@ -1,0 +1,11 @@
+use Rattle.std.proofs.Common.{[], ◌∷◌, refl}
+use Rattle.std.specs.Prelude.{codes}
+use Rattle.serde_json.specs.Data.{number, string, unsigned}
+use Rattle.promises.specs.States.{settlement_view}
+use Rattle.journal_text.specs.Journal.{settlement_json}
+use Rattle.journal_text.proofs.rows.event_rows.settle_value.Goals as goal
+
+pub returns : goal.returns
+returns c =
+    let fields = (codes "to", settlement_json (settlement_view c.args.settlement.now)) ∷ (codes "row", string (codes "settle")) ∷ (codes "promise", number (unsigned c.args.promise)) ∷ [] in
+    c.finish.ensures fields (c.value.ensures _ _ (c.text.ensures _ _ (c.number.ensures _ c.new.ensures) refl) c.settlement_value.ensures)
