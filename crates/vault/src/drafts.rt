@@ -6,7 +6,8 @@
 //! defines it, so that the table of a draft is the kept one after the draft's movements. Whatever calls
 //! are made, each brand's purses, live payments and slots add up to what is out of it.
 
-ghost use Rattle.std.specs.Prelude.{◌≡◌, ◌<◌, ◌≤◌, ◌+◌, ◌^◌, ◌↔◌, [], false, length, IsOk, IsSome, IfErr, IfOk, OnErr, OnOk};
+ghost use Rattle.std.specs.Prelude.{◌≡◌, ◌<◌, ◌≤◌, ◌+◌, ◌^◌, ◌↔◌, [], false, length, vec_len, IsOk, IsSome, IfErr, IfOk, OnErr, OnOk};
+ghost use Rattle.std.specs.Vec.{vec_capacity};
 ghost use Rattle.amount_math.specs.Content.{Contains, sum};
 ghost use Rattle.amount_math.specs.Worth.{IsIssueRefusal, IsPutRefusal, IsTakeRefusal};
 ghost use Rattle.ertp_mint.specs.BrandSupply.{supply_at};
@@ -52,7 +53,6 @@ impl Model for Vault {
 }
 
 /// A turn's changes, which are to be committed or undone.
-#[derive(Debug)]
 pub struct Draft {
     alloc: Global,
     kept: Vault,
@@ -161,8 +161,36 @@ fn step(
     })
 }
 
-/// Lets a movement that wasn't made go.
-fn discard(_unmade: Movement) {}
+/// Such a movement, once there is room to note it.
+fn to_note(
+    alloc: Global,
+    movements: &mut Vec<Movement>,
+    brand: u16,
+    from: &Holder,
+    to: &Holder,
+    value: &Value,
+) -> Result<Movement, AllocError>
+    ensures step { IfOk result (λ step. step ≡ movement brand from.now to.now value.now) }
+    ensures room { OnOk result (vec_len movements.new < vec_capacity movements.new) }
+    ensures same { movements.new.items ≡ movements.old.items }
+{
+    movements.reserve(1)?;
+    step(alloc, brand, from, to, value)
+}
+
+/// The movement that pays a slot out.
+fn payout_move(alloc: Global, seat: u32, payment: u32, slot: &Row) -> Result<Movement, AllocError>
+    ensures { IfOk result (λ step. step ≡ payout_move seat payment slot.now) }
+{
+    let value = slot.amount.value.copy()?;
+    let keyword = slot.keyword.copy(alloc)?;
+    Ok(Movement {
+        brand: slot.amount.brand,
+        from: Holder::Slot(seat, keyword),
+        to: Holder::Payment(payment),
+        value,
+    })
+}
 
 impl Draft {
     /// Ends the turn, and keeps what it did.
@@ -257,9 +285,10 @@ impl Draft {
         ensures kept { self.new.kept ≡ self.old.kept }
         ensures hand { KeepsHand self.old self.new }
     {
-        let mut noted = step.copy(self.alloc)?;
         self.movements.reserve(1)?;
+        let mut noted = step.copy(self.alloc)?;
         let Ok(parcel) = self.stores.leave(&step.from, step.brand, &step.value) else {
+            drop(noted);
             return Err(AllocError);
         };
         match self.stores.bring(self.alloc, &step.to, parcel) {
@@ -290,19 +319,17 @@ impl Draft {
         ensures refused { IfErr result (IsTakeRefusal (held_by self.old.now holder.now) value.now.content) }
     {
         let brand = self.stores.brand(holder);
-        let Ok(noted) = step(self.alloc, brand, holder, &Holder::Hand, value) else {
+        let movements = &mut self.movements;
+        let Ok(noted) = to_note(self.alloc, movements, brand, holder, &Holder::Hand, value) else {
             return Err(TakeFault::NoMemory);
         };
-        if self.movements.reserve(1).is_err() {
-            return Err(TakeFault::NoMemory);
-        }
         match self.stores.leave(holder, brand, value) {
             Ok(parcel) => {
                 self.movements.push_reserved(noted);
                 Ok(parcel)
             }
             Err(fault) => {
-                discard(noted);
+                drop(noted);
                 Err(fault)
             }
         }
@@ -323,8 +350,9 @@ impl Draft {
         ensures err { OnErr result (self.new ≡ self.old) }
         ensures refused { IfErr result (λ (_, fault). IsPutRefusal parcel.value.kind (sum (held_by self.old.now holder.now) parcel.value.content) fault) }
     {
-        let Ok(noted) = step(
+        let Ok(noted) = to_note(
             self.alloc,
+            &mut self.movements,
             parcel.brand(),
             &Holder::Hand,
             holder,
@@ -332,16 +360,13 @@ impl Draft {
         ) else {
             return Err((parcel, PutFault::NoMemory));
         };
-        if self.movements.reserve(1).is_err() {
-            return Err((parcel, PutFault::NoMemory));
-        }
         match self.stores.come(self.alloc, holder, parcel) {
             Ok(()) => {
                 self.movements.push_reserved(noted);
                 Ok(())
             }
             Err(refused) => {
-                discard(noted);
+                drop(noted);
                 Err(refused)
             }
         }
@@ -361,19 +386,23 @@ impl Draft {
         ensures err { OnErr result (self.new ≡ self.old) }
         ensures refused { IfErr result (λ (_, fault). IsIssueRefusal value.kind (sum (out_of self.old.now brand) value.content) fault) }
     {
-        let Ok(noted) = step(self.alloc, brand, &Holder::Outside, &Holder::Hand, &value) else {
+        let Ok(noted) = to_note(
+            self.alloc,
+            &mut self.movements,
+            brand,
+            &Holder::Outside,
+            &Holder::Hand,
+            &value,
+        ) else {
             return Err((value, PutFault::NoMemory));
         };
-        if self.movements.reserve(1).is_err() {
-            return Err((value, PutFault::NoMemory));
-        }
         match self.stores.supply.issue(brand, value) {
             Ok(parcel) => {
                 self.movements.push_reserved(noted);
                 Ok(parcel)
             }
             Err(refused) => {
-                discard(noted);
+                drop(noted);
                 Err(refused)
             }
         }
@@ -390,19 +419,16 @@ impl Draft {
         ensures back { IfErr result (λ (back, _). back ≡ parcel) }
         ensures err { OnErr result (self.new ≡ self.old) }
     {
-        let noted = match step(
+        let Ok(noted) = to_note(
             self.alloc,
+            &mut self.movements,
             parcel.brand(),
             &Holder::Hand,
             &Holder::Outside,
             parcel.value(),
-        ) {
-            Ok(noted) => noted,
-            Err(error) => return Err((parcel, error)),
+        ) else {
+            return Err((parcel, AllocError));
         };
-        if let Err(error) = self.movements.reserve(1) {
-            return Err((parcel, error));
-        }
         self.stores.supply.retire(parcel);
         self.movements.push_reserved(noted);
         Ok(())
@@ -532,6 +558,20 @@ impl Draft {
         }
     }
 
+    /// Moves what a slot has to the next payment.
+    fn pay_slot(&mut self, seat: u32, slot: &Row, payment: u32) -> Result<(), AllocError>
+        requires { CanTransfer self.old.now (payout_move seat payment slot.now) }
+        ensures ok { OnOk result (self.new ≡ stepped self.old (payout_move seat payment slot.now)) }
+        ensures valid { IsDraft self.new }
+        ensures kept { self.new.kept ≡ self.old.kept }
+        ensures hand { KeepsHand self.old self.new }
+    {
+        let step = payout_move(self.alloc, seat, payment, slot)?;
+        let paid = self.transfer(&step);
+        drop(step);
+        paid
+    }
+
     /// Pays a slot out to the next payment.
     fn pay_out(&mut self, seat: u32, slot: &Row) -> Result<Payout, AllocError>
         requires { CanTransfer self.old.now (payout_move seat (length self.old.now.payments) slot.now) }
@@ -542,13 +582,7 @@ impl Draft {
         ensures hand { KeepsHand self.old self.new }
     {
         let payment = self.stores.payments.made();
-        let step = Movement {
-            brand: slot.amount.brand,
-            from: Holder::Slot(seat, slot.keyword.copy(self.alloc)?),
-            to: Holder::Payment(payment),
-            value: slot.amount.value.copy()?,
-        };
-        self.transfer(&step)?;
+        self.pay_slot(seat, slot, payment)?;
         let keyword = slot.keyword.copy(self.alloc)?;
         Ok(Payout { keyword, payment })
     }

@@ -63,6 +63,23 @@ impl Model for Payment {
     ghost view = { λ a. record { amount = a.stock; is_live = a.is_live } };
 }
 
+impl Payment {
+    /// A live payment of a parcel, or the parcel back for want of memory.
+    fn live(parcel: Parcel) -> Result<Payment, Parcel>
+        ensures made { IfOk result (λ payment. payment ≡ live_with parcel) }
+        ensures back { IfErr result (λ back. back ≡ parcel) }
+    {
+        let mut stock = Stock::empty(parcel.brand(), parcel.value().kind());
+        match stock.put(parcel) {
+            Ok(()) => Ok(Payment {
+                stock,
+                is_live: true,
+            }),
+            Err((parcel, _)) => Err(parcel),
+        }
+    }
+}
+
 /// All payments. Contracts see of each its amount and whether it is live, by number.
 #[derive(Debug, Drop)]
 pub struct Payments {
@@ -159,16 +176,12 @@ impl Payments {
         if self.payments.reserve(1).is_err() {
             return Err((parcel, MakeFault::NoMemory));
         }
-        let mut stock = Stock::empty(parcel.brand(), parcel.value().kind());
-        match stock.put(parcel) {
-            Ok(()) => {
-                self.payments.push_reserved(Payment {
-                    stock,
-                    is_live: true,
-                });
+        match Payment::live(parcel) {
+            Ok(payment) => {
+                self.payments.push_reserved(payment);
                 Ok(PaymentRef { number })
             }
-            Err((parcel, _)) => Err((parcel, MakeFault::NoMemory)),
+            Err(parcel) => Err((parcel, MakeFault::NoMemory)),
         }
     }
 

@@ -66,16 +66,15 @@ impl Purses {
         ensures limit { IfErr result (λ fault. (fault ≡ OpenFault.Limit) ↔ (length self.old ≡ most_made)) }
         ensures err { OnErr result (self.new ≡ self.old) }
     {
-        let Ok(number) = u32::try_from(self.stocks.len()) else {
-            unreachable!()
-        };
+        let number = self.made();
         if number == u32::MAX {
             return Err(OpenFault::Limit);
         }
-        match self.stocks.push(Stock::empty(brand, kind)) {
-            Ok(()) => Ok(number),
-            Err(_) => Err(OpenFault::NoMemory),
+        if self.stocks.reserve(1).is_err() {
+            return Err(OpenFault::NoMemory);
         }
+        self.stocks.push_reserved(Stock::empty(brand, kind));
+        Ok(number)
     }
 
     /// The brand of a purse.

@@ -105,8 +105,7 @@ impl Stores {
         };
         match self.supply.issue(brand, value) {
             Ok(parcel) => Ok(parcel),
-            Err((_, PutFault::NoMemory)) => Err(TakeFault::NoMemory),
-            Err((_, PutFault::Overlap(_) | PutFault::TooMuch(_))) => unreachable!(),
+            Err(_) => Err(TakeFault::NoMemory),
         }
     }
 

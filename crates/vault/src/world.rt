@@ -1,15 +1,15 @@
 //! The world that a turn works on: the draft of the vault and the other stores. Each method is one effect,
 //! as it is defined. For want of memory an effect may be half done; the turn is then to be undone.
 
-ghost use Rattle.std.specs.Prelude.{◌≡◌, ◌<◌, ◌≤◌, ◌+◌, ◌++◌, All, IfErr, IfOk, OnOk, false, length, map};
+ghost use Rattle.std.specs.Prelude.{◌≡◌, ◌<◌, ◌≤◌, ◌+◌, ◌++◌, ◌∷◌, [], All, IfErr, IfOk, OnOk, false, length, map};
 ghost use Rattle.ertp_mint.specs.Stocks.{most_made};
 ghost use Rattle.invitations.specs.Details.{details_view};
 ghost use Rattle.jessie_tree.specs.View.{tree, trees};
 ghost use Rattle.promises.specs.States.{settlement_view};
 ghost use Rattle.proposals.specs.Slots.{FitsSeat};
 ghost use Rattle.seats.specs.Seats.{seat_at};
-ghost use Rattle.turn_log.specs.Events.{call_view, moved};
-ghost use Rattle.turn_log.specs.Logs.{log_of};
+ghost use Rattle.turn_log.specs.Events.{call_view, exited, moved, settled};
+ghost use Rattle.turn_log.specs.Logs.{HasRoom, log_of};
 ghost use Rattle.vault.specs.Drafts.{HandIsEmpty, IsOffered, payouts_of};
 ghost use Rattle.vault.specs.InstanceDeliveries.{delivery_view};
 ghost use Rattle.vault.specs.Vaults.{CanTransfer, first_vault};
@@ -50,8 +50,8 @@ impl Resting {
     pub fn first(alloc: Global) -> Result<Resting, AllocError>
         ensures { IfOk result (λ first. rested first ≡ first_rested) }
     {
-        let vault = first_vault(alloc)?;
         let brands = Brands::new(alloc)?;
+        let vault = first_vault(alloc)?;
         Ok(Resting {
             vault,
             brands,
@@ -81,7 +81,6 @@ fn first_vault(alloc: Global) -> Result<Vault, AllocError>
 }
 
 /// What the calls of a turn work on. Contracts see it as `world_of` (specs/Worlds.antt).
-#[derive(Debug)]
 pub struct World {
     alloc: Global,
     pub draft: Draft,
@@ -234,11 +233,8 @@ impl World {
         ensures ok { OnOk result (world_of self.new ≡ after (world_of self.old) (move movement.now)) }
         ensures keeps { Keeps (world_of self.old) (world_of self.new) }
     {
-        let moved = movement.copy(self.alloc)?;
-        self.log.reserve()?;
         self.draft.transfer(movement)?;
-        self.log.push_reserved(Event::Moved(moved));
-        Ok(())
+        tell_movement(self.alloc, &mut self.log, movement)
     }
 
     /// Opens a seat of an instance for a proposal, and makes the promises of its result and of its
@@ -259,8 +255,10 @@ impl World {
         ensures ok { OnOk result (world_of self.new ≡ seated (world_of self.old) instance proposal) }
         ensures keeps { Keeps (world_of self.old) (world_of self.new) }
     {
-        let told = proposal.copy(self.alloc)?;
-        self.log.reserve()?;
+        let Ok(told) = to_tell(self.alloc, &mut self.log, &proposal) else {
+            drop(proposal);
+            return Err(AllocError);
+        };
         match self.draft.open_seat(instance, proposal) {
             Ok(seat) => {
                 let opening = Opening {
@@ -271,7 +269,11 @@ impl World {
                 self.log.push_reserved(Event::Opened(opening));
                 Ok(())
             }
-            Err(_) => Err(AllocError),
+            Err((proposal, _)) => {
+                drop(proposal);
+                drop(told);
+                Err(AllocError)
+            }
         }
     }
 
@@ -309,14 +311,16 @@ impl World {
         ensures ok { OnOk result (world_of self.new ≡ after (world_of self.old) (settle promise (settlement_view settlement))) }
         ensures keeps { Keeps (world_of self.old) (world_of self.new) }
     {
-        let told = copy_settlement(self.alloc, &settlement)?;
-        self.log.reserve()?;
+        let Ok(()) = tell_settled(self.alloc, &mut self.log, promise, &settlement) else {
+            drop(settlement);
+            return Err(AllocError);
+        };
         match self.promises.settle(promise, settlement) {
-            Ok(()) => {
-                self.log.push_reserved(Event::Settled(promise, told));
-                Ok(())
+            Ok(()) => Ok(()),
+            Err((settlement, error)) => {
+                drop(settlement);
+                Err(error)
             }
-            Err(_) => Err(AllocError),
         }
     }
 
@@ -357,7 +361,12 @@ impl World {
         ensures ok { OnOk result (world_of self.new ≡ after (world_of self.old) (start_instance installation issuers (tree terms) (tree private_arguments))) }
         ensures keeps { Keeps (world_of self.old) (world_of self.new) }
     {
-        let promise = self.make_promise()?;
+        let Ok(promise) = self.make_promise() else {
+            drop(issuers);
+            drop(terms);
+            drop(private_arguments);
+            return Err(AllocError);
+        };
         match self
             .instances
             .start(self.alloc, installation, issuers, terms)
@@ -371,7 +380,12 @@ impl World {
                 self.deliveries.push(InstanceDelivery::Start(start))?;
                 Ok(())
             }
-            Err(_) => Err(AllocError),
+            Err((issuers, terms, _)) => {
+                drop(issuers);
+                drop(terms);
+                drop(private_arguments);
+                Err(AllocError)
+            }
         }
     }
 
@@ -410,10 +424,12 @@ impl World {
         ensures ok { OnOk result (world_of self.new ≡ after (world_of self.old) (note_call (call_view call))) }
         ensures keeps { Keeps (world_of self.old) (world_of self.new) }
     {
-        match self.log.push(Event::Called(call)) {
-            Ok(()) => Ok(()),
-            Err(_) => Err(AllocError),
+        if self.log.reserve().is_err() {
+            drop(call);
+            return Err(AllocError);
         }
+        self.log.push_reserved(Event::Called(call));
+        Ok(())
     }
 
     /// Closes a seat, pays it out, and answers the payments, in the order of slots.
@@ -427,14 +443,7 @@ impl World {
         let Ok(payouts) = self.draft.close_seat(seat) else {
             return Err(AllocError);
         };
-        let told = copy_payouts(self.alloc, payouts.as_slice())?;
-        let leaving = Leaving {
-            seat,
-            cause,
-            payouts: told,
-        };
-        self.log.reserve()?;
-        self.log.push_reserved(Event::Exited(leaving));
+        tell_exit(self.alloc, &mut self.log, seat, cause, payouts.as_slice())?;
         tell_movements(self.alloc, &mut self.log, &self.draft.movements()[before..])?;
         Ok(payouts)
     }
@@ -476,9 +485,40 @@ fn copy_settlement(alloc: Global, settlement: &Settlement) -> Result<Settlement,
     ensures { IfOk result (λ copy. settlement_view copy ≡ settlement_view settlement.now) }
 {
     match settlement {
-        Settlement::Ok(data) => Ok(Settlement::Ok(data.copy(alloc)?)),
-        Settlement::Broken(reason) => Ok(Settlement::Broken(reason.copy(alloc)?)),
+        Settlement::Ok(data) => match data.copy(alloc) {
+            Ok(data) => Ok(Settlement::Ok(data)),
+            Err(error) => Err(error),
+        },
+        Settlement::Broken(reason) => match reason.copy(alloc) {
+            Ok(reason) => Ok(Settlement::Broken(reason)),
+            Err(error) => Err(error),
+        },
     }
+}
+
+/// Tells what a promise is settled with.
+fn tell_settled(
+    alloc: Global,
+    log: &mut Log,
+    promise: u32,
+    settlement: &Settlement,
+) -> Result<(), AllocError>
+    ensures { OnOk result (log_of log.new ≡ log_of log.old ++ settled promise (settlement_view settlement.now) ∷ []) }
+{
+    log.reserve()?;
+    let told = copy_settlement(alloc, settlement)?;
+    log.push_reserved(Event::Settled(promise, told));
+    Ok(())
+}
+
+/// A copy of a proposal, once there is room to tell of it.
+fn to_tell(alloc: Global, log: &mut Log, proposal: &Proposal) -> Result<Proposal, AllocError>
+    ensures copy { IfOk result (λ copy. copy ≡ proposal.now) }
+    ensures room { OnOk result (HasRoom log.new) }
+    ensures same { log_of log.new ≡ log_of log.old }
+{
+    log.reserve()?;
+    proposal.copy(alloc)
 }
 
 /// Tells movements, in order.
@@ -486,10 +526,38 @@ fn tell_movements(alloc: Global, log: &mut Log, movements: &[Movement]) -> Resul
     ensures { OnOk result (log_of log.new ≡ log_of log.old ++ map moved movements.now) }
 {
     for movement in movements {
-        let moved = movement.copy(alloc)?;
-        log.reserve()?;
-        log.push_reserved(Event::Moved(moved));
+        tell_movement(alloc, log, movement)?;
     }
+    Ok(())
+}
+
+/// Tells a movement.
+fn tell_movement(alloc: Global, log: &mut Log, movement: &Movement) -> Result<(), AllocError>
+    ensures { OnOk result (log_of log.new ≡ log_of log.old ++ moved movement.now ∷ []) }
+{
+    log.reserve()?;
+    let moved = movement.copy(alloc)?;
+    log.push_reserved(Event::Moved(moved));
+    Ok(())
+}
+
+/// Tells that a seat was left, and the payments of its slots.
+fn tell_exit(
+    alloc: Global,
+    log: &mut Log,
+    seat: u32,
+    cause: Cause,
+    payouts: &[Payout],
+) -> Result<(), AllocError>
+    ensures { OnOk result (log_of log.new ≡ log_of log.old ++ exited (record { seat = seat; cause = cause; payouts = payouts.now }) ∷ []) }
+{
+    log.reserve()?;
+    let payouts = copy_payouts(alloc, payouts)?;
+    log.push_reserved(Event::Exited(Leaving {
+        seat,
+        cause,
+        payouts,
+    }));
     Ok(())
 }
 

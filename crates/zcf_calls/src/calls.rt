@@ -32,14 +32,36 @@ fn host_call(
 ) -> Result<HostCall, AllocError>
     ensures { IfOk result (λ told. call_view told ≡ record { on = target; method = method.now; arguments = trees args.now; answer = answer_view answer }) }
 {
-    let method = Text::from_str(alloc, method)?;
-    let arguments = copy_items(alloc, args)?;
+    let Ok(arguments) = copy_items(alloc, args) else {
+        drop(answer);
+        return Err(AllocError);
+    };
+    let Ok(method) = Text::from_str(alloc, method) else {
+        drop(answer);
+        return Err(AllocError);
+    };
     Ok(HostCall {
         on: target,
         method,
         arguments,
         answer,
     })
+}
+
+/// Tells a call with its answer.
+fn tell(
+    alloc: Global,
+    world: &mut World,
+    target: Obj,
+    method: &str,
+    args: &[Data],
+    answer: CallAnswer,
+) -> Result<(), AllocError>
+    ensures ok { OnOk result (world_of world.new ≡ after (world_of world.old) (told target method.now (trees args.now) (answer_view answer))) }
+    ensures keeps { Keeps (world_of world.old) (world_of world.new) }
+{
+    let call = host_call(alloc, target, method, args, answer)?;
+    world.note_call(call)
 }
 
 /// Makes an invitation: its details are kept, and it comes from outside to a payment.
@@ -53,15 +75,13 @@ fn invite(world: &mut World, new: NewInvitation) -> Result<(), AllocError>
         details,
         value,
     } = new;
-    let movement = Movement {
+    world.add_invitation(details)?;
+    world.transfer(&Movement {
         brand: 0,
         from: Holder::Outside,
         to: Holder::Payment(payment),
         value,
-    };
-    world.add_invitation(details)?;
-    world.transfer(&movement)?;
-    Ok(())
+    })
 }
 
 /// Tells a call that isn't refused, does it, and answers it.
@@ -80,10 +100,14 @@ fn accept(
 {
     let payment = new.payment;
     let given = CallAnswer::Given(object_data(ObjKind::Payment, payment));
-    let call = host_call(alloc, target, method, args, given)?;
-    world.note_call(call)?;
-    invite(world, new)?;
-    Ok(object_data(ObjKind::Payment, payment))
+    let Ok(()) = tell(alloc, world, target, method, args, given) else {
+        drop(new);
+        return Err(AllocError);
+    };
+    match invite(world, new) {
+        Ok(()) => Ok(object_data(ObjKind::Payment, payment)),
+        Err(error) => Err(error),
+    }
 }
 
 /// Tells a call that is refused, and answers the refusal as data.
@@ -99,11 +123,16 @@ fn refuse(
     ensures done { OnOk result (world_of world.new ≡ after (world_of world.old) (told target method.now (trees args.now) (Err (refusal_tree refusal.now)))) }
     ensures keeps { Keeps (world_of world.old) (world_of world.new) }
 {
-    let shown = CallAnswer::Refused(refusal.data(alloc)?);
-    let refused = host_call(alloc, target, method, args, shown)?;
-    world.note_call(refused)?;
-    let answer = refusal.data(alloc)?;
-    Ok(answer)
+    let shown = refusal.data(alloc)?;
+    tell(
+        alloc,
+        world,
+        target,
+        method,
+        args,
+        CallAnswer::Refused(shown),
+    )?;
+    refusal.data(alloc)
 }
 
 /// Works a call of a method of an object by an instance's function, and answers it. For want of memory
@@ -127,8 +156,9 @@ pub fn work(
             Ok(Answer::Value(answer))
         }
         Err(Stop::Refused(refusal)) => {
-            let answer = refuse(alloc, world, target, method, args, &refusal)?;
-            Ok(Answer::Refused(answer))
+            let answer = refuse(alloc, world, target, method, args, &refusal);
+            drop(refusal);
+            Ok(Answer::Refused(answer?))
         }
         Err(Stop::NoMemory) => Err(AllocError),
     }

@@ -7,7 +7,7 @@ ghost use Rattle.call_data.specs.declared.refusals.Refusal.TheVariants.{LocalOnl
 ghost use Rattle.jessie_eval.specs.Ends.{OutcomeKnown};
 ghost use Rattle.jessie_tree.specs.Tree.{is_local};
 ghost use Rattle.jessie_tree.specs.View.{named_trees, tree, trees};
-ghost use Rattle.promises.specs.States.{is_final, is_promise, settlement_view};
+ghost use Rattle.promises.specs.States.{broken, is_final, is_promise, settlement_view};
 ghost use Rattle.vault.specs.InstanceDeliveries.{delivery_view, promise_of};
 ghost use Rattle.vault.specs.Worlds.{Keeps, world_of};
 ghost use Rattle.zcf_calls.specs.Calls.{comes_to};
@@ -73,23 +73,29 @@ fn add_field(
     Ok(())
 }
 
+/// Adds a part of what a start gave after the other fields.
+fn add_part(
+    alloc: Global,
+    fields: &mut Vec<(Text, Data)>,
+    name: &str,
+    given: &Data,
+) -> Result<(), AllocError>
+    ensures { OnOk result (named_trees fields.new.items ≡ named_trees fields.old.items ++ (name.now, part name.now (tree given.now)) ∷ []) }
+{
+    let found = part(alloc, given, name)?;
+    add_field(alloc, fields, name, found)
+}
+
 /// The record that a start's promise is settled with (Zoe's startInstance).
 fn start_record(alloc: Global, instance: u32, given: &Data) -> Result<Data, AllocError>
     ensures { IfOk result (λ made. tree made ≡ start_record instance (tree given.now)) }
 {
-    let creator_facet = part(alloc, given, "creatorFacet")?;
-    let creator_invitation = part(alloc, given, "creatorInvitation")?;
-    let public_facet = part(alloc, given, "publicFacet")?;
     let mut fields = Vec::new(alloc);
-    add_field(alloc, &mut fields, "creatorFacet", creator_facet)?;
-    add_field(alloc, &mut fields, "creatorInvitation", creator_invitation)?;
-    add_field(
-        alloc,
-        &mut fields,
-        "instance",
-        object_data(ObjKind::Instance, instance),
-    )?;
-    add_field(alloc, &mut fields, "publicFacet", public_facet)?;
+    add_part(alloc, &mut fields, "creatorFacet", given)?;
+    add_part(alloc, &mut fields, "creatorInvitation", given)?;
+    let instance = object_data(ObjKind::Instance, instance);
+    add_field(alloc, &mut fields, "instance", instance)?;
+    add_part(alloc, &mut fields, "publicFacet", given)?;
     Ok(Data::Record(fields))
 }
 
@@ -102,10 +108,13 @@ fn given_by(
     ensures { IfOk result (λ made. settlement_view made ≡ given_by (delivery_view delivery.now) (tree given.now)) }
 {
     let settled = match delivery {
-        InstanceDelivery::Start(start) => start_record(alloc, start.instance, given)?,
-        InstanceDelivery::Offer(_) => given.copy(alloc)?,
+        InstanceDelivery::Start(start) => start_record(alloc, start.instance, given),
+        InstanceDelivery::Offer(_) => given.copy(alloc),
     };
-    Ok(Settlement::Ok(settled))
+    match settled {
+        Ok(settled) => Ok(Settlement::Ok(settled)),
+        Err(error) => Err(error),
+    }
 }
 
 /// Keeps the state values, and settles the delivery's promise.
@@ -121,7 +130,10 @@ fn keep_and_settle(
     ensures effects { OnOk result (ByEffects (world_of world.old) (world_of world.new)) }
     ensures keeps { Keeps (world_of world.old) (world_of world.new) }
 {
-    world.keep_state(instance_of(delivery), state)?;
+    let Ok(()) = world.keep_state(instance_of(delivery), state) else {
+        drop(settlement);
+        return Err(AllocError);
+    };
     world.settle(promise_of(delivery), settlement)
 }
 
@@ -138,6 +150,24 @@ fn throw_in(alloc: Global, world: &mut World, delivery: &InstanceDelivery) -> Re
     }
 }
 
+/// Keeps the state values, and settles the delivery's promise with what the function gave.
+fn give(
+    alloc: Global,
+    world: &mut World,
+    delivery: &InstanceDelivery,
+    state: Vec<Data>,
+    given: &Data,
+) -> Result<(), AllocError>
+    requires can { CanEnd (world_of world.old) (delivery_view delivery.now) (length state.items) }
+    requires no_promise { is_promise (tree given.now) ≡ false }
+    ensures ok { OnOk result (world_of world.new ≡ kept_and_settled (delivery_view delivery.now) (trees state.items) (given_by (delivery_view delivery.now) (tree given.now)) (world_of world.old)) }
+    ensures effects { OnOk result (ByEffects (world_of world.old) (world_of world.new)) }
+    ensures keeps { Keeps (world_of world.old) (world_of world.new) }
+{
+    let settlement = given_by(alloc, delivery, given)?;
+    keep_and_settle(world, delivery, state, settlement)
+}
+
 /// Ends a turn whose function gave something that may leave the instance.
 fn end_given(
     alloc: Global,
@@ -152,9 +182,33 @@ fn end_given(
     ensures effects { OnOk result (ByEffects (world_of world.old) (world_of world.new)) }
     ensures keeps { Keeps (world_of world.old) (world_of world.new) }
 {
-    let settlement = given_by(alloc, delivery, &given)?;
+    match give(alloc, world, delivery, state, &given) {
+        Ok(()) => Ok(TurnAnswer::Given(given)),
+        Err(error) => {
+            drop(given);
+            Err(error)
+        }
+    }
+}
+
+/// Keeps the state values, breaks the delivery's promise with what the function threw, and has done what
+/// throwing brings.
+fn throw(
+    alloc: Global,
+    world: &mut World,
+    delivery: &InstanceDelivery,
+    state: Vec<Data>,
+    reason: &Data,
+) -> Result<(), AllocError>
+    requires { CanEnd (world_of world.old) (delivery_view delivery.now) (length state.items) }
+    ensures ok { OnOk result (world_of world.new ≡ thrown_in (delivery_view delivery.now) (kept_and_settled (delivery_view delivery.now) (trees state.items) (broken (tree reason.now)) (world_of world.old))) }
+    ensures effects { OnOk result (ByEffects (world_of world.old) (world_of world.new)) }
+    ensures keeps { Keeps (world_of world.old) (world_of world.new) }
+{
+    let settlement = Settlement::Broken(reason.copy(alloc)?);
     keep_and_settle(world, delivery, state, settlement)?;
-    Ok(TurnAnswer::Given(given))
+    throw_in(alloc, world, delivery)?;
+    Ok(())
 }
 
 /// Ends a turn whose function threw something that may leave the instance.
@@ -170,10 +224,34 @@ fn end_thrown(
     ensures effects { OnOk result (ByEffects (world_of world.old) (world_of world.new)) }
     ensures keeps { Keeps (world_of world.old) (world_of world.new) }
 {
-    let settlement = Settlement::Broken(reason.copy(alloc)?);
-    keep_and_settle(world, delivery, state, settlement)?;
-    throw_in(alloc, world, delivery)?;
-    Ok(TurnAnswer::Threw(reason))
+    match throw(alloc, world, delivery, state, &reason) {
+        Ok(()) => Ok(TurnAnswer::Threw(reason)),
+        Err(error) => {
+            drop(reason);
+            Err(error)
+        }
+    }
+}
+
+/// Ends a turn whose function gave something.
+fn end_returned(
+    alloc: Global,
+    world: &mut World,
+    delivery: &InstanceDelivery,
+    state: Vec<Data>,
+    given: Data,
+) -> Result<TurnAnswer, AllocError>
+    requires can { CanEnd (world_of world.old) (delivery_view delivery.now) (length state.items) }
+    requires known { OutcomeKnown (Knows (instance_of (delivery_view delivery.now)) (world_of world.old)) (Outcome.Returned given) (trees state.items) }
+    ensures ended { IfOk result (λ answer. comes_of (delivery_view delivery.now) (comes_to (Outcome.Returned given) (trees state.items) (world_of world.old)) ≡ came_to answer (world_of world.new)) }
+    ensures effects { OnOk result (ByEffects (world_of world.old) (world_of world.new)) }
+    ensures keeps { Keeps (world_of world.old) (world_of world.new) }
+{
+    if given.is_local() {
+        let reason = Refusal::LocalOnly.data(alloc)?;
+        return end_thrown(alloc, world, delivery, state, reason);
+    }
+    end_given(alloc, world, delivery, state, given)
 }
 
 /// What is thrown outside: a reason that holds something that stays at home is refused.
@@ -202,13 +280,7 @@ pub fn end_turn(
     ensures keeps { Keeps (world_of world.old) (world_of world.new) }
 {
     match outcome {
-        Outcome::Returned(given) => {
-            if given.is_local() {
-                let reason = Refusal::LocalOnly.data(alloc)?;
-                return end_thrown(alloc, world, delivery, state, reason);
-            }
-            end_given(alloc, world, delivery, state, given)
-        }
+        Outcome::Returned(given) => end_returned(alloc, world, delivery, state, given),
         Outcome::Threw(reason) => {
             let reason = passed(alloc, reason)?;
             end_thrown(alloc, world, delivery, state, reason)

@@ -76,8 +76,36 @@ fn refuse_name(alloc: Global, name: &str) -> Result<Answer, AllocError>
     ensures { IfOk result (λ answer. reply_of answer ≡ no_method name.now) }
 {
     match no_method(alloc, name) {
-        Stop::Refused(refusal) => Ok(Answer::Refused(refusal.data(alloc)?)),
+        Stop::Refused(refusal) => {
+            let shown = refusal.data(alloc);
+            drop(refusal);
+            Ok(Answer::Refused(shown?))
+        }
         Stop::NoMemory => Err(AllocError),
+    }
+}
+
+/// Answers a question by the refusal of a name, and keeps it with that answer.
+fn unasked(
+    alloc: Global,
+    asked: &mut Vec<Asked>,
+    question: Question,
+    name: &str,
+) -> Result<Answer, AllocError>
+    ensures refused { IfOk result (λ answer. reply_of answer ≡ no_method name.now) }
+    ensures kept { IfOk result (λ answer. map kept asked.new.items ≡ map kept asked.old.items ++ (record { call = call_of question; reply = reply_of answer }) ∷ []) }
+    ensures silent { OnErr result (asked.new.items ≡ asked.old.items) }
+{
+    let Ok(answer) = refuse_name(alloc, name) else {
+        drop(question);
+        return Err(AllocError);
+    };
+    match keep(alloc, asked, question, &answer) {
+        Ok(()) => Ok(answer),
+        Err(error) => {
+            drop(answer);
+            Err(error)
+        }
     }
 }
 
@@ -114,20 +142,19 @@ impl<T: Turn> Powers for ContractPowers<T> {
     }
 
     fn send(&mut self, target: Obj, method: &str, args: Vec<Data>) -> Result<Answer, NoMemory> {
-        let alloc = self.alloc;
-        let answer = refuse_name(alloc, method)?;
-        let name = Text::from_str(alloc, method)?;
+        let name = Text::from_str(self.alloc, method)?;
         let question = Question::Send(target, name, args);
-        keep(alloc, &mut self.asked, question, &answer)?;
+        let answer = unasked(self.alloc, &mut self.asked, question, method)?;
         Ok(answer)
     }
 
     fn when(&mut self, promise: Obj, f: &str, held: Data) -> Result<Answer, NoMemory> {
-        let alloc = self.alloc;
-        let answer = refuse_name(alloc, f)?;
-        let name = Text::from_str(alloc, f)?;
+        let Ok(name) = Text::from_str(self.alloc, f) else {
+            drop(held);
+            return Err(AllocError);
+        };
         let question = Question::When(promise, name, held);
-        keep(alloc, &mut self.asked, question, &answer)?;
+        let answer = unasked(self.alloc, &mut self.asked, question, f)?;
         Ok(answer)
     }
 
@@ -137,11 +164,12 @@ impl<T: Turn> Powers for ContractPowers<T> {
         methods: Vec<(Text, Text)>,
         held: Data,
     ) -> Result<Answer, NoMemory> {
-        let alloc = self.alloc;
-        let answer = refuse_name(alloc, name)?;
-        let name = Text::from_str(alloc, name)?;
-        let question = Question::Far(name, methods, held);
-        keep(alloc, &mut self.asked, question, &answer)?;
+        let Ok(text) = Text::from_str(self.alloc, name) else {
+            drop(held);
+            return Err(AllocError);
+        };
+        let question = Question::Far(text, methods, held);
+        let answer = unasked(self.alloc, &mut self.asked, question, name)?;
         Ok(answer)
     }
 }

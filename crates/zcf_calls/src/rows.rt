@@ -16,7 +16,6 @@ ghost use Rattle.zcf_calls.specs.Rows as rows;
 ghost use Rattle.zcf_calls.specs.Rows.{arg, details_of, invitation_value};
 
 use amount_math::{Key, Value};
-use call_data::outcomes::need;
 use call_data::refusals::{Refusal, Stop};
 use host_text::text::Text;
 use invitations::Details;
@@ -30,7 +29,7 @@ const DESCRIPTION_BYTES: usize = 256;
 
 /// An invitation that is to be made: its details, the payment that it will be, by its number, and the
 /// value of that payment.
-#[derive(Debug, Drop)]
+#[derive(Drop)]
 pub struct NewInvitation {
     pub payment: u32,
     pub details: Details,
@@ -73,11 +72,11 @@ fn description(given: Option<&Data>, place: u32) -> Result<&Text, Stop>
         return Err(Stop::Refused(Refusal::BadArgs(place)));
     };
     let long = text.len();
-    need(
-        1 <= long && long <= DESCRIPTION_BYTES,
-        Refusal::BadArgs(place),
-    )?;
-    Ok(text)
+    if 1 <= long && long <= DESCRIPTION_BYTES {
+        Ok(text)
+    } else {
+        Err(Stop::Refused(Refusal::BadArgs(place)))
+    }
 }
 
 /// A copy of an argument, null where it is missing.
@@ -105,9 +104,11 @@ fn payments_made(world: &World) -> u32
 fn next_payment(world: &World) -> Result<u32, Stop>
     ensures { Gives (λ payment. payment) result (rows.next_payment (world_of world.now).draft.now) }
 {
-    let left = world.draft.left();
-    need(left > 0, Refusal::Limit(u32::MAX))?;
-    Ok(payments_made(world))
+    if world.draft.left() > 0 {
+        Ok(payments_made(world))
+    } else {
+        Err(Stop::Refused(Refusal::Limit(u32::MAX)))
+    }
 }
 
 /// The refusal, of which the name takes memory.
@@ -179,21 +180,28 @@ fn make_invitation(
     requires { instance < length (world_of world.now).instances.now.instances }
     ensures { Gives planned result (rows.make_invitation instance (world_of world.now) (trees args.now)) }
 {
-    let halted = world.instances.is_halted(instance);
-    need(!halted, Refusal::Closed(instance))?;
+    if world.instances.is_halted(instance) {
+        return Err(Stop::Refused(Refusal::Closed(instance)));
+    }
     let handler = function(argument(args, 1), 1)?;
     let description = description(argument(args, 2), 2)?;
     let number = world.invitations.made();
-    need(number < u32::MAX, Refusal::Limit(u32::MAX))?;
+    if number == u32::MAX {
+        return Err(Stop::Refused(Refusal::Limit(u32::MAX)));
+    }
     let payment = next_payment(world)?;
-    let value = invitation_value(alloc, number)?;
+    let Ok(value) = invitation_value(alloc, number) else {
+        return Err(Stop::NoMemory);
+    };
     let held = argument(args, 3);
-    let details = details(alloc, world, instance, handler, description, held)?;
-    Ok(NewInvitation {
-        payment,
-        details,
-        value,
-    })
+    match details(alloc, world, instance, handler, description, held) {
+        Ok(details) => Ok(NewInvitation {
+            payment,
+            details,
+            value,
+        }),
+        Err(_) => Err(Stop::NoMemory),
+    }
 }
 
 // ---- which method a call is

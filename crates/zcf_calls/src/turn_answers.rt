@@ -4,7 +4,7 @@ use call_data::refusals::Refusal;
 use jessie_tree::data::Data;
 
 /// What a delivery to an instance was answered.
-#[derive(Debug, Drop)]
+#[derive(Drop)]
 pub enum TurnAnswer {
     /// What the function gave.
     Given(Data),

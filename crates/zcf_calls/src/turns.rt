@@ -116,7 +116,10 @@ fn refuse_closed(
     ensures keeps { Keeps (world_of world.old) (world_of world.new) }
 {
     let refusal = Refusal::Closed(instance_of(delivery));
-    refuse(alloc, world, delivery, &refusal)?;
+    let Ok(()) = refuse(alloc, world, delivery, &refusal) else {
+        drop(refusal);
+        return Err(AllocError);
+    };
     Ok(TurnAnswer::Refused(refusal))
 }
 
@@ -188,5 +191,8 @@ pub fn work_spent(
     ensures keeps { Keeps (world_of world.old) (world_of world.new) }
 {
     halt_with(alloc, world, instance_of(delivery), Cause::Spent)?;
-    refuse(alloc, world, delivery, &Refusal::Spent(meter))
+    let refusal = Refusal::Spent(meter);
+    let refused = refuse(alloc, world, delivery, &refusal);
+    drop(refusal);
+    refused
 }

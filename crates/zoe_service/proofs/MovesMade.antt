@@ -74,11 +74,12 @@ module _ (w : WorldState) (o : Accepted) (t : Tree) (instance : ℕ) (own : inst
   seated_is : seated ≡ in_seat
   seated_is = opened ∙ ap (λ (n : ℕ). after w (open_seat n o.proposal)) own
 
-  pub moves_left : CanDoAll w (offer_effects w o t) → CanDoAll seated (map move ms)
+  pub seat_filled : CanDoAll w (offer_effects w o t) → CanDoAll w (open_seat instance o.proposal ∷ map move ms)
   unfolding offer_effects
-  moves_left can =
-      subst (λ (x : WorldState). CanDoAll x (map move ms)) (sym seated_is)
-      (subst (λ (xs : List Movement). CanDoAll in_seat (map move xs)) (sym are) (can_front in_seat (map move (offer_moves w o)) (deliver (handling w o.by t) ∷ []) can.1))
+  seat_filled can =
+      subst (λ (n : ℕ). CanDoAll w (open_seat n o.proposal ∷ map move ms)) (sym own)
+      (subst (λ (xs : List Movement). CanDoAll w (open_seat (inviting w o.by.invitation) o.proposal ∷ map move xs)) (sym are)
+      (can_front w (open_seat (inviting w o.by.invitation) o.proposal ∷ map move (offer_moves w o)) (deliver (handling w o.by t) ∷ []) can))
 
   pub carried : (moved final : WorldState) (d : DeliveryView) (r : Result (Unit {0}) AllocError) → moved ≡ after_all seated (map move ms) → d ≡ handling w o.by t → OnOk r (final ≡ after moved (deliver d)) → OnOk r (final ≡ after_all w (offer_effects w o t))
   unfolding offer_effects

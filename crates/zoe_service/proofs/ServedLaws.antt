@@ -1,8 +1,7 @@
 -- What holds of each call's answer and effects.
-use Rattle.std.proofs.Common.{◌≡◌, ℕ, ◌+◌, ◌≤◌, Bool, true, false, List, [], ◌∷◌, Result, Ok, Err, IfOk, IsTrue, inl, inr, if◌then◌else◌, codes, refl, sym, ◌∙◌, ap, subst, arith}
+use Rattle.std.proofs.Common.{◌≡◌, ℕ, ◌+◌, ◌≤◌, Bool, true, false, List, [], ◌∷◌, Ok, Err, IfOk, IsTrue, inl, inr, if◌then◌else◌, codes, refl, sym, ◌∙◌, ap, subst, arith}
 use Rattle.std.specs.Str.{bytes_eq}
 use Rattle.std.proofs.lemmas.Slice.Eq.{bytes_eq-Decides}
-use Rattle.call_data.specs.declared.refusals.Refusal.{Refusal}
 use Rattle.jessie_tree.specs.Tree.{Tree, Ordered, nesting}
 use Rattle.jessie_tree.specs.declared.data.Obj.{Obj}
 use Rattle.jessie_tree.specs.declared.data.ObjKind.{ObjKind}
@@ -18,7 +17,7 @@ use Rattle.vault.proofs.KnowingKept.{IsHanded-made}
 use Rattle.zoe_service.specs.Answered.{AnswersSo, IsAnswer, IsBound, IsOffer, left_by}
 use Rattle.zoe_service.specs.CallArguments.{arg}
 use Rattle.zoe_service.specs.OfferRows.{HaveInstances}
-use Rattle.zoe_service.specs.Rows.{Outcome, served}
+use Rattle.zoe_service.specs.Rows.{Outcome}
 use Rattle.zoe_service.specs.Served.{CanServe, KnowsArgs}
 use Rattle.zoe_service.specs.Services.{of_kind, serve}
 use Rattle.zoe_service.proofs.ActedRows.{ActsSo}
@@ -182,20 +181,3 @@ module _ (w : WorldState) (target : Obj) (method : List ℕ) (args : List Tree) 
   -- at most one value is minted
   pub serve_minted : (n : ℕ) → MintedWithin w.draft.now n → MintedWithin (after_all w effects).draft.now (n + 1)
   serve_minted = so.minted
-
--- ---- a call that was served
-
-pub record WasServed (w : WorldState) (row : Outcome) (answer : Tree) (new : WorldState) : Type 0 where
-  pub effects : List Effect
-  pub row_is : row ≡ Ok (answer, effects)
-  pub world_is : new ≡ after_all w effects
-
-same_ok : (x y : Tree × WorldState) → ◌≡◌ {A = Result (Tree × WorldState) Refusal} (Ok x) (Ok y) → x ≡ y
-same_ok x y e = cc
-
--- the world is that after the effects
-pub was_served : (w : WorldState) (row : Outcome) (answer : Tree) (new : WorldState) → served w row ≡ Ok (answer, new) → WasServed w row answer new
-was_served w (Ok (a, es)) answer new is =
-    let e = same_ok (a, after_all w es) (answer, new) is in
-    record { effects = es; row_is = ap (λ (t : Tree). Ok (t, es)) (ap (λ (p : Tree × WorldState). p.0) e); world_is = sym (ap (λ (p : Tree × WorldState). p.1) e) }
-was_served w (Err r) answer new is = absurd cc

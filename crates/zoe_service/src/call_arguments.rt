@@ -18,7 +18,6 @@ ghost use Rattle.zoe_service.specs.Served.{KnowsArgs};
 use crate::holdings::{is_live, payment_brand};
 use amount_math::{Kind, Value};
 use call_data::amounts::read_amount;
-use call_data::outcomes::need;
 use call_data::refusals::{Refusal, Stop};
 use jessie_tree::data::{Data, ObjKind};
 use std::alloc::Global;
@@ -86,13 +85,16 @@ pub fn units(value: &Value) -> u128
 }
 
 /// The refusal, of which the values take memory.
-fn wrong_amount(held: &Value, named: &Value) -> Stop
+pub fn wrong_amount(held: &Value, named: &Value) -> Stop
     ensures { Refuses result (refusals.WrongAmount held.now named.now) }
 {
-    let (Ok(held), Ok(named)) = (held.copy(), named.copy()) else {
+    let Ok(held) = held.copy() else {
         return Stop::NoMemory;
     };
-    Stop::Refused(Refusal::WrongAmount(held, named))
+    match named.copy() {
+        Ok(named) => Stop::Refused(Refusal::WrongAmount(held, named)),
+        Err(_) => Stop::NoMemory,
+    }
 }
 
 // ---- payments
@@ -109,8 +111,11 @@ pub fn brand_payment(world: &World, args: &[Data], place: u32, brand: u16) -> Re
 {
     let payment = any_payment(world, args, place)?;
     let found = payment_brand(world, payment);
-    need(found == brand, Refusal::WrongBrand(u32::from(found)))?;
-    Ok(payment)
+    if found == brand {
+        Ok(payment)
+    } else {
+        Err(Stop::Refused(Refusal::WrongBrand(u32::from(found))))
+    }
 }
 
 /// A live payment of the brand: else as of any payment, then `DeadPayment` with its number (ERTP).
@@ -122,8 +127,11 @@ pub fn payment(world: &World, args: &[Data], place: u32, brand: u16) -> Result<u
     ensures live { IfOk result (λ payment. IsLive world.now.draft.now payment brand) }
 {
     let payment = brand_payment(world, args, place, brand)?;
-    need(is_live(world, payment), Refusal::DeadPayment(payment))?;
-    Ok(payment)
+    if is_live(world, payment) {
+        Ok(payment)
+    } else {
+        Err(Stop::Refused(Refusal::DeadPayment(payment)))
+    }
 }
 
 /// The number of a payment, live or spent.

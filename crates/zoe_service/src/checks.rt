@@ -12,7 +12,6 @@ ghost use Rattle.zoe_service.specs.Rows as rows;
 use crate::call_arguments::units;
 use crate::holdings::payments_made;
 use amount_math::{Kind, NAT_BOUND, Outstanding, Value};
-use call_data::outcomes::need;
 use call_data::refusals::{Refusal, Stop};
 use host_text::text::Text;
 use std::alloc::Global;
@@ -24,9 +23,11 @@ pub fn next_payment(world: &World) -> Result<u32, Stop>
     ensures gives { Gives (λ payment. payment) result (rows.next_payment world.now.draft.now) }
     ensures can { IfOk result (CanMakePayment world.now.draft.now) }
 {
-    let left = world.draft.left();
-    need(left > 0, Refusal::Limit(u32::MAX))?;
-    Ok(payments_made(world))
+    if world.draft.left() > 0 {
+        Ok(payments_made(world))
+    } else {
+        Err(Stop::Refused(Refusal::Limit(u32::MAX)))
+    }
 }
 
 /// So many units are within the bound of whole numbers.
@@ -70,10 +71,13 @@ pub fn within_out(out: &Outstanding, given: &Value) -> Result<(), Stop>
 pub fn not_enough(held: &Value, asked: &Value) -> Stop
     ensures { Refuses result (refusals.NotEnough held.now asked.now) }
 {
-    let (Ok(held), Ok(asked)) = (held.copy(), asked.copy()) else {
+    let Ok(held) = held.copy() else {
         return Stop::NoMemory;
     };
-    Stop::Refused(Refusal::NotEnough(held, asked))
+    match asked.copy() {
+        Ok(asked) => Stop::Refused(Refusal::NotEnough(held, asked)),
+        Err(_) => Stop::NoMemory,
+    }
 }
 
 /// The refusal, of which the name takes memory.

@@ -9,6 +9,7 @@ mod call_arguments;
 mod checks;
 mod ertp_rows;
 mod holdings;
+mod moves;
 mod offer_rows;
 mod purse_rows;
 mod seat_rows;

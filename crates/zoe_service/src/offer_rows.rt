@@ -12,17 +12,16 @@ ghost use Rattle.vault.specs.InstanceDeliveries.{delivery_view};
 ghost use Rattle.vault.specs.Known.{AllInFields};
 ghost use Rattle.vault.specs.Made.{IsMade};
 ghost use Rattle.vault.specs.Vaults.{IsOfKind};
-ghost use Rattle.vault.specs.Worlds.{CanDoAll, IsValid, Keeps, after_all, move, world_of};
+ghost use Rattle.vault.specs.Worlds.{CanDoAll, IsValid, Keeps, after_all, move, open_seat, world_of};
 ghost use Rattle.zoe_service.specs.CallArguments.{arg, payment_seen};
 ghost use Rattle.zoe_service.specs.OfferRows.{AreOrdered, HaveInstances, accepted, accepted_view, first_repeated, first_wrong, handling, has_room, invitation_of, invited, inviting, least_dead, named_by, offer_effects, offer_moves, paid, payments_in, pays, wrong_amount};
 ghost use Rattle.zoe_service.specs.OfferRows as rows;
 ghost use Rattle.zoe_service.specs.Served.{KnowsArgs, Serves};
 
-use crate::call_arguments::{any_payment, argument};
+use crate::call_arguments::{any_payment, argument, wrong_amount};
 use crate::holdings::{is_live, payment_brand, payment_value};
 use crate::zoe_rows::copied;
 use amount_math::{Kind, Value};
-use call_data::outcomes::need;
 use call_data::refusals::{Refusal, Stop};
 use call_data::values::object_data;
 use host_text::text::Text;
@@ -39,7 +38,7 @@ use vault::world::World;
 // ---- the invitation
 
 /// An invitation with the payment that has it, by their numbers.
-#[derive(Clone, Copy, Debug)]
+#[derive(Clone, Copy)]
 pub struct Invited {
     pub payment: u32,
     pub invitation: u32,
@@ -90,15 +89,16 @@ fn open_invitation(world: &World, args: &[Data]) -> Result<Invited, Stop>
     ensures invitation { IfOk result (λ invited. invited.invitation < length (world_of world.now).invitations.now) }
 {
     let payment = any_payment(world, args, 1)?;
-    need(is_live(world, payment), Refusal::DeadPayment(payment))?;
+    if !is_live(world, payment) {
+        return Err(Stop::Refused(Refusal::DeadPayment(payment)));
+    }
     let Some(invitation) = invitation_of(world, payment) else {
         return Err(Stop::Refused(Refusal::NotInvitation(payment)));
     };
     let instance = world.invitations.details(invitation).instance;
-    need(
-        !world.instances.is_halted(instance),
-        Refusal::Closed(instance),
-    )?;
+    if world.instances.is_halted(instance) {
+        return Err(Stop::Refused(Refusal::Closed(instance)));
+    }
     Ok(Invited {
         payment,
         invitation,
@@ -130,7 +130,9 @@ fn payments(alloc: Global, world: &World, fields: &[(Text, Data)]) -> Result<Vec
         let Some(payment) = payment_number(given) else {
             return Err(Stop::Refused(Refusal::WrongObject(3)));
         };
-        payments.push(payment)?;
+        if payments.push(payment).is_err() {
+            return Err(Stop::NoMemory);
+        }
     }
     Ok(payments)
 }
@@ -207,16 +209,6 @@ fn first_wrong<'a>(
     None
 }
 
-/// The refusal, of which the values take memory.
-fn wrong_amount(held: &Value, named: &Value) -> Stop
-    ensures { Refuses result (refusals.WrongAmount held.now named.now) }
-{
-    let (Ok(held), Ok(named)) = (held.copy(), named.copy()) else {
-        return Stop::NoMemory;
-    };
-    Stop::Refused(Refusal::WrongAmount(held, named))
-}
-
 /// That no payment was spent.
 #[tactic(auto, unfolding(call_data::specs::Outcomes::none_such))]
 fn check_live(world: &World, payments: &[u32]) -> Result<(), Stop>
@@ -282,17 +274,24 @@ fn check_room(world: &World, offer: &Offered) -> Result<(), Stop>
     ensures gives { Gives (λ _. tt) result (has_room (world_of world.now) (offered offer.now).0) }
     ensures small { OnOk result (IsTrue (is_small (offered offer.now).0)) }
 {
-    need(offer.is_small(), Refusal::Limit(MOST_ROWS as u32))?;
+    if !offer.is_small() {
+        return Err(Stop::Refused(Refusal::Limit(MOST_ROWS as u32)));
+    }
     let slots = (offer.give.len() + offer.want.len()) as u32;
-    need(slots <= world.draft.left(), Refusal::Limit(u32::MAX))?;
-    let seat = world.draft.seats().made();
-    need(seat < u32::MAX, Refusal::Limit(u32::MAX))?;
-    let promise = world.promises.made();
-    need(promise <= u32::MAX - 2, Refusal::Limit(u32::MAX))
+    if slots > world.draft.left() {
+        return Err(Stop::Refused(Refusal::Limit(u32::MAX)));
+    }
+    if world.draft.seats().made() == u32::MAX {
+        return Err(Stop::Refused(Refusal::Limit(u32::MAX)));
+    }
+    if world.promises.made() > u32::MAX - 2 {
+        return Err(Stop::Refused(Refusal::Limit(u32::MAX)));
+    }
+    Ok(())
 }
 
 /// An offer that passed all tests. The payments are in the order of what is given.
-#[derive(Debug, Drop)]
+#[derive(Drop)]
 pub struct AcceptedOffer {
     pub by: Invited,
     pub proposal: Proposal,
@@ -322,7 +321,9 @@ fn accepted(alloc: Global, world: &World, args: &[Data]) -> Result<AcceptedOffer
         offer.payments.as_slice(),
     )?;
     check_room(world, &offer)?;
-    let (proposal, _) = offer.into_proposal(alloc)?;
+    let Ok((proposal, _)) = offer.into_proposal(alloc) else {
+        return Err(Stop::NoMemory);
+    };
     Ok(AcceptedOffer {
         by,
         proposal,
@@ -334,12 +335,16 @@ fn accepted(alloc: Global, world: &World, args: &[Data]) -> Result<AcceptedOffer
 fn give_move(alloc: Global, seat: u32, row: &Row, payment: u32) -> Result<Movement, AllocError>
     ensures { IfOk result (λ m. m ≡ rows.give_move seat row.now payment) }
 {
-    Ok(Movement {
-        brand: row.amount.brand,
-        from: Holder::Payment(payment),
-        to: Holder::Slot(seat, row.keyword.copy(alloc)?),
-        value: row.amount.value.copy()?,
-    })
+    let value = row.amount.value.copy()?;
+    match row.keyword.copy(alloc) {
+        Ok(keyword) => Ok(Movement {
+            brand: row.amount.brand,
+            from: Holder::Payment(payment),
+            to: Holder::Slot(seat, keyword),
+            value,
+        }),
+        Err(error) => Err(error),
+    }
 }
 
 /// The movement that burns an invitation.
@@ -347,11 +352,12 @@ fn burn_move(world: &World, payment: u32) -> Result<Movement, AllocError>
     requires made { payment < length (world_of world.now).draft.now.payments }
     ensures { IfOk result (λ m. m ≡ rows.burn_move (world_of world.now) payment) }
 {
+    let value = payment_value(world, payment).copy()?;
     Ok(Movement {
         brand: 0,
         from: Holder::Payment(payment),
         to: Holder::Outside,
-        value: payment_value(world, payment).copy()?,
+        value,
     })
 }
 
@@ -387,6 +393,21 @@ fn transfer_all(world: &mut World, moves: &[Movement]) -> Result<(), AllocError>
     Ok(())
 }
 
+/// Opens a seat, and makes the movements after it.
+fn fill_seat(
+    world: &mut World,
+    instance: u32,
+    proposal: Proposal,
+    moves: &[Movement],
+) -> Result<(), AllocError>
+    requires can { CanDoAll (world_of world.old) (open_seat instance proposal ∷ map move moves.now) }
+    ensures ok { OnOk result (world_of world.new ≡ after_all (world_of world.old) (open_seat instance proposal ∷ map move moves.now)) }
+    ensures keeps { Keeps (world_of world.old) (world_of world.new) }
+{
+    world.open_seat(instance, proposal)?;
+    transfer_all(world, moves)
+}
+
 /// What is to be delivered for an offer: the handler is called with the seat.
 fn handling(
     alloc: Global,
@@ -398,12 +419,20 @@ fn handling(
     ensures { IfOk result (λ d. delivery_view d ≡ handling (world_of world.now) by (tree arguments)) }
 {
     let details = world.invitations.details(by.invitation);
+    let Ok(function) = details.handler.copy(alloc) else {
+        drop(arguments);
+        return Err(AllocError);
+    };
+    let Ok(held) = details.held.copy(alloc) else {
+        drop(arguments);
+        return Err(AllocError);
+    };
     Ok(InstanceDelivery::Offer(OfferDelivery {
         instance: details.instance,
         seat: world.draft.seats().made(),
-        function: details.handler.copy(alloc)?,
+        function,
         offer_arguments: arguments,
-        held: details.held.copy(alloc)?,
+        held,
         promise: world.promises.made(),
     }))
 }
@@ -422,11 +451,20 @@ fn carry_out(
     ensures ok { OnOk result (world_of world.new ≡ after_all (world_of world.old) (offer_effects (world_of world.old) (accepted_view offer) (tree arguments))) }
     ensures keeps { Keeps (world_of world.old) (world_of world.new) }
 {
-    let moves = offer_moves(alloc, world, &offer)?;
-    let delivery = handling(alloc, world, offer.by, arguments)?;
+    let Ok(moves) = offer_moves(alloc, world, &offer) else {
+        drop(offer);
+        drop(arguments);
+        return Err(AllocError);
+    };
+    let Ok(delivery) = handling(alloc, world, offer.by, arguments) else {
+        drop(offer);
+        return Err(AllocError);
+    };
     let instance = world.invitations.details(offer.by.invitation).instance;
-    world.open_seat(instance, offer.proposal)?;
-    transfer_all(world, moves.as_slice())?;
+    let Ok(()) = fill_seat(world, instance, offer.proposal, moves.as_slice()) else {
+        drop(delivery);
+        return Err(AllocError);
+    };
     world.deliver(delivery)
 }
 
@@ -442,7 +480,12 @@ pub fn offer(alloc: Global, world: &mut World, args: &[Data]) -> Result<Data, St
 {
     let offer = accepted(alloc, world, args)?;
     let seat = world.draft.seats().made();
-    let arguments = copied(alloc, argument(args, 4))?;
-    carry_out(alloc, world, offer, arguments)?;
-    Ok(object_data(ObjKind::Seat, seat))
+    let Ok(arguments) = copied(alloc, argument(args, 4)) else {
+        drop(offer);
+        return Err(Stop::NoMemory);
+    };
+    match carry_out(alloc, world, offer, arguments) {
+        Ok(()) => Ok(object_data(ObjKind::Seat, seat)),
+        Err(_) => Err(Stop::NoMemory),
+    }
 }

@@ -1,7 +1,7 @@
 //! The methods of users' seats (Zoe), each as its definition says: the tests in their order, and then the
 //! effects.
 
-ghost use Rattle.std.specs.Prelude.{◌≡◌, ◌<◌, length};
+ghost use Rattle.std.specs.Prelude.{◌≡◌, ◌<◌, Ok, length};
 ghost use Rattle.call_data.specs.Amounts.{seen};
 ghost use Rattle.call_data.specs.Outcomes.{Gives, Refuses, wanted};
 ghost use Rattle.call_data.specs.declared.refusals.Refusal.TheVariants as refusals;
@@ -14,7 +14,6 @@ ghost use Rattle.zoe_service.specs.SeatRows as rows;
 ghost use Rattle.zoe_service.specs.Served.{Serves};
 
 use crate::call_arguments::argument;
-use call_data::outcomes::need;
 use call_data::refusals::{Refusal, Stop};
 use call_data::values::object_data;
 use host_text::keyword::Keyword;
@@ -124,6 +123,16 @@ fn payouts(world: &World, seat: u32) -> Option<&Data>
     fulfilled(world.promises.state(promise))
 }
 
+/// A copy of what was found.
+fn copy_found(alloc: Global, found: &Data) -> Result<Data, Stop>
+    ensures { Gives tree result (Ok (tree found.now)) }
+{
+    match found.copy(alloc) {
+        Ok(copy) => Ok(copy),
+        Err(_) => Err(Stop::NoMemory),
+    }
+}
+
 /// The field of a name of a record.
 #[tactic(auto, unfolding(call_data::specs::Outcomes::wanted))]
 fn payout(alloc: Global, paid: Option<&Data>, keyword: &str) -> Result<Data, Stop>
@@ -133,7 +142,7 @@ fn payout(alloc: Global, paid: Option<&Data>, keyword: &str) -> Result<Data, Sto
         return Err(keyword_mismatch(alloc, keyword));
     };
     match paid.field(keyword) {
-        Some(payment) => Ok(payment.copy(alloc)?),
+        Some(payment) => copy_found(alloc, payment),
         None => Err(keyword_mismatch(alloc, keyword)),
     }
 }
@@ -146,7 +155,9 @@ pub fn get_payout(alloc: Global, world: &World, seat: u32, args: &[Data]) -> Res
     ensures row { Serves (world_of world.now) (world_of world.now) result (rows.get_payout (world_of world.now) seat (trees args.now)) }
 {
     let keyword = keyword(alloc, argument(args, 1))?;
-    need(!world.draft.seats().is_open(seat), Refusal::Pending)?;
+    if world.draft.seats().is_open(seat) {
+        return Err(Stop::Refused(Refusal::Pending));
+    }
     payout(alloc, payouts(world, seat), keyword)
 }
 
@@ -167,9 +178,12 @@ pub fn try_exit(alloc: Global, world: &mut World, seat: u32) -> Result<Data, Sto
     ensures keeps { Keeps (world_of world.old) (world_of world.new) }
 {
     let seats = world.draft.seats();
-    need(seats.is_open(seat), Refusal::SeatExited(seat))?;
-    let exit = seats.proposal(seat).exit;
-    need(is_on_demand(exit), Refusal::NotOnDemand(seat))?;
+    if !seats.is_open(seat) {
+        return Err(Stop::Refused(Refusal::SeatExited(seat)));
+    }
+    if !is_on_demand(seats.proposal(seat).exit) {
+        return Err(Stop::Refused(Refusal::NotOnDemand(seat)));
+    }
     exit_seat(alloc, world, seat, Cause::Asked)?;
     Ok(Data::Null)
 }

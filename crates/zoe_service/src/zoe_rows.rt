@@ -12,14 +12,13 @@ ghost use Rattle.jessie_tree.specs.View.{fields_of, named_trees, tree, trees};
 ghost use Rattle.proposals.specs.Reading.{first_ill, names, record_in};
 ghost use Rattle.vault.specs.Known.{AllInFields, AllObjects};
 ghost use Rattle.vault.specs.Made.{IsMade};
-ghost use Rattle.vault.specs.Worlds.{IsValid, Keeps, world_of};
+ghost use Rattle.vault.specs.Worlds.{CanStart, IsValid, Keeps, after, start_instance, world_of};
 ghost use Rattle.zoe_service.specs.CallArguments.{arg};
 ghost use Rattle.zoe_service.specs.Served.{KnowsArgs, Serves};
 ghost use Rattle.zoe_service.specs.ZoeRows.{has_terms, installation_seen, is_kept_name, issuer_in, issuer_number, issuers_in, module_in, shown_place, terms_in};
 ghost use Rattle.zoe_service.specs.ZoeRows as rows;
 
 use crate::call_arguments::argument;
-use call_data::outcomes::need;
 use call_data::refusals::{Refusal, Stop};
 use call_data::values::object_data;
 use host_text::keyword::{Keyword, KeywordFault};
@@ -88,9 +87,14 @@ pub fn install(alloc: Global, world: &mut World, args: &[Data]) -> Result<Data, 
     let text = text_argument(argument(args, 1))?;
     let read = module_of(alloc, text)?;
     let installation = world.instances.installations();
-    need(installation < u32::MAX, Refusal::Limit(u32::MAX))?;
-    world.install(read)?;
-    Ok(object_data(ObjKind::Installation, installation))
+    if installation == u32::MAX {
+        drop(read);
+        return Err(Stop::Refused(Refusal::Limit(u32::MAX)));
+    }
+    match world.install(read) {
+        Ok(()) => Ok(object_data(ObjKind::Installation, installation)),
+        Err(_) => Err(Stop::NoMemory),
+    }
 }
 
 // ---- startInstance
@@ -213,7 +217,9 @@ fn issuer_record(alloc: Global, issuers: &[Issuer]) -> Result<IssuerRecord, Allo
 {
     let mut made = IssuerRecord::new(alloc);
     for issuer in issuers {
-        let keyword = issuer.keyword.copy(alloc)?;
+        let Ok(keyword) = issuer.keyword.copy(alloc) else {
+            return Err(AllocError);
+        };
         if made.add(keyword, issuer.brand).is_err() {
             return Err(AllocError);
         }
@@ -263,6 +269,24 @@ pub(crate) fn copied(alloc: Global, given: Option<&Data>) -> Result<Data, AllocE
     }
 }
 
+/// Starts an instance of an installation with these issuers, and the terms and private arguments of a call.
+fn start(
+    alloc: Global,
+    world: &mut World,
+    installation: u32,
+    issuers: &[Issuer],
+    args: &[Data],
+) -> Result<(), AllocError>
+    requires { CanStart (world_of world.old) installation }
+    ensures ok { OnOk result (world_of world.new ≡ after (world_of world.old) (start_instance installation issuers.now (terms_in (arg 3 (trees args.now))) (arg 4 (trees args.now)))) }
+    ensures keeps { Keeps (world_of world.old) (world_of world.new) }
+{
+    let known = issuer_record(alloc, issuers)?;
+    let terms = terms(alloc, argument(args, 3))?;
+    let private_arguments = copied(alloc, argument(args, 4))?;
+    world.start_instance(installation, known, terms, private_arguments)
+}
+
 /// zoe.startInstance(installation, issuers, terms, privateArgs)
 #[tactic(auto, unfolding(crate::specs::ZoeRows::start_instance, call_data::specs::Outcomes::bind, call_data::specs::Outcomes::need))]
 pub fn start_instance(alloc: Global, world: &mut World, args: &[Data]) -> Result<Data, Stop>
@@ -275,14 +299,21 @@ pub fn start_instance(alloc: Global, world: &mut World, args: &[Data]) -> Result
     let given = record_argument(argument(args, 2), 2)?;
     check_names(alloc, given)?;
     let issuers = issuers(alloc, world, given)?;
-    need(has_terms(argument(args, 3)), Refusal::BadArgs(3))?;
-    need(issuers.len() <= MOST_ISSUERS, Refusal::Limit(64))?;
-    need(world.instances.made() < u32::MAX, Refusal::Limit(u32::MAX))?;
+    if !has_terms(argument(args, 3)) {
+        return Err(Stop::Refused(Refusal::BadArgs(3)));
+    }
+    if issuers.len() > MOST_ISSUERS {
+        return Err(Stop::Refused(Refusal::Limit(64)));
+    }
+    if world.instances.made() == u32::MAX {
+        return Err(Stop::Refused(Refusal::Limit(u32::MAX)));
+    }
     let promise = world.promises.made();
-    need(promise < u32::MAX, Refusal::Limit(u32::MAX))?;
-    let known = issuer_record(alloc, issuers.as_slice())?;
-    let terms = terms(alloc, argument(args, 3))?;
-    let private_arguments = copied(alloc, argument(args, 4))?;
-    world.start_instance(installation, known, terms, private_arguments)?;
-    Ok(object_data(ObjKind::Promise, promise))
+    if promise == u32::MAX {
+        return Err(Stop::Refused(Refusal::Limit(u32::MAX)));
+    }
+    match start(alloc, world, installation, issuers.as_slice(), args) {
+        Ok(()) => Ok(object_data(ObjKind::Promise, promise)),
+        Err(_) => Err(Stop::NoMemory),
+    }
 }

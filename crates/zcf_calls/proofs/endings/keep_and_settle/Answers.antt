@@ -10,4 +10,4 @@ returns-clause-effects c =
     on_ok c.settle.result c.settle.ensures.ok (λ done. by_kept_and_settled (world_of c.args.world.now) (world_of c.settle.new.self) (delivery_view c.args.delivery.now) c.args.state.items (settlement_view c.args.settlement)
     c.requires.can c.requires.last
     (kept_so (world_of c.args.world.now) (world_of c.keep_state.new.self) (world_of c.settle.new.self) (delivery_view c.args.delivery.now) c.instance_of.result c.promise_of.result (trees c.args.state.items) (settlement_view c.args.settlement)
-    c.instance_of.ensures c.promise_of.ensures c.in_ok-keep_state.ensures.ok done))
+    c.instance_of.ensures c.promise_of.ensures c.in-Ok.ensures.ok done))

@@ -7,13 +7,13 @@ use Rattle.zcf_calls.proofs.SeatsLeaving.{by_halted}
 use Rattle.zcf_calls.proofs.TurnsEnding.{by_both, spent_awaits}
 use Rattle.zcf_calls.proofs.turns.work_spent.Goals as goal
 
-pub refuse-requires : goal.refuse-requires
-refuse-requires c =
+pub refuse-refused-requires : goal.refuse-refused-requires
+refuse-refused-requires c =
     spent_awaits cause.Spent (world_of c.args.world.now) (world_of c.halt_with.new.world) (delivery_view c.args.delivery.now) c.requires
     (c.in_ok-halt_with.ensures.ok ∙ ap (λ n. halted_with cause.Spent n (world_of c.args.world.now)) c.instance_of.ensures)
 
 pub returns-clause-effects : goal.returns-clause-effects
 returns-clause-effects c =
-    by_both c.refuse.result (world_of c.args.world.now) (world_of c.halt_with.new.world) (world_of c.refuse.new.world)
+    by_both c.refuse-refused.result (world_of c.args.world.now) (world_of c.halt_with.new.world) (world_of c.refuse-refused.new.world)
     (by_halted cause.Spent c.instance_of.result (world_of c.args.world.now) (world_of c.halt_with.new.world) c.requires.hosted.valid (omega (arith, c.requires.hosted.made, c.instance_of.ensures)) c.in_ok-halt_with.ensures.ok)
-    c.refuse.ensures.effects
+    c.refuse-refused.ensures.effects

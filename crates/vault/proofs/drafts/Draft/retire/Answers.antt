@@ -11,7 +11,7 @@ retire-requires-clause-out c = hand_is_out _ _ _ _ c.self.invariant _ _ (rw (←
 
 pub invariant_of-self-2 : goal.invariant_of-self-2
 invariant_of-self-2 c =
-    rw (c.retire.ensures, c.push_reserved.ensures.items, c.reserve.ensures.items, c.in-Ok.ensures, c.brand.ensures, c.value.ensures)
+    rw (c.retire.ensures, c.push_reserved.ensures.items, c.to_note.ensures.same, c.in-Ok.ensures.step, c.brand.ensures, c.value.ensures)
     (step_keeps _ _ _ _ (movement c.args.parcel.brand Hand Outside c.args.parcel.value) c.self.invariant
     (can_put _ _ _ _ c.self.invariant Outside c.args.parcel (record {
       made = rw (← c.self.view_is) at c.requires.made;
@@ -21,12 +21,12 @@ invariant_of-self-2 c =
 
 pub returns-clause-ok : goal.returns-clause-ok
 returns-clause-ok c =
-    rw (c.retire.ensures, c.push_reserved.ensures.items, c.reserve.ensures.items, c.in-Ok.ensures, c.brand.ensures, c.value.ensures)
+    rw (c.retire.ensures, c.push_reserved.ensures.items, c.to_note.ensures.same, c.in-Ok.ensures.step, c.brand.ensures, c.value.ensures)
     (draft_of-moved _ _ _ _ (movement c.args.parcel.brand Hand Outside c.args.parcel.value) ∙ ap (λ (d : DraftState). stepped d (movement c.args.parcel.brand Hand Outside c.args.parcel.value)) c.self.view_is)
 
 pub returns-clause-valid : goal.returns-clause-valid
 returns-clause-valid c =
-    rw (c.retire.ensures, c.push_reserved.ensures.items, c.reserve.ensures.items, c.in-Ok.ensures, c.brand.ensures, c.value.ensures)
+    rw (c.retire.ensures, c.push_reserved.ensures.items, c.to_note.ensures.same, c.in-Ok.ensures.step, c.brand.ensures, c.value.ensures)
     (step_keeps _ _ _ _ (movement c.args.parcel.brand Hand Outside c.args.parcel.value) c.self.invariant
     (can_put _ _ _ _ c.self.invariant Outside c.args.parcel (record {
       made = rw (← c.self.view_is) at c.requires.made;
@@ -36,7 +36,7 @@ returns-clause-valid c =
 
 pub returns-clause-loses : goal.returns-clause-loses
 returns-clause-loses c =
-    rw (c.retire.ensures, c.push_reserved.ensures.items, c.reserve.ensures.items, c.in-Ok.ensures, c.brand.ensures, c.value.ensures, ← c.self.view_is)
+    rw (c.retire.ensures, c.push_reserved.ensures.items, c.to_note.ensures.same, c.in-Ok.ensures.step, c.brand.ensures, c.value.ensures, ← c.self.view_is)
     (loses_put _ _ _ _ c.self.invariant Outside c.args.parcel (record {
       made = rw (← c.self.view_is) at c.requires.made;
       kind = sym (rw (← c.self.view_is) at c.requires.kind);

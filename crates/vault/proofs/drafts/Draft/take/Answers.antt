@@ -4,27 +4,27 @@ use Rattle.vault.proofs.drafts.Draft.take.Goals as goal
 
 pub invariant_of-self-in-Ok-leave : goal.invariant_of-self-in-Ok-leave
 invariant_of-self-in-Ok-leave c =
-    rw (c.in-Ok-leave.ensures.ok, c.push_reserved.ensures.items, c.reserve.ensures.items, c.in-Ok.ensures, c.brand-brand.ensures)
+    rw (c.in-Ok-leave.ensures.ok, c.push_reserved.ensures.items, c.to_note.ensures.same, c.in-Ok.ensures.step, c.brand-brand.ensures)
     (step_keeps _ _ _ _ _ c.self.invariant (can_take _ _ _ _ c.self.invariant _ _ _ (taken_leaves _ _ _ _ c.self.invariant.kinds c.self.invariant.agrees (rw (← c.self.view_is) at c.requires)) c.in-Ok-leave.ensures.enough))
 
 pub returns-in-Ok-leave-clause-ok : goal.returns-in-Ok-leave-clause-ok
 returns-in-Ok-leave-clause-ok c =
-    rw (c.in-Ok-leave.ensures.ok, c.push_reserved.ensures.items, c.reserve.ensures.items, c.in-Ok.ensures, c.brand-brand.ensures, ← c.self.view_is)
+    rw (c.in-Ok-leave.ensures.ok, c.push_reserved.ensures.items, c.to_note.ensures.same, c.in-Ok.ensures.step, c.brand-brand.ensures, ← c.self.view_is)
     (taken_is _ _ _ _ c.self.invariant c.args.holder.now c.args.value.now)
 
 pub returns-in-Ok-leave-clause-valid : goal.returns-in-Ok-leave-clause-valid
 returns-in-Ok-leave-clause-valid c =
-    rw (c.in-Ok-leave.ensures.ok, c.push_reserved.ensures.items, c.reserve.ensures.items, c.in-Ok.ensures, c.brand-brand.ensures)
+    rw (c.in-Ok-leave.ensures.ok, c.push_reserved.ensures.items, c.to_note.ensures.same, c.in-Ok.ensures.step, c.brand-brand.ensures)
     (step_keeps _ _ _ _ _ c.self.invariant (can_take _ _ _ _ c.self.invariant _ _ _ (taken_leaves _ _ _ _ c.self.invariant.kinds c.self.invariant.agrees (rw (← c.self.view_is) at c.requires)) c.in-Ok-leave.ensures.enough)).draft
 
 pub returns-in-Ok-leave-clause-hand : goal.returns-in-Ok-leave-clause-hand
 returns-in-Ok-leave-clause-hand c =
-    rw (c.in-Ok-leave.ensures.parcel, c.in-Ok-leave.ensures.ok, c.push_reserved.ensures.items, c.reserve.ensures.items, c.in-Ok.ensures, c.brand-brand.ensures)
+    rw (c.in-Ok-leave.ensures.parcel, c.in-Ok-leave.ensures.ok, c.push_reserved.ensures.items, c.to_note.ensures.same, c.in-Ok.ensures.step, c.brand-brand.ensures)
     (hand_has_taken _ _ _ _ c.self.invariant _ _ _ (taken_leaves _ _ _ _ c.self.invariant.kinds c.self.invariant.agrees (rw (← c.self.view_is) at c.requires)) c.in-Ok-leave.ensures.enough)
 
 pub returns-in-Ok-leave-clause-gains : goal.returns-in-Ok-leave-clause-gains
 returns-in-Ok-leave-clause-gains c =
-    rw (c.in-Ok-leave.ensures.ok, c.push_reserved.ensures.items, c.reserve.ensures.items, c.in-Ok.ensures, c.brand-brand.ensures, ← c.self.view_is, brand_of-state c.self.inside.stores _ c.args.holder.now)
+    rw (c.in-Ok-leave.ensures.ok, c.push_reserved.ensures.items, c.to_note.ensures.same, c.in-Ok.ensures.step, c.brand-brand.ensures, ← c.self.view_is, brand_of-state c.self.inside.stores _ c.args.holder.now)
     (gains_taken _ _ _ _ c.self.invariant _ _ _ (taken_leaves _ _ _ _ c.self.invariant.kinds c.self.invariant.agrees (rw (← c.self.view_is) at c.requires)) c.in-Ok-leave.ensures.enough)
 
 pub returns-in-Ok-leave-clause-enough : goal.returns-in-Ok-leave-clause-enough

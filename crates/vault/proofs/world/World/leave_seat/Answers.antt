@@ -1,4 +1,4 @@
-use Rattle.std.proofs.Common.{◌≤◌, ◌∙◌, length, List, ap, arith, rules}
+use Rattle.std.proofs.Common.{◌≤◌, ◌∙◌, length, List, ap, arith, refl, rules}
 use Rattle.rights_model.specs.declared.Movement.{Movement}
 use Rattle.turn_log.specs.Logs.{log_of}
 use Rattle.vault.specs.Worlds.{world_of}
@@ -10,11 +10,8 @@ use Rattle.vault.proofs.world.World.leave_seat.Goals as goal
 pub returns-in_default-clause-keeps : goal.returns-in_default-clause-keeps
 returns-in_default-clause-keeps c = keeps_draft _ _ _ c.close_seat.ensures.kept (HandIsEmpty-kept _ _ c.close_seat.ensures.hand)
 
-pub returns-in_err-told-clause-keeps : goal.returns-in_err-told-clause-keeps
-returns-in_err-told-clause-keeps c = keeps_draft _ _ _ c.close_seat.ensures.kept (HandIsEmpty-kept _ _ c.close_seat.ensures.hand)
-
-pub returns-in_err-reserve-clause-keeps : goal.returns-in_err-reserve-clause-keeps
-returns-in_err-reserve-clause-keeps c = keeps_draft _ _ _ c.close_seat.ensures.kept (HandIsEmpty-kept _ _ c.close_seat.ensures.hand)
+pub returns-in_err-tell_exit-clause-keeps : goal.returns-in_err-tell_exit-clause-keeps
+returns-in_err-tell_exit-clause-keeps c = keeps_draft _ _ _ c.close_seat.ensures.kept (HandIsEmpty-kept _ _ c.close_seat.ensures.hand)
 
 pub returns-in_err-tell_movements-clause-keeps : goal.returns-in_err-tell_movements-clause-keeps
 returns-in_err-tell_movements-clause-keeps c = keeps_draft _ _ _ c.close_seat.ensures.kept (HandIsEmpty-kept _ _ c.close_seat.ensures.hand)
@@ -41,6 +38,6 @@ slice_bounds-tell_movements-start c =
     search (rules, within)
 
 pub returns-clause-ok : goal.returns-clause-ok
-returns-clause-ok c = left_world (world_of c.args.self.now) c.close_seat.new.self (log_of c.reserve.new.self) (log_of c.push_reserved.new.self) (log_of c.tell_movements.new.log) c.args.seat c.args.cause c.in_ok-told.told.items
-    c.movements-before.result.now c.movements.result.now c.in-Ok.ensures.ok (c.in_ok-told.ensures ∙ c.as_slice.ensures.value ∙ c.in-Ok.ensures.payouts) c.movements-before.ensures c.movements.ensures
-    c.in_ok-reserve.ensures.same c.push_reserved.ensures c.in_ok-tell_movements.ensures
+returns-clause-ok c = left_world (world_of c.args.self.now) c.close_seat.new.self (log_of c.args.self.now.log) (log_of c.tell_exit.new.log) (log_of c.tell_movements.new.log) c.args.seat c.args.cause c.as_slice.result.now
+    c.movements-before.result.now c.movements.result.now c.in-Ok.ensures.ok (c.as_slice.ensures.value ∙ c.in-Ok.ensures.payouts) c.movements-before.ensures c.movements.ensures
+    refl c.in_ok-tell_exit.ensures c.in_ok-tell_movements.ensures

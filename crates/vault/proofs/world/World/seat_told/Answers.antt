@@ -4,5 +4,5 @@ use Rattle.vault.proofs.HandLaws.{HandIsEmpty-kept}
 use Rattle.vault.proofs.WorldsKept.{keeps_draft}
 use Rattle.vault.proofs.world.World.seat_told.Goals as goal
 
-pub returns-in-Ok-clause-keeps : goal.returns-in-Ok-clause-keeps
-returns-in-Ok-clause-keeps c = keeps_draft _ _ _ (ap (λ (d : DraftState). d.kept) c.in-Ok.ensures.ok) (HandIsEmpty-kept _ _ c.open_seat.ensures.hand)
+pub returns-in-Ok-open_seat-clause-keeps : goal.returns-in-Ok-open_seat-clause-keeps
+returns-in-Ok-open_seat-clause-keeps c = keeps_draft _ _ _ (ap (λ (d : DraftState). d.kept) c.in-Ok-open_seat.ensures.ok) (HandIsEmpty-kept _ _ c.open_seat.ensures.hand)

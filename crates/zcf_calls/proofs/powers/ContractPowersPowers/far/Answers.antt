@@ -8,5 +8,5 @@ use Rattle.zcf_calls.proofs.powers.ContractPowersPowers.far.Goals as goal
 pub returns : goal.returns
 returns g c =
     let s = situation c.args.self.now.instance c.args.self.now.failed c.args.self.now.asked.items c.args.self.now.world in
-    let u = situation c.args.self.now.instance c.args.self.now.failed c.keep.new.asked.items c.args.self.now.world in
-    unasked_well s u _ c.in_ok-answer.answer c.args.name.now refl refl refl refl c.in_ok-answer.ensures (told_as _ _ _ _ _ (ap (λ (x : List ℕ). far x c.args.methods.items (tree c.args.held)) c.in_ok-name.ensures) c.in_ok-keep.ensures.kept)
+    let u = situation c.args.self.now.instance c.args.self.now.failed c.unasked.new.asked.items c.args.self.now.world in
+    unasked_well s u _ c.in_ok-answer.answer c.args.name.now refl refl refl refl c.in_ok-answer.ensures.refused (told_as _ _ _ _ _ (ap (λ (x : List ℕ). far x c.args.methods.items (tree c.args.held)) c.in-Ok.ensures) c.in_ok-answer.ensures.kept)

@@ -3,13 +3,13 @@ use Rattle.amount_math.specs.Amount.{holding}
 use Rattle.amount_math.specs.Content.{nothing, sum, sum-comm, sum-nothing}
 use Rattle.amount_math.specs.declared.Amount.{Amount}
 use Rattle.ertp_mint.specs.Stocks.{empty_amount}
-use Rattle.vault.proofs.payments.Payments.make.Goals as goal
+use Rattle.vault.proofs.payments.Payment.live.Goals as goal
 
 -- what is put in an empty stock is all that it has then
 put_first : (a : Amount) → holding (empty_amount a.brand a.value.kind) (sum nothing a.value.content) ≡ a
 put_first a = ap (λ c. record { brand = a.brand; value = record { kind = a.value.kind; content = c } }) (sum-comm nothing a.value.content ∙ sum-nothing a.value.content)
 
-pub returns-in-Ok-clause-ok : goal.returns-in-Ok-clause-ok
-returns-in-Ok-clause-ok c =
+pub returns-in-Ok-clause-made : goal.returns-in-Ok-clause-made
+returns-in-Ok-clause-made c =
     let stock : c.put.new.self ≡ c.args.parcel = c.in-Ok.ensures.ok ∙ rw (c.empty-stock.ensures, c.kind.ensures.kind, c.value.ensures, c.brand.ensures) (put_first c.args.parcel) in
-    c.push_reserved.ensures.items ∙ rw (stock, c.reserve.ensures.items) (search rules)
+    rw stock (search rules)

@@ -5,7 +5,7 @@ use Rattle.vault.specs.InstanceDeliveries.{delivery_view}
 use Rattle.vault.specs.Worlds.{world_of}
 use Rattle.zcf_calls.proofs.Runs.{by_more}
 use Rattle.zcf_calls.proofs.TurnsEnding.{ended_can_throw}
-use Rattle.zcf_calls.proofs.endings.end_thrown.Goals as goal
+use Rattle.zcf_calls.proofs.endings.throw.Goals as goal
 
 pub throw_in-requires : goal.throw_in-requires
 throw_in-requires c =
