@@ -23,8 +23,6 @@ enum Came {
     Other,
 }
 
-const LACKS: Came = Came::NotEnough;
-
 const WRONG: Came = Came::WrongBrand(7);
 
 fn amount(brand: u16, number: u128) -> Amount
@@ -103,88 +101,109 @@ fn greatest_of(left: Amount, right: Amount) -> Came
     came
 }
 
+/// A brand and two numbers, and what comes of them when the first is of brand 1.
+struct Case {
+    brand: u16,
+    left: u128,
+    right: u128,
+    sum: Came,
+    rest: Came,
+    least: Came,
+    greatest: Came,
+}
+
+const CASES: [Case; 5] = [
+    Case {
+        brand: 1,
+        left: 5,
+        right: 3,
+        sum: Came::Units(8),
+        rest: Came::Units(2),
+        least: Came::Units(3),
+        greatest: Came::Units(5),
+    },
+    Case {
+        brand: 1,
+        left: 3,
+        right: 5,
+        sum: Came::Units(8),
+        rest: Came::NotEnough,
+        least: Came::Units(3),
+        greatest: Came::Units(5),
+    },
+    Case {
+        brand: 1,
+        left: 4,
+        right: 4,
+        sum: Came::Units(8),
+        rest: Came::Units(0),
+        least: Came::Units(4),
+        greatest: Came::Units(4),
+    },
+    Case {
+        brand: 1,
+        left: MOST,
+        right: 1,
+        sum: Came::TooMuch(9_223_372_036_854_775_808, MOST),
+        rest: Came::Units(9_223_372_036_854_775_806),
+        least: Came::Units(1),
+        greatest: Came::Units(MOST),
+    },
+    Case {
+        brand: 7,
+        left: 5,
+        right: 3,
+        sum: WRONG,
+        rest: WRONG,
+        least: WRONG,
+        greatest: WRONG,
+    },
+];
+
 #[test]
 fn amounts_of_one_brand_are_worked_and_of_two_refused(rt: HostRuntime) {
-    let too_much = Came::TooMuch(MOST + 1, MOST);
-    for (brand, left, right, sum, rest, least, greatest) in [
-        (
-            1,
-            5,
-            3,
-            Came::Units(8),
-            Came::Units(2),
-            Came::Units(3),
-            Came::Units(5),
-        ),
-        (
-            1,
-            3,
-            5,
-            Came::Units(8),
-            LACKS,
-            Came::Units(3),
-            Came::Units(5),
-        ),
-        (
-            1,
-            4,
-            4,
-            Came::Units(8),
-            Came::Units(0),
-            Came::Units(4),
-            Came::Units(4),
-        ),
-        (
-            1,
-            MOST,
-            1,
-            too_much,
-            Came::Units(MOST - 1),
-            Came::Units(1),
-            Came::Units(MOST),
-        ),
-        (7, 5, 3, WRONG, WRONG, WRONG, WRONG),
-    ] {
+    for case in &CASES {
+        let (brand, left, right) = (case.brand, case.left, case.right);
         assert!(rt; left <= MOST && right <= MOST);
-        assert!(rt;
-            added(amount(1, left), amount(brand, right)) == sum,
-            "{left} and {right}"
-        );
-        assert!(rt;
-            lessened(amount(1, left), amount(brand, right)) == rest,
-            "{left} less {right}"
-        );
-        assert!(rt;
-            least_of(amount(1, left), amount(brand, right)) == least,
-            "{left} and {right}"
-        );
-        assert!(rt;
-            greatest_of(amount(1, left), amount(brand, right)) == greatest,
-            "{left} and {right}"
-        );
+        assert!(rt; added(amount(1, left), amount(brand, right)) == case.sum);
+        assert!(rt; lessened(amount(1, left), amount(brand, right)) == case.rest);
+        assert!(rt; least_of(amount(1, left), amount(brand, right)) == case.least);
+        assert!(rt; greatest_of(amount(1, left), amount(brand, right)) == case.greatest);
     }
 }
 
-/// Whether the first has the second, and whether they are the same; none where their brands differ.
-fn compared(left: &Amount, right: &Amount) -> Option<(bool, bool)>
-    requires left { left.now.value.kind ≡ Kind.Nat }
-    requires right { right.now.value.kind ≡ Kind.Nat }
+/// Whether so many units have so many of a brand, and whether they are the same.
+fn compared(brand: u16, left: u128, right: u128) -> Result<(bool, bool), WrongBrand>
+    requires left { left ≤ nat_bound }
+    requires right { right ≤ nat_bound }
 {
-    match (left.is_gte(right), left.is_equal(right)) {
-        (Ok(is_gte), Ok(is_equal)) => Some((is_gte, is_equal)),
-        _ => None,
-    }
+    let left = amount(1, left);
+    let right = amount(brand, right);
+    let answers = match (left.is_gte(&right), left.is_equal(&right)) {
+        (Ok(is_gte), Ok(is_equal)) => Ok((is_gte, is_equal)),
+        (Err(wrong), _) | (_, Err(wrong)) => Err(wrong),
+    };
+    drop(right);
+    drop(left);
+    answers
+}
+
+fn is_empty(number: u128) -> bool
+    requires { number ≤ nat_bound }
+{
+    let amount = amount(1, number);
+    let is_empty = amount.is_empty();
+    drop(amount);
+    is_empty
 }
 
 #[test]
 fn amounts_of_one_brand_are_compared_and_of_two_refused(rt: HostRuntime) {
-    let (none, three, five) = (amount(1, 0), amount(1, 3), amount(1, 5));
-    assert!(rt; compared(&five, &three) == Some((true, false)));
-    assert!(rt; compared(&three, &five) == Some((false, false)));
-    assert!(rt; compared(&five, &five) == Some((true, true)));
-    assert!(rt; compared(&five, &amount(7, 5)) == None);
-    assert!(rt; five.is_gte(&amount(7, 5)) == Err(OTHER));
-    assert!(rt; none.is_empty() && !three.is_empty());
+    assert!(rt; compared(1, 5, 3) == Ok((true, false)));
+    assert!(rt; compared(1, 3, 5) == Ok((false, false)));
+    assert!(rt; compared(1, 0, 0) == Ok((true, true)));
+    assert!(rt; compared(7, 5, 5) == Err(OTHER));
+    assert!(rt; is_empty(0) && !is_empty(3));
 }
 
 fn coerced(brand: u16, kind: Kind, alleged: Amount) -> Came {
@@ -252,5 +271,6 @@ fn laws_of_a_kind_serve_numbers(rt: HostRuntime) {
     let (two, three) = (nat(&rt, 2), nat(&rt, 3));
     assert!(rt; is_between::<NatKind>(&two, &three, &three));
     assert!(rt; !is_between::<NatKind>(&three, &two, &three));
-    assert!(rt; NatKind::coerce(two).is_ok());
+    drop(three);
+    drop(two);
 }

@@ -227,6 +227,11 @@ fn bags_are_worked_key_by_key(rt: HostRuntime) {
         assert!(rt; is_rest(bag(&rt, alloc, case.left), &right, case.rest));
         assert!(rt; is_sum(bag(&rt, alloc, case.left), right, case.sum));
     }
+}
+
+#[test]
+fn a_bag_lacks_what_it_has_not(rt: HostRuntime) {
+    let alloc = rt.alloc();
     let right = bag(&rt, alloc, &[("a", 1), ("c", 1)]);
     assert!(rt; is_less(bag(&rt, alloc, &[("b", 2)]), &right, &[("b", 2)]));
     let sum = &[("a", 1), ("b", 2), ("c", 1)];
@@ -300,6 +305,9 @@ fn more_keys_may_be_out_than_in_a_set(rt: HostRuntime) {
     assert!(rt; out.is_gte(&k));
     out.lessen(&k);
     assert!(rt; copy.total() == 4097 && out.total() == 4096);
+    drop(k);
+    drop(copy);
+    drop(out);
 }
 
 /// Whether the part is taken out of the value.
@@ -323,6 +331,9 @@ fn keyed_values_are_parted_and_copied(rt: HostRuntime) {
     assert!(rt; is_split(&mut held, &b) && !is_split(&mut held, &b));
     let copy = held.copy().expect(&rt, "memory for a copy");
     assert!(rt; has(&copy, &[("a", 1)]) && copy.is_equal(&held) && !copy.is_equal(&b));
+    drop(copy);
+    drop(b);
+    drop(held);
 }
 
 /// How much the lesser of two values has.
@@ -378,4 +389,6 @@ fn laws_of_a_kind_serve_sets_and_bags(rt: HostRuntime) {
     assert!(rt; credited(set(&rt, alloc, &["a"]), set(&rt, alloc, &["b"])) == Some(2));
     let (few, all) = (bag(&rt, alloc, FEW), bag(&rt, alloc, ALL));
     assert!(rt; is_between::<BagKind>(&few, &few, &all));
+    drop(all);
+    drop(few);
 }

@@ -126,36 +126,39 @@ fn is_shown(alloc: Global, instances: &Instances, wanted: &str) -> bool {
     is_wanted
 }
 
+/// Steps, and what is shown after each.
+const STEPS: [(Step, &str); 23] = [
+    (Step::Install, "1"),
+    (Step::Back, "0"),
+    (Step::Install, "1"),
+    (Step::Start(0), "1 0:12"),
+    (Step::Start(0), "1 0:12 0:12"),
+    (Step::Keep(1, 3), "1 0:12 0:33"),
+    (Step::Forget, "1 0:12 0:33"),
+    (Step::Keep(1, 4), "1 0:12 0:44"),
+    (Step::Keep(1, 5), "1 0:12 0:55"),
+    (Step::Halt(1), "1 0:12 0:55!"),
+    (Step::Halt(1), "1 0:12 0:55!"),
+    (Step::Install, "2 0:12 0:55!"),
+    (Step::Start(1), "2 0:12 0:55! 1:12"),
+    (Step::Keep(2, 6), "2 0:12 0:55! 1:66"),
+    (Step::Halt(2), "2 0:12 0:55! 1:66!"),
+    (Step::Keep(0, 7), "2 0:77 0:55! 1:66!"),
+    (Step::Back, "1 0:12 0:33"),
+    (Step::Back, "1 0:12 0:33"),
+    (Step::Halt(0), "1 0:12! 0:33"),
+    (Step::Forget, "1 0:12! 0:33"),
+    (Step::Halt(0), "1 0:12! 0:33"),
+    (Step::Keep(0, 8), "1 0:88! 0:33"),
+    (Step::Back, "1 0:12! 0:33"),
+];
+
 #[test]
 fn a_turns_changes_are_undone_or_kept(rt: HostRuntime) {
     let alloc = rt.alloc();
     let mut instances = Instances::new(alloc);
-    for (step, wanted) in [
-        (Step::Install, "1"),
-        (Step::Back, "0"),
-        (Step::Install, "1"),
-        (Step::Start(0), "1 0:12"),
-        (Step::Start(0), "1 0:12 0:12"),
-        (Step::Keep(1, 3), "1 0:12 0:33"),
-        (Step::Forget, "1 0:12 0:33"),
-        (Step::Keep(1, 4), "1 0:12 0:44"),
-        (Step::Keep(1, 5), "1 0:12 0:55"),
-        (Step::Halt(1), "1 0:12 0:55!"),
-        (Step::Halt(1), "1 0:12 0:55!"),
-        (Step::Install, "2 0:12 0:55!"),
-        (Step::Start(1), "2 0:12 0:55! 1:12"),
-        (Step::Keep(2, 6), "2 0:12 0:55! 1:66"),
-        (Step::Halt(2), "2 0:12 0:55! 1:66!"),
-        (Step::Keep(0, 7), "2 0:77 0:55! 1:66!"),
-        (Step::Back, "1 0:12 0:33"),
-        (Step::Back, "1 0:12 0:33"),
-        (Step::Halt(0), "1 0:12! 0:33"),
-        (Step::Forget, "1 0:12! 0:33"),
-        (Step::Halt(0), "1 0:12! 0:33"),
-        (Step::Keep(0, 8), "1 0:88! 0:33"),
-        (Step::Back, "1 0:12! 0:33"),
-    ] {
-        take(alloc, &mut instances, step);
+    for (step, wanted) in &STEPS {
+        take(alloc, &mut instances, *step);
         assert!(rt; is_shown(alloc, &instances, wanted), "{wanted}");
     }
     drop(instances);

@@ -62,30 +62,34 @@ fn letter(state: &PromiseState) -> u8 {
     }
 }
 
+/// Steps, and what is shown after each.
+const STEPS: [(Step, &str); 16] = [
+    (Step::Back, ""),
+    (Step::Make, "p"),
+    (Step::Make, "pp"),
+    (Step::Make, "ppp"),
+    (Step::Ok(1), "pop"),
+    (Step::Forget, "pop"),
+    (Step::Broken(0), "bop"),
+    (Step::Make, "bopp"),
+    (Step::Ok(3), "bopo"),
+    (Step::Ok(2), "booo"),
+    (Step::Broken(2), "booo"),
+    (Step::Back, "pop"),
+    (Step::Ok(0), "oop"),
+    (Step::Forget, "oop"),
+    (Step::Broken(2), "oob"),
+    (Step::Back, "oop"),
+];
+
 #[test]
 fn a_turns_promises_are_undone_or_kept(rt: HostRuntime) {
     let mut promises = Promises::new(rt.alloc());
-    for (step, wanted) in [
-        (Step::Back, ""),
-        (Step::Make, "p"),
-        (Step::Make, "pp"),
-        (Step::Make, "ppp"),
-        (Step::Ok(1), "pop"),
-        (Step::Forget, "pop"),
-        (Step::Broken(0), "bop"),
-        (Step::Make, "bopp"),
-        (Step::Ok(3), "bopo"),
-        (Step::Ok(2), "booo"),
-        (Step::Broken(2), "booo"),
-        (Step::Back, "pop"),
-        (Step::Ok(0), "oop"),
-        (Step::Forget, "oop"),
-        (Step::Broken(2), "oob"),
-        (Step::Back, "oop"),
-    ] {
-        take(&mut promises, step);
+    for (step, wanted) in &STEPS {
+        take(&mut promises, *step);
         assert!(rt; is_shown(&promises, wanted), "{wanted}");
     }
+    drop(promises);
 }
 
 /// Whether a promise may end so.

@@ -212,26 +212,38 @@ fn a_further_slot_stands_last_and_is_counted(rt: HostRuntime) {
 }
 
 #[test]
-fn a_closed_seat_keeps_its_allocation(rt: HostRuntime) {
+fn a_part_of_a_slot_is_taken(rt: HostRuntime) {
     let alloc = rt.alloc();
     let mut seats = two_seats(&rt, alloc);
     put(&rt, alloc, &mut seats, 0, "Bid", 5);
+    let twin = seats.twin(alloc).expect(&rt, "memory for a twin");
     assert!(rt; take(&rt, alloc, &mut seats, 0, "Bid", 6) == None);
     assert!(rt; take(&rt, alloc, &mut seats, 0, "Bid", 2) == Some(2));
-    let twin = seats.twin(alloc).expect(&rt, "memory for a twin");
-    assert!(rt; close_and_take(&rt, alloc, &mut seats, 0, "Bid", 3) == Some(3));
-    let last = [("Bid", 3), ("Asset", 0)];
-    assert!(rt; has_rows(&rt, alloc, &seats, 0, last.as_slice()));
-    assert!(rt; seats.total(0) == 0 && twin.total(0) == 3);
-    assert!(rt; seats.made() == 2 && twin.made() == 2);
-    assert!(rt; !seats.is_open(0) && seats.is_open(1) && twin.is_open(0));
-    assert!(rt; seats.open_slots() == 2);
-    assert_takes_nothing(&rt, alloc, &mut seats, 0);
-    assert!(rt; seats.made() == 2);
-    match seats.close(alloc, 0) {
-        Ok(_again) => panic!(rt; "it is closed once"),
-        Err(fault) => assert!(rt; fault == CloseFault::SeatExited),
-    }
+    assert!(rt; seats.total(0) == 3 && twin.total(0) == 5 && twin.made() == 2);
     drop(twin);
+    drop(seats);
+}
+
+/// Whether a seat is refused to be closed, since it was closed before.
+fn was_closed(rt: &impl Abort, alloc: Global, seats: &mut Seats, seat: u32) -> bool {
+    assert!(rt; seat < seats.made());
+    match seats.close(alloc, seat) {
+        Ok(_last) => panic!(rt; "it is closed once"),
+        Err(fault) => fault == CloseFault::SeatExited,
+    }
+}
+
+#[test]
+fn a_closed_seat_keeps_its_allocation(rt: HostRuntime) {
+    let alloc = rt.alloc();
+    let mut seats = two_seats(&rt, alloc);
+    put(&rt, alloc, &mut seats, 0, "Bid", 3);
+    assert!(rt; close_and_take(&rt, alloc, &mut seats, 0, "Bid", 3) == Some(3));
+    let last = &[("Bid", 3), ("Asset", 0)];
+    assert!(rt; has_rows(&rt, alloc, &seats, 0, last));
+    assert!(rt; seats.total(0) == 0 && seats.open_slots() == 2 && seats.made() == 2);
+    assert!(rt; !seats.is_open(0) && seats.is_open(1));
+    assert_takes_nothing(&rt, alloc, &mut seats, 0);
+    assert!(rt; was_closed(&rt, alloc, &mut seats, 0));
     drop(seats);
 }

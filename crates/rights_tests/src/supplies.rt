@@ -102,18 +102,20 @@ fn a_parcel_is_cut_merged_stored_and_taken(rt: HostRuntime) {
     let issued = issue(&rt, &mut supply, 0, 10);
     assert!(rt; supply.outstanding(0).number() == Some(10));
     let mut parcel = issued.expect(&rt, "ten units are within the bound");
-    let part = parcel
-        .cut(&Value::nat(3))
-        .expect(&rt, "ten units have three");
+    let three = Value::nat(3);
+    let part = parcel.cut(&three).expect(&rt, "ten units have three");
+    drop(three);
     let mut stock = Stock::empty(0, Kind::Nat);
     put(&rt, &mut stock, part);
-    match stock.take(&Value::nat(4)) {
+    let four = Value::nat(4);
+    match stock.take(&four) {
         Ok(_taken) => panic!(rt; "three units haven't four"),
         Err(fault) => assert!(rt; fault == TakeFault::NotEnough),
     }
-    let one = stock
-        .take(&Value::nat(1))
-        .expect(&rt, "three units have one");
+    drop(four);
+    let unit = Value::nat(1);
+    let one = stock.take(&unit).expect(&rt, "three units have one");
+    drop(unit);
     merge(&rt, &mut parcel, one);
     assert!(rt; parcel.brand() == 0 && parcel.value().number() == Some(8));
     put(&rt, &mut stock, parcel);
