@@ -1,14 +1,13 @@
-//! Tests of texts and of the contract language: texts, trees, the reader and the evaluator. It stands on
-//! those crates, whose own proofs are so made once, and no crate stands on it. Its one contract is that
-//! of its fixtures: what they make is what their names say.
+//! Tests of texts and of the contract language that no script of lines can ask for: labels, numbers,
+//! sizes, the longest text, and what functions cost over a host that answers null. It stands on those
+//! crates, whose own proofs are so made once, and no crate stands on it.
 #![tactic(auto)]
 
 #[cfg(test)]
 mod evaluation;
-pub mod fixtures;
 #[cfg(test)]
 mod reading;
 #[cfg(test)]
-mod texts;
+mod sizes;
 #[cfg(test)]
-mod trees;
+mod texts;

@@ -1,9 +1,8 @@
 ghost use Rattle.std.specs.Prelude.{◌≡◌, All};
 
-use crate::fixtures::nat_value;
 use crate::keywords::keyword;
 use amount_math::{Amount, Kind, Value};
-use proposals::allocations::{Allocation, MOST_ROWS};
+use proposals::allocations::{Allocation, MOST_ROWS, Row};
 use proposals::issuer_records::{AddFault, IssuerRecord};
 use proposals::offer_safety::{covers, offer_safe};
 use proposals::offers::{Exit, Proposal};
@@ -17,7 +16,7 @@ fn coins(rt: &impl Abort, alloc: Global, rows: &[(&str, u32)]) -> Allocation
     let mut made = Allocation::new(alloc);
     for (text, number) in rows {
         let keyword = keyword(rt, alloc, text);
-        let value = nat_value(*number);
+        let value = Value::nat(u128::from(*number));
         assert!(rt; made.len() < MOST_ROWS);
         assert!(rt; made.get(&keyword).is_none());
         made.push(alloc, keyword, Amount { brand: 0, value })
@@ -40,74 +39,82 @@ fn safe_and_covered(
         exit: Exit::OnDemand,
     };
     let slots = coins(rt, alloc, slots);
-    (
+    let answers = (
         offer_safe(&proposal, &slots),
         covers(&proposal.want, &slots),
-    )
+    );
+    drop(slots);
+    drop(proposal);
+    answers
 }
 
-#[test]
-fn rows_are_found_by_their_keywords(rt: HostRuntime) {
-    let allocation = coins(&rt, rt.alloc(), &[("Price", 3), ("Asset", 1)]);
-    let copy = allocation.copy(rt.alloc()).expect(&rt, "memory for a copy");
-    let made = Allocation::from_rows(rt.alloc(), Vec::new(rt.alloc())).expect(
-        &rt,
-        "memory for no rows",
-    );
-    assert!(rt; made.is_empty() && !copy.is_empty());
-    for (text, number) in [("Price", Some(3)), ("Asset", Some(1)), ("Other", None)] {
-        let keyword = keyword(&rt, rt.alloc(), text);
-        let found = match copy.get(&keyword) {
-            Some(amount) => amount.value.number(),
-            None => None,
-        };
-        assert!(rt; found == number, "{text}");
-    }
-    for row in copy.rows() {
-        let again = row.copy(rt.alloc()).expect(&rt, "memory for a row");
-        assert!(rt; again.keyword.is(&row.keyword));
-    }
-}
+const ASSET_AND_BONUS: &[(&str, u32)] = &[("Asset", 2), ("Bonus", 3)];
+
+const BID_AND_FEE: &[(&str, u32)] = &[("Bid", 5), ("Fee", 1)];
 
 #[test]
 fn an_offer_is_safe_with_all_wants_or_all_gives(rt: HostRuntime) {
-    let give = &[("Bid", 5), ("Fee", 1)];
-    let want = &[("Asset", 2), ("Bonus", 3)];
-    let alloc = rt.alloc();
-    assert!(rt;
-        safe_and_covered(&rt, alloc, give, want, &[("Asset", 2), ("Bonus", 3)]) == (true, true)
-    );
-    assert!(rt;
-        safe_and_covered(
-            &rt,
-            alloc,
-            give,
-            want,
-            &[("Fee", 1), ("Bid", 6), ("Asset", 1)]
-        ) == (true, false)
-    );
-    assert!(rt;
-        safe_and_covered(&rt, alloc, give, want, &[("Asset", 2), ("Bid", 5)]) == (false, false)
-    );
-    assert!(rt;
-        safe_and_covered(
-            &rt,
-            alloc,
-            give,
-            want,
-            &[("Asset", 9), ("Bonus", 2), ("Bid", 5), ("Fee", 0)]
-        ) == (false, false)
-    );
+    for (give, want, slots, is_safe, is_covered) in [
+        (BID_AND_FEE, ASSET_AND_BONUS, ASSET_AND_BONUS, true, true),
+        (
+            BID_AND_FEE,
+            ASSET_AND_BONUS,
+            [("Fee", 1), ("Bid", 6), ("Asset", 1)].as_slice(),
+            true,
+            false,
+        ),
+        (
+            BID_AND_FEE,
+            ASSET_AND_BONUS,
+            [("Asset", 2), ("Bid", 5)].as_slice(),
+            false,
+            false,
+        ),
+        (
+            BID_AND_FEE,
+            ASSET_AND_BONUS,
+            [("Asset", 9), ("Bonus", 2), ("Bid", 5), ("Fee", 0)].as_slice(),
+            false,
+            false,
+        ),
+        (
+            [("Bid", 5)].as_slice(),
+            [].as_slice(),
+            [].as_slice(),
+            true,
+            true,
+        ),
+        (
+            [].as_slice(),
+            [("Asset", 2)].as_slice(),
+            [].as_slice(),
+            true,
+            false,
+        ),
+        (
+            [("Bid", 5)].as_slice(),
+            [("Asset", 0)].as_slice(),
+            [].as_slice(),
+            true,
+            true,
+        ),
+    ] {
+        let wanted = (is_safe, is_covered);
+        assert!(rt; safe_and_covered(&rt, rt.alloc(), give, want, slots) == wanted);
+    }
 }
 
-#[test]
-fn no_rows_are_covered_by_any(rt: HostRuntime) {
-    let give = &[("Bid", 5)];
-    let none = &[];
-    let alloc = rt.alloc();
-    assert!(rt; safe_and_covered(&rt, alloc, give, none, none) == (true, true));
-    assert!(rt; safe_and_covered(&rt, alloc, none, &[("Asset", 2)], none) == (true, false));
-    assert!(rt; safe_and_covered(&rt, alloc, give, &[("Asset", 0)], none) == (true, true));
+/// Whether the rows have just these keywords and numbers, in their order.
+pub fn are_rows(rows: &[Row], wanted: &[(&str, u128)]) -> bool {
+    if rows.len() != wanted.len() {
+        return false;
+    }
+    for (row, (text, number)) in rows.iter().zip(wanted) {
+        if row.keyword.as_str() != *text || row.amount.value.number() != Some(*number) {
+            return false;
+        }
+    }
+    true
 }
 
 #[test]
@@ -117,56 +124,41 @@ fn slots_stand_in_byte_order_give_before_want(rt: HostRuntime) {
         want: coins(&rt, rt.alloc(), &[("Y", 4), ("A", 5)]),
         exit: Exit::AfterDeadline(7),
     };
-    let copy = proposal.copy(rt.alloc()).expect(&rt, "memory for a copy");
-    assert!(rt; copy.exit == Exit::AfterDeadline(7));
-    let slots = copy.slots(rt.alloc()).expect(&rt, "memory for slots");
-    let wanted = [
-        ("B1", Some(3)),
-        ("B10", Some(2)),
-        ("Z", Some(1)),
-        ("A", Some(0)),
-        ("Y", Some(0)),
-    ];
-    assert!(rt; slots.len() == wanted.len());
-    for (place, (text, number)) in wanted.iter().enumerate() {
-        let slot = slots.get(place).expect(&rt, "a slot");
-        assert!(rt; slot.keyword.as_str() == *text, "{text}");
-        assert!(rt; slot.amount.value.number() == *number);
+    let slots = proposal.slots(rt.alloc()).expect(&rt, "memory for slots");
+    let wanted = [("B1", 3), ("B10", 2), ("Z", 1), ("A", 0), ("Y", 0)];
+    assert!(rt; are_rows(slots.as_slice(), wanted.as_slice()));
+    drop(slots);
+    drop(proposal);
+}
+
+/// An issuer record of so many keywords K0, K1, ..
+fn issuers(rt: &impl Abort, alloc: Global, count: u16) -> IssuerRecord {
+    let mut issuers = IssuerRecord::new(alloc);
+    for number in 0..count {
+        let text = format!(in alloc; "K{number}").expect(rt, "memory for a text");
+        assert!(rt; issuers.add(keyword(rt, alloc, text.as_str()), number) == Ok(()));
     }
+    issuers
+}
+
+/// The brand under a keyword.
+fn brand_of(rt: &impl Abort, alloc: Global, issuers: &IssuerRecord, text: &str) -> Option<u16> {
+    let keyword = keyword(rt, alloc, text);
+    let brand = issuers.get(&keyword);
+    drop(keyword);
+    brand
 }
 
 #[test]
-fn an_issuer_record_has_each_keyword_once(rt: HostRuntime) {
-    let mut issuers = IssuerRecord::new(rt.alloc());
-    assert!(rt; issuers.is_empty());
-    for (text, brand, wanted) in [
-        ("Price", 3, Ok(())),
-        ("Asset", 4, Ok(())),
-        ("Price", 5, Err(AddFault::KeywordTaken)),
-        ("Other", 3, Ok(())),
-    ] {
-        let keyword = keyword(&rt, rt.alloc(), text);
-        assert!(rt; issuers.add(keyword, brand) == wanted, "{text}");
-    }
-    let copy = issuers.copy(rt.alloc()).expect(&rt, "memory for a copy");
-    assert!(rt; copy.len() == 3 && copy.issuers().len() == 3);
-    assert!(rt; copy.get(&keyword(&rt, rt.alloc(), "Price")) == Some(3));
-    assert!(rt; copy.get(&keyword(&rt, rt.alloc(), "Fee")) == None);
-    assert!(rt; copy.has_brand(4) && !copy.has_brand(5));
-}
-
-#[test]
-fn an_issuer_record_has_at_most_64_keywords(rt: HostRuntime) {
-    let mut issuers = IssuerRecord::new(rt.alloc());
-    for number in 0..65u16 {
-        let text = format!(in rt.alloc(); "K{number}").expect(&rt, "memory for a text");
-        let wanted = if number < 64 {
-            Ok(())
-        } else {
-            Err(AddFault::Limit)
-        };
-        let keyword = keyword(&rt, rt.alloc(), text.as_str());
-        assert!(rt; issuers.add(keyword, number) == wanted);
-    }
-    assert!(rt; issuers.add(keyword(&rt, rt.alloc(), "K0"), 0) == Err(AddFault::KeywordTaken));
+fn an_issuer_record_has_each_of_64_keywords_once(rt: HostRuntime) {
+    let alloc = rt.alloc();
+    let mut issuers = issuers(&rt, alloc, 64);
+    assert!(rt; issuers.add(keyword(&rt, alloc, "K64"), 64) == Err(AddFault::Limit));
+    assert!(rt; issuers.add(keyword(&rt, alloc, "K0"), 64) == Err(AddFault::KeywordTaken));
+    let copy = issuers.copy(alloc).expect(&rt, "memory for a copy");
+    drop(issuers);
+    assert!(rt; copy.len() == 64 && copy.has_brand(4) && !copy.has_brand(64));
+    assert!(rt; brand_of(&rt, alloc, &copy, "K3") == Some(3));
+    assert!(rt; brand_of(&rt, alloc, &copy, "K64") == None);
+    drop(copy);
 }

@@ -1,23 +1,33 @@
+// Sets and bags as data. Whole numbers as data stand in examples/amounts.jsonl.
+use crate::keyed_values::has;
 use amount_math::{Kind, Value};
-use call_data::amounts::{read_amount, read_value};
-use call_data::outcomes::need;
+use call_data::amounts::read_value;
 use call_data::refusals::{Refusal, Stop};
+use call_data::values::value_data;
 use host_text::text::Text;
-use jessie_tree::data::{Data, Obj, ObjKind};
+use jessie_tree::data::Data;
 use std::alloc::{AllocError, Global};
-use std::process::Abort;
-use std::test::Fail;
 
-const LAST: i128 = (1 << 63) - 1;
+const LAST: i128 = 9_223_372_036_854_775_807;
+
+const LONG: &str = "12345678901234567890123456789012345678901234567890123456789012345";
+
+/// An item of an array.
+#[derive(Clone, Copy)]
+enum Item {
+    Number(i128),
+    Key(&'static str),
+    Pair(&'static str, i128),
+    /// `[1, "a"]`
+    Turned,
+    /// `["a"]`
+    Single,
+    /// `[]`
+    Empty,
+}
 
 fn text(alloc: Global, text: &str) -> Result<Data, AllocError> {
     Ok(Data::Text(Text::from_str(alloc, text)?))
-}
-
-fn one(alloc: Global, item: Data) -> Result<Data, AllocError> {
-    let mut items = Vec::new(alloc);
-    items.push(item)?;
-    Ok(Data::Array(items))
 }
 
 fn two(alloc: Global, first: Data, second: Data) -> Result<Data, AllocError> {
@@ -27,142 +37,198 @@ fn two(alloc: Global, first: Data, second: Data) -> Result<Data, AllocError> {
     Ok(Data::Array(items))
 }
 
-/// `["key", count]`
-fn pair(alloc: Global, key: &str, count: i128) -> Result<Data, AllocError> {
-    two(alloc, text(alloc, key)?, Data::Number(count))
+fn data_of(alloc: Global, item: Item) -> Result<Data, AllocError> {
+    match item {
+        Item::Number(number) => Ok(Data::Number(number)),
+        Item::Key(key) => text(alloc, key),
+        Item::Pair(key, count) => two(alloc, text(alloc, key)?, Data::Number(count)),
+        Item::Turned => two(alloc, Data::Number(1), text(alloc, "a")?),
+        Item::Single => array(alloc, text(alloc, "a")?),
+        Item::Empty => Ok(Data::Array(Vec::new(alloc))),
+    }
 }
 
-/// `{brand, value}`
-fn amount(alloc: Global, kind: ObjKind, value: Data) -> Result<Data, AllocError> {
-    let mut fields = Vec::new(alloc);
-    let brand = Data::Object(Obj { kind, number: 7 });
-    fields.push((Text::from_str(alloc, "brand")?, brand))?;
-    fields.push((Text::from_str(alloc, "value")?, value))?;
-    Ok(Data::Record(fields))
+fn array(alloc: Global, item: Data) -> Result<Data, AllocError> {
+    let mut items = Vec::new(alloc);
+    items.push(item)?;
+    Ok(Data::Array(items))
 }
 
-fn is_bad_value(read: &Result<Value, Stop>) -> bool {
-    matches!(read, Err(Stop::Refused(Refusal::BadValue)))
+fn array_of(alloc: Global, given: &[Item]) -> Result<Data, AllocError> {
+    let mut items = Vec::new(alloc);
+    for item in given {
+        items.push(data_of(alloc, *item)?)?;
+    }
+    Ok(Data::Array(items))
 }
 
-/// Whether the value has just these keys with their counts, in their order.
-fn has(value: &Value, wanted: &[(&str, u64)]) -> bool {
-    let Some(entries) = value.entries() else {
-        return false;
-    };
-    if entries.len() != wanted.len() {
+/// What is read.
+#[derive(Clone, Copy, PartialEq, Eq)]
+enum Read {
+    /// The entries that were wanted, which are data again in their order.
+    Wanted,
+    Other,
+    BadValue,
+    NoMemory,
+}
+
+fn is_text(data: &Data, wanted: &str) -> bool {
+    match data.text() {
+        Some(text) => text.as_str() == wanted,
+        None => false,
+    }
+}
+
+/// Whether the data is an element with its count, as a value of this kind has it.
+fn is_element(data: &Data, kind: Kind, key: &str, count: u64) -> bool {
+    if kind == Kind::Set {
+        return is_text(data, key);
+    }
+    match data.items() {
+        Some([first, second]) => {
+            is_text(first, key) && second.number() == Some(i128::from(count))
+        }
+        _ => false,
+    }
+}
+
+/// Whether the items are just these elements, in their order.
+fn are_elements(items: &[Data], kind: Kind, wanted: &[(&str, u64)]) -> bool {
+    if items.len() != wanted.len() {
         return false;
     }
-    for (entry, (key, count)) in entries.iter().zip(wanted) {
-        if entry.key().as_str() != *key || entry.count() != *count {
+    for (data, (key, count)) in items.iter().zip(wanted) {
+        if !is_element(data, kind, key, *count) {
             return false;
         }
     }
     true
 }
 
-#[test]
-fn values_are_read_in_any_order(rt: HostRuntime) -> Result<(), Fail> {
-    let alloc = rt.alloc();
-    let number = read_value(alloc, Kind::Nat, &Data::Number(LAST))?;
-    assert!(rt; number.number() == Some(LAST as u128));
-    let keys = two(alloc, text(alloc, "b")?, text(alloc, "a")?)?;
-    let set = read_value(alloc, Kind::Set, &keys)?;
-    assert!(rt; has(&set, &[("a", 1), ("b", 1)]));
-    let pairs = two(alloc, pair(alloc, "b", LAST)?, pair(alloc, "a", 1)?)?;
-    let bag = read_value(alloc, Kind::Bag, &pairs)?;
-    assert!(rt; has(&bag, &[("a", 1), ("b", LAST as u64)]));
-    let none = Data::Array(Vec::new(alloc));
-    assert!(rt; read_value(alloc, Kind::Set, &none)?.is_empty());
-    assert!(rt; read_value(alloc, Kind::Bag, &none)?.is_empty());
-    Ok(())
+/// Whether the data of the value has just these elements, in their order.
+fn is_data_of(alloc: Global, value: &Value, wanted: &[(&str, u64)]) -> bool {
+    let answer = value_data(alloc, value);
+    let is_wanted = match &answer {
+        Ok(Data::Array(items)) => are_elements(items.as_slice(), value.kind(), wanted),
+        _ => false,
+    };
+    drop(answer);
+    is_wanted
 }
 
-/// Data that is no value of any kind.
-fn no_value(alloc: Global, case: u32) -> Result<Data, AllocError> {
-    let long = "12345678901234567890123456789012345678901234567890123456789012345";
-    match case {
-        0 => Ok(Data::Null),
-        1 => Ok(Data::Number(-1)),
-        2 => Ok(Data::Number(LAST + 1)),
-        3 => two(alloc, text(alloc, "a")?, text(alloc, "a")?),
-        4 => one(alloc, text(alloc, "")?),
-        5 => one(alloc, text(alloc, long)?),
-        6 => two(alloc, text(alloc, "a")?, Data::Number(1)),
-        7 => one(alloc, pair(alloc, "a", 0)?),
-        8 => one(alloc, pair(alloc, "a", -1)?),
-        9 => one(alloc, pair(alloc, "a", LAST + 1)?),
-        10 => two(alloc, pair(alloc, "a", 1)?, pair(alloc, "a", 2)?),
-        11 => one(alloc, one(alloc, text(alloc, "a")?)?),
-        12 => one(alloc, two(alloc, Data::Number(1), text(alloc, "a")?)?),
-        13 => one(alloc, pair(alloc, long, 1)?),
-        _ => one(alloc, Data::Array(Vec::new(alloc))),
+fn read_data(alloc: Global, kind: Kind, given: &Data, wanted: &[(&str, u64)]) -> Read {
+    let answer = read_value(alloc, kind, given);
+    let read = match &answer {
+        Ok(value) if has(value, wanted) && is_data_of(alloc, value, wanted) => Read::Wanted,
+        Err(Stop::Refused(Refusal::BadValue)) => Read::BadValue,
+        Err(Stop::NoMemory) => Read::NoMemory,
+        _ => Read::Other,
+    };
+    drop(answer);
+    read
+}
+
+fn read_array(alloc: Global, kind: Kind, given: &[Item], wanted: &[(&str, u64)]) -> Read {
+    let answer = array_of(alloc, given);
+    let read = match &answer {
+        Ok(data) => read_data(alloc, kind, data, wanted),
+        Err(_) => Read::NoMemory,
+    };
+    drop(answer);
+    read
+}
+
+/// An array, and the entries of its value of the kind.
+struct Case {
+    kind: Kind,
+    given: &'static [Item],
+    wanted: &'static [(&'static str, u64)],
+}
+
+const VALUES: [Case; 4] = [
+    Case {
+        kind: Kind::Set,
+        given: &[Item::Key("b"), Item::Key("ab"), Item::Key("B")],
+        wanted: &[("B", 1), ("ab", 1), ("b", 1)],
+    },
+    Case {
+        kind: Kind::Bag,
+        given: &[Item::Pair("b", LAST), Item::Pair("a", 1)],
+        wanted: &[("a", 1), ("b", 9_223_372_036_854_775_807)],
+    },
+    Case {
+        kind: Kind::Set,
+        given: &[],
+        wanted: &[],
+    },
+    Case {
+        kind: Kind::Bag,
+        given: &[],
+        wanted: &[],
+    },
+];
+
+/// Arrays that are no value of any kind.
+const NO_VALUES: [&[Item]; 12] = [
+    &[Item::Key("a"), Item::Key("a")],
+    &[Item::Key("")],
+    &[Item::Key(LONG)],
+    &[Item::Key("a"), Item::Number(1)],
+    &[Item::Pair("a", 0)],
+    &[Item::Pair("a", -1)],
+    &[Item::Pair("a", LAST + 1)],
+    &[Item::Pair("a", 1), Item::Pair("a", 2)],
+    &[Item::Single],
+    &[Item::Turned],
+    &[Item::Pair(LONG, 1)],
+    &[Item::Empty],
+];
+
+#[test]
+fn values_are_read_in_any_order_and_given_in_byte_order(rt: HostRuntime) {
+    for case in &VALUES {
+        let read = read_array(rt.alloc(), case.kind, case.given, case.wanted);
+        assert!(rt; read == Read::Wanted);
     }
 }
 
 #[test]
-fn what_is_no_value_is_refused(rt: HostRuntime) -> Result<(), Fail> {
+fn what_is_no_value_is_refused(rt: HostRuntime) {
     let alloc = rt.alloc();
-    for case in 0..15 {
-        let given = no_value(alloc, case)?;
-        for kind in [Kind::Nat, Kind::Set, Kind::Bag] {
-            let read = read_value(alloc, kind, &given);
-            assert!(rt; is_bad_value(&read), "{case}");
+    for kind in [Kind::Nat, Kind::Set, Kind::Bag] {
+        for given in &NO_VALUES {
+            assert!(rt; read_array(alloc, kind, given, &[]) == Read::BadValue);
         }
+        assert!(rt; read_data(alloc, kind, &Data::Null, &[]) == Read::BadValue);
     }
-    Ok(())
+    assert!(rt; read_data(alloc, Kind::Set, &Data::Number(5), &[]) == Read::BadValue);
+    assert!(rt; read_data(alloc, Kind::Bag, &Data::Number(5), &[]) == Read::BadValue);
 }
 
 /// An array of so many different texts.
-fn texts(alloc: Global, number: u32) -> Result<Data, Fail> {
+fn many_texts(alloc: Global, count: u32) -> Result<Data, AllocError> {
     let mut items = Vec::new(alloc);
-    for i in 0..number {
-        let key = format!(in alloc; "{i}")?;
-        items.push(Data::Text(Text::from_string(key)))?;
+    for number in 0..count {
+        let text = format!(in alloc; "{number}")?;
+        items.push(Data::Text(Text::from_string(text)))?;
     }
     Ok(Data::Array(items))
 }
 
-#[test]
-fn a_set_has_at_most_4096_keys(rt: HostRuntime) -> Result<(), Fail> {
-    let alloc = rt.alloc();
-    let most = read_value(alloc, Kind::Set, &texts(alloc, 4096)?)?;
-    assert!(rt; most.total() == 4096);
-    let more = read_value(alloc, Kind::Set, &texts(alloc, 4097)?);
-    assert!(rt; is_bad_value(&more));
-    Ok(())
-}
-
-/// The refusal of an amount of brand 7, of numbers, at place 2.
-fn refused(rt: &impl Abort, alloc: Global, given: Option<&Data>, brand: u16) -> Refusal {
-    match read_amount(alloc, given, 2, brand, Kind::Nat) {
-        Err(Stop::Refused(refusal)) => refusal,
-        _ => panic!(rt; "no amount"),
-    }
+/// How many elements the set of so many texts has.
+fn read_many(alloc: Global, count: u32) -> Option<u128> {
+    let data = many_texts(alloc, count).ok()?;
+    let answer = read_value(alloc, Kind::Set, &data);
+    let total = match &answer {
+        Ok(value) => Some(value.total()),
+        Err(_) => None,
+    };
+    drop(answer);
+    total
 }
 
 #[test]
-fn amounts_are_read_by_their_brand(rt: HostRuntime) -> Result<(), Fail> {
-    let alloc = rt.alloc();
-    let brand = ObjKind::Brand(Kind::Nat);
-    let five = amount(alloc, brand, Data::Number(5))?;
-    let read = read_amount(alloc, Some(&five), 2, 7, Kind::Nat)?;
-    assert!(rt; read.number() == Some(5));
-    let missing = refused(&rt, alloc, None, 7);
-    assert!(rt; matches!(missing, Refusal::BadArgs(2)));
-    let issuer = amount(alloc, ObjKind::Issuer, Data::Number(5))?;
-    let no_brand = refused(&rt, alloc, Some(&issuer), 7);
-    assert!(rt; matches!(no_brand, Refusal::BadArgs(2)));
-    let bad = amount(alloc, brand, Data::Null)?;
-    let other = refused(&rt, alloc, Some(&bad), 6);
-    assert!(rt; matches!(other, Refusal::WrongBrand(7)));
-    let no_value = refused(&rt, alloc, Some(&bad), 7);
-    assert!(rt; matches!(no_value, Refusal::BadValue));
-    Ok(())
-}
-
-#[test]
-fn a_test_that_fails_is_refused(rt: HostRuntime) {
-    assert!(rt; need(true, Refusal::BadExit).is_ok());
-    assert!(rt; need(false, Refusal::BadExit).is_err());
+fn a_set_has_at_most_4096_keys(rt: HostRuntime) {
+    assert!(rt; read_many(rt.alloc(), 4096) == Some(4096));
+    assert!(rt; read_many(rt.alloc(), 4097) == None);
 }

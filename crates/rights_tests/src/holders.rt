@@ -1,12 +1,20 @@
 use amount_math::Value;
 use host_text::keyword::Keyword;
 use rights_model::{Holder, Movement};
-use std::test::Fail;
+use std::alloc::Global;
 
-#[test]
-fn copies_movements(rt: HostRuntime) -> Result<(), Fail> {
-    let Ok(keyword) = Keyword::read(rt.alloc(), b"Asset") else {
-        panic!(rt; "a keyword");
+fn is_same(copy: &Movement, movement: &Movement) -> bool {
+    copy.brand == 7
+        && copy.value.number() == Some(5)
+        && copy.from.is(&movement.from)
+        && copy.to.is(&movement.to)
+        && !copy.to.is(&movement.from)
+}
+
+/// Whether the copy of a movement from a slot to a payment is the movement.
+fn is_copied(alloc: Global) -> bool {
+    let Ok(keyword) = Keyword::read(alloc, b"Asset") else {
+        return false;
     };
     let movement = Movement {
         brand: 7,
@@ -14,16 +22,17 @@ fn copies_movements(rt: HostRuntime) -> Result<(), Fail> {
         to: Holder::Payment(9),
         value: Value::nat(5),
     };
-    let copy = movement.copy(rt.alloc())?;
-    assert!(rt; copy.brand == 7 && copy.value.number() == Some(5));
-    assert!(rt; copy.to.is(&Holder::Payment(9)));
-    assert!(rt; !copy.to.is(&Holder::Purse(9)));
-    let slot = copy.from.copy(rt.alloc())?;
-    assert!(rt; slot.is(&movement.from));
-    let Holder::Slot(seat, keyword) = slot else {
-        panic!(rt; "a slot");
+    let answer = movement.copy(alloc);
+    let is_same = match &answer {
+        Ok(copy) => is_same(copy, &movement),
+        Err(_) => false,
     };
-    assert!(rt; seat == 3);
-    assert!(rt; keyword.as_str() == "Asset");
-    Ok(())
+    drop(answer);
+    drop(movement);
+    is_same
+}
+
+#[test]
+fn movements_are_copied(rt: HostRuntime) {
+    assert!(rt; is_copied(rt.alloc()));
 }

@@ -1,7 +1,6 @@
-//! Tests of rights and of the stores of a turn: amounts, parcels, movements, proposals, seats, promises,
-//! invitations, instances, and what calls are given and answered with. It stands on those crates, whose
-//! own proofs are so made once, and no crate stands on it. Its one contract is that of its fixtures: what
-//! they make is what their names say.
+//! Tests of rights and of the stores of a turn that no script of lines can ask for: amounts of sets and
+//! bags, parcels, offer safety, what is undone or kept, and calls that the program doesn't make yet. It
+//! stands on those crates, whose own proofs are so made once, and no crate stands on it.
 #![tactic(auto)]
 
 #[cfg(test)]
@@ -11,16 +10,15 @@ mod amounts;
 #[cfg(test)]
 mod amounts_of_data;
 #[cfg(test)]
-mod data_of_values;
-#[cfg(test)]
 mod elements;
-pub mod fixtures;
 #[cfg(test)]
 mod holders;
 #[cfg(test)]
-mod keywords;
+mod keyed;
 #[cfg(test)]
-mod proposals_read;
+mod keyed_values;
+#[cfg(test)]
+mod keywords;
 #[cfg(test)]
 mod seat_promises;
 #[cfg(test)]

@@ -10,7 +10,6 @@ use proposals::issuer_records::IssuerRecord;
 use sqlite_items::Items;
 use std::alloc::{AllocError, Global};
 use std::process::Abort;
-use std::test::Fail;
 
 #[derive(Clone, Copy)]
 enum Step {
@@ -39,132 +38,165 @@ fn module(alloc: Global, values: &[i128]) -> Result<Module, AllocError> {
     })
 }
 
+/// Installs a module with two state variables.
+fn install(alloc: Global, instances: &mut Instances) {
+    if let Ok(module) = module(alloc, &[1, 2]) {
+        drop(instances.install(module));
+    }
+}
+
+/// Starts an instance where there is such an installation.
+fn start(alloc: Global, instances: &mut Instances, installation: u32) {
+    if installation < instances.installations() {
+        let issuers = IssuerRecord::new(alloc);
+        drop(instances.start(alloc, installation, issuers, Data::Null));
+    }
+}
+
+/// So many values.
+fn values(alloc: Global, many: usize, value: i128) -> Result<Vec<Data>, AllocError> {
+    let mut values = Vec::new(alloc);
+    for _ in 0..many {
+        values.push(Data::Number(value))?;
+    }
+    Ok(values)
+}
+
+/// Gives each state variable of an instance the value, where it was made.
+fn keep(alloc: Global, instances: &mut Instances, instance: u32, value: i128) {
+    if instance < instances.made() {
+        let many = instances.state(instance).len();
+        if let Ok(state) = values(alloc, many, value) {
+            if state.len() == many {
+                drop(instances.keep(instance, state));
+            }
+        }
+    }
+}
+
 /// Takes a step. What was not made is left alone.
-fn take(alloc: Global, instances: &mut Instances, step: Step) -> Result<(), AllocError> {
+fn take(alloc: Global, instances: &mut Instances, step: Step) {
     match step {
-        Step::Install => drop(instances.install(module(alloc, [1, 2].as_slice())?)),
-        Step::Start(installation) => {
-            if installation < instances.installations() {
-                let issuers = IssuerRecord::new(alloc);
-                drop(instances.start(alloc, installation, issuers, Data::Null));
-            }
-        }
-        Step::Keep(instance, value) => {
-            if instance < instances.made() {
-                keep(alloc, instances, instance, value)?;
-            }
-        }
+        Step::Install => install(alloc, instances),
+        Step::Start(installation) => start(alloc, instances, installation),
+        Step::Keep(instance, value) => keep(alloc, instances, instance, value),
         Step::Halt(instance) => {
             if instance < instances.made() {
-                instances.halt(instance)?;
+                drop(instances.halt(instance));
             }
         }
         Step::Forget => instances.forget(),
         Step::Back => instances.back(),
     }
-    Ok(())
 }
 
-/// Gives each state variable of an instance the value.
-fn keep(
-    alloc: Global,
-    instances: &mut Instances,
-    instance: u32,
-    value: i128,
-) -> Result<(), AllocError>
-    requires { instance < length (instances_of instances.old).now.instances }
+/// Appends an instance's installation, its state values, and a mark where it has halted.
+fn show(instances: &Instances, instance: u32, text: &mut String) -> Result<(), AllocError>
+    requires { instance < length (instances_of instances.now).now.instances }
 {
-    let many = instances.state(instance).len();
-    let mut state = Vec::new(alloc);
-    for _ in 0..many {
-        state.push(Data::Number(value))?;
+    let installation = instances.installation(instance);
+    write!(text, " {installation}:")?;
+    for value in instances.state(instance) {
+        let number = value.number().unwrap_or(0);
+        write!(text, "{number}")?;
     }
-    if state.len() == many {
-        drop(instances.keep(instance, state));
+    if instances.is_halted(instance) {
+        text.push('!')?;
     }
     Ok(())
 }
 
-/// How many installations there are, and of each instance its installation, its state values, and a
-/// mark where it has halted.
+/// How many installations there are, and each instance.
 fn shown(alloc: Global, instances: &Instances) -> Result<String, AllocError> {
     let installations = instances.installations();
     let mut text = format!(in alloc; "{installations}")?;
     for instance in 0..instances.made() {
-        let installation = instances.installation(instance);
-        write!(text, " {installation}:")?;
-        for value in instances.state(instance) {
-            let number = value.number().unwrap_or(0);
-            write!(text, "{number}")?;
-        }
-        if instances.is_halted(instance) {
-            text.push('!')?;
-        }
+        show(instances, instance, &mut text)?;
     }
     Ok(text)
 }
 
+fn is_shown(alloc: Global, instances: &Instances, wanted: &str) -> bool {
+    let answer = shown(alloc, instances);
+    let is_wanted = match &answer {
+        Ok(text) => text.as_str() == wanted,
+        Err(_) => false,
+    };
+    drop(answer);
+    is_wanted
+}
+
+/// Steps, and what is shown after each.
+const STEPS: [(Step, &str); 23] = [
+    (Step::Install, "1"),
+    (Step::Back, "0"),
+    (Step::Install, "1"),
+    (Step::Start(0), "1 0:12"),
+    (Step::Start(0), "1 0:12 0:12"),
+    (Step::Keep(1, 3), "1 0:12 0:33"),
+    (Step::Forget, "1 0:12 0:33"),
+    (Step::Keep(1, 4), "1 0:12 0:44"),
+    (Step::Keep(1, 5), "1 0:12 0:55"),
+    (Step::Halt(1), "1 0:12 0:55!"),
+    (Step::Halt(1), "1 0:12 0:55!"),
+    (Step::Install, "2 0:12 0:55!"),
+    (Step::Start(1), "2 0:12 0:55! 1:12"),
+    (Step::Keep(2, 6), "2 0:12 0:55! 1:66"),
+    (Step::Halt(2), "2 0:12 0:55! 1:66!"),
+    (Step::Keep(0, 7), "2 0:77 0:55! 1:66!"),
+    (Step::Back, "1 0:12 0:33"),
+    (Step::Back, "1 0:12 0:33"),
+    (Step::Halt(0), "1 0:12! 0:33"),
+    (Step::Forget, "1 0:12! 0:33"),
+    (Step::Halt(0), "1 0:12! 0:33"),
+    (Step::Keep(0, 8), "1 0:88! 0:33"),
+    (Step::Back, "1 0:12! 0:33"),
+];
+
 #[test]
-fn a_turns_changes_are_undone_or_kept(rt: HostRuntime) -> Result<(), Fail> {
+fn a_turns_changes_are_undone_or_kept(rt: HostRuntime) {
     let alloc = rt.alloc();
     let mut instances = Instances::new(alloc);
-    for (step, wanted) in [
-        (Step::Install, "1"),
-        (Step::Back, "0"),
-        (Step::Install, "1"),
-        (Step::Start(0), "1 0:12"),
-        (Step::Start(0), "1 0:12 0:12"),
-        (Step::Keep(1, 3), "1 0:12 0:33"),
-        (Step::Forget, "1 0:12 0:33"),
-        (Step::Keep(1, 4), "1 0:12 0:44"),
-        (Step::Keep(1, 5), "1 0:12 0:55"),
-        (Step::Halt(1), "1 0:12 0:55!"),
-        (Step::Halt(1), "1 0:12 0:55!"),
-        (Step::Install, "2 0:12 0:55!"),
-        (Step::Start(1), "2 0:12 0:55! 1:12"),
-        (Step::Keep(2, 6), "2 0:12 0:55! 1:66"),
-        (Step::Halt(2), "2 0:12 0:55! 1:66!"),
-        (Step::Keep(0, 7), "2 0:77 0:55! 1:66!"),
-        (Step::Back, "1 0:12 0:33"),
-        (Step::Back, "1 0:12 0:33"),
-        (Step::Halt(0), "1 0:12! 0:33"),
-        (Step::Forget, "1 0:12! 0:33"),
-        (Step::Halt(0), "1 0:12! 0:33"),
-        (Step::Keep(0, 8), "1 0:88! 0:33"),
-        (Step::Back, "1 0:12! 0:33"),
-    ] {
-        take(alloc, &mut instances, step)?;
-        let text = shown(alloc, &instances)?;
-        assert!(rt; text.as_str() == wanted, "{wanted}");
+    for (step, wanted) in &STEPS {
+        take(alloc, &mut instances, *step);
+        assert!(rt; is_shown(alloc, &instances, wanted), "{wanted}");
     }
-    Ok(())
+    drop(instances);
+}
+
+/// Starts an instance whose issuer record has brand 3 under Price, and whose terms are a text.
+fn start_with_terms(rt: &impl Abort, alloc: Global, instances: &mut Instances)
+    requires { 0 < length (instances_of instances.old).now.installations }
+{
+    let terms = Text::from_str(alloc, "terms").expect(rt, "memory for a text");
+    let mut issuers = IssuerRecord::new(alloc);
+    assert!(rt; issuers.add(keyword(rt, alloc, "Price"), 3).is_ok());
+    match instances.start(alloc, 0, issuers, Data::Text(terms)) {
+        Ok(number) => assert!(rt; number == 0),
+        Err(_) => panic!(rt; "memory for an instance"),
+    }
+}
+
+fn is_text(data: &Data, wanted: &str) -> bool {
+    match data.text() {
+        Some(text) => text.as_str() == wanted,
+        None => false,
+    }
 }
 
 #[test]
-fn an_instance_has_what_it_was_started_with(rt: HostRuntime) -> Result<(), Fail> {
-    let alloc = rt.alloc();
-    let mut instances = Instances::new(alloc);
-    assert!(rt; matches!(instances.install(module(alloc, [].as_slice())?), Ok(0)));
-    assert!(rt; matches!(instances.install(module(alloc, [7].as_slice())?), Ok(1)));
-    assert!(rt; instances.installations() == 2);
-    assert!(rt; instances.module(0).variables.len() == 0);
-    assert!(rt; instances.module(1).variables.len() == 1);
-
-    let price = keyword(&rt, alloc, "Price");
-    let mut issuers = IssuerRecord::new(alloc);
-    issuers.add(price.copy(alloc)?, 3).expect(&rt, "memory");
-    let terms = Data::Text(Text::from_str(alloc, "terms")?);
-    assert!(rt; matches!(instances.start(alloc, 1, issuers, terms), Ok(0)));
+fn an_instance_has_what_it_was_started_with(rt: HostRuntime) {
+    let mut instances = Instances::new(rt.alloc());
+    install(rt.alloc(), &mut instances);
+    assert!(rt; instances.installations() == 1);
+    assert!(rt; instances.module(0).variables.len() == 2);
+    start_with_terms(&rt, rt.alloc(), &mut instances);
     assert!(rt; instances.made() == 1);
-    assert!(rt; instances.installation(0) == 1);
+    assert!(rt; instances.installation(0) == 0 && !instances.is_halted(0));
+    let price = keyword(&rt, rt.alloc(), "Price");
     assert!(rt; instances.issuers(0).get(&price) == Some(3));
-    assert!(rt;
-        instances
-            .terms(0)
-            .text()
-            .is_some_and(|text| text.as_str() == "terms")
-    );
-    assert!(rt; instances.state(0).len() == 1);
-    assert!(rt; !instances.is_halted(0));
-    Ok(())
+    drop(price);
+    assert!(rt; is_text(instances.terms(0), "terms"));
+    assert!(rt; instances.state(0).len() == 2);
+    drop(instances);
 }

@@ -4,8 +4,6 @@ ghost use Rattle.promises.specs.Turns.{promises_of};
 
 use jessie_tree::data::{Data, Obj, ObjKind};
 use promises::{PromiseState, Promises, Settlement};
-use std::alloc::{AllocError, Global};
-use std::test::Fail;
 
 #[derive(Clone, Copy)]
 enum Step {
@@ -45,50 +43,60 @@ fn is_pending(promises: &Promises, number: u32) -> bool
     number < promises.made() && matches!(promises.state(number), PromiseState::Pending)
 }
 
-/// A letter for each promise: pending, ok or broken.
-fn shown(alloc: Global, promises: &Promises) -> Result<String, AllocError> {
-    let mut text = String::new(alloc);
+/// Whether each promise has its letter: pending, ok or broken.
+fn is_shown(promises: &Promises, wanted: &str) -> bool {
     for number in 0..promises.made() {
-        text.push(letter(promises.state(number)))?;
+        match wanted.as_bytes().get(number as usize) {
+            Some(wanted) if *wanted == letter(promises.state(number)) => {}
+            _ => return false,
+        }
     }
-    Ok(text)
+    wanted.len() == promises.made() as usize
 }
 
-fn letter(state: &PromiseState) -> char {
+fn letter(state: &PromiseState) -> u8 {
     match state {
-        PromiseState::Pending => 'p',
-        PromiseState::Settled(Settlement::Ok(_)) => 'o',
-        PromiseState::Settled(Settlement::Broken(_)) => 'b',
+        PromiseState::Pending => b'p',
+        PromiseState::Settled(Settlement::Ok(_)) => b'o',
+        PromiseState::Settled(Settlement::Broken(_)) => b'b',
     }
 }
+
+/// Steps, and what is shown after each.
+const STEPS: [(Step, &str); 16] = [
+    (Step::Back, ""),
+    (Step::Make, "p"),
+    (Step::Make, "pp"),
+    (Step::Make, "ppp"),
+    (Step::Ok(1), "pop"),
+    (Step::Forget, "pop"),
+    (Step::Broken(0), "bop"),
+    (Step::Make, "bopp"),
+    (Step::Ok(3), "bopo"),
+    (Step::Ok(2), "booo"),
+    (Step::Broken(2), "booo"),
+    (Step::Back, "pop"),
+    (Step::Ok(0), "oop"),
+    (Step::Forget, "oop"),
+    (Step::Broken(2), "oob"),
+    (Step::Back, "oop"),
+];
 
 #[test]
-fn a_turns_promises_are_undone_or_kept(rt: HostRuntime) -> Result<(), Fail> {
-    let alloc = rt.alloc();
-    let mut promises = Promises::new(alloc);
-    for (step, wanted) in [
-        (Step::Back, ""),
-        (Step::Make, "p"),
-        (Step::Make, "pp"),
-        (Step::Make, "ppp"),
-        (Step::Ok(1), "pop"),
-        (Step::Forget, "pop"),
-        (Step::Broken(0), "bop"),
-        (Step::Make, "bopp"),
-        (Step::Ok(3), "bopo"),
-        (Step::Ok(2), "booo"),
-        (Step::Broken(2), "booo"),
-        (Step::Back, "pop"),
-        (Step::Ok(0), "oop"),
-        (Step::Forget, "oop"),
-        (Step::Broken(2), "oob"),
-        (Step::Back, "oop"),
-    ] {
-        take(&mut promises, step);
-        let text = shown(alloc, &promises)?;
-        assert!(rt; text.as_str() == wanted, "{wanted}");
+fn a_turns_promises_are_undone_or_kept(rt: HostRuntime) {
+    let mut promises = Promises::new(rt.alloc());
+    for (step, wanted) in &STEPS {
+        take(&mut promises, *step);
+        assert!(rt; is_shown(&promises, wanted), "{wanted}");
     }
-    Ok(())
+    drop(promises);
+}
+
+/// Whether a promise may end so.
+fn is_final(settlement: Settlement) -> bool {
+    let is_final = settlement.is_final();
+    drop(settlement);
+    is_final
 }
 
 #[test]
@@ -97,15 +105,7 @@ fn a_promise_ends_none(rt: HostRuntime) {
         kind: ObjKind::Promise,
         number: 7,
     };
-    assert!(rt; !Settlement::Ok(Data::Object(other)).is_final());
-    assert!(rt; Settlement::Broken(Data::Object(other)).is_final());
-    assert!(rt; Settlement::Ok(Data::Null).is_final());
-}
-
-#[test]
-fn numbers_are_in_order(rt: HostRuntime) {
-    let mut promises = Promises::new(rt.alloc());
-    assert!(rt; promises.make() == Ok(0));
-    assert!(rt; promises.make() == Ok(1));
-    assert!(rt; promises.made() == 2);
+    assert!(rt; !is_final(Settlement::Ok(Data::Object(other))));
+    assert!(rt; is_final(Settlement::Broken(Data::Object(other))));
+    assert!(rt; is_final(Settlement::Ok(Data::Null)));
 }

@@ -6,7 +6,7 @@ ghost use Rattle.proposals.specs.Rows.{amount_under};
 ghost use Rattle.proposals.specs.Slots.{FitsSeat};
 ghost use Rattle.seats.specs.Slots.{slot_at};
 
-use crate::fixtures::nat_value;
+use crate::allocations::are_rows;
 use crate::keywords::keyword;
 use amount_math::{Amount, Kind, Value};
 use ertp_mint::{Parcel, Stock, Supply};
@@ -22,7 +22,7 @@ const MOST: u128 = 9_223_372_036_854_775_807;
 /// A row of so many units of a brand.
 fn coins(rt: &impl Abort, alloc: Global, text: &str, brand: u16, number: u32) -> Allocation {
     let mut made = Allocation::new(alloc);
-    let value = nat_value(number);
+    let value = Value::nat(u128::from(number));
     made.push(alloc, keyword(rt, alloc, text), Amount { brand, value })
         .expect(rt, "memory for a row");
     made
@@ -57,10 +57,12 @@ fn parcel(rt: &impl Abort, alloc: Global, number: u128) -> Parcel
 /// How many units a parcel has, which is put in a stock.
 fn units(rt: &impl Abort, parcel: Parcel) -> Option<u128> {
     let mut stock = Stock::empty(parcel.brand(), parcel.value().kind());
-    match stock.put(parcel) {
-        Ok(()) => stock.value().number(),
-        Err(_back) => panic!(rt; "within the bound"),
+    if let Err(_back) = stock.put(parcel) {
+        panic!(rt; "within the bound");
     }
+    let number = stock.value().number();
+    drop(stock);
+    number
 }
 
 /// Ends the test where the slot of a keyword doesn't meet a parcel.
@@ -82,9 +84,11 @@ fn put(rt: &impl Abort, alloc: Global, seats: &mut Seats, seat: u32, text: &str,
     assert!(rt; slots.len() < MOST_ROWS);
     let parcel = parcel(rt, alloc, u128::from(number));
     assert_meets(rt, &slots, &keyword, &parcel);
+    drop(slots);
     if let Err(_back) = seats.put(alloc, seat, &keyword, parcel) {
         panic!(rt; "within the bound");
     }
+    drop(keyword);
 }
 
 /// Ends the test where a closed seat takes a parcel, or refuses it otherwise.
@@ -102,14 +106,19 @@ fn assert_takes_nothing(rt: &impl Abort, alloc: Global, seats: &mut Seats, seat:
     }
 }
 
-/// How many units a seat shows under a keyword.
-fn shown(rt: &impl Abort, alloc: Global, seats: &Seats, seat: u32, text: &str) -> Option<u128> {
+/// Whether a seat shows just these keywords and numbers, in their order.
+fn has_rows(
+    rt: &impl Abort,
+    alloc: Global,
+    seats: &Seats,
+    seat: u32,
+    wanted: &[(&str, u128)],
+) -> bool {
     assert!(rt; seat < seats.made());
     let slots = seats.allocation(alloc, seat).expect(rt, "memory for rows");
-    match slots.get(&keyword(rt, alloc, text)) {
-        Some(amount) => amount.value.number(),
-        None => None,
-    }
+    let are_wanted = are_rows(slots.rows(), wanted);
+    drop(slots);
+    are_wanted
 }
 
 /// Takes so many units out of a slot of an open seat.
@@ -126,12 +135,16 @@ fn take(
     assert!(rt; seats.is_open(seat));
     let slots = seats.allocation(alloc, seat).expect(rt, "memory for rows");
     let slot = slots.get(&keyword).expect(rt, "a slot");
-    let part = nat_value(number);
+    let part = Value::nat(u128::from(number));
     assert!(rt; slot.value.kind() == Kind::Nat);
-    match seats.take(seat, &keyword, &part) {
+    let taken = match seats.take(seat, &keyword, &part) {
         Ok(parcel) => units(rt, parcel),
         Err(_fault) => None,
-    }
+    };
+    drop(part);
+    drop(slots);
+    drop(keyword);
+    taken
 }
 
 /// Closes a seat and takes so many units out of a slot of it.
@@ -150,12 +163,16 @@ fn close_and_take(
         Err(_fault) => panic!(rt; "it is open"),
     };
     let slot = last.get(&keyword).expect(rt, "a slot");
-    let part = nat_value(number);
+    let part = Value::nat(u128::from(number));
     assert!(rt; slot.value.kind() == Kind::Nat);
-    match seats.take(seat, &keyword, &part) {
+    let taken = match seats.take(seat, &keyword, &part) {
         Ok(parcel) => units(rt, parcel),
         Err(_fault) => None,
-    }
+    };
+    drop(part);
+    drop(last);
+    drop(keyword);
+    taken
 }
 
 /// Two seats, of the instances 7 and 8.
@@ -174,18 +191,10 @@ fn two_seats(rt: &impl Abort, alloc: Global) -> Seats
 }
 
 #[test]
-fn a_seat_has_a_slot_for_each_row(rt: HostRuntime) {
-    let seats = two_seats(&rt, rt.alloc());
-    assert!(rt; seats.instance(0) == 7 && seats.instance(1) == 8);
-    assert!(rt; seats.is_open(0) && seats.proposal(1).exit == Exit::Waived);
-    for (text, wanted) in [("Bid", Some(0)), ("Asset", Some(0)), ("Extra", None)] {
-        assert!(rt; shown(&rt, rt.alloc(), &seats, 1, text) == wanted, "{text}");
-    }
-}
-
-#[test]
-fn a_further_slot_stands_last(rt: HostRuntime) {
+fn a_further_slot_stands_last_and_is_counted(rt: HostRuntime) {
     let mut seats = two_seats(&rt, rt.alloc());
+    assert!(rt; seats.instance(0) == 7 && seats.instance(1) == 8);
+    assert!(rt; seats.proposal(1).exit == Exit::Waived && seats.open_slots() == 4);
     for (seat, text, number) in [
         (1, "Bid", 5),
         (1, "Extra", 3),
@@ -194,17 +203,33 @@ fn a_further_slot_stands_last(rt: HostRuntime) {
     ] {
         put(&rt, rt.alloc(), &mut seats, seat, text, number);
     }
-    assert!(rt; seats.total(0) == 13 && seats.total(1) == 0);
+    assert!(rt; seats.total(0) == 13 && seats.total(1) == 0 && seats.open_slots() == 5);
+    let wanted = [("Bid", 5), ("Asset", 0), ("Extra", 7)];
+    assert!(rt; has_rows(&rt, rt.alloc(), &seats, 1, wanted.as_slice()));
     assert!(rt; seats.made() == 2);
-    let slots = seats
-        .allocation(rt.alloc(), 1)
-        .expect(&rt, "memory for rows");
-    let wanted = [("Bid", Some(5)), ("Asset", Some(0)), ("Extra", Some(7))];
-    assert!(rt; slots.len() == wanted.len());
-    for (place, (text, number)) in wanted.iter().enumerate() {
-        let row = slots.rows().get(place).expect(&rt, "a row");
-        assert!(rt; row.keyword.as_str() == *text, "{text}");
-        assert!(rt; row.amount.value.number() == *number);
+    assert!(rt; seats.brand(1, &keyword(&rt, rt.alloc(), "Asset")) == Some(1));
+    drop(seats);
+}
+
+#[test]
+fn a_part_of_a_slot_is_taken(rt: HostRuntime) {
+    let alloc = rt.alloc();
+    let mut seats = two_seats(&rt, alloc);
+    put(&rt, alloc, &mut seats, 0, "Bid", 5);
+    let twin = seats.twin(alloc).expect(&rt, "memory for a twin");
+    assert!(rt; take(&rt, alloc, &mut seats, 0, "Bid", 6) == None);
+    assert!(rt; take(&rt, alloc, &mut seats, 0, "Bid", 2) == Some(2));
+    assert!(rt; seats.total(0) == 3 && twin.total(0) == 5 && twin.made() == 2);
+    drop(twin);
+    drop(seats);
+}
+
+/// Whether a seat is refused to be closed, since it was closed before.
+fn was_closed(rt: &impl Abort, alloc: Global, seats: &mut Seats, seat: u32) -> bool {
+    assert!(rt; seat < seats.made());
+    match seats.close(alloc, seat) {
+        Ok(_last) => panic!(rt; "it is closed once"),
+        Err(fault) => fault == CloseFault::SeatExited,
     }
 }
 
@@ -212,37 +237,13 @@ fn a_further_slot_stands_last(rt: HostRuntime) {
 fn a_closed_seat_keeps_its_allocation(rt: HostRuntime) {
     let alloc = rt.alloc();
     let mut seats = two_seats(&rt, alloc);
-    put(&rt, alloc, &mut seats, 0, "Bid", 5);
-    assert!(rt; take(&rt, alloc, &mut seats, 0, "Bid", 6) == None);
-    assert!(rt; take(&rt, alloc, &mut seats, 0, "Bid", 2) == Some(2));
-    let twin = seats.twin(alloc).expect(&rt, "memory for a twin");
+    put(&rt, alloc, &mut seats, 0, "Bid", 3);
     assert!(rt; close_and_take(&rt, alloc, &mut seats, 0, "Bid", 3) == Some(3));
-    assert!(rt; shown(&rt, alloc, &seats, 0, "Bid") == Some(3));
-    assert!(rt; seats.total(0) == 0 && twin.total(0) == 3);
-    assert!(rt; seats.made() == 2 && twin.made() == 2);
-    assert!(rt; !seats.is_open(0) && seats.is_open(1) && twin.is_open(0));
+    let last = &[("Bid", 3), ("Asset", 0)];
+    assert!(rt; has_rows(&rt, alloc, &seats, 0, last));
+    assert!(rt; seats.total(0) == 0 && seats.open_slots() == 2 && seats.made() == 2);
+    assert!(rt; !seats.is_open(0) && seats.is_open(1));
     assert_takes_nothing(&rt, alloc, &mut seats, 0);
-    assert!(rt; seats.made() == 2);
-    match seats.close(alloc, 0) {
-        Ok(_again) => panic!(rt; "it is closed once"),
-        Err(fault) => assert!(rt; fault == CloseFault::SeatExited),
-    }
-}
-
-#[test]
-fn slots_of_open_seats_are_counted(rt: HostRuntime) {
-    let alloc = rt.alloc();
-    let mut seats = two_seats(&rt, alloc);
-    for (text, wanted) in [("Bid", Some(0)), ("Asset", Some(1)), ("Extra", None)] {
-        let brand = seats.brand(1, &keyword(&rt, alloc, text));
-        assert!(rt; brand == wanted, "{text}");
-    }
-    assert!(rt; seats.open_slots() == 4);
-    put(&rt, alloc, &mut seats, 1, "Extra", 3);
-    assert!(rt; seats.open_slots() == 5);
-    assert!(rt; seats.made() == 2);
-    if let Err(_fault) = seats.close(alloc, 1) {
-        panic!(rt; "it is open");
-    }
-    assert!(rt; seats.open_slots() == 2);
+    assert!(rt; was_closed(&rt, alloc, &mut seats, 0));
+    drop(seats);
 }

@@ -102,18 +102,20 @@ fn a_parcel_is_cut_merged_stored_and_taken(rt: HostRuntime) {
     let issued = issue(&rt, &mut supply, 0, 10);
     assert!(rt; supply.outstanding(0).number() == Some(10));
     let mut parcel = issued.expect(&rt, "ten units are within the bound");
-    let part = parcel
-        .cut(&Value::nat(3))
-        .expect(&rt, "ten units have three");
+    let three = Value::nat(3);
+    let part = parcel.cut(&three).expect(&rt, "ten units have three");
+    drop(three);
     let mut stock = Stock::empty(0, Kind::Nat);
     put(&rt, &mut stock, part);
-    match stock.take(&Value::nat(4)) {
+    let four = Value::nat(4);
+    match stock.take(&four) {
         Ok(_taken) => panic!(rt; "three units haven't four"),
         Err(fault) => assert!(rt; fault == TakeFault::NotEnough),
     }
-    let one = stock
-        .take(&Value::nat(1))
-        .expect(&rt, "three units have one");
+    drop(four);
+    let unit = Value::nat(1);
+    let one = stock.take(&unit).expect(&rt, "three units have one");
+    drop(unit);
     merge(&rt, &mut parcel, one);
     assert!(rt; parcel.brand() == 0 && parcel.value().number() == Some(8));
     put(&rt, &mut stock, parcel);
@@ -122,6 +124,40 @@ fn a_parcel_is_cut_merged_stored_and_taken(rt: HostRuntime) {
     let all = stocked(&rt, stock.take_all());
     assert!(rt; all.value().number() == Some(10) && stock.value().number() == Some(0));
     assert!(rt; all.counted(0) == 10 && all.counted(1) == 0);
+    drop(all);
+    drop(twin);
+    drop(stock);
+    drop(supply);
+}
+
+/// How many units are handed back that aren't issued, and the bound that they would pass.
+fn too_much(rt: &impl Abort, answer: Result<Parcel, (Value, PutFault)>) -> Option<(u128, TooMuch)> {
+    let (back, fault) = match answer {
+        Ok(_parcel) => panic!(rt; "the bound is passed"),
+        Err(refusal) => refusal,
+    };
+    let over = match &fault {
+        PutFault::TooMuch(over) => Some((back.total(), *over)),
+        _ => None,
+    };
+    drop(fault);
+    drop(back);
+    over
+}
+
+/// Whether a value of one key is handed back that isn't issued, since this key is out.
+fn is_out(rt: &impl Abort, answer: Result<Parcel, (Value, PutFault)>, text: &str) -> bool {
+    let (back, fault) = match answer {
+        Ok(_parcel) => panic!(rt; "the key is out"),
+        Err(refusal) => refusal,
+    };
+    let is_out = match &fault {
+        PutFault::Overlap(key) => key.as_str() == text && back.total() == 1,
+        _ => false,
+    };
+    drop(fault);
+    drop(back);
+    is_out
 }
 
 #[test]
@@ -144,12 +180,11 @@ fn a_supply_counts_what_is_issued_and_retired(rt: HostRuntime) {
     let most = issue(&rt, &mut supply, 1, MOST);
     let stock = stocked(&rt, most.expect(&rt, "the bound itself is within it"));
     assert!(rt; stock.value().number() == Some(MOST));
-    match issue(&rt, &mut supply, 1, 1) {
-        Ok(_parcel) => panic!(rt; "one unit more passes the bound"),
-        Err((back, fault)) => assert!(rt;
-            back.number() == Some(1) && fault == PutFault::TooMuch(OVER)
-        ),
-    }
+    let answer = issue(&rt, &mut supply, 1, 1);
+    assert!(rt; too_much(&rt, answer) == Some((1, OVER)));
+    drop(stock);
+    drop(twin);
+    drop(supply);
 }
 
 #[test]
@@ -161,14 +196,12 @@ fn a_key_that_is_out_is_not_issued_again(rt: HostRuntime) {
     let parcel = issue_key(&rt, rt.alloc(), &mut supply, "k");
     let stock = stocked(&rt, parcel.expect(&rt, "k isn't out yet"));
     assert!(rt; stock.counted(0) == 1 && stock.counted(1) == 0);
-    match issue_key(&rt, rt.alloc(), &mut supply, "k") {
-        Ok(_parcel) => panic!(rt; "k is out"),
-        Err((back, fault)) => {
-            let key = Key::new(String::from_str(rt.alloc(), "k").expect(&rt, "memory"));
-            assert!(rt; back.total() == 1 && fault == PutFault::Overlap(key));
-        }
-    }
+    let answer = issue_key(&rt, rt.alloc(), &mut supply, "k");
+    assert!(rt; is_out(&rt, answer, "k"));
     let other = issue_key(&rt, rt.alloc(), &mut supply, "j");
     let other = stocked(&rt, other.expect(&rt, "j isn't out yet"));
     assert!(rt; other.counted(0) == 1 && supply.outstanding(0).total() == 2);
+    drop(other);
+    drop(stock);
+    drop(supply);
 }

@@ -1,22 +1,15 @@
-//! Tests of the vault, the world over it, parties, and the list of what happened in a turn. It stands on
-//! those crates, whose own proofs are so made once, and no crate stands on it. Its one contract is that
-//! of its fixtures: what they make is what their names say.
+//! Tests of the vault's stores that no script of lines can ask for: parcels that are given up, spent
+//! twice and added up, twins, and brands that are undone. It stands on those crates, whose own proofs are
+//! so made once, and no crate stands on it.
 #![tactic(auto)]
 
 #[cfg(test)]
 mod brands;
 #[cfg(test)]
 mod drafts;
-pub mod fixtures;
 #[cfg(test)]
-mod logs;
-#[cfg(test)]
-mod parties;
+mod parcels;
 #[cfg(test)]
 mod payments;
 #[cfg(test)]
 mod purses;
-#[cfg(test)]
-mod sums;
-#[cfg(test)]
-mod worlds;

@@ -1,45 +1,51 @@
-use crate::purses::{parcel, units};
-use vault::payments::{DeadPayment, Payments};
+ghost use Rattle.std.specs.Prelude.{◌≡◌, ◌<◌, ◌≤◌, ◌+◌, length};
+ghost use Rattle.amount_math.specs.Worth.{nat_bound};
+
+use crate::parcels::{parcel, units};
+use std::alloc::Global;
+use std::process::Abort;
+use vault::payments::{PaymentRef, Payments};
+
+/// Makes a payment of so many units of brand 0.
+fn pay(rt: &impl Abort, alloc: Global, payments: &mut Payments, number: u128) -> PaymentRef
+    requires { number ≤ nat_bound }
+    ensures made { length payments.new ≡ length payments.old + 1 }
+    ensures number { result ≡ length payments.old }
+{
+    match payments.make(parcel(rt, alloc, number)) {
+        Ok(payment) => payment,
+        Err(_back) => panic!(rt; "memory for a payment"),
+    }
+}
+
+/// How many units the payment gives that is spent; none where it was spent before.
+fn spend(rt: &impl Abort, payments: &mut Payments, payment: PaymentRef) -> Option<u128>
+    requires { payment < length payments.old }
+    ensures { length payments.new ≡ length payments.old }
+{
+    match payments.spend(payment) {
+        Ok(parcel) => units(rt, parcel),
+        Err(_dead) => None,
+    }
+}
 
 #[test]
 fn a_payment_is_spent_once(rt: HostRuntime) {
     let mut payments = Payments::new(rt.alloc());
-    let five = parcel(&rt, rt.alloc(), 5);
-    let made = match payments.make(five) {
-        Ok(payment) => payment.number(),
-        Err(_back) => panic!(rt; "memory for a payment"),
-    };
-    assert!(rt; made == 0 && payments.made() == 1 && payments.left() == 4_294_967_294);
-    assert!(rt; payments.find(1).is_none());
-    let payment = payments.find(0).expect(&rt, "it was made");
-    assert!(rt; payments.is_live(payment));
-    assert!(rt; payments.brand(payment) == 0 && payments.amount(payment).number() == Some(5));
-    let twin = payments.twin(rt.alloc()).expect(&rt, "memory for a twin");
-    let spent = payments.spend(payment).expect(&rt, "it is live");
-    assert!(rt; units(&rt, spent) == Some(5));
-    assert!(rt; !payments.is_live(payment));
-    assert!(rt; payments.amount(payment).number() == Some(0));
-    match payments.spend(payment) {
-        Ok(_again) => panic!(rt; "it is spent once"),
-        Err(fault) => assert!(rt; fault == DeadPayment),
-    }
-    assert!(rt; twin.made() == 1 && payments.made() == 1);
-}
-
-#[test]
-fn live_payments_of_a_brand_are_added_up(rt: HostRuntime) {
-    let mut payments = Payments::new(rt.alloc());
-    let five = parcel(&rt, rt.alloc(), 5);
-    let payment = match payments.make(five) {
-        Ok(payment) => payment,
-        Err(_back) => panic!(rt; "memory for a payment"),
-    };
-    let seven = parcel(&rt, rt.alloc(), 7);
-    if let Err(_back) = payments.make(seven) {
-        panic!(rt; "memory for a payment");
-    }
+    let five = pay(&rt, rt.alloc(), &mut payments, 5);
+    let seven = pay(&rt, rt.alloc(), &mut payments, 7);
+    assert!(rt; five.number() == 0 && seven.number() == 1);
+    assert!(rt; payments.made() == 2 && payments.left() == 4_294_967_293);
+    assert!(rt; payments.find(1) == Some(seven) && payments.find(2).is_none());
+    assert!(rt; payments.is_live(five) && payments.brand(five) == 0);
+    assert!(rt; payments.amount(five).number() == Some(5));
     assert!(rt; payments.total(0) == 12 && payments.total(1) == 0);
-    let spent = payments.spend(payment).expect(&rt, "it is live");
-    assert!(rt; units(&rt, spent) == Some(5));
-    assert!(rt; payments.total(0) == 7);
+    let twin = payments.twin(rt.alloc()).expect(&rt, "memory for a twin");
+    assert!(rt; spend(&rt, &mut payments, five) == Some(5));
+    assert!(rt; spend(&rt, &mut payments, five) == None);
+    assert!(rt; !payments.is_live(five) && payments.amount(five).number() == Some(0));
+    assert!(rt; payments.total(0) == 7 && twin.total(0) == 12);
+    assert!(rt; payments.made() == 2 && twin.made() == 2);
+    drop(twin);
+    drop(payments);
 }
