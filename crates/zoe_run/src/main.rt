@@ -1,17 +1,11 @@
-//! An escrow host: a program that reads JSON lines and writes a journal of their turns. It stands on the
-//! host, and adds what is read and written and what the program ends with. Its one contract is
-//! `top::zoe_top`'s: what is written is the journal of what was read, whose turns are fair, and each
-//! status has its cause.
+//! An escrow host: a program that reads JSON lines and writes a journal of their turns. It gives its
+//! words, its input and its output to `run_command::top::zoe_top`, whose contract says what comes of
+//! them, and ends with the status that this answers.
 #![tactic(auto)]
 
-pub mod host_io;
-pub mod run;
-pub mod top;
-pub mod words;
-
-use crate::host_io::std_ends::{StdSink, StdSource};
-use crate::top::{Status, zoe_top};
-use crate::words::usage;
+use host_io::std_ends::{StdSink, StdSource};
+use run_command::top::{Status, zoe_top};
+use run_command::words::usage;
 use std::process::ExitCode;
 use std::{env, io};
 
@@ -35,7 +29,8 @@ fn main(rt: HostRuntime) -> ExitCode {
     };
     if status != Status::Done {
         let name = status.name();
-        let _ = eprintln!(rt; "{name}");
+        let meaning = status.meaning();
+        let _ = eprintln!(rt; "{name}: {meaning}");
     }
     if status == Status::Usage {
         let usage = usage();
