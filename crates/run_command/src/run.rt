@@ -3,13 +3,14 @@
 //! written is the journal of the input, by the definition of a run, or the front of it that came before
 //! a fault.
 
-ghost use Rattle.std.specs.Prelude.{◌≡◌, ◌≤◌, length, map, OnOk, IsErrOf};
+ghost use Rattle.std.specs.Prelude.{◌≡◌, ◌≤◌, length, map, string_bytes, IfOk, OnOk, IsErrOf};
 ghost use Rattle.std.specs.Io.KnownBytes.{Appends, Keeps};
 ghost use Rattle.host_io.specs.Causes.{Rose};
 ghost use Rattle.host_io.specs.Fronts.{AppendsFront};
 ghost use Rattle.host_core.specs.Hosts.{IsValidHost, host_view, most_meter, most_turns};
 ghost use Rattle.host_core.specs.InputLines.{lines_of};
-ghost use Rattle.journal_text.specs.Journal.{turn_texts};
+ghost use Rattle.journal_text.specs.Journal.{turn_text, turn_texts};
+ghost use Rattle.journal_text.specs.Turns.{turn_view};
 ghost use Rattle.host_core.specs.MessageLines.{meaning_of};
 ghost use Rattle.host_core.specs.Runs.{AppendsToLimit, AppendsTurns, after, closes, drained, journal_of, line_host, line_turns, lines_host, lines_turns, turns_of};
 
@@ -17,7 +18,8 @@ use host_core::host::{Host, StepFault, Submitted};
 use host_core::lines::Lines;
 use host_io::{Failed, Sink, write_all};
 use journal_text::rows::{write_close, write_turn};
-use std::alloc::Global;
+use journal_text::turns::Turn;
+use std::alloc::{AllocError, Global};
 
 /// Why a run ends before its journal is whole.
 #[derive(Clone, Copy, Debug, PartialEq, Eq)]
@@ -56,6 +58,15 @@ fn write<K: Sink>(sink: &mut K, text: &str) -> Result<(), RunFault>
     }
 }
 
+/// The rows of a turn, which is let go.
+fn turn_text(alloc: Global, turn: Turn) -> Result<String, AllocError>
+    ensures { IfOk result (λ text. string_bytes text ≡ turn_text (turn_view turn)) }
+{
+    let text = write_turn(alloc, &turn);
+    drop(turn);
+    text
+}
+
 /// Runs at most so many deliveries. A turn is written only once all its rows are there.
 fn drain<K: Sink>(alloc: Global, host: &mut Host, most: u32, sink: &mut K) -> Result<(), RunFault>
     requires valid { IsValidHost (host_view host.old) }
@@ -74,7 +85,7 @@ fn drain<K: Sink>(alloc: Global, host: &mut Host, most: u32, sink: &mut K) -> Re
         let Some(turn) = host.step(alloc)? else {
             return Ok(());
         };
-        let Ok(text) = write_turn(alloc, &turn) else {
+        let Ok(text) = turn_text(alloc, turn) else {
             return Err(RunFault::NoMemory);
         };
         write(sink, text.as_str())?;
