@@ -112,6 +112,24 @@ pub fn read_proposal(
     ensures fits { IfOk result (λ o. IsTrue (is_small (offered o).0) → FitsSeat (offered o).0) }
 {
     need(has_parts(proposal), Refusal::BadArgs(2))?;
+    read_fields(alloc, issuers, proposal, payments)
+}
+
+/// The proposal and the payments, where the proposal has no further fields.
+#[tactic(auto, unfolding(crate::specs::Reading::read_proposal, call_data::specs::Outcomes::bind, call_data::specs::Outcomes::need, call_data::specs::Outcomes::wanted))]
+fn read_fields(
+    alloc: Global,
+    issuers: &IssuerRecord,
+    proposal: Option<&Data>,
+    payments: Option<&Data>,
+) -> Result<Offered, Stop>
+    requires form { need (has_parts (seen proposal)) (refusals.BadArgs 2) ≡ Ok tt }
+    requires proposal { Ordered (seen proposal) }
+    requires payments { Ordered (seen payments) }
+    ensures gives { Gives offered result (read_proposal issuers.now (seen proposal.entry) (seen payments.entry)) }
+    ensures apart { IfOk result IsOffered }
+    ensures fits { IfOk result (λ o. IsTrue (is_small (offered o).0) → FitsSeat (offered o).0) }
+{
     let give = given_rows(alloc, part(proposal, "give"))?;
     let want = given_rows(alloc, part(proposal, "want"))?;
     read_rows(
