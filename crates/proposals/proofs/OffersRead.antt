@@ -13,7 +13,6 @@ use Rattle.call_data.specs.Outcomes.{Fails, Gives, bind, need, none_such, wanted
 use Rattle.call_data.specs.declared.refusals.Refusal.{Refusal}
 use Rattle.call_data.specs.declared.refusals.Refusal.TheVariants.{BadArgs, BadExit, BadKeyword, KeywordMismatch, WrongBrand}
 use Rattle.call_data.specs.declared.refusals.Stop.{Stop}
-use Rattle.call_data.specs.declared.refusals.Stop.TheVariants.{NoMemory, Refused}
 use Rattle.proposals.specs.Reading.{IsRising, RowData, all_valued, exit_in, first_ill, first_shared, has_parts, is_among, is_small, keywords, least_alone, least_of, least_strange, names, part, read_proposal, record_in, row_in, rows_data, rows_in, valued}
 use Rattle.proposals.specs.Rows.{AreApart, amount_under, most_rows}
 use Rattle.proposals.specs.Slots.{FitsSeat}

@@ -1,5 +1,5 @@
-use Rattle.std.proofs.Common.{◌≡◌, ◌<◌, None, length, arith}
-use Rattle.proposals.specs.IssuerRecords.{brand_under, most_issuers}
+use Rattle.std.proofs.Common.{◌<◌, length, arith}
+use Rattle.proposals.specs.IssuerRecords.{most_issuers}
 use Rattle.proposals.proofs.IssuerLists.{AreIssuers-push}
 use Rattle.proposals.proofs.issuer_records.IssuerRecord.add.Goals as goal
 
