@@ -95,10 +95,11 @@ impl Promises {
         if number == u32::MAX {
             return Err(MakeFault::Limit);
         }
-        match self.states.push(PromiseState::Pending) {
-            Ok(()) => Ok(number),
-            Err(_) => Err(MakeFault::NoMemory),
+        if self.states.reserve(1).is_err() {
+            return Err(MakeFault::NoMemory);
         }
+        self.states.push_reserved(PromiseState::Pending);
+        Ok(number)
     }
 
     /// Settles a pending promise for good (eventual send), or hands the settlement back, and all is as before.
@@ -116,7 +117,7 @@ impl Promises {
     {
         match note(&mut self.settled, self.kept, promise) {
             Ok(()) => {
-                self.states[promise as usize] = PromiseState::Settled(settlement);
+                put(&mut self.states, promise, PromiseState::Settled(settlement));
                 Ok(())
             }
             Err(fault) => Err((settlement, fault)),
@@ -160,6 +161,14 @@ fn note(settled: &mut Vec<u32>, kept: usize, promise: u32) -> Result<(), AllocEr
     Ok(())
 }
 
+/// Writes the state of a promise.
+fn put(states: &mut Vec<PromiseState>, promise: u32, state: PromiseState)
+    requires { promise < length states.old.items }
+    ensures { states.new.items ≡ slice_set states.old.items promise state }
+{
+    states[promise as usize] = state;
+}
+
 /// Cuts the states to those kept, and makes those of the numbers pending again.
 fn undo(states: &mut Vec<PromiseState>, kept: usize, settled: &[u32])
     requires within { kept ≤ length states.old.items }
@@ -169,6 +178,6 @@ fn undo(states: &mut Vec<PromiseState>, kept: usize, settled: &[u32])
 {
     states.truncate(kept);
     for number in settled {
-        states[*number as usize] = PromiseState::Pending;
+        put(states, *number, PromiseState::Pending);
     }
 }

@@ -9,16 +9,16 @@ use Rattle.std.specs.Str.{bytes_eq}
 use Rattle.jessie_tree.specs.Tree.{Before, Fields, Ordered, OrderedFields, Tree, field, field_of, get, no_fields, paired}
 use Rattle.jessie_tree.specs.Tree as tree
 use Rattle.call_data.specs.Amounts.{AmountData, amount_fields, read_all, value_in}
-use Rattle.call_data.specs.Outcomes.{Fails, bind, need, none_such, wanted}
+use Rattle.call_data.specs.Outcomes.{Fails, Gives, bind, need, none_such, wanted}
 use Rattle.call_data.specs.declared.refusals.Refusal.{Refusal}
-use Rattle.call_data.specs.declared.refusals.Refusal.TheVariants.{BadArgs, BadKeyword, KeywordMismatch, WrongBrand}
+use Rattle.call_data.specs.declared.refusals.Refusal.TheVariants.{BadArgs, BadExit, BadKeyword, KeywordMismatch, WrongBrand}
 use Rattle.call_data.specs.declared.refusals.Stop.{Stop}
-use Rattle.call_data.specs.declared.refusals.Stop.TheVariants.{NoMemory, Refused}
-use Rattle.proposals.specs.Reading.{IsRising, RowData, all_valued, first_ill, first_shared, has_parts, is_among, is_small, keywords, least_of, least_strange, names, part, read_proposal, record_in, row_in, rows_data, rows_in, valued}
+use Rattle.proposals.specs.Reading.{IsRising, RowData, all_valued, exit_in, first_ill, first_shared, has_parts, is_among, is_small, keywords, least_alone, least_of, least_strange, names, part, read_proposal, record_in, row_in, rows_data, rows_in, valued}
 use Rattle.proposals.specs.Rows.{AreApart, amount_under, most_rows}
 use Rattle.proposals.specs.Slots.{FitsSeat}
 use Rattle.proposals.specs.declared.allocations.Row.{Row}
 use Rattle.proposals.specs.declared.issuer_records.Issuer.{Issuer}
+use Rattle.proposals.specs.declared.offers.Exit.{Exit}
 use Rattle.proposals.specs.declared.offers.Proposal.{Proposal}
 use Rattle.proposals.specs.declared.reading.GivenRow.{GivenRow}
 use Rattle.proposals.proofs.Keywords.{none_shared, rising_apart}
@@ -86,13 +86,13 @@ rows_rise t rows ordered is = by (record_in t) refl is
     by None at e = absurd (cc)
     by (Some fields) at e = read fields (read_all row_in fields) at refl e
 
+pub part_rises : (name : List ℕ) (proposal : Tree) (rows : List RowData) → Ordered proposal → wanted (rows_in (part name proposal)) (BadArgs 2) ≡ Ok rows → IsRising (keywords rows)
+part_rises name proposal rows ordered is = rows_rise (part name proposal) rows (part-Ordered name proposal ordered) is
+
 -- what the rows that were read show, of a field of the proposal
 module _ (name : List ℕ) (proposal field_seen : Tree) (items rows : List GivenRow) (at : field_seen ≡ part name proposal) (read : wanted (rows_in field_seen) (BadArgs 2) ≡ Ok (rows_data items)) (same : rows ≡ items) where
   pub rows_are : wanted (rows_in (part name proposal)) (BadArgs 2) ≡ Ok (rows_data rows)
   rows_are = ap (λ t. wanted (rows_in t) (BadArgs 2)) (sym at) ∙ read ∙ ap (λ (xs : List GivenRow). Ok (rows_data xs)) (sym same)
-
-  pub rows_are_rising : Ordered proposal → IsRising (keywords (rows_data rows))
-  rows_are_rising ordered = rows_rise (part name proposal) (rows_data rows) (part-Ordered name proposal ordered) rows_are
 
 -- ---- rows with their values
 
@@ -151,20 +151,54 @@ module _ (rs : List RowData) (rows : List Row) (valued : all_valued rs ≡ Ok ro
 pub fits_seat : (p : Proposal) → All (λ (r : Row). amount_under r.keyword p.want ≡ None) p.give → IsTrue (is_small p) → FitsSeat p
 fits_seat p apart small = record { apart = apart; few = leb-true (length p.give + length p.want) most_rows small }
 
--- ---- a refusal of brands
+-- ---- the rows, once they are read
+
+abbrev OfferRead : Type 0
+OfferRead = Result (Proposal × List (List ℕ × Tree)) Refusal
+
+abbrev tested : List Issuer → List RowData → List RowData → OfferRead → OfferRead
+tested issuers give want rest =
+    bind (none_such (first_ill (keywords give)) BadKeyword) (λ _.
+    bind (none_such (first_ill (keywords want)) BadKeyword) (λ _.
+    bind (none_such (first_shared (keywords give) (keywords want)) KeywordMismatch) (λ _.
+    bind (none_such (least_of (least_strange issuers give) (least_strange issuers want)) WrongBrand) (λ _. rest))))
+
+abbrev read_as : List RowData → List RowData → Tree → List (List ℕ × Tree) → OfferRead
+read_as give want exit paid =
+    bind (all_valued give) (λ given.
+    bind (all_valued want) (λ asked.
+    bind (wanted (exit_in exit) BadExit) (λ rule.
+    bind (none_such (least_alone (keywords give) (names paid)) KeywordMismatch) (λ _.
+    Ok (record { give = given; want = asked; exit = rule }, paid)))))
 
 module _ (issuers : List Issuer) (proposal payments : Tree) (give want : List RowData) (paid : List (List ℕ × Tree))
     (form : need (has_parts proposal) (BadArgs 2) ≡ Ok tt)
     (is_give : wanted (rows_in (part (codes "give") proposal)) (BadArgs 2) ≡ Ok give)
     (is_want : wanted (rows_in (part (codes "want") proposal)) (BadArgs 2) ≡ Ok want)
-    (is_paid : record_in payments ≡ Some paid)
-    (good_give : none_such (first_ill (keywords give)) BadKeyword ≡ Ok tt)
-    (good_want : none_such (first_ill (keywords want)) BadKeyword ≡ Ok tt)
-    (apart : none_such (first_shared (keywords give) (keywords want)) KeywordMismatch ≡ Ok tt) where
-  strange_refused : (e : Refusal) → none_such (least_of (least_strange issuers give) (least_strange issuers want)) WrongBrand ≡ Err e → read_proposal issuers proposal payments ≡ Err e
+    (is_paid : record_in payments ≡ Some paid) where
+  read_tested : read_proposal issuers proposal payments ≡ tested issuers give want (read_as give want (part (codes "exit") proposal) paid)
   unfolding read_proposal bind wanted
-  strange_refused e is = rw (form, is_give, is_want, is_paid, good_give, good_want, apart, is) refl
+  read_tested = rw (form, is_give, is_want, is_paid) refl
 
-  pub strange_stops : (e : Stop) → Fails e (none_such (least_of (least_strange issuers give) (least_strange issuers want)) WrongBrand) → Fails e (read_proposal issuers proposal payments)
-  strange_stops NoMemory is = tt
-  strange_stops (Refused e) is = strange_refused e is
+  -- the tests stop the reading
+  pub tests_stop : (e : Stop) → ((rest : OfferRead) → Fails e (tested issuers give want rest)) → Fails e (read_proposal issuers proposal payments)
+  tests_stop e stops = subst (Fails e) (sym read_tested) (stops (read_as give want (part (codes "exit") proposal) paid))
+
+  -- the tests pass
+  module _ (give_named : first_ill (keywords give) ≡ None) (want_named : first_ill (keywords want) ≡ None)
+      (apart : first_shared (keywords give) (keywords want) ≡ None)
+      (give_known : least_strange issuers give ≡ None) (want_known : least_strange issuers want ≡ None) where
+    tests_passed : (rest : OfferRead) → tested issuers give want rest ≡ rest
+    unfolding bind none_such
+    tests_passed rest = rw (give_named, want_named, apart, give_known, want_known) refl
+
+    pub read_on : {X : Type 0} (view : X → Proposal × List (List ℕ × Tree)) (result : Result X Stop) (exit : Tree) → exit ≡ part (codes "exit") proposal → Gives view result (read_as give want exit paid) → Gives view result (read_proposal issuers proposal payments)
+    read_on view result exit at gives =
+        let rest = read_as give want (part (codes "exit") proposal) paid in
+        subst (Gives view result) (sym (read_tested ∙ tests_passed rest)) (subst (λ t. Gives view result (read_as give want t paid)) at gives)
+
+-- the exit or the payments stop the reading
+module _ (give want : List RowData) (exit : Tree) (paid : List (List ℕ × Tree)) (given asked : List Row) (give_valued : all_valued give ≡ Ok given) (want_valued : all_valued want ≡ Ok asked) where
+  pub ending_stops : (e : Stop) → ((more : Exit → OfferRead) → Fails e (bind (wanted (exit_in exit) BadExit) (λ rule. bind (none_such (least_alone (keywords give) (names paid)) KeywordMismatch) (λ _. more rule)))) → Fails e (read_as give want exit paid)
+  unfolding bind
+  ending_stops e stops = rw (give_valued, want_valued) (stops (λ rule. Ok (record { give = given; want = asked; exit = rule }, paid)))

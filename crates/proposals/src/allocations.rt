@@ -1,8 +1,9 @@
 //! Allocations: an amount under each of at most 64 keywords, in the order of adding.
 
-ghost use Rattle.std.specs.Prelude.{◌≡◌, ◌<◌, ◌↔◌, ◌++◌, ◌∷◌, [], None, length, IfOk, IsTrue, OnErr, OnOk};
+ghost use Rattle.std.specs.Prelude.{◌≡◌, ◌<◌, ◌↔◌, ◌++◌, ◌∷◌, [], None, length, string_bytes, IfOk, IsTrue, OnErr, OnOk};
 ghost use Rattle.std.specs.Option.{option_copied};
-ghost use Rattle.proposals.specs.Rows.{AreRows, amount_under, most_rows, row_of};
+ghost use Rattle.indexmap.specs.IndexMap.{values};
+ghost use Rattle.proposals.specs.Rows.{AreKeyed, AreRows, amount_under, most_rows, row_of};
 
 use amount_math::Amount;
 use host_text::keyword::Keyword;
@@ -76,7 +77,7 @@ impl Allocation {
     {
         let mut made = Allocation::new(alloc);
         for row in rows {
-            made.push(alloc, row.keyword, row.amount)?;
+            made.add(alloc, row)?;
         }
         Ok(made)
     }
@@ -123,9 +124,29 @@ impl Allocation {
         ensures ok { OnOk result (self.new ≡ self.old ++ row_of keyword amount ∷ []) }
         ensures err { OnErr result (self.new ≡ self.old) }
     {
-        let name = String::from_str(alloc, keyword.as_str())?;
-        self.rows.insert(name, Row { keyword, amount })?;
-        Ok(())
+        self.add(alloc, Row { keyword, amount })
+    }
+
+    /// Adds a row of a keyword that isn't there, last. On an error all is as before.
+    fn add(&mut self, alloc: Global, row: Row) -> Result<(), AllocError>
+        requires free { amount_under row.keyword self.old ≡ None }
+        requires room { length self.old < most_rows }
+        ensures ok { OnOk result (self.new ≡ self.old ++ row ∷ []) }
+        ensures err { OnErr result (self.new ≡ self.old) }
+    {
+        let name = String::from_str(alloc, row.keyword.as_str())?;
+        insert(&mut self.rows, name, row)
+    }
+
+    /// Adds a copy of a row of a keyword that isn't there, last. On an error all is as before.
+    fn add_copy(&mut self, alloc: Global, row: &Row) -> Result<(), AllocError>
+        requires free { amount_under row.now.keyword self.old ≡ None }
+        requires room { length self.old < most_rows }
+        ensures ok { OnOk result (self.new ≡ self.old ++ row.now ∷ []) }
+        ensures err { OnErr result (self.new ≡ self.old) }
+    {
+        let copy = row.copy(alloc)?;
+        self.add(alloc, copy)
     }
 
     /// A copy, which equals the original.
@@ -134,9 +155,24 @@ impl Allocation {
     {
         let mut made = Allocation::new(alloc);
         for row in self.rows() {
-            let copy = row.copy(alloc)?;
-            made.push(alloc, copy.keyword, copy.amount)?;
+            made.add_copy(alloc, row)?;
         }
         Ok(made)
+    }
+}
+
+/// Enters a row under the text of its keyword, which isn't there, last. On an error all is as before.
+fn insert(rows: &mut IndexMap<String, Row>, name: String, row: Row) -> Result<(), AllocError>
+    requires named { string_bytes name ≡ row.keyword }
+    requires keyed { AreKeyed rows.old.entries }
+    requires free { amount_under row.keyword (values rows.old) ≡ None }
+    requires room { length (values rows.old) < most_rows }
+    ensures ok { OnOk result (values rows.new ≡ values rows.old ++ row ∷ []) }
+    ensures err { OnErr result (values rows.new ≡ values rows.old) }
+    ensures keyed { AreKeyed rows.new.entries }
+{
+    match rows.insert(name, row) {
+        Ok(_) => Ok(()),
+        Err(_) => Err(AllocError),
     }
 }

@@ -1,6 +1,7 @@
 //! Issuer records: the brands that an instance knows, by keyword, in the order of adding (Zoe).
 
-ghost use Rattle.std.specs.Prelude.{◌≡◌, ◌<◌, ◌↔◌, ◌++◌, ◌∷◌, [], Any, None, length, IfErr, IfOk, IsOk, IsSome, IsTrue, OnErr, OnOk};
+ghost use Rattle.std.specs.Prelude.{◌≡◌, ◌≢◌, ◌<◌, ◌↔◌, ◌++◌, ◌∷◌, [], Any, None, length, vec_len, IfErr, IfOk, IsOk, IsSome, IsTrue, OnErr, OnOk};
+ghost use Rattle.std.specs.Vec.{vec_capacity};
 ghost use Rattle.proposals.specs.IssuerRecords.{AreIssuers, brand_under, most_issuers};
 
 use host_text::keyword::Keyword;
@@ -69,6 +70,27 @@ fn brand_under(issuers: &[Issuer], keyword: &Keyword) -> Option<u16>
     None
 }
 
+/// Makes room for a keyword, unless it is there or 64 are. The issuers stay.
+fn make_room(issuers: &mut Vec<Issuer>, keyword: &Keyword) -> Result<(), AddFault>
+    ensures same { issuers.new.items ≡ issuers.old.items }
+    ensures reserved { OnOk result (vec_len issuers.new < vec_capacity issuers.new) }
+    ensures free { OnOk result (brand_under keyword.now issuers.old.items ≡ None) }
+    ensures room { OnOk result (length issuers.old.items ≢ most_issuers) }
+    ensures taken { IfErr result (λ fault. (fault ≡ AddFault.KeywordTaken) ↔ IsSome (brand_under keyword.now issuers.old.items)) }
+    ensures limit { IfErr result (λ fault. (fault ≡ AddFault.Limit) ↔ ((brand_under keyword.now issuers.old.items ≡ None) × (length issuers.old.items ≡ most_issuers))) }
+{
+    if brand_under(issuers.as_slice(), keyword).is_some() {
+        return Err(AddFault::KeywordTaken);
+    }
+    if issuers.len() == MOST_ISSUERS {
+        return Err(AddFault::Limit);
+    }
+    match issuers.reserve(1) {
+        Ok(()) => Ok(()),
+        Err(_) => Err(AddFault::NoMemory),
+    }
+}
+
 impl IssuerRecord {
     /// A record without keywords.
     pub fn new(alloc: Global) -> IssuerRecord
@@ -123,16 +145,9 @@ impl IssuerRecord {
         ensures limit { IfErr result (λ fault. (fault ≡ AddFault.Limit) ↔ ((brand_under keyword self.old ≡ None) × (length self.old ≡ most_issuers))) }
         ensures err { OnErr result (self.new ≡ self.old) }
     {
-        if self.get(&keyword).is_some() {
-            return Err(AddFault::KeywordTaken);
-        }
-        if self.issuers.len() == MOST_ISSUERS {
-            return Err(AddFault::Limit);
-        }
-        match self.issuers.push(Issuer { keyword, brand }) {
-            Ok(()) => Ok(()),
-            Err(_) => Err(AddFault::NoMemory),
-        }
+        make_room(&mut self.issuers, &keyword)?;
+        self.issuers.push_reserved(Issuer { keyword, brand });
+        Ok(())
     }
 
     /// A copy, which equals the original.

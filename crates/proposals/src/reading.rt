@@ -1,16 +1,20 @@
 //! Reading a proposal and the payments of an offer from data (Zoe). The one contract: what is read, or
 //! refused first, is as the definition says; each test is made over all rows before the next.
 
-ghost use Rattle.std.specs.Prelude.{◌≡◌, ◌++◌, All, None, Some, IfOk, IsTrue, OnOk, option_map, if◌then◌else◌};
+ghost use Rattle.std.specs.Prelude.{◌≡◌, ◌++◌, ℕ, All, List, None, Some, Ok, Result, IfErr, IfOk, IsTrue, OnOk, option_map, codes, if◌then◌else◌};
 ghost use Rattle.std.specs.Cmp.Lexicographic.{slice_cmp};
 ghost use Rattle.std.specs.Ordering.{nat_cmp};
 ghost use Rattle.host_text.specs.Words.{is_keyword};
-ghost use Rattle.jessie_tree.specs.Tree.{Ordered};
+ghost use Rattle.jessie_tree.specs.Tree.{Ordered, Tree};
 ghost use Rattle.jessie_tree.specs.View.{named_trees, tree};
 ghost use Rattle.call_data.specs.Amounts.{seen};
-ghost use Rattle.call_data.specs.Outcomes.{Gives, Refuses, none_such, wanted};
+ghost use Rattle.call_data.specs.Outcomes.{Fails, Gives, Refuses, bind, need, none_such, wanted};
+ghost use Rattle.call_data.specs.declared.refusals.Refusal.{Refusal};
 ghost use Rattle.call_data.specs.declared.refusals.Refusal.TheVariants as refusals;
+ghost use Rattle.proposals.specs.declared.offers.Exit.{Exit};
+ghost use Rattle.proposals.specs.declared.offers.Proposal.{Proposal};
 ghost use Rattle.proposals.specs.Reading.{IsOffered, IsRising, all_valued, exit_in, first_ill, first_shared, has_parts, is_known, is_part, is_small, keywords, least_alone, least_of, least_strange, names, named_rule, offered, part, read_proposal, record_in, row_data, rows_data, rows_in, valued};
+ghost use Rattle.proposals.specs.Rows.{AreRows};
 ghost use Rattle.proposals.specs.Slots.{FitsSeat};
 
 use crate::allocations::{Allocation, MOST_ROWS, Row};
@@ -30,7 +34,7 @@ use std::cmp::Ordering;
 
 /// What an offer gives and wants, when it may be left, and its payments by keyword, in the order of give.
 /// It may have more keywords than a seat has slots.
-#[derive(Debug, Drop)]
+#[derive(Drop)]
 pub struct Offered {
     pub give: Vec<Row>,
     pub want: Vec<Row>,
@@ -60,13 +64,25 @@ impl Offered {
             exit,
             payments,
         } = self;
-        let proposal = Proposal {
-            give: Allocation::from_rows(alloc, give)?,
-            want: Allocation::from_rows(alloc, want)?,
-            exit,
-        };
+        let proposal = proposal_of(alloc, give, want, exit)?;
         Ok((proposal, payments))
     }
+}
+
+/// The proposal of rows, each of a keyword of its own.
+fn proposal_of(
+    alloc: Global,
+    give: Vec<Row>,
+    want: Vec<Row>,
+    exit: Exit,
+) -> Result<Proposal, AllocError>
+    requires give { AreRows give.items }
+    requires want { AreRows want.items }
+    ensures { IfOk result (λ p. p ≡ record { give = give.items; want = want.items; exit = exit }) }
+{
+    let give = Allocation::from_rows(alloc, give)?;
+    let want = Allocation::from_rows(alloc, want)?;
+    Ok(Proposal { give, want, exit })
 }
 
 /// A row as it was given.
@@ -96,26 +112,156 @@ pub fn read_proposal(
     ensures fits { IfOk result (λ o. IsTrue (is_small (offered o).0) → FitsSeat (offered o).0) }
 {
     need(has_parts(proposal), Refusal::BadArgs(2))?;
-    let give_rows = given_rows(alloc, part(proposal, "give"))?;
-    let want_rows = given_rows(alloc, part(proposal, "want"))?;
+    read_fields(alloc, issuers, proposal, payments)
+}
+
+/// The proposal and the payments, where the proposal has no further fields.
+#[tactic(auto, unfolding(crate::specs::Reading::read_proposal, call_data::specs::Outcomes::bind, call_data::specs::Outcomes::need, call_data::specs::Outcomes::wanted))]
+fn read_fields(
+    alloc: Global,
+    issuers: &IssuerRecord,
+    proposal: Option<&Data>,
+    payments: Option<&Data>,
+) -> Result<Offered, Stop>
+    requires form { need (has_parts (seen proposal)) (refusals.BadArgs 2) ≡ Ok tt }
+    requires proposal { Ordered (seen proposal) }
+    requires payments { Ordered (seen payments) }
+    ensures gives { Gives offered result (read_proposal issuers.now (seen proposal.entry) (seen payments.entry)) }
+    ensures apart { IfOk result IsOffered }
+    ensures fits { IfOk result (λ o. IsTrue (is_small (offered o).0) → FitsSeat (offered o).0) }
+{
+    let give = given_rows(alloc, part(proposal, "give"))?;
+    let want = given_rows(alloc, part(proposal, "want"))?;
+    read_rows(
+        alloc,
+        issuers,
+        proposal,
+        give.as_slice(),
+        want.as_slice(),
+        payments,
+    )
+}
+
+/// The proposal and the payments, where these are the rows of a proposal without further fields.
+#[tactic(auto, unfolding(crate::specs::Reading::read_proposal, call_data::specs::Outcomes::bind, call_data::specs::Outcomes::need, call_data::specs::Outcomes::wanted))]
+fn read_rows(
+    alloc: Global,
+    issuers: &IssuerRecord,
+    proposal: Option<&Data>,
+    give: &[GivenRow],
+    want: &[GivenRow],
+    payments: Option<&Data>,
+) -> Result<Offered, Stop>
+    requires form { need (has_parts (seen proposal)) (refusals.BadArgs 2) ≡ Ok tt }
+    requires give { wanted (rows_in (part (codes "give") (seen proposal))) (refusals.BadArgs 2) ≡ Ok (rows_data give.now) }
+    requires want { wanted (rows_in (part (codes "want") (seen proposal))) (refusals.BadArgs 2) ≡ Ok (rows_data want.now) }
+    requires proposal { Ordered (seen proposal) }
+    requires payments { Ordered (seen payments) }
+    ensures gives { Gives offered result (read_proposal issuers.now (seen proposal.entry) (seen payments.entry)) }
+    ensures apart { IfOk result IsOffered }
+    ensures fits { IfOk result (λ o. IsTrue (is_small (offered o).0) → FitsSeat (offered o).0) }
+{
     let Some(paid) = record_fields(payments) else {
         return Err(Stop::Refused(Refusal::BadArgs(3)));
     };
-    let (give, want) = (give_rows.as_slice(), want_rows.as_slice());
+    check_rows(alloc, issuers, give, want)?;
+    read_values(alloc, issuers, give, want, part(proposal, "exit"), paid)
+}
+
+/// The tests of the rows, each over all of them before the next.
+#[tactic(auto, unfolding(call_data::specs::Outcomes::bind, call_data::specs::Outcomes::none_such))]
+fn check_rows(
+    alloc: Global,
+    issuers: &IssuerRecord,
+    give: &[GivenRow],
+    want: &[GivenRow],
+) -> Result<(), Stop>
+    requires give { IsRising (keywords (rows_data give.now)) }
+    requires want { IsRising (keywords (rows_data want.now)) }
+    ensures stops { IfErr result (λ e. (rest : Result (Proposal × List (List ℕ × Tree)) Refusal) →
+        let given = rows_data give.now in
+        let asked = rows_data want.now in
+        let strange = least_of (least_strange issuers.now given) (least_strange issuers.now asked) in
+        Fails e
+        (bind (none_such (first_ill (keywords given)) refusals.BadKeyword) (λ _.
+        bind (none_such (first_ill (keywords asked)) refusals.BadKeyword) (λ _.
+        bind (none_such (first_shared (keywords given) (keywords asked)) refusals.KeywordMismatch) (λ _.
+        bind (none_such strange refusals.WrongBrand) (λ _. rest)))))) }
+    ensures give_named { OnOk result (first_ill (keywords (rows_data give.now)) ≡ None) }
+    ensures want_named { OnOk result (first_ill (keywords (rows_data want.now)) ≡ None) }
+    ensures apart { OnOk result
+        (first_shared (keywords (rows_data give.now)) (keywords (rows_data want.now)) ≡ None) }
+    ensures give_known { OnOk result (least_strange issuers.now (rows_data give.now) ≡ None) }
+    ensures want_known { OnOk result (least_strange issuers.now (rows_data want.now) ≡ None) }
+{
     check_keywords(alloc, give)?;
     check_keywords(alloc, want)?;
     check_apart(alloc, give, want)?;
-    check_brands(issuers, give, want)?;
+    check_brands(issuers, give, want)
+}
+
+/// The values of the rows, which passed their tests, then the exit and the payments.
+#[tactic(auto, unfolding(call_data::specs::Outcomes::bind, call_data::specs::Outcomes::none_such))]
+fn read_values(
+    alloc: Global,
+    issuers: &IssuerRecord,
+    give: &[GivenRow],
+    want: &[GivenRow],
+    exit: Option<&Data>,
+    paid: &[(Text, Data)],
+) -> Result<Offered, Stop>
+    requires give { IsRising (keywords (rows_data give.now)) }
+    requires want { IsRising (keywords (rows_data want.now)) }
+    requires paid { IsRising (names (named_trees paid.now)) }
+    requires give_named { first_ill (keywords (rows_data give.now)) ≡ None }
+    requires want_named { first_ill (keywords (rows_data want.now)) ≡ None }
+    requires shared { first_shared (keywords (rows_data give.now)) (keywords (rows_data want.now)) ≡ None }
+    requires give_known { least_strange issuers.now (rows_data give.now) ≡ None }
+    requires want_known { least_strange issuers.now (rows_data want.now) ≡ None }
+    ensures gives { Gives offered result
+        (let alone = least_alone (keywords (rows_data give.now)) (names (named_trees paid.now)) in
+        bind (all_valued (rows_data give.now)) (λ given.
+        bind (all_valued (rows_data want.now)) (λ asked.
+        bind (wanted (exit_in (seen exit.entry)) refusals.BadExit) (λ exit.
+        bind (none_such alone refusals.KeywordMismatch) (λ _.
+        Ok (record { give = given; want = asked; exit = exit }, named_trees paid.now)))))) }
+    ensures apart { IfOk result IsOffered }
+    ensures fits { IfOk result (λ o. IsTrue (is_small (offered o).0) → FitsSeat (offered o).0) }
+{
     let given = with_values(alloc, issuers, give)?;
     let asked = with_values(alloc, issuers, want)?;
-    let exit = read_exit(part(proposal, "exit"))?;
-    check_paid(alloc, give, paid)?;
+    let (exit, payments) = read_ending(alloc, exit, give, paid)?;
     Ok(Offered {
         give: given,
         want: asked,
         exit,
-        payments: copy_fields(alloc, paid)?,
+        payments,
     })
+}
+
+/// The exit, and the payments, which are under the keywords of give.
+#[tactic(auto, unfolding(call_data::specs::Outcomes::bind, call_data::specs::Outcomes::none_such))]
+fn read_ending(
+    alloc: Global,
+    exit: Option<&Data>,
+    give: &[GivenRow],
+    paid: &[(Text, Data)],
+) -> Result<(Exit, Vec<(Text, Data)>), Stop>
+    requires give { IsRising (keywords (rows_data give.now)) }
+    requires paid { IsRising (names (named_trees paid.now)) }
+    ensures stops { IfErr result (λ e. (more : Exit → Result (Proposal × List (List ℕ × Tree)) Refusal) →
+        let alone = least_alone (keywords (rows_data give.now)) (names (named_trees paid.now)) in
+        Fails e
+        (bind (wanted (exit_in (seen exit.entry)) refusals.BadExit) (λ exit.
+        bind (none_such alone refusals.KeywordMismatch) (λ _. more exit)))) }
+    ensures exit { IfOk result (λ r. wanted (exit_in (seen exit.entry)) refusals.BadExit ≡ Ok r.0) }
+    ensures payments { IfOk result (λ r. named_trees r.1.items ≡ named_trees paid.now) }
+    ensures none { OnOk result (least_alone (keywords (rows_data give.now)) (names (named_trees paid.now)) ≡ None) }
+{
+    let exit = read_exit(exit)?;
+    check_paid(alloc, give, paid)?;
+    let payments = copy_fields(alloc, paid)?;
+    Ok((exit, payments))
 }
 
 // ---- records
@@ -368,17 +514,26 @@ fn valued(alloc: Global, issuers: &IssuerRecord, row: &GivenRow) -> Result<Row, 
     requires brand { IsTrue (is_known issuers.now row.now.amount.brand) }
     ensures { Gives (λ row. row) result (valued (row_data row.now)) }
 {
-    let value = read_value(alloc, row.amount.kind, row.amount.value)?;
     let Some(brand) = known_brand(issuers, row.amount.brand) else {
         unreachable!()
     };
-    match Keyword::read(alloc, row.keyword.as_str().as_bytes()) {
-        Ok(keyword) => Ok(Row {
-            keyword,
-            amount: Amount { brand, value },
-        }),
+    let keyword = read_keyword(alloc, row.keyword)?;
+    let value = read_value(alloc, row.amount.kind, row.amount.value)?;
+    Ok(Row {
+        keyword,
+        amount: Amount { brand, value },
+    })
+}
+
+/// The keyword that a text is.
+fn read_keyword(alloc: Global, text: &Text) -> Result<Keyword, AllocError>
+    requires { IsTrue (is_keyword text.now) }
+    ensures { IfOk result (λ keyword. keyword ≡ text.now) }
+{
+    match Keyword::read(alloc, text.as_str().as_bytes()) {
+        Ok(keyword) => Ok(keyword),
         Err(KeywordFault::BadKeyword) => unreachable!(),
-        Err(KeywordFault::NoMemory) => Err(Stop::NoMemory),
+        Err(KeywordFault::NoMemory) => Err(AllocError),
     }
 }
 

@@ -83,11 +83,22 @@ impl Movement {
     pub fn copy(&self, alloc: Global) -> Result<Movement, AllocError>
         ensures { IfOk result (λ copy. copy ≡ self.now) }
     {
+        let value = self.value.copy()?;
+        let (from, to) = self.holders(alloc)?;
         Ok(Movement {
             brand: self.brand,
-            from: self.from.copy(alloc)?,
-            to: self.to.copy(alloc)?,
-            value: self.value.copy()?,
+            from,
+            to,
+            value,
         })
+    }
+
+    /// Copies of both holders.
+    fn holders(&self, alloc: Global) -> Result<(Holder, Holder), AllocError>
+        ensures { IfOk result (λ copies. copies ≡ (self.now.from, self.now.to)) }
+    {
+        let from = self.from.copy(alloc)?;
+        let to = self.to.copy(alloc)?;
+        Ok((from, to))
     }
 }

@@ -1,10 +1,10 @@
 // One seat.
-ghost use Rattle.std.specs.Prelude.{◌≡◌, ◌<◌, ◌≤◌, ◌*◌, ◌↔◌, None, length, is_none, IfErr, IfOk, IsOk, IsSome, OnErr, OnOk, option_map};
+ghost use Rattle.std.specs.Prelude.{◌≡◌, ◌<◌, ◌≤◌, ◌*◌, ◌↔◌, None, length, is_none, map, IfErr, IfOk, IsOk, IsSome, OnErr, OnOk, option_map};
 ghost use Rattle.amount_math.specs.Amount.{Meet};
 ghost use Rattle.amount_math.specs.Content.{Contains, sum};
 ghost use Rattle.amount_math.specs.Worth.{IsPutRefusal, IsTakeRefusal, IsValue, bag_bound};
 ghost use Rattle.proposals.specs.Rows.{amount_under, content_under, most_rows};
-ghost use Rattle.proposals.specs.Slots.{FitsSeat};
+ghost use Rattle.proposals.specs.Slots.{FitsSeat, emptied, slots_of};
 ghost use Rattle.seats.specs.Seats.{IsOpen, allocation_of, closed, open_slots_in, opened, put_in, slots_counted, taken_from};
 ghost use Rattle.seats.specs.Slots.{slot_at};
 
@@ -36,6 +36,15 @@ impl Model for Seat {
     ghost view = { λ a. record { instance = a.instance; proposal = a.proposal; slots = a.slots; last = a.last } };
 }
 
+/// The slots of a new seat for a proposal, with nothing in them.
+fn empty_slots(alloc: Global, proposal: &Proposal) -> Result<Slots, AllocError>
+    requires { FitsSeat proposal.now }
+    ensures { IfOk result (λ slots. slots ≡ map emptied (slots_of proposal.now)) }
+{
+    let rows = proposal.slots(alloc)?;
+    Slots::empty(alloc, rows.as_slice())
+}
+
 impl Seat {
     /// A seat for a proposal, with nothing in its slots, or the proposal handed back for want of memory.
     pub(crate) fn opened(alloc: Global, instance: u32, proposal: Proposal) -> Result<Seat, Proposal>
@@ -43,10 +52,7 @@ impl Seat {
         ensures ok { IfOk result (λ seat. seat ≡ opened instance proposal) }
         ensures back { IfErr result (λ back. back ≡ proposal) }
     {
-        let Ok(rows) = proposal.slots(alloc) else {
-            return Err(proposal);
-        };
-        match Slots::empty(alloc, rows.as_slice()) {
+        match empty_slots(alloc, &proposal) {
             Ok(slots) => Ok(Seat {
                 instance,
                 proposal,
@@ -140,14 +146,23 @@ impl Seat {
         if self.last.is_some() {
             return Err(CloseFault::SeatExited);
         }
-        let Ok(kept) = self.slots.allocation(alloc) else {
-            return Err(CloseFault::NoMemory);
-        };
         let Ok(last) = self.slots.allocation(alloc) else {
             return Err(CloseFault::NoMemory);
         };
+        match self.keep_allocation(alloc) {
+            Ok(()) => Ok(last),
+            Err(_) => Err(CloseFault::NoMemory),
+        }
+    }
+
+    /// Keeps what the slots have, which closes the seat. On an error all is as before.
+    fn keep_allocation(&mut self, alloc: Global) -> Result<(), AllocError>
+        ensures ok { OnOk result (self.new ≡ closed self.old) }
+        ensures err { OnErr result (self.new ≡ self.old) }
+    {
+        let kept = self.slots.allocation(alloc)?;
         self.last = Some(kept);
-        Ok(last)
+        Ok(())
     }
 
     pub(crate) fn counted(&self, brand: u16) -> u128
@@ -160,15 +175,32 @@ impl Seat {
     pub(crate) fn twin(&self, alloc: Global) -> Result<Seat, AllocError>
         ensures { IfOk result (λ twin. twin ≡ self.now) }
     {
-        let last = match &self.last {
-            Some(last) => Some(last.copy(alloc)?),
-            None => None,
-        };
+        let proposal = self.proposal.copy(alloc)?;
+        let (slots, last) = self.twin_slots(alloc)?;
         Ok(Seat {
             instance: self.instance,
-            proposal: self.proposal.copy(alloc)?,
-            slots: self.slots.twin(alloc)?,
+            proposal,
+            slots,
             last,
         })
+    }
+
+    /// A second one of its slots, and a copy of what they had when it was closed.
+    fn twin_slots(&self, alloc: Global) -> Result<(Slots, Option<Allocation>), AllocError>
+        ensures { IfOk result (λ twin. twin ≡ (self.now.slots, self.now.last)) }
+    {
+        let last = self.last_copy(alloc)?;
+        let slots = self.slots.twin(alloc)?;
+        Ok((slots, last))
+    }
+
+    /// What it had when it was closed, once more.
+    fn last_copy(&self, alloc: Global) -> Result<Option<Allocation>, AllocError>
+        ensures { IfOk result (λ last. last ≡ self.now.last) }
+    {
+        match &self.last {
+            Some(last) => Ok(Some(last.copy(alloc)?)),
+            None => Ok(None),
+        }
     }
 }

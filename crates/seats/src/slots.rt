@@ -34,6 +34,18 @@ impl Model for Slot {
 }
 
 impl Slot {
+    /// A slot with a parcel, which is of the parcel's brand, or the parcel handed back.
+    fn with(keyword: Keyword, parcel: Parcel) -> Result<Slot, (Parcel, PutFault)>
+        ensures ok { IfOk result (λ slot. slot ≡ row_of keyword parcel) }
+        ensures value { OnOk result (IsValue parcel.value.kind (sum nothing parcel.value.content)) }
+        ensures back { IfErr result (λ (back, _). back ≡ parcel) }
+        ensures refused { IfErr result (λ (_, fault). IsPutRefusal parcel.value.kind (sum nothing parcel.value.content) fault) }
+    {
+        let mut stock = Stock::empty(parcel.brand(), parcel.value().kind());
+        stock.put(parcel)?;
+        Ok(Slot { keyword, stock })
+    }
+
     /// What it has, as a row. Keys and the keyword take memory.
     fn row(&self, alloc: Global) -> Result<Row, AllocError>
         ensures { IfOk result (λ row. row ≡ self.now) }
@@ -177,15 +189,14 @@ impl Slots {
         ensures err { OnErr result (self.new ≡ self.old) }
         ensures refused { IfErr result (λ (_, fault). IsPutRefusal parcel.value.kind (sum nothing parcel.value.content) fault) }
     {
-        let Ok(keyword) = keyword.copy(alloc) else {
-            return Err((parcel, PutFault::NoMemory));
-        };
         if self.slots.reserve(1).is_err() {
             return Err((parcel, PutFault::NoMemory));
         }
-        let mut stock = Stock::empty(parcel.brand(), parcel.value().kind());
-        stock.put(parcel)?;
-        self.slots.push_reserved(Slot { keyword, stock });
+        let Ok(keyword) = keyword.copy(alloc) else {
+            return Err((parcel, PutFault::NoMemory));
+        };
+        let slot = Slot::with(keyword, parcel)?;
+        self.slots.push_reserved(slot);
         Ok(())
     }
 

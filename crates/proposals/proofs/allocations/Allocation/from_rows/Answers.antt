@@ -4,8 +4,8 @@ use Rattle.proposals.specs.declared.allocations.Row.{Row}
 use Rattle.proposals.proofs.RowsKeyed.{free_before}
 use Rattle.proposals.proofs.allocations.Allocation.from_rows.Goals as goal
 
-pub push-requires-clause-free : goal.push-requires-clause-free
-push-requires-clause-free c =
+pub add-requires-clause-free : goal.add-requires-clause-free
+add-requires-clause-free c =
     let at = c.loop-row in
     let left = into_iter_items c.next.new.self in
     let steps : into_iter_items at.row-iterator ≡ c.in-Some.row ∷ left = c.in-Some.ensures.steps.0 in

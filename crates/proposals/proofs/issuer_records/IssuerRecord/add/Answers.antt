@@ -1,19 +1,9 @@
-use Rattle.std.proofs.Common.{◌≡◌, ◌<◌, ℕ, Option, Some, None, false, length, refl, sym, ◌∙◌, arith}
-use Rattle.std.specs.Option.{is_some}
-use Rattle.proposals.specs.IssuerRecords.{brand_under, most_issuers}
+use Rattle.std.proofs.Common.{◌<◌, length, arith}
+use Rattle.proposals.specs.IssuerRecords.{most_issuers}
 use Rattle.proposals.proofs.IssuerLists.{AreIssuers-push}
 use Rattle.proposals.proofs.issuer_records.IssuerRecord.add.Goals as goal
-use Rattle.proposals.proofs.issuer_records.IssuerRecord.add.Goals.{in-Ok, in-Err}
 
-none_there : (o : Option ℕ) → false ≡ is_some o → o ≡ None
-none_there None h = refl
-none_there (Some brand) h = absurd (cc)
-
-pub invariant_of-self : goal.invariant_of-self
-invariant_of-self c =
-    let room : length c.self.inside.issuers.items < most_issuers = omega arith in
-    let free : brand_under c.args.keyword c.self.inside.issuers.items ≡ None = rw c.self.view_is (sym c.get.ensures ∙ none_there c.get.result c.if-is_some.ensures) in
-    elim c.match-push.branch [
-      | in-Ok w ↦ rw w.in-Ok.ensures.items (AreIssuers-push _ _ c.self.invariant free room)
-      | in-Err w ↦ rw w.in-Err.ensures.items c.self.invariant
-    ]
+pub invariant_of-self-2 : goal.invariant_of-self-2
+invariant_of-self-2 c =
+    let room : length c.self.inside.issuers.items < most_issuers = omega (arith, c.in_ok-make_room.ensures.room, c.self.invariant.few) in
+    rw (c.push_reserved.ensures.items, c.in_ok-make_room.ensures.same) (AreIssuers-push _ _ c.self.invariant c.in_ok-make_room.ensures.free room)
