@@ -1,6 +1,6 @@
 //! The algebra of amounts, after ERTP's AmountMath: a value is a kind and a content, the finite map
-//! from element to positive count, and each call is the operation on contents, or the refusal that
-//! its clause names, with everything handed back. It stands on nothing but std.
+//! from element to positive count. It stands on nothing but std. Its one contract: each call is the
+//! operation on contents, or the refusal that its clause names, with everything handed back.
 #![tactic(auto)]
 
 ghost use Rattle.std.specs.Prelude.{◌≡◌, ◌≢◌, ◌≤◌, ◌↔◌, IsTrue, IsNone, IsOk, IsErr, IsSome, IfSome, IfOk, IfErr, OnOk, OnErr};

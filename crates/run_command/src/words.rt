@@ -54,14 +54,16 @@ impl From<clap::Error> for WordsFault {
 /// standard error.
 pub fn usage() -> &'static str {
     "usage: zoe_run run [--turns n] [--meter n]\n  \
-     run  reads lines from standard input and writes the journal to standard output\n    \
+     run  reads lines from standard input to its end, and then writes the journal to standard output\n    \
      --turns n  how many deliveries are run at the end of the input, 0 to 4000000000;\n               \
      10000 if it is not given\n    \
-     --meter n  what a contract's turn may spend, 1 to 10000000; 1000000 if it is not given\n\
+     --meter n  what a contract's turn may spend, 1 to 10000000; 1000000 if it is not given\n  \
+     no other words are taken, --help neither\n\
      exit status: 0 Done, 2 Usage, 3 ReadFault, 4 WriteFault, 5 NoMemory, 6 TurnLimit, 7 TooLong\n  \
-     of each but Done, standard error says what it means\n\
-     documents: docs/ of the repository; TUTORIAL.md is for a start, LINES.md says what a line\n  \
-     may ask for, and JOURNAL.md what the rows of the journal tell"
+     of each but Done, standard error says what it means; Done says nothing of refusals, which\n  \
+     are rows of the journal\n\
+     documents: README.md and docs/ of the repository: TRADER.md for a start, CONTRACTS.md for\n  \
+     writing a contract, OPERATING.md for running, LINES.md and JOURNAL.md for what is read and written"
 }
 
 /// The option `--name n`, whose number lies from `least` to `most`.

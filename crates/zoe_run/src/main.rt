@@ -1,6 +1,6 @@
-//! An escrow host: a program that reads JSON lines and writes a journal of their turns. It gives its
-//! words, its input and its output to `run_command::top::zoe_top`, whose contract says what comes of
-//! them, and ends with the status that this answers.
+//! An escrow host: a program that reads JSON lines and writes a journal of their turns. It stands on
+//! `run_command` and on `host_io`'s standard ends. Its one contract is `run_command::top::zoe_top`'s,
+//! over those ends: `main` gives it the words, the input and the output, and ends with its status.
 #![tactic(auto)]
 
 use host_io::std_ends::{StdSink, StdSource};

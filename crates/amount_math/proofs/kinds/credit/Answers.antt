@@ -10,9 +10,9 @@ returns-clause-either_order g c =
     let gain = c.args.gain in
     let commutes = g.met.K.AmountKind.add_commutes held.content gain.content c.requires.held.1 c.requires.gain.1 in
     IfOk-weaker c.add.result
-        (λ (both : Worth). both ≡ with_content held (sum held.content gain.content))
-        (λ (both : Worth). both.content ≡ sum gain.content held.content)
-        (λ both is. ap (λ (w : Worth). w.content) is ∙ commutes) c.add.ensures.ok
+    (λ (both : Worth). both ≡ with_content held (sum held.content gain.content))
+    (λ (both : Worth). both.content ≡ sum gain.content held.content)
+    (λ both is. ap (λ (w : Worth). w.content) is ∙ commutes) c.add.ensures.ok
 
 pub returns-clause-undone : goal.returns-clause-undone
 returns-clause-undone g c =
@@ -20,6 +20,6 @@ returns-clause-undone g c =
     let gain = c.args.gain in
     let undoes = g.met.K.AmountKind.subtract_undoes_add held.content gain.content c.requires.held.1 c.requires.gain.1 in
     IfOk-weaker c.add.result
-        (λ (both : Worth). both ≡ with_content held (sum held.content gain.content))
-        (λ (both : Worth). difference both.content gain.content ≡ held.content)
-        (λ both is. ap (λ (w : Worth). difference w.content gain.content) is ∙ undoes) c.add.ensures.ok
+    (λ (both : Worth). both ≡ with_content held (sum held.content gain.content))
+    (λ (both : Worth). difference both.content gain.content ≡ held.content)
+    (λ both is. ap (λ (w : Worth). difference w.content gain.content) is ∙ undoes) c.add.ensures.ok

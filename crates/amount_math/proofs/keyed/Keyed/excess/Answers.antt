@@ -14,5 +14,8 @@ returns-clause-refused c =
     let read = read_entry c.entries-others.result.now c.in-Some.at c.index-others-at.result within c.index-others-at.is in
     let counted = c.count_of.ensures ∙ ap (tally c.entries-held.result.now) (c.key.ensures ∙ ap (λ (e : List ℕ × ℕ). e.0) (sym read)) in
     let over : TooMuch = record { sum = c.from.result + c.from-2.result; bound = c.from-bound.result } in
-    rw (← held.content, ← others.content) (bag_is_no_set, passes_bound c.entries-held.result.now c.entries-others.result.now held.entries others.entries c.in-Some.at over within c.in-Some.ensures.first
-    (omega (arith, counted, ap (λ (e : List ℕ × ℕ). e.1) read, c.count.ensures, c.from.ensures, c.from-2.ensures)) c.from-bound.ensures)
+    rw (← held.content, ← others.content) (
+      bag_is_no_set,
+      passes_bound c.entries-held.result.now c.entries-others.result.now held.entries others.entries c.in-Some.at over within c.in-Some.ensures.first
+          (omega (arith, counted, ap (λ (e : List ℕ × ℕ). e.1) read, c.count.ensures, c.from.ensures, c.from-2.ensures)) c.from-bound.ensures,
+    )
