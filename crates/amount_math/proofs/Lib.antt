@@ -6,3 +6,4 @@ pub mod Lowered
 pub mod Permuted
 pub mod Shapes
 pub mod Numbers
+pub mod Places

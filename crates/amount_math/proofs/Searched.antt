@@ -1,6 +1,6 @@
 -- What a search by halving finds in rising entries, and where a key stands.
-use Rattle.std.proofs.Common.{◌⊎◌, inl, inr, ◌≡◌, ℕ, zero, suc, ◌+◌, ◌<◌, true, false, cond, Result, Ok, Err, MatchResult, List, [], ◌∷◌, length, get_or, refl, sym, ap, subst, ◌∙◌, arith}
-use Rattle.std.proofs.lemmas.Bool.{cases_lt}
+use Rattle.std.proofs.Common.{◌⊎◌, inl, inr, ◌≡◌, ℕ, zero, suc, ◌+◌, ◌<◌, true, false, cond, Result, Ok, Err, IfOk, IfErr, IsErr, MatchResult, List, [], ◌∷◌, length, get_or, refl, sym, ap, subst, ◌∙◌, arith}
+use Rattle.std.proofs.lemmas.Bool.{cases_lt, false≢true}
 use Rattle.std.proofs.lemmas.List.{get_or_default}
 use Rattle.std.proofs.lemmas.List.Sorted.{searchable_from_sorted}
 use lib.Dec.{T}
@@ -11,7 +11,7 @@ use Rattle.std.specs.declared.cmp.Ordering.TheVariants.{Less, Greater}
 use Rattle.std.specs.FinMap.Entries.{below_all}
 use Rattle.amount_math.specs.Totals.{first, second, less}
 use Rattle.amount_math.specs.Content.{key_cmp, counts}
-use Rattle.amount_math.specs.Entries.{Entries, IsRising, entry_at, tally}
+use Rattle.amount_math.specs.Entries.{Entries, IsGap, IsRising, entry_at, tally}
 use Rattle.amount_math.proofs.Listed.{below_rest, rising_rest, listed-tally, listed_at, same_key}
 
 -- an earlier key is before a later one
@@ -60,12 +60,33 @@ module _ (es : Entries) (h : IsRising es) (k : List ℕ) where
   not_equal : (q : List ℕ) (o : Ordering) → key_cmp q k ≡ o → is_eq (ordering_reverse o) ≡ false → eq_by_cmp key_cmp k q ≡ false
   not_equal q o e differs = ap is_eq (turned q k o e) ∙ differs
 
-  -- a search by halving ends at the key, or where it isn't there
-  pub searched : (r : Result ℕ ℕ) → IsSearchInRange r (length es) → IsBinarySearchResult (λ (e : List ℕ × ℕ). key_cmp e.0 k) es r → MatchResult r (λ i. (i < length es) × ((entry_at es i).0 ≡ k)) (λ _. tally es k ≡ 0)
+  -- a search by halving ends at the key, or where it has its place
+  pub searched : (r : Result ℕ ℕ) → IsSearchInRange r (length es) → IsBinarySearchResult (λ (e : List ℕ × ℕ). key_cmp e.0 k) es r → MatchResult r (λ i. (i < length es) × ((entry_at es i).0 ≡ k)) (λ i. IsGap es k i)
   searched (Ok i) within at = (within, counts.same (entry_at es i).0 k (at ([], 0)))
   searched (Err i) within parted =
       let sides = parted (searchable_from_sorted counts.total (λ e. e.0) es k in_order) in
-      nowhere es k (λ j lt. elim (cases_lt j i) [
-        | inl before ↦ not_equal (entry_at es j).0 Less (sides.0 j ([], 0) (omega arith) before) refl
-        | inr after ↦ not_equal (entry_at es j).0 Greater (sides.1 j ([], 0) after lt) refl
-      ])
+      record {
+        within = within;
+        before = λ j lt. sides.0 j ([], 0) (omega (arith, within, lt)) lt;
+        after = λ j le lt. turned (entry_at es j).0 k Greater (sides.1 j ([], 0) le lt);
+      }
+
+  -- where it has its place there is none of it
+  pub none_at_gap : (i : ℕ) → IsGap es k i → tally es k ≡ 0
+  none_at_gap i gap = nowhere es k (λ j lt. elim (cases_lt j i) [
+    | inl before ↦ not_equal (entry_at es j).0 Less (gap.before j before) refl
+    | inr after ↦ ap is_eq (gap.after j after lt)
+  ])
+
+-- what a search found, and what it missed
+pub if_found : (r : Result ℕ ℕ) (P Q : ℕ → Type 0) → MatchResult r P Q → IfOk r P
+if_found (Ok i) P Q h = h
+if_found (Err i) P Q h = tt
+
+pub if_missed : (r : Result ℕ ℕ) (P Q : ℕ → Type 0) → MatchResult r P Q → IfErr r Q
+if_missed (Ok i) P Q h = tt
+if_missed (Err i) P Q h = h
+
+pub absent_if : (es : Entries) (h : IsRising es) (k : List ℕ) (r : Result ℕ ℕ) → IfErr r (IsGap es k) → IsErr r → tally es k ≡ 0
+absent_if es h k (Ok i) gap is = absurd (false≢true is)
+absent_if es h k (Err i) gap is = none_at_gap es h k i gap

@@ -78,6 +78,16 @@ module _ (s t u : Shape) (kinds : (worth s).kind ≡ (worth t).kind) where
     pub counted_difference : IsCounted s → IsCounted u
     counted_difference p = shape_of_outstanding u (subst (λ (v : Worth). IsOutstanding v.kind v.content) (sym is) (outstanding_part (worth s).kind _ _ within (outstanding_of_shape s p)))
 
+-- what is out with few enough keys is a value
+pub shape_of_few : (s : Shape) → IsCounted s → HasFew (worth s).kind (worth s).content → IsShape s
+shape_of_few (Nat n) h few = h
+shape_of_few (Set c) h few = record { keyed = record { keys = h.keys; few = few }; fits = h.fits }
+shape_of_few (Bag c) h few = record { keyed = record { keys = h.keys; few = few }; fits = h.fits }
+
+-- the sum of two values that fits and has few enough keys is one
+pub sum_is_value : (s t : Shape) → (worth s).kind ≡ (worth t).kind → IsShape s → IsShape t → Fits (worth s).kind (sum (worth s).content (worth t).content) → HasFew (worth s).kind (sum (worth s).content (worth t).content) → IsValue (worth s).kind (sum (worth s).content (worth t).content)
+sum_is_value s t kinds p q fits few = value_of_sum (worth s).kind _ _ (value_of_shape s p) (subst (λ (k : Kind). IsValue k (worth t).content) (sym kinds) (value_of_shape t q)) fits few
+
 -- ---- by what a shape stands for
 
 pub counted_is : (w : Worth) (s : Shape) → worth s ≡ w → IsOutstanding w.kind w.content → IsCounted s

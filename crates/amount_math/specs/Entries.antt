@@ -1,10 +1,12 @@
 -- Keys with their counts, in byte order of the keys: what stands in a set or a bag.
-use Rattle.std.specs.Prelude.{ℕ, ◌<◌, ◌≤◌, ◌^◌, ◌-◌, cond, Option, Some, None, List, [], ◌∷◌, ◌++◌, length, slice_index_or}
+use Rattle.std.specs.Prelude.{◌≡◌, ℕ, ◌<◌, ◌≤◌, ◌^◌, ◌-◌, cond, Option, Some, None, List, [], ◌∷◌, ◌++◌, length, slice_index_or}
 use lib.Dec.{T}
 use Rattle.std.specs.Global.{Vec}
+use Rattle.std.specs.Vec.{vec_capacity}
 use Rattle.std.specs.FinMap.{is_sorted}
 use Rattle.std.specs.List.{All}
 use Rattle.std.specs.Ordering.{eq_by_cmp}
+use Rattle.std.specs.declared.cmp.Ordering.TheVariants.{Less}
 use Rattle.amount_math.specs.Content.{key_cmp}
 use Rattle.amount_math.specs.Totals.{weighed}
 
@@ -67,7 +69,18 @@ pub record ArePoured (ls rs poured : Entries) : Type 0 where
 abbrev pub IsNextPoured : Entries → Entries → Entries → Entries → List ℕ × ℕ → Type 0
 IsNextPoured ls rs ls_after rs_after e = (poured : Entries) → ArePoured ls rs poured → ArePoured ls_after rs_after (e ∷ poured)
 
+-- a key has its place at an index: what stands before it is before it in byte order, and what stands there or later is after it
+pub record IsGap (es : Entries) (k : List ℕ) (i : ℕ) : Type 0 where
+  pub within : i ≤ length es
+  pub before : (j : ℕ) → j < i → key_cmp (entry_at es j).0 k ≡ Less
+  pub after : (j : ℕ) → i ≤ j → j < length es → key_cmp k (entry_at es j).0 ≡ Less
+
 -- the entries of what may be a Vec of them
 abbrev pub listing : Option (Vec (List ℕ × ℕ)) → Entries
 listing None = []
 listing (Some v) = v.items
+
+-- how many entries it has room for
+abbrev pub room_of : Option (Vec (List ℕ × ℕ)) → ℕ
+room_of None = 0
+room_of (Some v) = vec_capacity v

@@ -227,6 +227,12 @@ issue_refused_not_fits kind c (put_fault.Overlap key) h apart fits = omega (arit
 issue_refused_not_fits kind c (put_fault.TooMuch over) h apart fits = omega (arith, h.1.passes, fits.each h.1.element)
 issue_refused_not_fits kind c put_fault.NoMemory h apart fits = absurd (apart refl)
 
+-- a value has few enough keys
+pub has_few : (kind : Kind) (c : Content) → IsValue kind c → HasFew kind c
+has_few Nat c p = tt
+has_few Set c p = p.keyed.few
+has_few Bag c p = p.keyed.few
+
 few_of_value : (kind : Kind) (c : Content) → kind ≢ Nat → IsValue kind c → keys_of c ≤ most_keys
 few_of_value Nat c h p = absurd (h refl)
 few_of_value Set c h p = p.keyed.few

@@ -4,6 +4,7 @@ pub mod Totals
 pub mod Entries
 pub mod Counted
 pub mod Worth
+pub mod Held
 pub mod Amount
 pub mod Shapes
 pub mod NatLaws

@@ -1,13 +1,23 @@
 //! Lists of entries, in byte order of their keys: what they have, and whether others fit with them.
 //! Each goes through the one list in order and looks up in the other by halving.
 
-ghost use Rattle.std.specs.Prelude.{◌≡◌, ◌<◌, ◌≤◌, ◌↔◌, ℕ, List, length, IsTrue, IsNone, IsSome, IfSome};
+ghost use Rattle.std.specs.Prelude.{◌≡◌, ◌+◌, ◌<◌, ◌≤◌, ◌↔◌, ℕ, List, length, IsTrue, IsNone, IsSome, IfSome, IsErr, IfOk, IfErr};
 ghost use Rattle.amount_math.specs.Content.{Contains, count, of_entries, sum};
 ghost use Rattle.amount_math.specs.Counted.{counted};
-ghost use Rattle.amount_math.specs.Entries.{AreEntries, IsRising, entry_at, most_of_key, tally};
+ghost use Rattle.amount_math.specs.Entries.{AreEntries, IsGap, IsRising, entry_at, most_of_key, tally};
 ghost use Rattle.amount_math.specs.Worth.{IsFirstPast, keys_of};
 
 use crate::{Entry, Key};
+
+/// Where the key stands, or where it would.
+pub(crate) fn place_for(entries: &[Entry], key: &Key) -> Result<usize, usize>
+    requires { IsRising entries.now }
+    ensures found { IfOk result (λ i. (i < length entries.now) × ((entry_at entries.now i).0 ≡ key.now)) }
+    ensures gap { IfErr result (IsGap entries.now key.now) }
+    ensures absent { IsErr result → tally entries.now key.now ≡ 0 }
+{
+    entries.binary_search_by(|entry| entry.compare(key))
+}
 
 /// Where the key stands, if it does.
 pub(crate) fn place_of(entries: &[Entry], key: &Key) -> Option<usize>
@@ -15,7 +25,7 @@ pub(crate) fn place_of(entries: &[Entry], key: &Key) -> Option<usize>
     ensures found { IfSome result (λ i. (i < length entries.now) × ((entry_at entries.now i).0 ≡ key.now)) }
     ensures absent { IsNone result → tally entries.now key.now ≡ 0 }
 {
-    match entries.binary_search_by(|entry| entry.compare(key)) {
+    match place_for(entries, key) {
         Ok(at) => Some(at),
         Err(_) => None,
     }
@@ -58,19 +68,28 @@ pub(crate) fn contains(entries: &[Entry], part: &[Entry]) -> bool
     true
 }
 
-/// How many keys both have together.
-pub(crate) fn keys_together(entries: &[Entry], more: &[Entry]) -> u128
+/// How many keys the others have that the entries haven't.
+pub(crate) fn new_keys(entries: &[Entry], more: &[Entry]) -> usize
     requires entries { AreEntries entries.now }
     requires more { AreEntries more.now }
-    ensures { result ≡ keys_of (sum (of_entries entries.now) (of_entries more.now)) }
+    ensures { length entries.now + result ≡ keys_of (sum (of_entries entries.now) (of_entries more.now)) }
 {
-    let mut keys = entries.len() as u128;
+    let mut keys = 0;
     for entry in more {
         if count_of(entries, entry.key()) == 0 {
             keys += 1;
         }
     }
     keys
+}
+
+/// How many keys both have together.
+pub(crate) fn keys_together(entries: &[Entry], more: &[Entry]) -> u128
+    requires entries { AreEntries entries.now }
+    requires more { AreEntries more.now }
+    ensures { result ≡ keys_of (sum (of_entries entries.now) (of_entries more.now)) }
+{
+    entries.len() as u128 + new_keys(entries, more) as u128
 }
 
 /// The first entry of the others, in byte order, of whose key both together have more than the most.

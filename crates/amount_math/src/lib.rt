@@ -1,17 +1,21 @@
 //! The algebra of amounts, after ERTP's AmountMath: a value is a kind and a content, the finite map
 //! from element to positive count. It stands on nothing but std. Its one contract: each call is the
-//! operation on contents, or the refusal that its clause names, with everything handed back.
+//! operation on contents, or the refusal that its clause names, with everything handed back. A `Holding` is
+//! a content in a place of its own: within its room it is changed without memory.
 #![tactic(auto)]
 
 ghost use Rattle.std.specs.Prelude.{◌≡◌, ◌≢◌, ◌≤◌, ◌↔◌, IsTrue, IsNone, IsOk, IsErr, IsSome, IfSome, IfOk, IfErr, OnOk, OnErr};
 ghost use Rattle.amount_math.specs.Content.{Contains, difference, entries, nothing, of_nat, one_of, sum};
 ghost use Rattle.amount_math.specs.Counted.{counted};
 ghost use Rattle.amount_math.specs.Entries.{IsKey};
+ghost use Rattle.amount_math.specs.Held.{keys_in};
 ghost use Rattle.amount_math.specs.Worth.{IsGreatest, IsIncomparable, IsLeast, IsNat, IsPutRefusal, IsTakeRefusal, IsValue, PassesBound, most_counted, nat_bound};
 
 mod amounts;
 mod entries;
 mod handed;
+mod holding;
+mod in_place;
 mod keyed;
 mod keys;
 mod kinds;
@@ -22,6 +26,7 @@ mod shape;
 
 pub use amounts::{AddFault, CoerceFault, CompareFault, WrongBrand, coerce, make};
 use handed::{choose, or_back};
+pub use holding::Holding;
 use keyed::Keyed;
 pub use keys::{COUNT_BOUND, Entry, KEY_BYTES, Key};
 pub use kinds::{AmountKind, BadValue, BagKind, MakeFault, NatKind, SetKind, credit, is_between};
@@ -172,6 +177,13 @@ impl Value {
         self.shape.total()
     }
 
+    /// How many keys it has; units are none.
+    pub fn keys(&self) -> usize
+        ensures { result ≡ keys_in self.now.kind self.now.content }
+    {
+        self.shape.keys()
+    }
+
     /// A second one. Keys take memory.
     pub fn copy(&self) -> Result<Value, AllocError>
         ensures { IfOk result (λ copy. copy ≡ self.now) }
@@ -209,6 +221,17 @@ impl Value {
             Shape::Nat(number) => *number == 0,
             Shape::Set(keyed) | Shape::Bag(keyed) => keyed.is_empty(),
         }
+    }
+
+    /// That the sum with the other would be a value, or why it wouldn't, as `absorb` says it. Nothing
+    /// changes. To show a common key takes memory, and nothing else does.
+    pub fn can_absorb(&self, other: &Value) -> Result<(), PutFault>
+        requires { self.now.kind ≡ other.now.kind }
+        ensures ok { IsOk result → IsValue self.now.kind (sum self.now.content other.now.content) }
+        ensures sure { IsValue self.now.kind (sum self.now.content other.now.content) → IsOk result }
+        ensures refused { IfErr result (IsPutRefusal self.now.kind (sum self.now.content other.now.content)) }
+    {
+        self.shape.check_sum(&other.shape)
     }
 
     /// Adds the other to it, or hands the other back and stays as it was. Keys take memory.

@@ -8,6 +8,7 @@ ghost use Rattle.amount_math.specs.Entries.{AreEntries, IsEntry, IsLowered, IsNe
 
 use crate::Entry;
 use crate::entries::place_of;
+use crate::in_place::take_entry;
 use std::alloc::AllocError;
 use std::cmp::Ordering;
 
@@ -108,14 +109,31 @@ fn lower_all(entries: &mut [Entry], part: &[Entry])
     }
 }
 
-/// Takes away what they are known to contain, which takes no memory.
+/// Takes away what they are known to contain, in one pass.
+fn lessen_all(entries: &mut Vec<Entry>, part: &[Entry])
+    requires entries { AreEntries entries.old.items }
+    requires part { AreEntries part.now }
+    requires enough { Contains (of_entries entries.old.items) (of_entries part.now) }
+    ensures content { of_entries entries.new.items ≡ difference (of_entries entries.old.items) (of_entries part.now) }
+    ensures entries { AreEntries entries.new.items }
+    ensures capacity { vec_capacity entries.new ≡ vec_capacity entries.old }
+{
+    lower_all(entries, part);
+    entries.retain(|entry| entry.count() > 0);
+}
+
+/// Takes away what they are known to contain, which takes no memory. One key costs a search and a move of
+/// the entries above it, more keys a pass through all of them.
 pub(crate) fn lessen(entries: &mut Vec<Entry>, part: &[Entry])
     requires entries { AreEntries entries.old.items }
     requires part { AreEntries part.now }
     requires enough { Contains (of_entries entries.old.items) (of_entries part.now) }
     ensures content { of_entries entries.new.items ≡ difference (of_entries entries.old.items) (of_entries part.now) }
     ensures entries { AreEntries entries.new.items }
+    ensures capacity { vec_capacity entries.new ≡ vec_capacity entries.old }
 {
-    lower_all(entries, part);
-    entries.retain(|entry| entry.count() > 0);
+    match part {
+        [one] => take_entry(entries, one),
+        _ => lessen_all(entries, part),
+    }
 }

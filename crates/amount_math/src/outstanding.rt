@@ -1,6 +1,6 @@
 //! What is out of a brand: the values of all its holders together.
 
-ghost use Rattle.std.specs.Prelude.{◌≡◌, ◌≢◌, ◌≤◌, ◌↔◌, IfSome, IfErr, IfOk, IsNone, IsSome, IsTrue, OnErr, OnOk};
+ghost use Rattle.std.specs.Prelude.{◌≡◌, ◌≢◌, ◌≤◌, ◌↔◌, IfSome, IfErr, IfOk, IsNone, IsOk, IsSome, IsTrue, OnErr, OnOk};
 ghost use Rattle.amount_math.specs.Content.{Contains, difference, entries, nothing, of_nat, sum};
 ghost use Rattle.amount_math.specs.Counted.{counted};
 ghost use Rattle.amount_math.specs.Worth.{Fits, IsIssueRefusal, nat_bound};
@@ -95,6 +95,17 @@ impl Outstanding {
     {
         let shape = self.shape.copy()?;
         Ok(Outstanding { shape })
+    }
+
+    /// That a value may come out too, or why it mayn't, as `absorb` says it. Nothing changes. To show a
+    /// common key takes memory.
+    pub fn can_absorb(&self, value: &Value) -> Result<(), PutFault>
+        requires { self.now.kind ≡ value.now.kind }
+        ensures ok { IsOk result → Fits self.now.kind (sum self.now.content value.now.content) }
+        ensures sure { Fits self.now.kind (sum self.now.content value.now.content) → IsOk result }
+        ensures refused { IfErr result (IsIssueRefusal self.now.kind (sum self.now.content value.now.content)) }
+    {
+        self.shape.check_counts(&value.shape)
     }
 
     /// Adds a value to what is out, or hands it back and stays as it was. Keys take memory.

@@ -3,12 +3,13 @@
 ghost use Rattle.std.specs.Prelude.{◌≡◌, ◌≢◌, ◌<◌, ◌≤◌, ◌+◌, ◌↔◌, IfOk, IfErr, IsErr, IsOk, OnOk, OnErr, IsTrue};
 ghost use Rattle.amount_math.specs.Content.{Contains, difference, nothing, of_nat, sum};
 ghost use Rattle.amount_math.specs.Counted.{counted};
-ghost use Rattle.amount_math.specs.Shapes.{IsCounted, IsShape, worth};
-ghost use Rattle.amount_math.specs.Worth.{Fits, HasFew, IsIssueRefusal, IsNat, IsPutRefusal, IsValue, PassesBound, PassesKeys, nat_bound, with_content};
+ghost use Rattle.amount_math.specs.Held.{GoesIn, HasRoom, keys_in, with_more};
+ghost use Rattle.amount_math.specs.Shapes.{IsCounted, IsShape, held_by, room_in, worth};
+ghost use Rattle.amount_math.specs.Worth.{Fits, HasFew, IsIssueRefusal, IsNat, IsPutRefusal, IsValue, PassesBound, PassesKeys, keys_of, nat_bound, with_content};
 
 use crate::keyed::Keyed;
 use crate::{Kind, NAT_BOUND, PutFault, TooMuch};
-use std::alloc::AllocError;
+use std::alloc::{AllocError, Global};
 
 #[derive(Debug, Drop)]
 pub(crate) enum Shape {
@@ -37,6 +38,7 @@ fn check_nat(held: u128, more: u128) -> Result<(), PutFault>
     requires held { held ≤ nat_bound }
     requires more { more ≤ nat_bound }
     ensures ok { IsOk result → Fits Kind.Nat (sum (of_nat held) (of_nat more)) }
+    ensures sure { Fits Kind.Nat (sum (of_nat held) (of_nat more)) → IsOk result }
     ensures refused { IfErr result (IsIssueRefusal Kind.Nat (sum (of_nat held) (of_nat more))) }
 {
     match nat_sum(held, more) {
@@ -47,7 +49,8 @@ fn check_nat(held: u128, more: u128) -> Result<(), PutFault>
 
 impl Shape {
     pub(crate) fn empty(kind: Kind) -> Shape
-        ensures { worth result ≡ record { kind = kind; content = nothing } }
+        ensures empty { worth result ≡ record { kind = kind; content = nothing } }
+        ensures room { room_in result ≡ 0 }
     {
         match kind {
             Kind::Nat => Shape::Nat(0),
@@ -76,7 +79,7 @@ impl Shape {
     }
 
     pub(crate) fn copy(&self) -> Result<Shape, AllocError>
-        ensures { IfOk result (λ copy. copy ≡ self.now) }
+        ensures { IfOk result (λ copy. worth copy ≡ worth self.now) }
     {
         Ok(match self {
             Shape::Nat(number) => Shape::Nat(*number),
@@ -103,6 +106,7 @@ impl Shape {
         requires held { IsCounted self.now }
         requires more { IsCounted more.now }
         ensures ok { IsOk result → Fits (worth self.now).kind (sum (worth self.now).content (worth more.now).content) }
+        ensures sure { Fits (worth self.now).kind (sum (worth self.now).content (worth more.now).content) → IsOk result }
         ensures refused { IfErr result (IsIssueRefusal (worth self.now).kind (sum (worth self.now).content (worth more.now).content)) }
     {
         match (self, more) {
@@ -119,6 +123,7 @@ impl Shape {
         requires fits { Fits (worth self.now).kind (sum (worth self.now).content (worth more.now).content) }
         ensures ok { IsOk result → HasFew (worth self.now).kind (sum (worth self.now).content (worth more.now).content) }
         ensures too_many { IfErr result (PassesKeys (worth self.now).kind (sum (worth self.now).content (worth more.now).content)) }
+        ensures sure { HasFew (worth self.now).kind (sum (worth self.now).content (worth more.now).content) → IsOk result }
         ensures keyed { IsErr result → (worth self.now).kind ≢ Kind.Nat }
     {
         match (self, more) {
@@ -127,6 +132,23 @@ impl Shape {
             (Shape::Bag(held), Shape::Bag(more)) => held.few_with(more),
             _ => unreachable!(),
         }
+    }
+
+    /// Whether no count of the sum passes the kind's bound, and it has few enough keys.
+    pub(crate) fn check_sum(&self, more: &Shape) -> Result<(), PutFault>
+        requires kinds { (worth self.now).kind ≡ (worth more.now).kind }
+        requires held { IsCounted self.now }
+        requires more { IsCounted more.now }
+        ensures fits { IsOk result → Fits (worth self.now).kind (sum (worth self.now).content (worth more.now).content) }
+        ensures few { IsOk result → HasFew (worth self.now).kind (sum (worth self.now).content (worth more.now).content) }
+        ensures sure { Fits (worth self.now).kind (sum (worth self.now).content (worth more.now).content) → HasFew (worth self.now).kind (sum (worth self.now).content (worth more.now).content) → IsOk result }
+        ensures refused { IfErr result (IsPutRefusal (worth self.now).kind (sum (worth self.now).content (worth more.now).content)) }
+    {
+        self.check_counts(more)?;
+        if let Err(over) = self.check_keys(more) {
+            return Err(PutFault::TooMuch(over));
+        }
+        Ok(())
     }
 
     /// Takes over all that the other has, so that it is a value too, or leaves both as they were.
@@ -140,10 +162,7 @@ impl Shape {
         ensures err { OnErr result ((self.new ≡ self.old) × (more.new ≡ more.old)) }
         ensures refused { IfErr result (IsPutRefusal (worth self.old).kind (sum (worth self.old).content (worth more.old).content)) }
     {
-        self.check_counts(more)?;
-        if let Err(over) = self.check_keys(more) {
-            return Err(PutFault::TooMuch(over));
-        }
+        self.check_sum(more)?;
         match self.add(more) {
             Ok(()) => Ok(()),
             Err(_) => Err(PutFault::NoMemory),
@@ -188,11 +207,12 @@ impl Shape {
         }
     }
 
-    /// Takes away what it is known to contain.
+    /// Takes away what it is known to contain. The room stays.
     pub(crate) fn lessen(&mut self, part: &Shape)
         requires kinds { (worth self.old).kind ≡ (worth part.now).kind }
         requires enough { Contains (worth self.old).content (worth part.now).content }
-        ensures { worth self.new ≡ with_content (worth self.old) (difference (worth self.old).content (worth part.now).content) }
+        ensures less { worth self.new ≡ with_content (worth self.old) (difference (worth self.old).content (worth part.now).content) }
+        ensures room { room_in self.new ≡ room_in self.old }
     {
         match (self, part) {
             (Shape::Nat(held), Shape::Nat(number)) => {
@@ -200,6 +220,64 @@ impl Shape {
             }
             (Shape::Set(held), Shape::Set(part)) => held.lessen(part),
             (Shape::Bag(held), Shape::Bag(part)) => held.lessen(part),
+            _ => unreachable!(),
+        }
+    }
+
+    /// How many keys it has; units are none.
+    pub(crate) fn keys(&self) -> usize
+        ensures keys { result ≡ keys_in (worth self.now).kind (worth self.now).content }
+        ensures room { HasRoom (worth self.now).kind (keys_of (worth self.now).content) (room_in self.now) }
+    {
+        match self {
+            Shape::Nat(_) => 0,
+            Shape::Set(keyed) | Shape::Bag(keyed) => keyed.keys(),
+        }
+    }
+
+    /// Takes room for so many keys more.
+    pub(crate) fn reserve(&mut self, alloc: Global, keys: usize) -> Result<(), AllocError>
+        ensures same { worth self.new ≡ worth self.old }
+        ensures ok { OnOk result (HasRoom (worth self.old).kind (keys_of (worth self.old).content + keys) (room_in self.new)) }
+        ensures room { room_in self.old ≤ room_in self.new }
+        ensures there { HasRoom (worth self.old).kind (keys_of (worth self.old).content + keys) (room_in self.old) → IsOk result }
+        ensures err { OnErr result (self.new ≡ self.old) }
+    {
+        match self {
+            Shape::Nat(_) => Ok(()),
+            Shape::Set(keyed) => keyed.reserve(alloc, keys),
+            Shape::Bag(keyed) => keyed.reserve(alloc, keys),
+        }
+    }
+
+    /// Takes room for the other's keys that it hasn't yet.
+    pub(crate) fn make_room_for(&mut self, alloc: Global, more: &Shape) -> Result<(), AllocError>
+        requires { (worth self.old).kind ≡ (worth more.now).kind }
+        ensures same { worth self.new ≡ worth self.old }
+        ensures ok { OnOk result (HasRoom (worth self.old).kind (keys_of (sum (worth self.old).content (worth more.now).content)) (room_in self.new)) }
+        ensures room { room_in self.old ≤ room_in self.new }
+        ensures there { HasRoom (worth self.old).kind (keys_of (sum (worth self.old).content (worth more.now).content)) (room_in self.old) → IsOk result }
+        ensures err { OnErr result (self.new ≡ self.old) }
+    {
+        match (self, more) {
+            (Shape::Nat(_), Shape::Nat(_)) => Ok(()),
+            (Shape::Set(held), Shape::Set(more)) => held.make_room_for(alloc, more),
+            (Shape::Bag(held), Shape::Bag(more)) => held.make_room_for(alloc, more),
+            _ => unreachable!(),
+        }
+    }
+
+    /// Adds the other within the room, which takes no memory.
+    pub(crate) fn put_back(&mut self, more: Shape)
+        requires { GoesIn (held_by self.old) (worth more) }
+        ensures { held_by self.new ≡ with_more (held_by self.old) (worth more).content }
+    {
+        match (self, more) {
+            (Shape::Nat(held), Shape::Nat(number)) => {
+                *held += number;
+            }
+            (Shape::Set(held), Shape::Set(more)) => held.put_back(more),
+            (Shape::Bag(held), Shape::Bag(more)) => held.put_back(more),
             _ => unreachable!(),
         }
     }

@@ -1,22 +1,8 @@
-use Rattle.std.proofs.Common.{length, ap, ◌∙◌, arith, rules, refl}
-use Rattle.std.specs.List.{filter}
-use Rattle.std.proofs.lemmas.Fn.{filter_same}
-use Rattle.amount_math.specs.Entries.{Entries}
-use Rattle.amount_math.proofs.Lowered.{has_some, in_place, kept_are, kept_difference}
+use Rattle.amount_math.proofs.Places.{enough_of_one, left_of_one}
 use Rattle.amount_math.proofs.merges.lessen.Goals as goal
 
-pub returns-clause-content : goal.returns-clause-content
-returns-clause-content c =
-    let len = ap (λ (es : Entries). length es) c.deref_mut.ensures.value in
-    let kept = filter_same _ has_some _ (λ x b f called. (search rules, refl)) _ _ c.retain.ensures.filtered in
-    let whole = in_place c.lower_all.new.entries c.args.entries.now.items c.args.entries.now.len (omega (arith, len, c.deref_mut.ensures.len)) (c.lower_all.auto.entries ∙ len) in
-    let counts = rw c.deref_mut.ensures.value at c.lower_all.ensures.counts in
-    rw (kept ∙ ap (filter has_some) whole) (kept_difference _ _ _ c.requires.entries c.requires.part c.lower_all.ensures.rising c.lower_all.ensures.lowered counts)
+pub take_entry-requires-clause-enough : goal.take_entry-requires-clause-enough
+take_entry-requires-clause-enough c = enough_of_one _ _ _ c.requires.entries c.requires.part c.in-len1.len_at_least c.one-item.is c.requires.enough
 
-pub returns-clause-entries : goal.returns-clause-entries
-returns-clause-entries c =
-    let len = ap (λ (es : Entries). length es) c.deref_mut.ensures.value in
-    let kept = filter_same _ has_some _ (λ x b f called. (search rules, refl)) _ _ c.retain.ensures.filtered in
-    let whole = in_place c.lower_all.new.entries c.args.entries.now.items c.args.entries.now.len (omega (arith, len, c.deref_mut.ensures.len)) (c.lower_all.auto.entries ∙ len) in
-    let counts = rw c.deref_mut.ensures.value at c.lower_all.ensures.counts in
-    rw (kept ∙ ap (filter has_some) whole) (kept_are _ _ _ c.requires.entries c.requires.part c.lower_all.ensures.rising c.lower_all.ensures.lowered counts)
+pub returns-in-len1-clause-content : goal.returns-in-len1-clause-content
+returns-in-len1-clause-content c = left_of_one _ _ _ c.requires.entries c.requires.part c.in-len1.len_at_least c.one-item.is c.in-len1.len_below c.take_entry.new.entries.items c.take_entry.ensures.entries c.take_entry.ensures.counts

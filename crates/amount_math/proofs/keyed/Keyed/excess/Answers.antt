@@ -1,6 +1,6 @@
 use Rattle.std.proofs.Common.{◌+◌, ℕ, List, ap, sym, ◌∙◌, arith}
 use Rattle.amount_math.specs.declared.TooMuch.{TooMuch}
-use Rattle.amount_math.specs.Entries.{tally}
+use Rattle.amount_math.specs.Entries.{entry_at, tally}
 use Rattle.amount_math.proofs.Listed.{read_entry}
 use Rattle.amount_math.proofs.Shapes.{bag_is_no_set}
 use Rattle.amount_math.proofs.Together.{passes_bound}
@@ -19,3 +19,6 @@ returns-clause-refused c =
       passes_bound c.entries-held.result.now c.entries-others.result.now held.entries others.entries c.in-Some.at over within c.in-Some.ensures.first
           (omega (arith, counted, ap (λ (e : List ℕ × ℕ). e.1) read, c.count.ensures, c.from.ensures, c.from-2.ensures)) c.from-bound.ensures,
     )
+
+pub returns-clause-sure : goal.returns-clause-sure
+returns-clause-sure c = rw (← c.entries-held.ensures.content, ← c.entries-others.ensures.content) (λ fits. absurd (omega (arith, c.in-Some.ensures.first.passes, fits.each (entry_at c.entries-others.result.now c.in-Some.at).0)))

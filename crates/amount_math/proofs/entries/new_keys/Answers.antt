@@ -1,12 +1,12 @@
-use Rattle.std.proofs.Common.{◌≡◌, ◌+◌, ℕ, List, length, ap, sym, ◌∙◌, arith}
+use Rattle.std.proofs.Common.{◌≡◌, ℕ, List, ap, sym, ◌∙◌, arith}
 use Rattle.std.proofs.lemmas.List.{take_all}
 use Rattle.amount_math.specs.Totals.{weighed}
 use Rattle.amount_math.specs.Content.{of_entries, count}
 use Rattle.amount_math.specs.Entries.{tally}
 use Rattle.amount_math.proofs.Listed.{count-tally}
 use Rattle.amount_math.proofs.Together.{keys_of_sum, new_in, new_one, not_new, weighed_more}
-use Rattle.amount_math.proofs.entries.keys_together.Goals as goal
-use Rattle.amount_math.proofs.entries.keys_together.Goals.{then-count_of-eq0, else-count_of-eq0}
+use Rattle.amount_math.proofs.entries.new_keys.Goals as goal
+use Rattle.amount_math.proofs.entries.new_keys.Goals.{then-count_of-eq0, else-count_of-eq0}
 
 pub loop-entry-preserved : goal.loop-entry-preserved
 loop-entry-preserved c =
@@ -31,7 +31,9 @@ loop-entry-preserved c =
     ]
 
 pub returns : goal.returns
-returns c =
-    c.loop-entry.invariant.so_far
-    ∙ ap (λ es. length c.args.entries.now + weighed (new_in (of_entries c.args.entries.now)) es) (take_all c.loop-entry.entry-index c.args.more.now c.loop-entry-test.false)
-    ∙ sym (keys_of_sum _ _ c.requires.entries c.requires.more)
+returns c = omega (
+  arith,
+  c.loop-entry.invariant.so_far,
+  ap (λ es. weighed (new_in (of_entries c.args.entries.now)) es) (take_all c.loop-entry.entry-index c.args.more.now c.loop-entry-test.false),
+  keys_of_sum _ _ c.requires.entries c.requires.more,
+)
