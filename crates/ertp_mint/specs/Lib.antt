@@ -1,2 +1,4 @@
 pub mod BrandSupply
 pub mod Stocks
+pub mod Balances
+pub mod Circulating

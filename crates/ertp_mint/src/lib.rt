@@ -1,10 +1,17 @@
 //! Rights in transit, the stores that hold them, and their supply (ERTP's mint and purses at work).
 //! It stands on amount_math. Its contract: a `Parcel` can't be copied, made elsewhere or dropped, and
 //! each call that makes one or ends one moves exactly its content out of or into a store or the supply.
+//! `Balance` and `Circulations` are a holder's store and the supply that are changed in place: each call
+//! that changes them has one that works it backwards, which takes no memory.
 #![tactic(auto)]
 
+mod balance;
+mod circulation;
+mod circulations;
 mod parcel;
 mod supply;
 
+pub use balance::Balance;
+pub use circulations::Circulations;
 pub use parcel::{Parcel, Stock};
 pub use supply::Supply;

@@ -11,9 +11,11 @@ use std::alloc::AllocError;
 use std::marker::Model;
 
 /// A right in transit: a value of a brand, on its way from one holder to another (own; ERTP's payment
-/// without its identity). It can't be copied, made elsewhere or dropped. `Supply::issue`, `cut`,
-/// `merge` and a take of a stock (`take`, or `take_all` of all that it has) alone make one,
-/// `Supply::retire`, `put`, `cut` and `merge` alone end one.
+/// without its identity). It can't be copied, made elsewhere or dropped. Issues (`Supply::issue`,
+/// `Circulations::issue`), `cut`, `merge` and what takes out of a store (`Stock::take`, `take_all`,
+/// `Balance::take`, `take_value`, `into_parcel`) alone make one, and so do the calls that work a put or a
+/// retirement backwards (`undo_put`, `undo_retire`). `retire`, `put`, `put_within`, `Balance::of`, `cut` and
+/// `merge` alone end one, and so do `undo_issue` and `undo_take`.
 #[derive(Debug)]
 pub struct Parcel {
     brand: u16,
@@ -32,14 +34,14 @@ impl Model for Parcel {
 }
 
 impl Parcel {
-    /// The parcel of a value that is just issued. Only the supply calls it.
+    /// The parcel of a value that was just issued, or taken out of a store of this crate, which alone call it.
     pub(crate) fn issued(brand: u16, value: Value) -> Parcel
         ensures { result ≡ record { brand = brand; value = value } }
     {
         Parcel { brand, value }
     }
 
-    /// The parcel's brand and value, which ends it. Only the supply calls it.
+    /// The parcel's brand and value, which ends it. Only the supply and the stores of this crate call it.
     pub(crate) fn into_parts(self) -> (u16, Value)
         ensures { result ≡ (self.brand, self.value) }
     {
