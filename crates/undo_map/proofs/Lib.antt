@@ -1,2 +1,4 @@
-pub mod Kept
+pub mod Written
 pub mod Changes
+pub mod Whole
+pub mod Order

@@ -1,10 +1,11 @@
 -- What a key's place says: what the key has now, what it had at the turn's start, and what is left at the end.
-use Rattle.std.specs.Prelude.{◌≡◌, ◌≤◌, ℕ, Bool, true, false, not, cond, List, [], ◌∷◌, Option, None, Some, length}
+use Rattle.std.specs.Prelude.{◌≡◌, ◌≤◌, ◌&&◌, ℕ, Bool, true, false, not, cond, List, [], ◌∷◌, Option, None, Some, is_some, length}
 use Rattle.std.specs.declared.cmp.Ordering.{Ordering}
 use Rattle.std.specs.List.{list_any, sum_by}
 use Rattle.std.specs.List.Sorted.{IsStrictlySortedBy}
-use Rattle.std.specs.Map.{keys_of, values_of, lookup}
+use Rattle.std.specs.Map.{keys_of, values_of, lookup, remove_entry}
 use Rattle.std.specs.BTreeMap.{is_at}
+use Rattle.undo_map.specs.Turns.{Inserts}
 use Rattle.undo_map.specs.declared.place.Before.{Before}
 use Rattle.undo_map.specs.declared.place.Before.TheVariants.{Same, Other}
 use Rattle.undo_map.specs.declared.place.End.{End}
@@ -17,9 +18,9 @@ module _ {V : Type 0} where
   had_before Same x = x
   had_before (Other y) x = y
 
-  -- the place of a key that has no value and has not changed
-  abbrev pub untouched : Place V
-  untouched = record { now = None; before = Same }
+  -- the place of a key that has no value, and had none at the turn's start
+  abbrev pub empty_place : Place V
+  empty_place = record { now = None; before = Other None }
 
   -- what the key had at the turn's start
   abbrev pub had : Place V → Option V
@@ -42,10 +43,14 @@ module _ {V : Type 0} where
   settled Back p = had p
   settled Forget p = has p
 
-  -- whether there is a place, and its key has changed
-  abbrev pub is_changed_at : Option (Place V) → Bool
-  is_changed_at None = false
-  is_changed_at (Some p) = not (is_same p)
+  -- whether the place is as a turn's end leaves it: its key has not changed, and has a value
+  abbrev pub is_settled : Place V → Bool
+  is_settled p = is_same p && is_some p.now
+
+  -- whether there is a place that the turn's end is to see to
+  abbrev pub is_unsettled_at : Option (Place V) → Bool
+  is_unsettled_at None = false
+  is_unsettled_at (Some p) = not (is_settled p)
 
   -- 1 where the key has changed
   abbrev pub changes : Place V → ℕ
@@ -58,21 +63,28 @@ module _ {K V : Type 0} where
   with_value k (Some v) es = (k, v) ∷ es
 
   -- the values that f gives, by key, where it gives one
-  abbrev pub kept : {X : Type 0} → (X → Option V) → List (K × X) → List (K × V)
-  kept f [] = []
-  kept f (e ∷ es) = with_value e.0 (f e.1) (kept f es)
+  abbrev pub entries_of : {X : Type 0} → (X → Option V) → List (K × X) → List (K × V)
+  entries_of f [] = []
+  entries_of f (e ∷ es) = with_value e.0 (f e.1) (entries_of f es)
 
 -- the value of a key now
-abbrev pub get_has : {K V : Type 0} → (K → K → Ordering) → List (K × Place V) → K → Option V
-get_has cmp es q = lookup (is_at (cmp q)) (kept has es)
+abbrev pub value_now : {K V : Type 0} → (K → K → Ordering) → List (K × Place V) → K → Option V
+value_now cmp es q = lookup (is_at (cmp q)) (entries_of has es)
+
+-- fs are the entries es after the key k was given that value, or none; where it was given one, by an order
+-- that tells all keys apart
+abbrev pub AreChanged : {K V : Type 0} → (K → K → Ordering) → K → Option V → List (K × V) → List (K × V) → Type 0
+AreChanged cmp k None es fs = fs ≡ remove_entry (is_at (cmp k)) es
+AreChanged cmp k (Some v) es fs = Inserts cmp es fs k v
 
 -- whether the key is among those, as the order compares them
 abbrev pub is_listed : {K : Type 0} → (K → K → Ordering) → K → List K → Bool
 is_listed cmp q ks = list_any (λ k. is_at (cmp k) q) ks
 
--- The places of a turn: each that has changed is listed, and there is room to list each.
-pub record IsTurn {K V : Type 0} (cmp : K → K → Ordering) (places : List (K × Place V)) (changed : List K) (room : ℕ) : Type 0 where
+-- The places of a turn: those that are not listed stand for keys that have a value and have not changed (so
+-- that after a turn each place has a value), and there is room to list each.
+pub record ArePlaces {K V : Type 0} (cmp : K → K → Ordering) (places : List (K × Place V)) (changed : List K) (room : ℕ) : Type 0 where
   pub ordered : IsStrictlySortedBy cmp (keys_of places)
-  pub listed : (q : K) → is_changed_at (lookup (is_at (cmp q)) places) ≡ true → is_listed cmp q changed ≡ true
+  pub listed : (q : K) → is_unsettled_at (lookup (is_at (cmp q)) places) ≡ true → is_listed cmp q changed ≡ true
   pub few : length changed ≤ sum_by changes (values_of places)
   pub room_for_all : length places ≤ room

@@ -1,7 +1,7 @@
 //! What a key has now, and what it had at the turn's start.
 
 ghost use Rattle.std.specs.Prelude.{◌≡◌, true, false, is_some};
-ghost use Rattle.undo_map.specs.Places.{had, is_same, settled, untouched};
+ghost use Rattle.undo_map.specs.Places.{had, is_same, settled, empty_place};
 ghost use Rattle.undo_map.specs.declared.place.Before.TheVariants as before;
 
 use std::mem::replace;
@@ -32,13 +32,13 @@ pub struct Place<V> {
 }
 
 impl<V: Drop> Place<V> {
-    /// The place of a key that has no value and has not changed.
-    pub fn untouched() -> Place<V>
-        ensures { result ≡ untouched }
+    /// The place of a key that has no value, and had none at the turn's start.
+    pub fn empty() -> Place<V>
+        ensures { result ≡ empty_place }
     {
         Place {
             now: None,
-            before: Before::Same,
+            before: Before::Other(None),
         }
     }
 

@@ -1,16 +1,16 @@
-use Rattle.std.proofs.Common.{◌≡◌, ◌∙◌, sym, ap}
+use Rattle.std.proofs.Common.{◌∙◌, sym, ap}
 use Rattle.std.specs.Prelude.{is_some}
-use Rattle.undo_map.specs.Places.{get_has, has}
-use Rattle.undo_map.proofs.Kept.{of_place}
-use Rattle.undo_map.proofs.Changes.{get_has_of}
+use Rattle.undo_map.specs.Places.{has}
+use Rattle.undo_map.proofs.Written.{of_place}
+use Rattle.undo_map.proofs.Changes.{value_now_of}
 use Rattle.undo_map.proofs.has_value.Goals as goal
 
 pub returns-in-Some-clause-has : goal.returns-in-Some-clause-has
 returns-in-Some-clause-has g c =
-    let is = get_has_of g.K.Ord.cmp g.met.K.Ord.total c.args.places.now.entries c.args.key c.requires.ordered ∙ ap (of_place has) (sym c.in-Some.ensures.value) in
+    let is = value_now_of g.K.Ord.cmp g.met.K.Ord.total c.args.places.now.entries c.args.key c.requires.ordered ∙ ap (of_place has) (sym c.in-Some.ensures.value) in
     rw is c.is_some.ensures
 
 pub returns-in-None-clause-has : goal.returns-in-None-clause-has
 returns-in-None-clause-has g c =
-    let is = get_has_of g.K.Ord.cmp g.met.K.Ord.total c.args.places.now.entries c.args.key c.requires.ordered ∙ ap (of_place has) (sym c.in-None.ensures.value) in
+    let is = value_now_of g.K.Ord.cmp g.met.K.Ord.total c.args.places.now.entries c.args.key c.requires.ordered ∙ ap (of_place has) (sym c.in-None.ensures.value) in
     sym (ap (λ o. is_some o) is)

@@ -1,15 +1,15 @@
-use Rattle.std.proofs.Common.{◌≡◌, ◌∙◌, sym, ap}
+use Rattle.std.proofs.Common.{◌∙◌, sym, ap}
 use Rattle.undo_map.specs.Places.{has}
-use Rattle.undo_map.proofs.Kept.{of_place}
-use Rattle.undo_map.proofs.Changes.{get_has_of}
+use Rattle.undo_map.proofs.Written.{of_place}
+use Rattle.undo_map.proofs.Changes.{value_now_of}
 use Rattle.undo_map.proofs.UndoMap.get.Goals as goal
 
 pub returns-in-Some : goal.returns-in-Some
 returns-in-Some g c =
     rw (← c.self.view_is)
-    (c.as_ref.ensures.value ∙ sym (get_has_of g.K.Ord.cmp g.met.K.Ord.total c.self.inside.places.entries c.args.key c.self.invariant.ordered ∙ ap (of_place has) (sym c.in-Some.ensures.value)))
+    (c.as_ref.ensures.value ∙ sym (value_now_of g.K.Ord.cmp g.met.K.Ord.total c.self.inside.places.entries c.args.key c.self.invariant.ordered ∙ ap (of_place has) (sym c.in-Some.ensures.value)))
 
 pub returns-in-None : goal.returns-in-None
 returns-in-None g c =
     rw (← c.self.view_is)
-    (sym (get_has_of g.K.Ord.cmp g.met.K.Ord.total c.self.inside.places.entries c.args.key c.self.invariant.ordered ∙ ap (of_place has) (sym c.in-None.ensures.value)))
+    (sym (value_now_of g.K.Ord.cmp g.met.K.Ord.total c.self.inside.places.entries c.args.key c.self.invariant.ordered ∙ ap (of_place has) (sym c.in-None.ensures.value)))
