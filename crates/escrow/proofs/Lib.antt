@@ -1,0 +1,3 @@
+pub mod TableSums
+pub mod Tellings
+pub mod RowReads

@@ -1,0 +1,4 @@
+pub mod Sums
+pub mod Running
+pub mod Told
+pub mod Rows
