@@ -1,0 +1,61 @@
+-- What purses have: each a store of one brand, by its number.
+use Rattle.std.specs.Prelude.{◌≡◌, ℕ, List, slice_index_or, slice_set}
+use Rattle.amount_math.specs.Amount.{holding}
+use Rattle.amount_math.specs.Content.{Contains, Content, sum}
+use Rattle.amount_math.specs.Worth.{IsPutRefusal, IsValue, Worth}
+use Rattle.amount_math.specs.declared.Kind.{Kind}
+use Rattle.amount_math.specs.declared.PutFault.{PutFault}
+use Rattle.ertp_mint.specs.Balances.{StoredAmount, no_store, with_put, with_taken}
+use Rattle.purses.specs.declared.Shortfall.{Shortfall}
+use Rattle.purses.specs.declared.TakeFault.{TakeFault}
+use Rattle.purses.specs.declared.TakeFault.TheVariants.{NotEnough, NoMemory}
+
+-- the store of a purse
+abbrev pub store_at : List StoredAmount → ℕ → StoredAmount
+store_at purses n = slice_index_or purses n no_store
+
+abbrev pub kind_at : List StoredAmount → ℕ → Kind
+kind_at purses n = (store_at purses n).amount.value.kind
+
+abbrev pub content_at : List StoredAmount → ℕ → Content
+content_at purses n = (store_at purses n).amount.value.content
+
+abbrev pub room_at : List StoredAmount → ℕ → ℕ
+room_at purses n = (store_at purses n).room
+
+-- the sum of what a purse has with a content
+abbrev pub sum_at : List StoredAmount → ℕ → Content → Content
+sum_at purses n c = sum (content_at purses n) c
+
+-- that sum is a value
+abbrev pub TakesIn : List StoredAmount → ℕ → Content → Type 0
+TakesIn purses n c = IsValue (kind_at purses n) (sum_at purses n c)
+
+-- why a content isn't put in a purse
+abbrev pub IsPutFault : List StoredAmount → ℕ → Content → PutFault → Type 0
+IsPutFault purses n c fault = IsPutRefusal (kind_at purses n) (sum_at purses n c) fault
+
+-- the purses with a content more in one, or with a content less
+abbrev pub put_at : List StoredAmount → ℕ → Content → List StoredAmount
+put_at purses n c = slice_set purses n (with_put (store_at purses n) c)
+
+abbrev pub taken_at : List StoredAmount → ℕ → Content → List StoredAmount
+taken_at purses n c = slice_set purses n (with_taken (store_at purses n) c)
+
+-- the purses with room for so many keys in one, and with a content more in it then
+abbrev pub with_room_at : List StoredAmount → ℕ → ℕ → List StoredAmount
+with_room_at purses n room = slice_set purses n (record { amount = (store_at purses n).amount; room = room })
+
+abbrev pub put_in_room : List StoredAmount → ℕ → Content → ℕ → List StoredAmount
+put_in_room purses n c room = slice_set purses n (record { amount = holding (store_at purses n).amount (sum_at purses n c); room = room })
+
+-- less is held than was asked for, and both are shown
+pub record IsShortfall (held asked : Worth) (short : Shortfall) : Type 0 where
+  pub held_is : short.held ≡ held
+  pub asked_is : short.asked ≡ asked
+  pub less : ¬ Contains held.content asked.content
+
+-- when a part isn't taken: less is held, or memory is wanted
+abbrev pub IsTakeFault : Worth → Worth → TakeFault → Type 0
+IsTakeFault held asked (NotEnough short) = IsShortfall held asked short
+IsTakeFault held asked NoMemory = Unit {0}
