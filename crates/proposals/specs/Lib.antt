@@ -4,3 +4,4 @@ pub mod Proposals
 pub mod OfferSafety
 pub mod IssuerRecords
 pub mod Reading
+pub mod Plans

@@ -7,7 +7,7 @@ use crate::allocations::{Allocation, Row};
 use crate::offers::Proposal;
 
 /// Whether the slot of a row's keyword contains its content. A keyword without slot has nothing.
-fn is_covered(row: &Row, allocation: &Allocation) -> bool
+pub fn is_covered(row: &Row, allocation: &Allocation) -> bool
     requires { MeetsSlot allocation.now row.now }
     ensures { IsTrue result ↔ IsCovered allocation.now row.now }
 {

@@ -1,0 +1,4 @@
+pub mod Firsts
+pub mod Apart
+pub mod Sums
+pub mod Under
