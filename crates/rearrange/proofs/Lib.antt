@@ -1,0 +1,10 @@
+pub mod Unlike
+pub mod PartLists
+pub mod PartCounts
+pub mod Sorting
+pub mod Conserved
+pub mod Agreeing
+pub mod Touching
+pub mod StagedRefusals
+pub mod Copies
+pub mod Worked

@@ -1,0 +1,55 @@
+use Rattle.std.proofs.Common.{◌≡◌, ℕ, List, Option, All, IfSome, sym, ap, ◌∙◌, subst}
+use Rattle.std.proofs.lemmas.Result.{IfErr-weaker, on_ok_weaker}
+use Rattle.allocation_changes.specs.Gains.{CanGain, with_gains}
+use Rattle.proposals.specs.OfferSafety.{MeetSlots}
+use Rattle.proposals.specs.Rows.{AreApart}
+use Rattle.proposals.specs.declared.allocations.Row.{Row}
+use Rattle.rearrange.specs.Transfers.{gains_of}
+use Rattle.rearrange.specs.Working.{IsGiveRefusal, IsGivingRefusal, rows_now}
+use Rattle.rearrange.specs.declared.plans.PlanFault.{PlanFault}
+use Rattle.rearrange.specs.declared.plans.PlanFault.TheVariants.{NoMemory}
+use Rattle.rearrange.specs.declared.sums.SeatRows.{SeatRows}
+use Rattle.rearrange.proofs.Copies.{apart_put, put_on}
+use Rattle.rearrange.proofs.Worked.{giving_by}
+use Rattle.rearrange.proofs.working.give.Goals as goal
+
+pub raised-requires-clause-meet : goal.raised-requires-clause-meet
+raised-requires-clause-meet c =
+    let t = c.args.transfer.now in
+    let states = c.args.states.now in
+    let rows = c.rows_now.ensures.rows ∙ ap (λ (l : List SeatRows). rows_now states l c.in-Some.seat) c.deref.ensures.value in
+    let meet = subst (λ (o : Option ℕ). IfSome o (λ seat. MeetSlots (rows_now states c.args.list.now.items seat) (gains_of t))) c.in-Some.is c.requires.meet in
+    subst (λ (given : List Row). MeetSlots c.rows_now.result.now given) (sym c.gains_of.ensures) (subst (λ (rs : List Row). MeetSlots rs (gains_of t)) (sym rows) meet)
+
+pub returns-in-Ok-clause-ok : goal.returns-in-Ok-clause-ok
+returns-in-Ok-clause-ok c =
+    let t = c.args.transfer.now in
+    let states = c.args.states.now in
+    let rows = c.rows_now.ensures.rows ∙ ap (λ (l : List SeatRows). rows_now states l c.in-Some.seat) c.deref.ensures.value in
+    let is = c.in-Ok.ensures.ok ∙ ap (λ (rs : List Row). with_gains rs c.gains_of.result.now) rows ∙ ap (with_gains (rows_now states c.args.list.now.items c.in-Some.seat)) c.gains_of.ensures in
+    on_ok_weaker c.put_rows.result (λ put. put_on states c.args.list.now.items c.put_rows.new.list.items t.to c.in-Some.seat c.in-Ok.rows (λ seat. with_gains (rows_now states c.args.list.now.items seat) (gains_of t)) c.in-Some.is is put) c.put_rows.ensures.ok
+
+pub returns-in-Ok-clause-may : goal.returns-in-Ok-clause-may
+returns-in-Ok-clause-may c =
+    let t = c.args.transfer.now in
+    let states = c.args.states.now in
+    let rows = c.rows_now.ensures.rows ∙ ap (λ (l : List SeatRows). rows_now states l c.in-Some.seat) c.deref.ensures.value in
+    let may = subst (λ (ls : List Row). All (CanGain c.rows_now.result.now) ls) c.gains_of.ensures c.in-Ok.ensures.may in
+    on_ok_weaker c.put_rows.result (λ put. subst (λ (o : Option ℕ). IfSome o (λ seat. All (CanGain (rows_now states c.args.list.now.items seat)) (gains_of t))) (sym c.in-Some.is) (subst (λ (rs : List Row). All (CanGain rs) (gains_of t)) rows may)) c.put_rows.ensures.ok
+
+pub returns-in-Ok-clause-apart : goal.returns-in-Ok-clause-apart
+returns-in-Ok-clause-apart c =
+    on_ok_weaker c.put_rows.result (λ put. subst (All (λ (s : SeatRows). AreApart s.rows.items)) (sym put) (apart_put c.in-Some.seat c.in-Ok.rows c.args.list.now.items c.in-Ok.ensures.apart c.requires.apart)) c.put_rows.ensures.ok
+
+pub returns-in-Ok-clause-refused : goal.returns-in-Ok-clause-refused
+returns-in-Ok-clause-refused c =
+    let has = rows_now c.args.states.now c.args.list.now.items in
+    IfErr-weaker c.put_rows.result (λ (fault : PlanFault). fault ≡ NoMemory) (IsGivingRefusal has c.args.transfer.now) (λ fault is. subst (IsGivingRefusal has c.args.transfer.now) (sym is) tt) c.put_rows.ensures.err
+
+pub returns-in-Err-clause-refused : goal.returns-in-Err-clause-refused
+returns-in-Err-clause-refused c =
+    let t = c.args.transfer.now in
+    let states = c.args.states.now in
+    let rows = c.rows_now.ensures.rows ∙ ap (λ (l : List SeatRows). rows_now states l c.in-Some.seat) c.deref.ensures.value in
+    giving_by (rows_now states c.args.list.now.items) t c.in-Some.seat c.in-Some.is c.in-Err.fault
+    (subst (λ (rs : List Row). IsGiveRefusal rs (gains_of t) c.in-Err.fault) rows (subst (λ (gs : List Row). IsGiveRefusal c.rows_now.result.now gs c.in-Err.fault) c.gains_of.ensures c.in-Err.ensures.refused))

@@ -1,0 +1,9 @@
+pub mod Seats
+pub mod Sums
+pub mod Parts
+pub mod Safety
+pub mod Settled
+pub mod Plans
+pub mod Staged
+pub mod Transfers
+pub mod Working

@@ -1,0 +1,180 @@
+//! The tests over seats that come before any amount is looked at. Where several seats fail one, the least
+//! is shown.
+
+ghost use Rattle.std.specs.Prelude.{◌≡◌, Some, IfOk, option_copied};
+ghost use Rattle.proposals.specs.Rows.{AreApart};
+ghost use Rattle.rearrange.specs.Seats as given;
+
+use proposals::allocations::{Allocation, Row};
+use proposals::plans::SeatState;
+use std::alloc::{AllocError, Global};
+
+/// Why seats can't take part in a change (Zoe; the codes are our own).
+#[derive(Clone, Copy)]
+pub enum SeatsFault {
+    /// The seat is one of another instance.
+    WrongInstance(u32),
+    /// Fewer than two seats are listed.
+    OneSeat,
+    /// The seat is listed twice.
+    RepeatedSeat(u32),
+    /// The seat has exited.
+    SeatExited(u32),
+    /// The seat has staging, and isn't listed.
+    StagedLeftOut(u32),
+}
+
+/// The state of a seat: the first that is given of it.
+pub fn state_of(states: &[SeatState], seat: u32) -> Option<&SeatState>
+    ensures { option_copied result ≡ given.state_of states.now seat }
+{
+    states.iter().find(|state| state.seat == seat)
+}
+
+/// What a seat has by its state: nothing where none is given of it.
+pub(crate) fn allocation_of(states: &[SeatState], seat: u32) -> &[Row]
+    ensures rows { result.now ≡ given.allocation_of states.now seat }
+    ensures apart { AreApart result.now }
+{
+    match state_of(states, seat) {
+        Some(state) => state.allocation.rows(),
+        None => &[],
+    }
+}
+
+/// A copy of what a seat has by its state.
+pub(crate) fn allocation_copy(
+    alloc: Global,
+    states: &[SeatState],
+    seat: u32,
+) -> Result<Allocation, AllocError>
+    ensures { IfOk result (λ copy. copy ≡ given.allocation_of states.now seat) }
+{
+    match state_of(states, seat) {
+        Some(state) => state.allocation.copy(alloc),
+        None => Ok(Allocation::new(alloc)),
+    }
+}
+
+fn is_foreign(instance: u32, states: &[SeatState], seat: u32) -> bool
+    ensures { result ≡ given.is_foreign instance states.now seat }
+{
+    state_of(states, seat).is_some_and(|state| state.instance != instance)
+}
+
+fn has_exited(states: &[SeatState], seat: u32) -> bool
+    ensures { result ≡ given.has_exited states.now seat }
+{
+    state_of(states, seat).is_some_and(|state| !state.is_open)
+}
+
+fn is_repeated(seats: &[u32], seat: u32) -> bool
+    ensures { result ≡ given.is_repeated seats.now seat }
+{
+    seats.iter().filter(|other| **other == seat).count() > 1
+}
+
+fn is_left_out(instance: u32, seats: &[u32], state: &SeatState) -> bool
+    ensures { result ≡ given.is_left_out instance seats.now state.now }
+{
+    state.instance == instance
+        && state.is_open
+        && state.staged.is_some()
+        && !seats.contains(&state.seat)
+}
+
+/// The lesser of what was the least so far and another seat.
+pub(crate) fn lesser(least: Option<u32>, seat: u32) -> u32
+    ensures { Some result ≡ given.least_of least (Some seat) }
+{
+    match least {
+        Some(other) => other.min(seat),
+        None => seat,
+    }
+}
+
+#[tactic(auto, using(proposals::proofs::Brands::least_of_three))]
+fn least_foreign(instance: u32, states: &[SeatState], seats: &[u32]) -> Option<u32>
+    ensures { result ≡ given.least_such (given.is_foreign instance states.now) seats.now }
+{
+    let mut least = None;
+    for seat in seats {
+        if is_foreign(instance, states, *seat) {
+            least = Some(lesser(least, *seat));
+        }
+    }
+    least
+}
+
+#[tactic(auto, using(proposals::proofs::Brands::least_of_three))]
+fn least_exited(states: &[SeatState], seats: &[u32]) -> Option<u32>
+    ensures { result ≡ given.least_such (given.has_exited states.now) seats.now }
+{
+    let mut least = None;
+    for seat in seats {
+        if has_exited(states, *seat) {
+            least = Some(lesser(least, *seat));
+        }
+    }
+    least
+}
+
+#[tactic(auto, using(proposals::proofs::Brands::least_of_three))]
+fn least_repeated(seats: &[u32]) -> Option<u32>
+    ensures { result ≡ given.least_such (given.is_repeated seats.now) seats.now }
+{
+    let mut least = None;
+    for seat in seats {
+        if is_repeated(seats, *seat) {
+            least = Some(lesser(least, *seat));
+        }
+    }
+    least
+}
+
+#[tactic(auto, using(proposals::proofs::Brands::least_of_three))]
+fn least_left_out(instance: u32, states: &[SeatState], seats: &[u32]) -> Option<u32>
+    ensures { result ≡ given.least (given.seats_such (given.is_left_out instance seats.now) states.now) }
+{
+    let mut least = None;
+    for state in states {
+        if is_left_out(instance, seats, state) {
+            least = Some(lesser(least, state.seat));
+        }
+    }
+    least
+}
+
+/// Why seats can't take over their staging, if they can't: a seat of another instance, fewer than two
+/// seats, one that is listed twice, one that has exited, an open one of the instance with staging that
+/// isn't listed; in this order, over all seats, each with the least that qualifies.
+#[tactic(auto, unfolding(crate::specs::Seats::staged_refusal))]
+pub fn staged_refusal(instance: u32, states: &[SeatState], seats: &[u32]) -> Option<SeatsFault>
+    ensures { result ≡ given.staged_refusal instance states.now seats.now }
+{
+    if let Some(seat) = least_foreign(instance, states, seats) {
+        return Some(SeatsFault::WrongInstance(seat));
+    }
+    if seats.len() < 2 {
+        return Some(SeatsFault::OneSeat);
+    }
+    if let Some(seat) = least_repeated(seats) {
+        return Some(SeatsFault::RepeatedSeat(seat));
+    }
+    if let Some(seat) = least_exited(states, seats) {
+        return Some(SeatsFault::SeatExited(seat));
+    }
+    least_left_out(instance, states, seats).map(SeatsFault::StagedLeftOut)
+}
+
+/// Why seats can't take part in transfers, if they can't: a seat of another instance, or one that has
+/// exited; in this order, over all seats, each with the least that qualifies.
+#[tactic(auto, unfolding(crate::specs::Seats::transfers_refusal))]
+pub fn transfers_refusal(instance: u32, states: &[SeatState], seats: &[u32]) -> Option<SeatsFault>
+    ensures { result ≡ given.transfers_refusal instance states.now seats.now }
+{
+    if let Some(seat) = least_foreign(instance, states, seats) {
+        return Some(SeatsFault::WrongInstance(seat));
+    }
+    least_exited(states, seats).map(SeatsFault::SeatExited)
+}

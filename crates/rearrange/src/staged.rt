@@ -1,0 +1,92 @@
+//! Reallocation: each listed seat takes over its staging, all together or none (Zoe's reallocate).
+
+ghost use Rattle.std.specs.Prelude.{◌≡◌, ◌≤◌, length, All, IfErr, IfOk, IfSome, IsOk, None};
+ghost use Rattle.proposals.specs.Rows.{AreApart, most_rows};
+ghost use Rattle.rearrange.specs.Safety.{AreSafe, MeetProposal};
+ghost use Rattle.rearrange.specs.Seats as given;
+ghost use Rattle.rearrange.specs.Staged.{IsOfOneBrand, IsStagedRefusal, rows_staged, staged_plan, touched_with};
+ghost use Rattle.rearrange.specs.Sums.{AreConserved, all_touched, touched_of};
+
+use crate::plans::{PlanFault, plan_of};
+use crate::seats::{allocation_of, staged_refusal, state_of};
+use crate::settled::settled;
+use crate::sums::SeatRows;
+use proposals::allocations::Row;
+use proposals::plans::{Plan, SeatState};
+use std::alloc::{AllocError, Global};
+
+/// A seat's staging, or where it has none what it has.
+fn rows_staged(states: &[SeatState], seat: u32) -> &[Row]
+    ensures rows { result.now ≡ rows_staged states.now seat }
+    ensures apart { AreApart result.now }
+{
+    match state_of(states, seat) {
+        Some(state) => match &state.staged {
+            Some(staged) => staged.rows(),
+            None => state.allocation.rows(),
+        },
+        None => &[],
+    }
+}
+
+/// A seat that takes over its staging.
+fn with_staging(alloc: Global, states: &[SeatState], seat: u32) -> Result<SeatRows, AllocError>
+    requires { All IsOfOneBrand states.now }
+    ensures ok { IfOk result (λ s. touched_of states.now s ≡ touched_with states.now seat (rows_staged states.now seat)) }
+    ensures apart { IfOk result (λ s. AreApart s.rows.items) }
+    ensures meets { IfOk result (λ s. IfSome (given.state_of states.now s.seat) (MeetProposal s.rows.items)) }
+{
+    let rows = settled(
+        alloc,
+        allocation_of(states, seat),
+        rows_staged(states, seat),
+    )?;
+    Ok(SeatRows { seat, rows })
+}
+
+/// The listed seats, each with its staging taken over.
+fn all_with_staging(
+    alloc: Global,
+    states: &[SeatState],
+    seats: &[u32],
+) -> Result<Vec<SeatRows>, AllocError>
+    requires { All IsOfOneBrand states.now }
+    ensures ok { IfOk result (λ list. all_touched states.now list.items ≡ staged_plan states.now seats.now) }
+    ensures apart { IfOk result (λ list. All (λ s. AreApart s.rows.items) list.items) }
+    ensures meets { IfOk result (λ list. All (λ s. IfSome (given.state_of states.now s.seat) (MeetProposal s.rows.items)) list.items) }
+{
+    let mut list = Vec::new(alloc);
+    for seat in seats {
+        list.push(with_staging(alloc, states, *seat)?)?;
+    }
+    Ok(list)
+}
+
+/// The plan by which each listed seat takes over its staging (Zoe's reallocate; a seat that is listed
+/// without staging keeps what it has, own), or the first test that it fails: those over seats, then
+/// NotConserved, NotOfferSafe and Limit. The states are those of the listed seats and of every open seat
+/// of the instance with staging, for no other can be told as left out; a seat without state fails no test
+/// and has nothing. The plan has the seats in the order of the list; who carries it out writes by number.
+/// Whether a seat is listed twice takes the square of the number of seats.
+pub fn plan_staged(
+    alloc: Global,
+    instance: u32,
+    states: &[SeatState],
+    seats: &[u32],
+) -> Result<Plan, PlanFault>
+    requires { All IsOfOneBrand states.now }
+    ensures ok { IfOk result (λ plan. plan ≡ staged_plan states.now seats.now) }
+    ensures may { IsOk result → given.staged_refusal instance states.now seats.now ≡ None }
+    ensures conserved { IfOk result AreConserved }
+    ensures safe { IfOk result (AreSafe states.now) }
+    ensures few { IfOk result (All (λ t. length t.after ≤ most_rows)) }
+    ensures refused { IfErr result (IsStagedRefusal instance states.now seats.now) }
+{
+    if let Some(fault) = staged_refusal(instance, states, seats) {
+        return Err(PlanFault::Seats(fault));
+    }
+    let Ok(list) = all_with_staging(alloc, states, seats) else {
+        return Err(PlanFault::NoMemory);
+    };
+    plan_of(alloc, states, list)
+}
