@@ -1,0 +1,5 @@
+pub mod Forest
+pub mod Changes
+pub mod Cascade
+pub mod Order
+pub mod Whole
