@@ -1,0 +1,21 @@
+//! What may leave its instance (Zoe: facets of a contract, and its functions, stay with it).
+
+ghost use Rattle.std.specs.Prelude.{IsErr, IsTrue, ◌↔◌};
+ghost use Rattle.jessie_tree.specs.Tree.{is_local};
+ghost use Rattle.jessie_tree.specs.View.{tree};
+
+use jessie_tree::data::Data;
+
+/// The data holds something that stays with its instance.
+#[derive(Clone, Copy, Debug, PartialEq, Eq)]
+pub struct LocalOnly;
+
+/// Lets data leave its instance, but where it holds zcf, a ZCF seat, a ZCF mint or a function, at any depth.
+pub fn leaves(data: &Data) -> Result<(), LocalOnly>
+    ensures { IsErr result ↔ IsTrue (is_local (tree «data».now)) }
+{
+    if data.is_local() {
+        return Err(LocalOnly);
+    }
+    Ok(())
+}
