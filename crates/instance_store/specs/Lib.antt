@@ -1,0 +1,5 @@
+pub mod Tables
+pub mod Changes
+pub mod Turns
+pub mod Facets
+pub mod SeatPromises
