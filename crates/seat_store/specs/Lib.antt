@@ -1,0 +1,4 @@
+pub mod Instances
+pub mod Staging
+pub mod Store
+pub mod Undone
