@@ -1,0 +1,164 @@
+ghost use Rattle.std.specs.Prelude.{◌≡◌, ◌≢◌, ◌<◌, ◌≤◌, ℕ, codes, length};
+ghost use Rattle.amount_math.specs.Worth.{nat_bound};
+ghost use Rattle.rights_model.specs.Table.{Table, no_holdings};
+ghost use Rattle.rights_model.specs.declared.Holder.TheVariants as holder;
+ghost use Rattle.escrow.specs.Sums.{AreSums};
+ghost use Rattle.escrow.specs.Told.{IsOpened, IsSeated, nothing_told, totals_of};
+ghost use Rattle.store_tests.specs.Holdings.{CanTellNext, HoldsNumber, movement_of};
+
+use amount_math::Value;
+use escrow::Escrow;
+use host_text::keyword::Keyword;
+use rights_model::{Holder, Movement, Sum};
+use std::alloc::Global;
+use std::process::Abort;
+
+/// Well over what these tests mint.
+const MOST: u128 = 1_000_000;
+
+fn movement(from: Holder, to: Holder, number: u128) -> Movement
+    requires { number ≤ nat_bound }
+    ensures { result ≡ movement_of from to number }
+{
+    Movement {
+        brand: 1,
+        from,
+        to,
+        value: Value::nat(number),
+    }
+}
+
+/// Ends the test where much was minted.
+fn check_few(rt: &impl Abort, escrow: &Escrow)
+    ensures { (totals_of escrow.now 1).minted ≤ 1000000 }
+{
+    assert!(rt; escrow.totals(1).minted <= MOST);
+}
+
+/// Tells that so much went from one holder to another, or ends the test.
+fn tell(rt: &impl Abort, escrow: &mut Escrow, from: Holder, to: Holder, number: u128)
+    requires small { number ≤ nat_bound }
+    requires can { CanTellNext escrow.old (movement_of from to number) }
+    requires from { IsOpened escrow.old.instances from }
+    requires to { IsOpened escrow.old.instances to }
+    requires inside { to ≢ holder.Outside }
+    ensures holds { HoldsNumber escrow.new to number }
+    ensures instances { escrow.new.instances ≡ escrow.old.instances }
+{
+    let movement = movement(from, to, number);
+    check_few(rt, escrow);
+    let Ok(()) = escrow.moved(&movement) else {
+        panic!(rt; "memory for totals")
+    };
+}
+
+/// Tells of the first seat, that of an instance, where nothing else was told.
+fn open(rt: &impl Abort, escrow: &mut Escrow, instance: u32)
+    requires { escrow.old ≡ nothing_told }
+    ensures seated { IsSeated nothing_told escrow.new instance }
+    ensures told { AreSums no_holdings escrow.new }
+    ensures one { length escrow.new.instances ≡ 1 }
+{
+    let Ok(()) = escrow.opened(0, instance) else {
+        panic!(rt; "memory for a seat")
+    };
+}
+
+/// Tells that so much was minted.
+fn mint(rt: &impl Abort, escrow: &mut Escrow, to: Holder, number: u128)
+    requires small { number ≤ nat_bound }
+    requires told { (t : Table) × AreSums t escrow.old }
+    requires to { IsOpened escrow.old.instances to }
+    requires inside { to ≢ holder.Outside }
+    ensures holds { HoldsNumber escrow.new to number }
+    ensures instances { escrow.new.instances ≡ escrow.old.instances }
+{
+    tell(rt, escrow, Holder::Outside, to, number);
+}
+
+/// Tells that so much went on from a holder that has it.
+fn pass(rt: &impl Abort, escrow: &mut Escrow, from: Holder, to: Holder, number: u128)
+    requires small { number ≤ nat_bound }
+    requires has { HoldsNumber escrow.old from number }
+    requires from { IsOpened escrow.old.instances from }
+    requires to { IsOpened escrow.old.instances to }
+    requires inside { to ≢ holder.Outside }
+    ensures holds { HoldsNumber escrow.new to number }
+    ensures instances { escrow.new.instances ≡ escrow.old.instances }
+{
+    tell(rt, escrow, from, to, number);
+}
+
+/// The sum once so much was burned, which is then undone.
+fn sum_where_burned(rt: &impl Abort, escrow: &mut Escrow, from: Holder, number: u128) -> Sum
+    requires small { number ≤ nat_bound }
+    requires has { HoldsNumber escrow.old from number }
+    requires from { IsOpened escrow.old.instances from }
+{
+    let movement = movement(from, Holder::Outside, number);
+    check_few(rt, escrow);
+    let Ok(()) = escrow.moved(&movement) else {
+        panic!(rt; "memory for totals")
+    };
+    let sum = escrow.totals(1);
+    escrow.undo_moved(&movement);
+    sum
+}
+
+fn price(rt: &impl Abort, alloc: Global) -> Keyword
+    ensures { result ≡ codes "Price" }
+{
+    let keyword = Keyword::read(alloc, b"Price".as_slice()).ok();
+    keyword.expect(rt, "memory for a keyword")
+}
+
+/// The sum of brand 1.
+fn sum(minted: u128, burned: u128, purses: u128, payments: u128, slots: u128) -> Sum {
+    Sum {
+        brand: 1,
+        minted,
+        burned,
+        purses,
+        payments,
+        slots,
+    }
+}
+
+#[test]
+fn totals_run_with_the_movements(rt: HostRuntime) {
+    let mut escrow = Escrow::new(rt.alloc());
+    open(&rt, &mut escrow, 7);
+    mint(&rt, &mut escrow, Holder::Payment(0), 100);
+    assert!(rt; escrow.totals(1) == sum(100, 0, 0, 100, 0));
+    pass(&rt, &mut escrow, Holder::Payment(0), Holder::Purse(0), 100);
+    assert!(rt; escrow.totals(1) == sum(100, 0, 100, 0, 0));
+    pass(&rt, &mut escrow, Holder::Purse(0), Holder::Payment(1), 30);
+    assert!(rt; escrow.totals(1) == sum(100, 0, 70, 30, 0));
+    pass(
+        &rt,
+        &mut escrow,
+        Holder::Payment(1),
+        Holder::Slot(0, price(&rt, rt.alloc())),
+        30,
+    );
+    assert!(rt; escrow.totals(1) == sum(100, 0, 70, 0, 30));
+    assert!(rt; escrow.of_instance(7, 1) == 30 && escrow.of_instance(8, 1) == 0);
+    let burned = sum_where_burned(
+        &rt,
+        &mut escrow,
+        Holder::Slot(0, price(&rt, rt.alloc())),
+        30,
+    );
+    assert!(rt; burned == sum(100, 30, 70, 0, 0));
+    assert!(rt; escrow.totals(1) == sum(100, 0, 70, 0, 30));
+}
+
+#[test]
+fn the_last_seat_is_forgotten(rt: HostRuntime) {
+    let mut escrow = Escrow::new(rt.alloc());
+    open(&rt, &mut escrow, 7);
+    escrow.undo_opened();
+    open(&rt, &mut escrow, 8);
+    mint(&rt, &mut escrow, Holder::Slot(0, price(&rt, rt.alloc())), 5);
+    assert!(rt; escrow.of_instance(8, 1) == 5 && escrow.of_instance(7, 1) == 0);
+}

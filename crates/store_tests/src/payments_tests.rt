@@ -1,0 +1,99 @@
+ghost use Rattle.std.specs.Prelude.{◌<◌};
+
+use amount_math::Kind;
+use ertp_mint::{Balance, Parcel};
+use payments::Payments;
+use std::alloc::Global;
+
+/// A parcel of nothing.
+fn parcel(alloc: Global, brand: u16) -> Parcel {
+    Balance::empty(alloc, brand, Kind::Nat).into_parcel()
+}
+
+/// Makes a payment, and answers whether that came to its end.
+fn make(payments: &mut Payments, alloc: Global, brand: u16) -> bool {
+    match payments.make(parcel(alloc, brand)) {
+        Ok(_) => true,
+        Err((parcel, _)) => {
+            drop(Balance::of(alloc, parcel));
+            false
+        }
+    }
+}
+
+/// Makes a payment from an open slot, and answers whether that came to its end.
+fn make_from_slot(payments: &mut Payments, alloc: Global, brand: u16) -> bool
+    requires { 0 < payments.old.slots }
+{
+    match payments.make_from_slot(parcel(alloc, brand)) {
+        Ok(_) => true,
+        Err(failed) => {
+            drop(Balance::of(alloc, failed.value));
+            false
+        }
+    }
+}
+
+fn is_live(payments: &Payments, number: u32) -> bool {
+    match payments.find(number) {
+        Some(payment) => payments.is_live(payment),
+        None => false,
+    }
+}
+
+/// The brand of a payment, or 0.
+fn brand(payments: &Payments, number: u32) -> u16 {
+    match payments.find(number) {
+        Some(payment) => payments.brand(payment),
+        None => 0,
+    }
+}
+
+/// Whether a payment stands under the key.
+fn stands_at(payments: &Payments, number: u32, key: usize) -> bool {
+    match payments.find(number) {
+        Some(payment) => payment.key == key,
+        None => false,
+    }
+}
+
+/// Spends a payment, and answers whether it was live.
+fn spend(payments: &mut Payments, alloc: Global, number: u32) -> bool {
+    let Some(payment) = payments.find(number) else {
+        return false;
+    };
+    match payments.spend(payment) {
+        Ok(parcel) => {
+            drop(Balance::of(alloc, parcel));
+            true
+        }
+        Err(_) => false,
+    }
+}
+
+#[test]
+fn a_spent_payment_is_dead_where_the_next_stands(rt: HostRuntime) {
+    let mut payments = Payments::new(rt.alloc());
+    let made = make(&mut payments, rt.alloc(), 3) && spend(&mut payments, rt.alloc(), 0);
+    let place = payments.next_key();
+    let next = make(&mut payments, rt.alloc(), 4);
+    let stand = stands_at(&payments, 0, place) && stands_at(&payments, 1, place);
+    assert!(rt; made && next && stand);
+    let live = is_live(&payments, 1) && !is_live(&payments, 0);
+    let dead = !spend(&mut payments, rt.alloc(), 0);
+    assert!(rt; live && dead && brand(&payments, 0) == 3 && brand(&payments, 1) == 4);
+}
+
+#[test]
+fn a_slot_counts_from_its_opening(rt: HostRuntime) {
+    let mut payments = Payments::new(rt.alloc());
+    let Ok(()) = payments.reserve_slots(2) else {
+        return;
+    };
+    let left = payments.left();
+    let made = make_from_slot(&mut payments, rt.alloc(), 1);
+    assert!(rt; made && left == 4_294_967_293 && payments.left() == left && payments.made() == 1);
+    let more = payments.reserve_slots(left).is_ok();
+    let over = payments.reserve_slots(1).is_err();
+    assert!(rt; more && over && payments.left() == 0);
+}

@@ -1,0 +1,269 @@
+use jessie_tree::data::Data;
+use promise_store::{Event, FollowFault, Promises, Settlement, State};
+
+#[derive(Clone, Copy)]
+enum Step {
+    Make,
+    /// The first follows the second.
+    Follow(u32, u32),
+    When(u32),
+    /// A promise is fulfilled with a number, or broken with it.
+    Settle(u32, i128),
+    Break(u32, i128),
+    Forget,
+    Back,
+}
+
+/// What a step answers.
+#[derive(Clone, Copy)]
+enum Answer {
+    /// The number of the promise that was made.
+    Made(u32),
+    Events(&'static [Event]),
+    Cycle(u32),
+}
+
+fn is_pending(promises: &Promises<u32>, promise: u32) -> bool {
+    promise < promises.made() && matches!(promises.state(promise), State::Pending)
+}
+
+/// Whether these are the events.
+fn are(events: &[Event], expected: &[Event]) -> bool {
+    events.len() == expected.len() && events.iter().zip(expected).all(|(a, b)| *a == *b)
+}
+
+fn settles(
+    promises: &mut Promises<u32>,
+    promise: u32,
+    settlement: Settlement,
+    expected: &[Event],
+) -> bool {
+    if promise >= promises.made() || !settlement.is_final() {
+        return false;
+    }
+    let State::Pending = promises.state(promise) else {
+        return false;
+    };
+    match promises.settle(promise, settlement) {
+        Ok(events) => are(events.as_slice(), expected),
+        Err(_) => false,
+    }
+}
+
+fn follows(promises: &mut Promises<u32>, promise: u32, target: u32, answer: Answer) -> bool {
+    if promise >= promises.made() || target >= promises.made() {
+        return false;
+    }
+    let State::Pending = promises.state(promise) else {
+        return false;
+    };
+    match (promises.follow(promise, target), answer) {
+        (Ok(events), Answer::Events(expected)) => are(events.as_slice(), expected),
+        (Err(FollowFault::PromiseCycle(shown)), Answer::Cycle(number)) => shown == number,
+        _ => false,
+    }
+}
+
+/// A request's entry is ten more than the promise that it asks for.
+fn asks(promises: &mut Promises<u32>, promise: u32, expected: &[Event]) -> bool {
+    if promise >= promises.made() {
+        return false;
+    }
+    match (promises.when(promise, promise.saturating_add(10)), expected) {
+        (Ok(None), []) => true,
+        (Ok(Some(event)), [only]) => event == *only,
+        _ => false,
+    }
+}
+
+/// Takes a step, and answers whether it says what is expected.
+fn says(promises: &mut Promises<u32>, step: Step, answer: Answer) -> bool {
+    match (step, answer) {
+        (Step::Make, Answer::Made(number)) => promises.make() == Ok(number),
+        (Step::Follow(promise, target), _) => follows(promises, promise, target, answer),
+        (Step::When(promise), Answer::Events(expected)) => asks(promises, promise, expected),
+        (Step::Settle(promise, number), Answer::Events(expected)) => {
+            settles(
+                promises,
+                promise,
+                Settlement::Ok(Data::Number(number)),
+                expected,
+            )
+        }
+        (Step::Break(promise, number), Answer::Events(expected)) => {
+            settles(
+                promises,
+                promise,
+                Settlement::Broken(Data::Number(number)),
+                expected,
+            )
+        }
+        (Step::Forget, _) => {
+            promises.forget();
+            true
+        }
+        (Step::Back, _) => {
+            promises.back();
+            true
+        }
+        _ => false,
+    }
+}
+
+const NONE: Answer = Answer::Events(&[]);
+
+/// A chain of three, with requests for each; two that follow one, of which the first is followed too; a
+/// request for, and a following of, what is settled; one that would follow itself, at once and through
+/// another; and going back.
+const STEPS: [(Step, Answer); 37] = [
+    (Step::Make, Answer::Made(0)),
+    (Step::Make, Answer::Made(1)),
+    (Step::Make, Answer::Made(2)),
+    (Step::Follow(2, 1), NONE),
+    (Step::Follow(1, 0), NONE),
+    (Step::When(0), NONE),
+    (Step::When(1), NONE),
+    (Step::When(2), NONE),
+    (Step::When(0), NONE),
+    (Step::Forget, NONE),
+    (
+        Step::Settle(0, 7),
+        Answer::Events(&[
+            Event::Settled(0),
+            Event::Settled(1),
+            Event::Settled(2),
+            Event::Notified {
+                promise: 2,
+                request: 2,
+            },
+            Event::Notified {
+                promise: 1,
+                request: 1,
+            },
+            Event::Notified {
+                promise: 0,
+                request: 0,
+            },
+            Event::Notified {
+                promise: 0,
+                request: 3,
+            },
+        ]),
+    ),
+    (Step::Back, NONE),
+    (Step::Make, Answer::Made(3)),
+    (Step::Make, Answer::Made(4)),
+    (Step::Follow(3, 0), NONE),
+    (Step::Follow(4, 1), NONE),
+    (
+        Step::Settle(0, 8),
+        Answer::Events(&[
+            Event::Settled(0),
+            Event::Settled(1),
+            Event::Settled(2),
+            Event::Notified {
+                promise: 2,
+                request: 2,
+            },
+            Event::Settled(4),
+            Event::Notified {
+                promise: 1,
+                request: 1,
+            },
+            Event::Settled(3),
+            Event::Notified {
+                promise: 0,
+                request: 0,
+            },
+            Event::Notified {
+                promise: 0,
+                request: 3,
+            },
+        ]),
+    ),
+    (Step::Forget, NONE),
+    (
+        Step::When(2),
+        Answer::Events(&[Event::Notified {
+            promise: 2,
+            request: 4,
+        }]),
+    ),
+    (Step::Make, Answer::Made(5)),
+    (Step::Make, Answer::Made(6)),
+    (Step::Follow(6, 5), NONE),
+    (Step::When(6), NONE),
+    (
+        Step::Follow(5, 4),
+        Answer::Events(&[
+            Event::Settled(5),
+            Event::Settled(6),
+            Event::Notified {
+                promise: 6,
+                request: 5,
+            },
+        ]),
+    ),
+    (Step::Make, Answer::Made(7)),
+    (Step::Follow(7, 7), Answer::Cycle(7)),
+    (Step::Make, Answer::Made(8)),
+    (Step::Follow(7, 8), NONE),
+    (Step::Follow(8, 7), Answer::Cycle(8)),
+    (
+        Step::Break(8, 9),
+        Answer::Events(&[Event::Settled(8), Event::Settled(7)]),
+    ),
+    (Step::Back, NONE),
+    (Step::Make, Answer::Made(5)),
+    (
+        Step::When(4),
+        Answer::Events(&[Event::Notified {
+            promise: 4,
+            request: 4,
+        }]),
+    ),
+    (Step::Follow(5, 5), Answer::Cycle(5)),
+    (Step::When(5), NONE),
+    (
+        Step::Break(5, 1),
+        Answer::Events(&[
+            Event::Settled(5),
+            Event::Notified {
+                promise: 5,
+                request: 5,
+            },
+        ]),
+    ),
+    (Step::Forget, NONE),
+];
+
+#[test]
+fn promises_settle_in_order(rt: HostRuntime) {
+    let mut promises = Promises::new(rt.alloc());
+    for (step, answer) in &STEPS {
+        assert!(rt; says(&mut promises, *step, *answer));
+    }
+}
+
+/// The number that a promise was fulfilled with.
+fn fulfilled(promises: &Promises<u32>, promise: u32) -> Option<i128> {
+    if promise >= promises.made() {
+        return None;
+    }
+    match promises.state(promise) {
+        State::Settled(Settlement::Ok(data)) => data.number(),
+        _ => None,
+    }
+}
+
+#[test]
+fn followers_share_what_their_leader_was_settled_with(rt: HostRuntime) {
+    let mut promises = Promises::new(rt.alloc());
+    for (step, answer) in &STEPS[..18] {
+        assert!(rt; says(&mut promises, *step, *answer));
+    }
+    for promise in 0..5 {
+        assert!(rt; fulfilled(&promises, promise) == Some(8));
+    }
+    assert!(rt; !is_pending(&promises, 5));
+}
