@@ -1,0 +1,9 @@
+pub mod Plain
+pub mod Feeds
+pub mod Names
+pub mod Read
+pub mod Order
+pub mod Worked
+pub mod PlainRows
+pub mod InForm
+pub mod Ranges

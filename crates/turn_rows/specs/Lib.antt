@@ -1,0 +1,9 @@
+pub mod Kinds
+pub mod Causes
+pub mod Turns
+pub mod Rows
+pub mod Texts
+pub mod ReadBack
+pub mod Order
+pub mod Worked
+pub mod Form
