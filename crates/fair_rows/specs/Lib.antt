@@ -1,0 +1,10 @@
+pub mod Values
+pub mod Movements
+pub mod Seats
+pub mod ExitCauses
+pub mod SoFar
+pub mod Amounts
+pub mod Rows
+pub mod Turns
+pub mod Steps
+pub mod Acts
