@@ -12,9 +12,9 @@ use Rattle.proposals.specs.OfferSafety.{IsCovered}
 use Rattle.allocation_changes.specs.Gains.{CanGain, IsApart, IsGainsRefusal, IsRefused, together}
 use Rattle.allocation_changes.specs.Losses.{IsLossesRefusal, IsRowRefusal, IsShort}
 use Rattle.allocation_changes.specs.Rows.{FirstShows}
-use Rattle.allocation_changes.specs.declared.losses.LossesFault.{LossesFault}
-use Rattle.allocation_changes.specs.declared.losses.LossesFault.TheVariants.{NotEnough}
-use Rattle.allocation_changes.specs.declared.losses.LossesFault.TheVariants as losses_fault
+use Rattle.amount_math.specs.declared.shortfall.LossFault.{LossFault}
+use Rattle.amount_math.specs.declared.shortfall.LossFault.TheVariants.{NotEnough}
+use Rattle.amount_math.specs.declared.shortfall.LossFault.TheVariants as losses_fault
 
 pub first_shows : (Passes Shows : Row → Type 0) (rs : List Row) (i : ℕ) (d : Row) → i < length rs → All Passes (take i rs) → Shows (get_or rs i d) → FirstShows Passes Shows rs
 first_shows Passes Shows [] i d within passed shows = absurd (omega arith)
@@ -52,6 +52,6 @@ sums_refused slots gains i r within is apart passed NoMemory refused = tt
 
 -- ---- losses
 
-pub losses_refused : (slots losses : List Row) (i : ℕ) (r : Row) → i < length losses → r ≡ get_or losses i r → All (IsCovered slots) (take i losses) → (fault : LossesFault) → IsRowRefusal slots r fault → IsLossesRefusal slots losses fault
+pub losses_refused : (slots losses : List Row) (i : ℕ) (r : Row) → i < length losses → r ≡ get_or losses i r → All (IsCovered slots) (take i losses) → (fault : LossFault) → IsRowRefusal slots r fault → IsLossesRefusal slots losses fault
 losses_refused slots losses i r within is passed (NotEnough short) refused = first_at (IsCovered slots) (IsShort slots short) losses i r within is passed refused
 losses_refused slots losses i r within is passed losses_fault.NoMemory refused = tt

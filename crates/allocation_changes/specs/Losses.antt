@@ -8,9 +8,9 @@ use Rattle.amount_math.specs.declared.Amount.{Amount}
 use Rattle.proposals.specs.declared.allocations.Row.{Row}
 use Rattle.proposals.specs.OfferSafety.{IsCovered}
 use Rattle.proposals.specs.Rows.{amount_under, content_under, row_of}
-use Rattle.allocation_changes.specs.declared.losses.LossesFault.{LossesFault}
-use Rattle.allocation_changes.specs.declared.losses.LossesFault.TheVariants.{NoMemory, NotEnough}
-use Rattle.allocation_changes.specs.declared.losses.Shortfall.{Shortfall}
+use Rattle.amount_math.specs.declared.shortfall.LossFault.{LossFault}
+use Rattle.amount_math.specs.declared.shortfall.LossFault.TheVariants.{NoMemory, NotEnough}
+use Rattle.amount_math.specs.declared.shortfall.Shortfall.{Shortfall}
 use Rattle.allocation_changes.specs.Rows.{FirstShows, further}
 
 -- a slot less what a record has under its keyword
@@ -49,11 +49,11 @@ pub record IsShort (slots : List Row) (short : Shortfall) (row : Row) : Type 0 w
   pub shown : IsShown slots row short
 
 -- when a row isn't taken from its slot
-abbrev pub IsRowRefusal : List Row → Row → LossesFault → Type 0
+abbrev pub IsRowRefusal : List Row → Row → LossFault → Type 0
 IsRowRefusal slots row (NotEnough short) = IsShort slots short row
 IsRowRefusal slots row NoMemory = Unit {0}
 
 -- when a record isn't taken from slots: its first row of which the slot has less shows both
-abbrev pub IsLossesRefusal : List Row → List Row → LossesFault → Type 0
+abbrev pub IsLossesRefusal : List Row → List Row → LossFault → Type 0
 IsLossesRefusal slots losses (NotEnough short) = FirstShows (IsCovered slots) (IsShort slots short) losses
 IsLossesRefusal slots losses NoMemory = Unit {0}

@@ -6,27 +6,14 @@ ghost use Rattle.proposals.specs.OfferSafety.{AreCovered, IsCovered, MeetSlots, 
 ghost use Rattle.proposals.specs.Rows.{AreApart};
 
 use crate::slots::{amount_of, is_covered};
+use amount_math::shortfall::{LossFault, Shortfall};
 use amount_math::{Amount, Value};
 use proposals::allocations::{Allocation, Row};
 use std::alloc::{AllocError, Global};
 
-/// What a slot has, where that is less than what is asked of it (`NotEnough` shows both).
-#[derive(Drop)]
-pub struct Shortfall {
-    pub held: Value,
-    pub asked: Value,
-}
-
-/// Why a record isn't taken from slots: one has less than is asked of it, or memory is wanted.
-#[derive(Drop)]
-pub enum LossesFault {
-    NotEnough(Shortfall),
-    NoMemory,
-}
-
 /// Each slot less what a record has under its keyword, or the first row of which the slot has less. A
 /// keyword without slot has nothing.
-pub fn without(alloc: Global, slots: &[Row], losses: &Allocation) -> Result<Vec<Row>, LossesFault>
+pub fn without(alloc: Global, slots: &[Row], losses: &Allocation) -> Result<Vec<Row>, LossFault>
     requires meet { MeetSlots slots.now losses.now }
     requires apart { AreApart slots.now }
     ensures ok { IfOk result (λ after. after.items ≡ without slots.now losses.now) }
@@ -37,12 +24,12 @@ pub fn without(alloc: Global, slots: &[Row], losses: &Allocation) -> Result<Vec<
     check_losses(slots, losses.rows())?;
     match lowered_slots(alloc, slots, losses) {
         Ok(after) => Ok(after),
-        Err(_) => Err(LossesFault::NoMemory),
+        Err(_) => Err(LossFault::NoMemory),
     }
 }
 
 /// Whether each row of a record is in its slot.
-fn check_losses(slots: &[Row], losses: &[Row]) -> Result<(), LossesFault>
+fn check_losses(slots: &[Row], losses: &[Row]) -> Result<(), LossFault>
     requires { MeetSlots slots.now losses.now }
     ensures ok { IsOk result → AreCovered slots.now losses.now }
     ensures refused { IfErr result (IsLossesRefusal slots.now losses.now) }
@@ -56,14 +43,14 @@ fn check_losses(slots: &[Row], losses: &[Row]) -> Result<(), LossesFault>
 }
 
 /// The refusal of a row of which the slot has less. Keys take memory.
-fn not_enough(slots: &[Row], row: &Row) -> LossesFault
+fn not_enough(slots: &[Row], row: &Row) -> LossFault
     requires meets { MeetsSlot slots.now row.now }
     requires less { ¬ IsCovered slots.now row.now }
     ensures { IsRowRefusal slots.now row.now result }
 {
     match held_and_asked(slots, row) {
-        Ok(short) => LossesFault::NotEnough(short),
-        Err(_) => LossesFault::NoMemory,
+        Ok(short) => LossFault::NotEnough(short),
+        Err(_) => LossFault::NoMemory,
     }
 }
 

@@ -11,3 +11,4 @@ pub mod NatLaws
 pub mod KindLaws
 pub mod KindData
 pub mod Brands
+pub mod Shortfalls

@@ -23,6 +23,7 @@ mod made;
 mod merges;
 mod outstanding;
 mod shape;
+pub mod shortfall;
 
 pub use amounts::{AddFault, CoerceFault, CompareFault, WrongBrand, coerce, make};
 use handed::{choose, or_back};

@@ -6,9 +6,6 @@ use Rattle.amount_math.specs.Worth.{IsPutRefusal, IsValue, Worth}
 use Rattle.amount_math.specs.declared.Kind.{Kind}
 use Rattle.amount_math.specs.declared.PutFault.{PutFault}
 use Rattle.ertp_mint.specs.Balances.{StoredAmount, no_store, with_put, with_taken}
-use Rattle.purses.specs.declared.Shortfall.{Shortfall}
-use Rattle.purses.specs.declared.TakeFault.{TakeFault}
-use Rattle.purses.specs.declared.TakeFault.TheVariants.{NotEnough, NoMemory}
 
 -- the store of a purse
 abbrev pub store_at : List StoredAmount → ℕ → StoredAmount
@@ -48,14 +45,3 @@ with_room_at purses n room = slice_set purses n (record { amount = (store_at pur
 
 abbrev pub put_in_room : List StoredAmount → ℕ → Content → ℕ → List StoredAmount
 put_in_room purses n c room = slice_set purses n (record { amount = holding (store_at purses n).amount (sum_at purses n c); room = room })
-
--- less is held than was asked for, and both are shown
-pub record IsShortfall (held asked : Worth) (short : Shortfall) : Type 0 where
-  pub held_is : short.held ≡ held
-  pub asked_is : short.asked ≡ asked
-  pub less : ¬ Contains held.content asked.content
-
--- when a part isn't taken: less is held, or memory is wanted
-abbrev pub IsTakeFault : Worth → Worth → TakeFault → Type 0
-IsTakeFault held asked (NotEnough short) = IsShortfall held asked short
-IsTakeFault held asked NoMemory = Unit {0}

@@ -7,11 +7,13 @@
 ghost use Rattle.std.specs.Prelude.{◌≡◌, ◌<◌, ◌≤◌, ◌↔◌, ◌-◌, ◌++◌, ◌∷◌, [], length, take, IfOk, IfErr, IsOk, OnOk, OnErr};
 ghost use Rattle.amount_math.specs.Amount.{Meet};
 ghost use Rattle.amount_math.specs.Content.{Contains, nothing};
+ghost use Rattle.amount_math.specs.Shortfalls.{IsLossFault};
 ghost use Rattle.amount_math.specs.Worth.{IsValue};
 ghost use Rattle.ertp_mint.specs.Balances.{ComesOut, GoesIn, HasRoomFor, HasSpare, empty_store, held_in};
 ghost use Rattle.ertp_mint.specs.Stocks.{most_made};
-ghost use Rattle.purses.specs.Purses.{IsPutFault, IsTakeFault, TakesIn, content_at, kind_at, put_at, put_in_room, room_at, store_at, taken_at, with_room_at};
+ghost use Rattle.purses.specs.Purses.{IsPutFault, TakesIn, content_at, kind_at, put_at, put_in_room, room_at, store_at, taken_at, with_room_at};
 
+use amount_math::shortfall::{LossFault, show_shortfall};
 use amount_math::{Holding, Kind, PutFault, Value};
 use ertp_mint::{Balance, Parcel};
 use std::alloc::{AllocError, Global};
@@ -23,36 +25,6 @@ pub enum OpenFault {
     /// 4,294,967,295 purses were made.
     Limit,
     NoMemory,
-}
-
-/// A purse has less than was asked for: what it has, and what was asked for.
-#[derive(Debug, Drop)]
-pub struct Shortfall {
-    pub held: Value,
-    pub asked: Value,
-}
-
-/// Why a part isn't taken out of a purse.
-#[derive(Debug, Drop)]
-pub enum TakeFault {
-    NotEnough(Shortfall),
-    /// Memory is wanted for the part's keys, or for those that a shortfall shows.
-    NoMemory,
-}
-
-/// That there is less than is asked for, with both, whose keys take memory.
-fn show_shortfall(held: &Holding, asked: &Value) -> TakeFault
-    requires value { IsValue held.now.value.kind held.now.value.content }
-    requires less { ¬ Contains held.now.value.content asked.now.content }
-    ensures { IsTakeFault held.now.value asked.now result }
-{
-    let Ok(held) = held.copy() else {
-        return TakeFault::NoMemory;
-    };
-    let Ok(asked) = asked.copy() else {
-        return TakeFault::NoMemory;
-    };
-    TakeFault::NotEnough(Shortfall { held, asked })
 }
 
 /// All purses. Contracts see the store of each, by number: its amount, and its room for keys.
@@ -219,7 +191,7 @@ impl Purses {
     }
 
     /// Takes a part of a purse out of it, or leaves it as it was. A part with keys takes memory.
-    pub fn take(&mut self, purse: u32, part: &Value) -> Result<Parcel, TakeFault>
+    pub fn take(&mut self, purse: u32, part: &Value) -> Result<Parcel, LossFault>
         requires made { purse < length self.old }
         requires kind { kind_at self.old purse ≡ part.now.kind }
         ensures ok { OnOk result (self.new ≡ taken_at self.old purse part.now.content) }
@@ -228,13 +200,13 @@ impl Purses {
         ensures back { IfOk result (GoesIn (store_at self.new purse)) }
         ensures undone { OnOk result (put_at self.new purse part.now.content ≡ self.old) }
         ensures err { OnErr result (self.new ≡ self.old) }
-        ensures refused { IfErr result (IsTakeFault (store_at self.old purse).amount.value part.now) }
+        ensures refused { IfErr result (IsLossFault (store_at self.old purse).amount.value part.now) }
     {
         if !self.amount(purse).is_gte(part) {
             return Err(show_shortfall(self.amount(purse), part));
         }
         let Ok(value) = part.copy() else {
-            return Err(TakeFault::NoMemory);
+            return Err(LossFault::NoMemory);
         };
         Ok(self.take_value(purse, value))
     }

@@ -10,7 +10,7 @@ use Rattle.proposals.specs.declared.plans.Touched.{Touched}
 use Rattle.proposals.specs.declared.plans.Transfer.{Transfer}
 use Rattle.allocation_changes.specs.Gains.{CanGain, IsGainsRefusal, with_gains}
 use Rattle.allocation_changes.specs.Losses.{IsLossesRefusal, without}
-use Rattle.allocation_changes.specs.declared.losses.LossesFault.TheVariants as takes
+use Rattle.amount_math.specs.declared.shortfall.LossFault.TheVariants as takes
 use Rattle.rearrange.specs.Plans.{IsPlanRefusal}
 use Rattle.rearrange.specs.Seats.{allocation_of, seats_named, state_of, transfers_refusal}
 use Rattle.rearrange.specs.Staged.{Agree, rows_of, touched_with}

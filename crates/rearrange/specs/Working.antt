@@ -9,7 +9,7 @@ use Rattle.proposals.specs.declared.plans.SeatState.{SeatState}
 use Rattle.proposals.specs.declared.plans.Transfer.{Transfer}
 use Rattle.allocation_changes.specs.Gains.{IsGainsRefusal, with_gains}
 use Rattle.allocation_changes.specs.Losses.{IsLossesRefusal}
-use Rattle.allocation_changes.specs.declared.losses.LossesFault.TheVariants as takes
+use Rattle.amount_math.specs.declared.shortfall.LossFault.TheVariants as takes
 use Rattle.rearrange.specs.Safety.{MeetProposal}
 use Rattle.rearrange.specs.Seats.{allocation_of, state_of}
 use Rattle.rearrange.specs.Settled.{settled}

@@ -15,8 +15,9 @@ use crate::plans::PlanFault;
 use crate::seats::allocation_of;
 use crate::sums::SeatRows;
 use allocation_changes::gains::with_gains;
-use allocation_changes::losses::{LossesFault, without};
+use allocation_changes::losses::without;
 use amount_math::PutFault;
+use amount_math::shortfall::LossFault;
 use proposals::allocations::{Allocation, Row};
 use proposals::plans::{SeatState, Transfer};
 use std::alloc::Global;
@@ -103,8 +104,8 @@ fn lowered(alloc: Global, rows: &[Row], losses: &Allocation) -> Result<Vec<Row>,
 {
     match without(alloc, rows, losses) {
         Ok(after) => Ok(after),
-        Err(LossesFault::NotEnough(short)) => Err(PlanFault::NotEnough(short)),
-        Err(LossesFault::NoMemory) => Err(PlanFault::NoMemory),
+        Err(LossFault::NotEnough(short)) => Err(PlanFault::NotEnough(short)),
+        Err(LossFault::NoMemory) => Err(PlanFault::NoMemory),
     }
 }
 

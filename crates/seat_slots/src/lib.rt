@@ -8,16 +8,17 @@ mod slot;
 ghost use Rattle.std.specs.Prelude.{◌≡◌, ◌<◌, ◌≤◌, ◌↔◌, length, is_none, map, IfErr, IfOk, IsOk, IsSome, IsTrue, OnErr, OnOk};
 ghost use Rattle.amount_math.specs.Amount.{Meet};
 ghost use Rattle.amount_math.specs.Content.{Contains};
+ghost use Rattle.amount_math.specs.Shortfalls.{IsLossFault};
 ghost use Rattle.amount_math.specs.Worth.{IsPutRefusal, IsValue};
 ghost use Rattle.ertp_mint.specs.Balances.{ComesOut, GoesIn, HasRoomFor, HasSpare, held_in};
 ghost use Rattle.ertp_mint.specs.Stocks.{empty_amount};
 ghost use Rattle.proposals.specs.Rows.{AreRows, most_rows};
 ghost use Rattle.proposals.specs.Slots.{FitsSeat, slots_of};
-ghost use Rattle.seat_slots.specs.Shortfalls.{IsTakeFault};
 ghost use Rattle.seat_slots.specs.Seats.{HasPlace, IsOpen, allocation_of, closed_seat, new_seat, open_slots_in, put_in, reopened_seat, stored_in, sum_with, with_further, with_less, with_more, with_room, without_last_slot};
 ghost use Rattle.seat_slots.specs.Slots.{HasEmptyLast, HasSlot, empty_slot, place_of, rows_in};
 
 use crate::slot::{Slot, empty_slots, place_of, rows_of};
+use amount_math::shortfall::{LossFault, show_shortfall};
 use amount_math::{Holding, Kind, PutFault, Value};
 use ertp_mint::{Balance, Parcel};
 use host_text::keyword::Keyword;
@@ -32,36 +33,6 @@ pub enum CloseFault {
     /// It was closed before (Zoe: a seat exits once).
     SeatExited,
     NoMemory,
-}
-
-/// A slot has less than was asked for: what it has, and what was asked for.
-#[derive(Debug, Drop)]
-pub struct Shortfall {
-    pub held: Value,
-    pub asked: Value,
-}
-
-/// Why a part isn't taken out of a slot.
-#[derive(Debug, Drop)]
-pub enum TakeFault {
-    NotEnough(Shortfall),
-    /// Memory is wanted for the part's keys, or for those that a shortfall shows.
-    NoMemory,
-}
-
-/// That there is less than is asked for, with both, whose keys take memory.
-fn show_shortfall(held: &Holding, asked: &Value) -> TakeFault
-    requires value { IsValue held.now.value.kind held.now.value.content }
-    requires less { ¬ Contains held.now.value.content asked.now.content }
-    ensures { IsTakeFault held.now.value asked.now result }
-{
-    let Ok(held) = held.copy() else {
-        return TakeFault::NoMemory;
-    };
-    let Ok(asked) = asked.copy() else {
-        return TakeFault::NoMemory;
-    };
-    TakeFault::NotEnough(Shortfall { held, asked })
 }
 
 /// A seat. Contracts see its instance, its proposal, what is stored in each slot with the room for it, and,
@@ -271,7 +242,7 @@ impl Seat {
     }
 
     /// Takes a part out of the slot of a keyword, or leaves it as it was. Keys take memory.
-    pub fn take(&mut self, keyword: &Keyword, part: &Value) -> Result<Parcel, TakeFault>
+    pub fn take(&mut self, keyword: &Keyword, part: &Value) -> Result<Parcel, LossFault>
         requires there { HasSlot keyword.now self.old.slots }
         requires kind { (stored_in keyword.now self.old).amount.value.kind ≡ part.now.kind }
         ensures ok { OnOk result (self.new ≡ with_less keyword.now part.now.content self.old) }
@@ -279,14 +250,14 @@ impl Seat {
             ≡ record { brand = (stored_in keyword.now self.old).amount.brand; value = part.now }) }
         ensures enough { OnOk result (Contains (stored_in keyword.now self.old).amount.value.content part.now.content) }
         ensures back { IfOk result (GoesIn (stored_in keyword.now self.new)) }
-        ensures refused { IfErr result (IsTakeFault (stored_in keyword.now self.old).amount.value part.now) }
+        ensures refused { IfErr result (IsLossFault (stored_in keyword.now self.old).amount.value part.now) }
         ensures err { OnErr result (self.new ≡ self.old) }
     {
         if !self.holding(keyword).is_gte(part) {
             return Err(show_shortfall(self.holding(keyword), part));
         }
         let Ok(value) = part.copy() else {
-            return Err(TakeFault::NoMemory);
+            return Err(LossFault::NoMemory);
         };
         Ok(self.take_value(keyword, value))
     }

@@ -14,7 +14,7 @@ ghost use Rattle.proposals.specs.Slots.{FitsSeat};
 ghost use Rattle.proposals.specs.declared.offers.Proposal.{Proposal};
 ghost use Rattle.ertp_mint.specs.Balances.{ComesOut, GoesIn, HasRoomFor, HasSpare, held_in};
 ghost use Rattle.seat_slots.specs.Seats.{HasPlace, IsOpen, allocation_of, new_seat, open_slots_in, put_in, reopened_seat, sum_with, with_further, with_less, with_more, with_room, without_last_slot};
-ghost use Rattle.seat_slots.specs.Shortfalls.{IsTakeFault};
+ghost use Rattle.amount_math.specs.Shortfalls.{IsLossFault};
 ghost use Rattle.seat_slots.specs.Slots.{HasEmptyLast, place_of, rows_in};
 ghost use Rattle.seat_store.specs.Staging.{staged_at, with_staged, without_staged};
 ghost use Rattle.seat_store.specs.Store.{AreOpen, HasSlotIn, IsNew, IsSlotRefusal, SeatsView, at_seat, seat_in, seats_of, slot_store, state_of, with_closed, without_last};
@@ -22,13 +22,14 @@ ghost use Rattle.seat_store.specs.Undone.{HasClosed, HasOpenedSlot, HasPut, HasT
 
 use crate::by_instance::ByInstance;
 use crate::staging::Staging;
+use amount_math::shortfall::LossFault;
 use amount_math::{Holding, Kind, PutFault, Value};
 use ertp_mint::Parcel;
 use host_text::keyword::Keyword;
 use proposals::allocations::Allocation;
 use proposals::offers::Proposal;
 use proposals::plans::SeatState;
-use seat_slots::{CloseFault, Seat, TakeFault};
+use seat_slots::{CloseFault, Seat};
 use std::alloc::{AllocError, Global};
 use std::marker::Model;
 
@@ -395,7 +396,7 @@ impl Seats {
 
     /// Takes a part out of the slot of a keyword, also of a closed seat, or leaves it as it was. Keys take
     /// memory.
-    pub fn take(&mut self, seat: u32, keyword: &Keyword, part: &Value) -> Result<Parcel, TakeFault>
+    pub fn take(&mut self, seat: u32, keyword: &Keyword, part: &Value) -> Result<Parcel, LossFault>
         requires made { seat < length self.old.seats }
         requires there { HasSlotIn seat keyword.now self.old }
         requires kind { (slot_store seat keyword.now self.old).amount.value.kind ≡ part.now.kind }
@@ -404,7 +405,7 @@ impl Seats {
         ensures part { IfOk result (λ parcel. parcel ≡ record { brand = (slot_store seat keyword.now self.old).amount.brand; value = part.now }) }
         ensures enough { OnOk result (Contains (slot_store seat keyword.now self.old).amount.value.content part.now.content) }
         ensures back { IfOk result (GoesIn (slot_store seat keyword.now self.new)) }
-        ensures refused { IfErr result (IsTakeFault (slot_store seat keyword.now self.old).amount.value part.now) }
+        ensures refused { IfErr result (IsLossFault (slot_store seat keyword.now self.old).amount.value part.now) }
         ensures err { OnErr result (self.new ≡ self.old) }
     {
         let seat = &mut self.seats[seat as usize];

@@ -3,9 +3,10 @@
 ghost use Rattle.std.specs.Prelude.{◌≡◌, ◌<◌, length};
 
 use crate::ertp_mint_tests::set;
+use amount_math::shortfall::LossFault;
 use amount_math::{AmountKind, Key, Kind, PutFault, SetKind, TooMuch, Value};
 use ertp_mint::{Circulations, Parcel};
-use purses::{Purses, TakeFault};
+use purses::Purses;
 use std::alloc::{AllocError, Global};
 use std::process::Abort;
 
@@ -30,9 +31,9 @@ fn held(purses: &Purses) -> Option<u128>
 }
 
 /// What was held and what was asked for, where it was more.
-fn short(answer: &Result<Parcel, TakeFault>) -> Option<(u128, u128)> {
+fn short(answer: &Result<Parcel, LossFault>) -> Option<(u128, u128)> {
     match answer {
-        Err(TakeFault::NotEnough(short)) => Some((short.held.total(), short.asked.total())),
+        Err(LossFault::NotEnough(short)) => Some((short.held.total(), short.asked.total())),
         _ => None,
     }
 }

@@ -1,7 +1,7 @@
 -- A ZCF mint's losses: what a plan leaves the seat, and when there is none (Zoe; the order of the refusals is our own).
 use Rattle.std.specs.Prelude.{◌≡◌, ℕ, ◌<◌, ◌≤◌, List, length}
 use Rattle.allocation_changes.specs.Losses.{IsLossesRefusal, with_losses}
-use Rattle.allocation_changes.specs.declared.losses.LossesFault.TheVariants as changes
+use Rattle.amount_math.specs.declared.shortfall.LossFault.TheVariants as changes
 use Rattle.proposals.specs.OfferSafety.{AreCovered, IsOfferSafe}
 use Rattle.proposals.specs.Rows.{most_rows}
 use Rattle.proposals.specs.declared.allocations.Row.{Row}

@@ -8,9 +8,9 @@ ghost use Rattle.zcf_mint.specs.Losses.{IsRefused, IsTaken, MayLose};
 ghost use Rattle.zcf_mint.specs.Seats.{MeetsProposal, planned};
 
 use crate::seats::{SeatFault, check_seat, plan};
-use allocation_changes::losses as changes;
-use allocation_changes::losses::{Shortfall, without};
+use allocation_changes::losses::without;
 use allocation_changes::slots::{SlotsFault, allocation_of, is_offer_safe, open_further};
+use amount_math::shortfall::{LossFault, Shortfall};
 use proposals::allocations::{Allocation, Row};
 use proposals::plans::{Plan, SeatState};
 use std::alloc::Global;
@@ -92,8 +92,8 @@ fn taken(
     }
     let slots = match without(alloc, state.allocation.rows(), losses) {
         Ok(slots) => slots,
-        Err(changes::LossesFault::NotEnough(short)) => return Err(LossesFault::NotEnough(short)),
-        Err(changes::LossesFault::NoMemory) => return Err(LossesFault::NoMemory),
+        Err(LossFault::NotEnough(short)) => return Err(LossesFault::NotEnough(short)),
+        Err(LossFault::NoMemory) => return Err(LossesFault::NoMemory),
     };
     if is_offer_safe(slots.as_slice(), &state.proposal) {
         Ok(slots)
