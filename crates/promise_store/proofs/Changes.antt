@@ -1,5 +1,5 @@
 -- The nodes after each change of the lists.
-use Rattle.std.proofs.Common.{◌≡◌, ℕ, zero, suc, ◌<◌, ◌≤◌, ◌≢◌, List, [], ◌∷◌, ◌++◌, length, get_or, set, take, reverse, map, ◌+◌, ◌-◌, inl, inr, refl, sym, ap, ◌∙◌, subst, arith, Bool, true, false, ◌==◌, if◌then◌else◌, Option, None, Some}
+use Rattle.std.proofs.Common.{◌≡◌, ℕ, zero, suc, ◌<◌, ◌≤◌, ◌≢◌, List, [], ◌∷◌, ◌++◌, length, get_or, set, take, reverse, map, ◌+◌, inl, inr, refl, sym, ap, ◌∙◌, subst, arith, ◌==◌, if◌then◌else◌, None, Some}
 use Rattle.std.proofs.lemmas.Bool.{cases_lt}
 use Rattle.std.proofs.lemmas.Bool.Decides.{nat_tests}
 use Rattle.std.proofs.lemmas.List.{get_or-set_same, get_or-set_other, get_or-take, take-append-le, length-take-le, length_push, take_all, length-set, append-nil, append_assoc, reverse-append, take_more}
@@ -9,7 +9,7 @@ use Rattle.promise_store.specs.declared.links.Event.{Event}
 use Rattle.promise_store.specs.declared.links.Event.TheVariants.{Settled, Notified}
 use Rattle.promise_store.specs.Cascade.{settled_in}
 use Rattle.promise_store.specs.Nodes.{Noted, bare, node_at, shorter, settlement_at, with_settlement, without_leader, without_follower, without_request}
-use Rattle.promise_store.specs.Linked.{leader, followers, requests_from, requests, settlement_of, noted_at, outcome, with_outcomes, LeadsTo, here, IsForest, IsInOrder}
+use Rattle.promise_store.specs.Linked.{leader, followers, requests_from, requests, settlement_of, noted_at, outcome, with_outcomes, LeadsTo, here, IsInOrder}
 use Rattle.promise_store.specs.Kept.{AreNodes}
 
 -- one node is another

@@ -1,8 +1,8 @@
 -- Where each promise's chain ends, and how far that is.
-use Rattle.std.proofs.Common.{◌≡◌, ℕ, zero, suc, ◌<◌, ◌≤◌, ◌≢◌, List, [], ◌∷◌, ◌++◌, length, ◌+◌, refl, sym, ap, ◌∙◌, subst, arith, Bool, true, false, ◌==◌, if◌then◌else◌, Option, None, Some}
+use Rattle.std.proofs.Common.{◌≡◌, ℕ, zero, suc, ◌<◌, ◌≤◌, ◌≢◌, List, [], ◌∷◌, ◌+◌, refl, subst, arith, ◌==◌, if◌then◌else◌, Option, None, Some}
 use Rattle.std.proofs.lemmas.Bool.Decides.{nat_tests}
 use Rattle.promise_store.specs.declared.links.Following.{Following}
-use Rattle.promise_store.specs.Linked.{leader, followers, LeadsTo, here, through, IsForest}
+use Rattle.promise_store.specs.Linked.{leader, LeadsTo, here, through, IsForest}
 
 -- where n leads at last, and after how many steps, where the latest of fs came to a forest of the others
 abbrev pub end : List Following → ℕ → ℕ

@@ -1,24 +1,24 @@
 -- What hangs on a promise is settled once, and each after what it follows.
-use Rattle.std.proofs.Common.{◌≡◌, ℕ, zero, suc, ◌<◌, ◌≤◌, ◌≢◌, List, [], ◌∷◌, ◌++◌, length, map, ◌+◌, ◌⊎◌, inl, inr, refl, sym, ap, ◌∙◌, subst, arith, Option, None, Some, IsSome}
+use Rattle.std.proofs.Common.{◌≡◌, ℕ, zero, suc, ◌≢◌, List, [], ◌∷◌, ◌++◌, length, map, ◌+◌, ◌⊎◌, inl, inr, refl, sym, ap, ◌∙◌, subst, arith, Option, None, Some, IsSome}
 use Rattle.std.proofs.lemmas.List.{append-nil}
 use Rattle.promise_store.specs.declared.links.Following.{Following}
 use Rattle.promise_store.specs.declared.links.Outcome.{Outcome}
 use Rattle.promise_store.specs.declared.links.Event.{Event}
-use Rattle.promise_store.specs.declared.links.Event.TheVariants.{Settled, Notified}
-use Rattle.promise_store.specs.Nodes.{Noted, node_at}
-use Rattle.promise_store.specs.Linked.{Linked, leader, followers, requests, settlement_of, outcome, with_outcomes, noted_at, IsForest, IsInOrder}
+use Rattle.promise_store.specs.declared.links.Event.TheVariants.{Settled}
+use Rattle.promise_store.specs.Nodes.{Noted}
+use Rattle.promise_store.specs.Linked.{Linked, leader, followers, requests, settlement_of, outcome, with_outcomes, IsForest, IsInOrder}
 use Rattle.promise_store.specs.Cascade.{Settles, none, first, notified, notifications, settled_in}
 use Rattle.promise_store.specs.Kept.{AreNodes}
 use Rattle.promise_store.proofs.Forest.{height, higher}
-use Rattle.promise_store.proofs.Changes.{AreBelow, each_at, followers_here, followers_other, inside, leader_here, leader_other, settled_head, settled_other, settled_in_append}
+use Rattle.promise_store.proofs.Changes.{AreBelow, each_at, followers_here, followers_other, inside, settled_head, settled_other, settled_in_append}
 use Rattle.promise_store.proofs.Cascade.{AreLed, led_followers}
 
 -- n is one of these
-abbrev Among : ℕ → List ℕ → Type 0
+abbrev pub Among : ℕ → List ℕ → Type 0
 Among n [] = ⊥
 Among n (x ∷ xs) = (x ≡ n) ⊎ Among n xs
 
-among_append : (n : ℕ) (xs ys : List ℕ) → Among n (xs ++ ys) → Among n xs ⊎ Among n ys
+pub among_append : (n : ℕ) (xs ys : List ℕ) → Among n (xs ++ ys) → Among n xs ⊎ Among n ys
 among_append n [] ys a = inr a
 among_append n (x ∷ xs) ys (inl e) = inl (inl e)
 among_append n (x ∷ xs) ys (inr a) = elim (among_append n xs ys a) [ inl b ↦ inl (inr b) | inr b ↦ inr b ]
@@ -34,7 +34,7 @@ distinct_push (x ∷ xs) y d h = (
   distinct_push xs y d.1 (λ a. h (inr a)),
 )
 
-led_among : (fs : List Following) (p q : ℕ) (qs : List ℕ) → AreLed fs p qs → Among q qs → leader fs q ≡ Some p
+pub led_among : (fs : List Following) (p q : ℕ) (qs : List ℕ) → AreLed fs p qs → Among q qs → leader fs q ≡ Some p
 led_among fs p q [] a m = absurd m
 led_among fs p q (x ∷ qs) a (inl e) = ap (leader fs) (sym e) ∙ a.0
 led_among fs p q (x ∷ qs) a (inr m) = led_among fs p q qs a.1 m
@@ -79,7 +79,7 @@ settled_still : (k : ℕ) (ps : List ℕ) (os : List Outcome) (n : ℕ) → IsSo
 settled_still k [] os n h = h
 settled_still k (p ∷ ps) os n h = settled_still k ps (outcome k p ∷ os) n (settled_more (outcome k p) os n h)
 
-settled_elsewhere : (k : ℕ) (ps : List ℕ) (os : List Outcome) (n : ℕ) → (Among n ps → ⊥) → settlement_of (with_outcomes k ps os) n ≡ settlement_of os n
+pub settled_elsewhere : (k : ℕ) (ps : List ℕ) (os : List Outcome) (n : ℕ) → (Among n ps → ⊥) → settlement_of (with_outcomes k ps os) n ≡ settlement_of os n
 settled_elsewhere k [] os n h = refl
 settled_elsewhere k (p ∷ ps) os n h = settled_elsewhere k ps (outcome k p ∷ os) n (λ a. h (inr a)) ∙ settled_other (outcome k p) os n (λ e. h (inl e))
 
@@ -107,7 +107,7 @@ none_notified : (p : ℕ) (rs : List ℕ) → settled_in (map (notified p) rs) �
 none_notified p [] = refl
 none_notified p (r ∷ rs) = none_notified p rs
 
-settled_parts : (l : Linked) (q : ℕ) (below rest es : List Event) → es ≡ Settled q ∷ below ++ notifications l q ++ rest → settled_in es ≡ q ∷ (settled_in below ++ settled_in rest)
+pub settled_parts : (l : Linked) (q : ℕ) (below rest es : List Event) → es ≡ Settled q ∷ below ++ notifications l q ++ rest → settled_in es ≡ q ∷ (settled_in below ++ settled_in rest)
 settled_parts l q below rest es e =
     ap settled_in e ∙ ap (λ (ps : List ℕ). q ∷ ps)
     (settled_in_append (below ++ notifications l q) rest

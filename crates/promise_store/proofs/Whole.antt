@@ -1,14 +1,13 @@
 -- The store after each change of its links.
-use Rattle.std.proofs.Common.{◌≡◌, ◌≢◌, ℕ, ◌<◌, ◌≤◌, List, [], ◌∷◌, ◌++◌, length, map, take, get_or, ◌+◌, refl, sym, ap, ◌∙◌, subst, arith, Bool, true, false, nat_lt, Option, None, Some, zero, suc, IsSome, Result, Ok, Err, IfOk, OnErr}
+use Rattle.std.proofs.Common.{◌≡◌, ℕ, ◌<◌, ◌≤◌, List, [], ◌∷◌, ◌++◌, length, map, take, get_or, refl, ap, ◌∙◌, arith, true, nat_lt, Option, None, Some, zero, suc, IsSome, Result, Ok, Err, IfOk, OnErr}
 use Rattle.std.specs.List.{list_all}
 use Rattle.std.proofs.lemmas.Bool.Decides.{nat_tests}
 use Rattle.std.proofs.lemmas.List.{length_push, length-take-le}
-use Rattle.promise_store.specs.declared.links.Event.{Event}
 use Rattle.promise_store.specs.declared.links.Following.{Following}
 use Rattle.promise_store.specs.declared.links.Outcome.{Outcome}
 use Rattle.promise_store.specs.declared.settlement.Settlement.{Settlement}
-use Rattle.promise_store.specs.Linked.{LinkedTurn, LeadsTo, here, through, IsInOrder, leader, settlement_of, outcome, with_outcomes, settling}
-use Rattle.promise_store.specs.States.{SettlementView, StateView, pending, state_of, settlement_view, is_final}
+use Rattle.promise_store.specs.Linked.{AreAlike, LinkedTurn, LeadsTo, here, through, IsInOrder, settlement_of, outcome, with_outcomes, settling}
+use Rattle.promise_store.specs.States.{SettlementView, pending, state_of, settlement_view, is_final}
 use Rattle.promise_store.specs.Whole.{IsWhole, are_numbered}
 use Rattle.promise_store.proofs.Order.{leader_settled}
 
@@ -54,8 +53,9 @@ final_take (suc k) (x ∷ ss) h =
 
 -- promises are settled with a settlement that is there, or nothing is changed
 pub whole_either : {R E V : Type 0} (items : V → List ℕ) (r : Result V E) (old new : LinkedTurn) (es : List R) (ss : List Settlement) (e n k : ℕ)
-    → IfOk r (λ v. new ≡ record old { now = settling k (items v) old.now }) → OnErr r (new ≡ old) → IsWhole old es ss e n → k < length ss → IsWhole new es ss e n
-whole_either items (Ok v) old new es ss e n k ok err w h = rw ok record {
+    → IfOk r (λ v. new ≡ record old { now = settling k (items v) old.now }) → OnErr r (new ≡ old) → IsWhole old es ss e n → k < length ss
+    → IfOk r (λ v. AreAlike old.now.follows (with_outcomes k (items v) old.now.outcomes)) → IsWhole new es ss e n
+whole_either items (Ok v) old new es ss e n k ok err w h a = rw ok record {
   entries = w.entries;
   numbered = numbered_with (length ss) k (items v) old.now.outcomes h w.numbered;
   start_numbered = w.start_numbered;
@@ -63,13 +63,16 @@ whole_either items (Ok v) old new es ss e n k ok err w h = rw ok record {
   start_within = w.start_within;
   settlements_within = w.settlements_within;
   final = w.final;
+  alike = a;
+  start_alike = w.start_alike;
 }
-whole_either items (Err x) old new es ss e n k ok err w h = rw err w
+whole_either items (Err x) old new es ss e n k ok err w h a = rw err w
 
 -- promises are settled with one more settlement
 pub whole_settled : {R : Type 0} (old new : LinkedTurn) (es : List R) (ss : List Settlement) (s : Settlement) (ps : List ℕ) (e n k : ℕ)
-    → new ≡ record old { now = settling k ps old.now } → IsWhole old es ss e n → k ≡ length ss → is_final (settlement_view s) ≡ true → IsWhole new es (ss ++ s ∷ []) e n
-whole_settled old new es ss s ps e n k ok w h f = rw ok record {
+    → new ≡ record old { now = settling k ps old.now } → IsWhole old es ss e n → k ≡ length ss → is_final (settlement_view s) ≡ true
+    → AreAlike old.now.follows (with_outcomes k ps old.now.outcomes) → IsWhole new es (ss ++ s ∷ []) e n
+whole_settled old new es ss s ps e n k ok w h f a = rw ok record {
   entries = w.entries;
   numbered = numbered_with (length (ss ++ s ∷ [])) k ps old.now.outcomes (omega (arith, h, length_push ss s)) (numbered_more (length ss) (length (ss ++ s ∷ [])) old.now.outcomes (omega (arith, length_push ss s)) w.numbered);
   start_numbered = w.start_numbered;
@@ -77,6 +80,8 @@ whole_settled old new es ss s ps e n k ok w h f = rw ok record {
   start_within = w.start_within;
   settlements_within = omega (arith, w.settlements_within, length_push ss s);
   final = final_push ss s w.final f;
+  alike = a;
+  start_alike = w.start_alike;
 }
 
 -- a promise that is settled leads to settled ones alone
@@ -104,4 +109,6 @@ whole_back old new es fs ss ts e n back cut less w =
       start_within = omega (arith, len);
       settlements_within = omega (arith, many);
       final = ap (λ xs. list_all is_final (map settlement_view xs)) less ∙ final_take n ss w.final;
+      alike = w.start_alike;
+      start_alike = w.start_alike;
     }

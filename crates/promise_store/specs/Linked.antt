@@ -98,6 +98,10 @@ abbrev pub IsInOrder : List Following → List Outcome → Type 0
 IsInOrder fs [] = Unit {0}
 IsInOrder fs (o ∷ os) = (settlement_of os o.promise ≡ None) × ((q : ℕ) → leader fs o.promise ≡ Some q → IsSome (settlement_of os q)) × IsInOrder fs os
 
+-- A promise that follows another is settled just as that one is: with the same settlement, or not yet.
+pub record AreAlike (fs : List Following) (os : List Outcome) : Type 0 where
+  pub each : (n q : ℕ) → leader fs n ≡ Some q → settlement_of os n ≡ settlement_of os q
+
 -- What holds of all links.
 pub record IsLinked (l : Linked) : Type 0 where
   pub forest : IsForest l.follows

@@ -2,7 +2,7 @@
 use Rattle.std.specs.Prelude.{◌≡◌, ℕ, List, [], ◌∷◌, ◌++◌, Option, None, Some, length}
 use Rattle.promise_store.specs.declared.links.Event.{Event}
 use Rattle.promise_store.specs.declared.settlement.Settlement.{Settlement}
-use Rattle.promise_store.specs.Linked.{Linked, none_made, leader, settlement_of, one_more, asking, following, settling}
+use Rattle.promise_store.specs.Linked.{LeadsTo, Linked, none_made, leader, settlement_of, one_more, asking, following, settling}
 use Rattle.promise_store.specs.Cascade.{Settles, notified, settled_in}
 use Rattle.promise_store.specs.States.{SettlementView, StateView, settlement_view, state_of}
 
@@ -75,3 +75,8 @@ answer_at_once l p = answer_of (settlement_of l.outcomes p) p (length l.asked)
 -- after p came to follow t with these events: it follows t, or it is settled at once, as t is
 abbrev pub with_following : {R : Type 0} → ℕ → ℕ → List Event → Store R → Store R
 with_following p t es s = record s { links = links_following (settlement_of s.links.outcomes t) p t es s.links }
+
+-- every promise that leads to p is v then, and each other is what it was
+pub record AreSettledWith {R : Type 0} (v : StateView) (p : ℕ) (old new : Store R) : Type 0 where
+  pub leading : (n : ℕ) → LeadsTo old.links.follows p n → state_at new n ≡ v
+  pub others : (n : ℕ) → (LeadsTo old.links.follows p n → ⊥) → state_at new n ≡ state_at old n

@@ -3,10 +3,10 @@
 
 ghost use Rattle.std.specs.Prelude.{◌≡◌, ◌≢◌, ℕ, ◌<◌, ◌≤◌, ◌↔◌, ◌+◌, ◌++◌, ◌∷◌, [], Err, None, Some, IsTrue, IfErr, IfOk, IsOk, IsSome, OnErr, OnOk, length, slice_index_or, vec_capacity, vec_len};
 ghost use Rattle.promise_store.specs.Cascade.{Settles, settled_in};
-ghost use Rattle.promise_store.specs.Linked.{LeadsTo, asking, leader, links_changed, most_made, settlement_of, settling};
-ghost use Rattle.promise_store.specs.States.{is_final, is_flat, pending, settlement_view};
+ghost use Rattle.promise_store.specs.Linked.{AreAlike, LeadsTo, asking, leader, links_changed, most_made, settlement_of, settling};
+ghost use Rattle.promise_store.specs.States.{is_final, is_flat, pending, settled, settlement_view};
 ghost use Rattle.promise_store.specs.Whole.{IsWhole};
-ghost use Rattle.promise_store.specs.Turns.{ComesOfFollowing, answer_at_once, back_at, kept_at, none_yet, one_made, state_at, with_following, with_request, with_settled};
+ghost use Rattle.promise_store.specs.Turns.{AreSettledWith, ComesOfFollowing, answer_at_once, back_at, kept_at, none_yet, one_made, state_at, with_following, with_request, with_settled};
 ghost use Rattle.promise_store.specs.declared.store.FollowFault.TheVariants as faults;
 ghost use Rattle.promise_store.specs.declared.store.MakeFault.TheVariants as make_faults;
 
@@ -98,11 +98,13 @@ impl<R: Drop> Promises<R> {
         Ok(number)
     }
 
-    /// A promise as it is. The data that it was settled with is no promise, unless it is broken.
+    /// A promise as it is. The data that it was settled with is no promise, unless it is broken. One that
+    /// follows another is settled just as that one is: with the same, or not yet.
     pub fn state(&self, promise: u32) -> State<'_>
         requires { promise < (links_now self.now).made }
         ensures state { state_view result ≡ state_at (now_of self.now) promise }
         ensures flat { IsTrue (is_flat (state_view result)) }
+        ensures alike { AreAlike (follows_now self.now) (links_now self.now).outcomes }
     {
         if let Some(number) = self.links.settlement(promise) {
             return State::Settled(&self.settlements[number]);
@@ -123,17 +125,21 @@ impl<R: Drop> Promises<R> {
 
     /// Settles a promise that is pending and follows none (eventual send: it is settled once), then
     /// all that follow it, in the order in which they came, each with all that hangs on it, and
-    /// answers the requests that ask for each after that. Answers what comes of it, in order. For
-    /// want of memory the settlement comes back, and all is as before.
+    /// answers the requests that ask for each after that. Every promise that leads to it is settled
+    /// with the same, and each other is what it was. Answers what comes of it, in order. For want of
+    /// memory the settlement comes back, and all is as before.
     pub fn settle(&mut self, promise: u32, settlement: Settlement) -> Result<Vec<Event>, Settlement>
         requires made { promise < (links_now self.old).made }
         requires is_pending { state_at (now_of self.old) promise ≡ pending }
         requires is_final { IsTrue (is_final (settlement_view settlement)) }
         ensures events { IfOk result (λ es. Settles (links_now self.old) (promise ∷ []) es.items) }
         ensures ok { IfOk result (λ es. Becomes (with_settled es.items settlement) self.old self.new) }
+        ensures settled { OnOk result
+            (AreSettledWith (settled (settlement_view settlement)) promise (now_of self.old) (now_of self.new)) }
         ensures back { IfErr result (λ back. back ≡ settlement) }
         ensures err { OnErr result (promises_of self.new ≡ promises_of self.old) }
     {
+        self.links.valid();
         match settle_with_next(&mut self.links, &mut self.settlements, promise) {
             Ok(events) => {
                 self.settlements.push_reserved(settlement);
@@ -154,6 +160,8 @@ impl<R: Drop> Promises<R> {
         ensures cycle { (result ≡ Err (faults.PromiseCycle promise)) ↔ LeadsTo (follows_now self.old) promise target }
         ensures events { IfOk result (λ es. ComesOfFollowing (links_now self.old) promise target es.items) }
         ensures ok { IfOk result (λ es. Becomes (with_following promise target es.items) self.old self.new) }
+        ensures settled { IsSome (settlement_of (links_now self.old).outcomes target)
+            → OnOk result (AreSettledWith (state_at (now_of self.old) target) promise (now_of self.old) (now_of self.new)) }
         ensures shown { IfErr result (λ f. (n : ℕ) → f ≡ faults.PromiseCycle n → n ≡ promise) }
         ensures err { OnErr result (promises_of self.new ≡ promises_of self.old) }
     {

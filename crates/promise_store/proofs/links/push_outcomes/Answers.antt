@@ -1,4 +1,4 @@
-use Rattle.std.proofs.Common.{◌≡◌, ℕ, ◌<◌, ◌≤◌, List, [], ◌∷◌, ◌++◌, length, get_or, set, take, reverse, ◌+◌, ◌-◌, refl, sym, ap, ◌∙◌, subst, arith, map}
+use Rattle.std.proofs.Common.{[], ◌∷◌, ◌++◌, get_or, take, sym, ap, ◌∙◌, map}
 use Rattle.std.proofs.lemmas.List.{append_assoc, map-append}
 use Rattle.promise_store.specs.declared.links.Event.TheVariants.{Settled}
 use Rattle.promise_store.specs.Cascade.{settled_in}

@@ -1,8 +1,8 @@
-use Rattle.std.proofs.Common.{◌≡◌, ℕ, ◌<◌, ◌≤◌, List, [], ◌∷◌, ◌++◌, length, get_or, set, take, reverse, ◌+◌, ◌-◌, refl, sym, ap, ◌∙◌, subst, arith, map}
+use Rattle.std.proofs.Common.{◌≡◌, ◌<◌, [], ◌∷◌, ◌++◌, length, set, take, reverse, sym, ap, ◌∙◌, subst, arith}
 use Rattle.std.proofs.lemmas.List.{length-set, reverse-append, take-append-le, length_push, get_or_read}
 use Rattle.promise_store.specs.declared.links.Following.{Following}
 use Rattle.promise_store.specs.Linked.{LinkedTurn, LeadsTo, leader, settlement_of, noted_at}
-use Rattle.promise_store.specs.Nodes.{Noted, bare, node_at}
+use Rattle.promise_store.specs.Nodes.{Noted, bare}
 use Rattle.promise_store.specs.Kept.{AreNodes}
 use Rattle.promise_store.proofs.Changes.{followed}
 use Rattle.std.proofs.Common.{Some}

@@ -1,10 +1,9 @@
-use Rattle.std.proofs.Common.{◌≡◌, ℕ, ◌<◌, ◌≤◌, List, [], ◌∷◌, ◌++◌, length, get_or, set, take, reverse, ◌+◌, ◌-◌, refl, sym, ap, ◌∙◌, subst, arith, map}
-use Rattle.std.proofs.lemmas.List.{length-set, take-append-le, length-append}
-use Rattle.promise_store.specs.declared.links.Outcome.{Outcome}
-use Rattle.promise_store.specs.Nodes.{Noted, bare, with_settlement}
-use Rattle.promise_store.specs.Linked.{Linked, LinkedTurn, leader, settlement_of, outcome, with_outcomes, settling, noted_at}
+use Rattle.std.proofs.Common.{◌≡◌, ◌<◌, [], ◌∷◌, ◌++◌, length, take, reverse, sym, ap, ◌∙◌, subst, arith, map}
+use Rattle.std.proofs.lemmas.List.{take-append-le, length-append}
+use Rattle.promise_store.specs.Nodes.{with_settlement}
+use Rattle.promise_store.specs.Linked.{Linked, LinkedTurn, leader, settlement_of, outcome, settling, noted_at}
 use Rattle.promise_store.specs.Cascade.{Settles, settled_in}
-use Rattle.promise_store.specs.Kept.{AreNodes, linked_now, linked_start, linked_turn}
+use Rattle.promise_store.specs.Kept.{linked_now, linked_start, linked_turn}
 use Rattle.promise_store.proofs.Changes.{length-with_settlement, outcomes_pushed, settled_all}
 use Rattle.promise_store.proofs.Order.{settled_in_order, settled_below}
 use Rattle.promise_store.proofs.links.Links.settle.Goals as goal

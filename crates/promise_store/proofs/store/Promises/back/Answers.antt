@@ -1,8 +1,6 @@
-use Rattle.std.proofs.Common.{◌≡◌, ℕ, ◌<◌, ◌≤◌, List, [], ◌∷◌, ◌++◌, length, get_or, set, take, reverse, ◌+◌, ◌-◌, refl, sym, ap, ◌∙◌, subst, arith, map, None, Some, IsSome}
-use Rattle.std.proofs.lemmas.List.{length-take-le, take-map}
-use Rattle.promise_store.specs.Linked.{LinkedTurn}
-use Rattle.promise_store.specs.States.{settlement_view, is_final}
-use Rattle.promise_store.specs.Whole.{IsWhole, are_numbered}
+use Rattle.std.proofs.Common.{refl, sym}
+use Rattle.std.proofs.lemmas.List.{take-map}
+use Rattle.promise_store.specs.States.{settlement_view}
 use Rattle.promise_store.proofs.Changes.{take_twice}
 use Rattle.promise_store.proofs.Whole.{whole_back}
 use Rattle.promise_store.proofs.store.Promises.back.Goals as goal

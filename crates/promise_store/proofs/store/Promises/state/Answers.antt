@@ -1,4 +1,4 @@
-use Rattle.std.proofs.Common.{◌≡◌, ℕ, ◌<◌, ◌≤◌, List, [], ◌∷◌, ◌++◌, length, get_or, set, take, reverse, ◌+◌, ◌-◌, refl, sym, ap, ◌∙◌, subst, arith, map, None, Some, IsSome}
+use Rattle.std.proofs.Common.{◌<◌, length, sym, ap, ◌∙◌, arith, map}
 use Rattle.std.proofs.lemmas.List.{get_or-map, length-map}
 use Rattle.promise_store.specs.Linked.{leader}
 use Rattle.promise_store.specs.States.{settled, settlement_view, state_of, broken, is_final}
