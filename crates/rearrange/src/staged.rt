@@ -67,7 +67,8 @@ fn all_with_staging(
 /// NotConserved, NotOfferSafe and Limit. The states are those of the listed seats and of every open seat
 /// of the instance with staging, for no other can be told as left out; a seat without state fails no test
 /// and has nothing. The plan has the seats in the order of the list; who carries it out writes by number.
-/// Whether a seat is listed twice takes the square of the number of seats.
+/// Whether a seat is listed twice takes the square of the number of seats, which a contract writes one by
+/// one in a text of at most 65,536 bytes.
 pub fn plan_staged(
     alloc: Global,
     instance: u32,

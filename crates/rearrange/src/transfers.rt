@@ -51,7 +51,8 @@ fn add_once(seats: &mut Vec<u32>, seat: u32) -> Result<(), AllocError>
     Ok(())
 }
 
-/// Seats in the order in which they first stand, each once.
+/// Seats in the order in which they first stand, each once. It takes the number of seats times that of
+/// different ones, which are open seats of one instance.
 fn once(alloc: Global, seats: &[u32]) -> Result<Vec<u32>, AllocError>
     ensures { IfOk result (λ all. all.items ≡ lists.once seats.now) }
 {

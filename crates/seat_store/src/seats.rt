@@ -528,16 +528,49 @@ impl Seats {
             ≡ None }
     {
         let alloc = *self.seats.allocator();
+        match self.parts(alloc, seat) {
+            Ok((proposal, rows)) => Ok(self.state_with(seat, proposal, rows)),
+            Err(fault) => Err(fault),
+        }
+    }
+
+    /// The state of a seat that has this proposal, and these rows in its slots and staged.
+    fn state_with(
+        &self,
+        seat: u32,
+        proposal: Proposal,
+        rows: (Allocation, Option<Allocation>),
+    ) -> SeatState
+        requires made { seat < length self.now.seats }
+        requires proposal { proposal ≡ (seat_in seat self.now).proposal }
+        requires rows { rows ≡ (allocation_of (seat_in seat self.now), staged_at seat self.now.staging) }
+        ensures { result ≡ state_of seat self.now }
+    {
+        let (allocation, staged) = rows;
+        SeatState {
+            seat,
+            instance: self.instance(seat),
+            proposal,
+            allocation,
+            staged,
+            is_open: self.is_open(seat),
+        }
+    }
+
+    /// Copies of the proposal of a seat, and of what its slots have and what is staged of it.
+    fn parts(
+        &self,
+        alloc: Global,
+        seat: u32,
+    ) -> Result<(Proposal, (Allocation, Option<Allocation>)), AllocError>
+        requires { seat < length self.now.seats }
+        ensures proposal { IfOk result (λ parts. parts.0 ≡ (seat_in seat self.now).proposal) }
+        ensures rows { IfOk result (λ parts. parts.1
+            ≡ (allocation_of (seat_in seat self.now), staged_at seat self.now.staging)) }
+    {
         let proposal = self.proposal(seat).copy(alloc)?;
         match self.rows(alloc, seat) {
-            Ok((allocation, staged)) => Ok(SeatState {
-                seat,
-                instance: self.instance(seat),
-                proposal,
-                allocation,
-                staged,
-                is_open: self.is_open(seat),
-            }),
+            Ok(rows) => Ok((proposal, rows)),
             Err(fault) => Err(fault),
         }
     }

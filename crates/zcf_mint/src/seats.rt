@@ -47,7 +47,7 @@ pub(crate) fn plan(alloc: Global, state: &SeatState, after: Allocation) -> Resul
 fn one(alloc: Global, touched: Touched) -> Result<Plan, AllocError>
     ensures { IfOk result (λ plan. plan ≡ touched ∷ []) }
 {
-    let mut seats = Vec::new(alloc);
-    seats.push(touched)?;
+    let mut seats = Vec::with_capacity(alloc, 1)?;
+    seats.push_reserved(touched);
     Ok(Plan::from_touched(seats))
 }
