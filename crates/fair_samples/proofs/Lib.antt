@@ -1,0 +1,15 @@
+pub mod Together
+pub mod Held
+pub mod Printed
+pub mod Sized
+pub mod Tests
+pub mod Sound
+pub mod All
+pub mod Computed
+pub mod Broken
+pub mod Needed
+pub mod AmountRows
+pub mod Fair
+pub mod InForm
+pub mod FurtherLists
+pub mod Balance

@@ -1,0 +1,24 @@
+-- What is shown of the sentences of fairness.
+use Rattle.std.specs.Prelude.{◌≡◌, ◌≢◌, ℕ, List, [], ◌∷◌}
+use Rattle.amount_math.specs.Content.{nothing}
+use Rattle.rights_model.specs.Table.{holds}
+use Rattle.rights_model.specs.declared.Holder.TheVariants.{Hand}
+use Rattle.turn_rows.specs.Turns.{Turn}
+use Rattle.fair_rows.specs.SoFar.{SoFar, nothing_so_far, with_turn}
+use Rattle.fair_rows.specs.Turns.{AreFair}
+use Rattle.fair_samples.specs.Sentences.{Meets, Sentence, movements_are_defined, tables_balance}
+
+-- the list meets all sentences but this one, and so isn't fair
+pub record BreaksAlone (x : Sentence) (ts : List Turn) : Type 0 where
+  pub others : (y : Sentence) → y ≢ x → Meets y ts
+  pub breaks : ¬ Meets x ts
+  pub unfair : ¬ AreFair ts
+
+-- after each turn the hand is empty
+abbrev pub LeaveNothing : SoFar → List Turn → Type 0
+LeaveNothing s [] = Unit {0}
+LeaveNothing s (t ∷ ts) = ((b : ℕ) → holds (with_turn s t).table Hand b ≡ nothing) × LeaveNothing (with_turn s t) ts
+
+-- of balance it is the empty hand alone that is asked: where movements are defined, the stores add up by themselves
+abbrev pub StoresAddUp : Type 0
+StoresAddUp = (ts : List Turn) → Meets movements_are_defined ts → LeaveNothing nothing_so_far ts → Meets tables_balance ts

@@ -1,0 +1,5 @@
+pub mod Sentences
+pub mod Samples
+pub mod Further
+pub mod Example
+pub mod Claims
