@@ -1,0 +1,4 @@
+pub mod Names
+pub mod Printed
+pub mod Printable
+pub mod Values
