@@ -1,0 +1,3 @@
+pub mod OpenBlocks
+pub mod Reserved
+pub mod Scopes
