@@ -1,0 +1,12 @@
+pub mod Exprs
+pub mod Good
+pub mod Modules
+pub mod Reading
+pub mod Rows
+pub mod Sets
+pub mod Statements
+pub mod Texts
+pub mod ToldNames
+pub mod ToldTurns
+pub mod Unique
+pub mod Whole

@@ -1,0 +1,10 @@
+pub mod BlockTurns
+pub mod Grammar
+pub mod Lang
+pub mod Laws
+pub mod Levels
+pub mod Parse
+pub mod Refused
+pub mod Rules
+pub mod StatementList
+pub mod Words
