@@ -1,0 +1,4 @@
+pub mod NamedFields
+pub mod ReadFunctions
+mod Rows
+pub mod SortedNames

@@ -1,0 +1,9 @@
+use Rattle.std.proofs.Common.{Some, sym, ap}
+use Rattle.jessie_tree.specs.View.{trees}
+use Rattle.jessie_tree.proofs.Views.{listed_back, tree-Array}
+use Rattle.jessie_values.proofs.parts.into_items.Goals as goal
+
+pub returns-in-Array : goal.returns-in-Array
+returns-in-Array c =
+    let v = c.in-Array.items in
+    rw (c.in-Array.is, tree-Array v) (ap Some (sym (listed_back (trees v.items))))

@@ -1,0 +1,11 @@
+pub mod Reasons
+pub mod Outcomes
+pub mod Operators
+pub mod Named
+pub mod Records
+pub mod Steps
+pub mod BuiltIns
+pub mod Requests
+pub mod Dispatch
+pub mod RequestViews
+pub mod SortedFields
