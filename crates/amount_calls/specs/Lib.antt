@@ -1,0 +1,4 @@
+pub mod Refusals
+pub mod Given
+pub mod Worths
+pub mod AmountMath
