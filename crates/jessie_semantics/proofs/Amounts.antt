@@ -1,0 +1,465 @@
+-- What AmountMath makes of values: amounts of brands that it was given, and refusals that show no object.
+use Rattle.std.proofs.Common.{◌≡◌, ℕ, ℤ, zero, suc, ◌+◌, ◌≤◌, max, List, [], ◌∷◌, Bool, true, false, cond, Option, Some, None, refl, sym, subst, map, arith}
+use Rattle.std.specs.Prelude.{Result, Ok, Err, option_map, option_and_then, pos, negsuc, ◌==◌, codes}
+use Rattle.std.proofs.lemmas.Bool.Decides.{nat_tests}
+use Rattle.amount_math.specs.Content.{Content, entries}
+use Rattle.amount_math.specs.Worth.{Worth, with_content}
+use Rattle.amount_math.specs.declared.Kind.{Kind}
+use Rattle.amount_math.specs.declared.Kind.TheVariants.{Nat, Set, Bag}
+use Rattle.jessie_tree.specs.Tree.{Tree, null, boolean, number, text, array, fields, object, function, no_items, item, Fields, no_fields, field, get, field_of, object_of, number_of, nesting, items_nesting, fields_nesting, Ordered, OrderedItems, OrderedFields}
+use Rattle.jessie_tree.specs.View.{items_of}
+use Rattle.jessie_tree.specs.declared.data.ObjKind.{ObjKind}
+use Rattle.jessie_tree.specs.declared.data.ObjKind.TheVariants.{Ertp, Zoe, Timer, Brand, Issuer, Mint, Purse, Deposit, Payment, Installation, Instance, Zcf, Seat, Zseat, Zmint, Facet, Promise}
+use Rattle.call_data.specs.Outcomes as cd
+use Rattle.call_data.specs.Amounts.{amount_fields, kind_of_brand, value_in, nat_from, nat_value, set_in, bag_in, keyed_value}
+use Rattle.call_data.specs.Values.{brand_tree, value_tree, amount_tree, content_tree, key_tree, counted_tree}
+use Rattle.call_data.specs.Refusals.{refusal_tree, shown_by}
+use Rattle.call_data.specs.declared.refusals.Refusal.{Refusal}
+use Rattle.call_data.specs.declared.refusals.Refusal.TheVariants as q
+use Rattle.amount_calls.specs.Refusals.{amount_refusal_tree, bind, wanted, need, read}
+use Rattle.amount_calls.specs.Given.{brand_in, worth_in, amount_made, amount_given, amount_of_brand, two_amounts, two_values}
+use Rattle.amount_calls.specs.Worths.{checked, in_bounds, first_past, has, sum_in, difference_in, least_in, greatest_in}
+use Rattle.amount_math.specs.Worth.{bound}
+use Rattle.amount_calls.specs.AmountMath.{shown, worked, answer, answer_of, argument, function_named, amount_call}
+use Rattle.amount_calls.specs.declared.refusals.AmountRefusal.{AmountRefusal}
+use Rattle.amount_calls.specs.declared.refusals.AmountRefusal.TheVariants.{Refused, Overlap}
+use Rattle.amount_calls.specs.declared.given.OneAmount.{OneAmount}
+use Rattle.amount_calls.specs.declared.given.TwoAmounts.{TwoAmounts}
+use Rattle.amount_calls.specs.declared.functions.AmountFunction.{AmountFunction}
+use Rattle.amount_calls.specs.declared.functions.AmountFunction.TheVariants as f
+use Rattle.jessie_semantics.specs.Keeping.{Known, Within, ItemsWithin, AllHave}
+use Rattle.jessie_semantics.specs.Form.{InForm}
+use Rattle.jessie_semantics.proofs.Safe.{ResultHas, AmountHas}
+
+abbrev Any : {A : Type 0} → A → Type 0
+Any a = Unit {0}
+
+any : {A E : Type 0} (r : Result A E) → ResultHas Any r
+any (Ok a) = tt
+any (Err r) = tt
+
+abbrev OptionHas : {A : Type 0} → (A → Type 0) → Option A → Type 0
+OptionHas P None = Unit {0}
+OptionHas P (Some a) = P a
+
+chosen : {A : Type 0} (P : A → Type 0) (b : Bool) (x y : Option A) → OptionHas P x → OptionHas P y → OptionHas P (cond b x y)
+chosen P true x y h i = h
+chosen P false x y h i = i
+
+picked : {A E : Type 0} (P : A → Type 0) (b : Bool) (x y : Result A E) → ResultHas P x → ResultHas P y → ResultHas P (cond b x y)
+picked P true x y h i = h
+picked P false x y h i = i
+
+and_then : {A B : Type 0} (P : A → Type 0) (Q : B → Type 0) (x : Option A) (g : A → Option B) → OptionHas P x → ((a : A) → P a → OptionHas Q (g a)) → OptionHas Q (option_and_then g x)
+and_then P Q None g h i = tt
+and_then P Q (Some a) g h i = i a h
+
+mapped : {A B : Type 0} (P : A → Type 0) (Q : B → Type 0) (g : A → B) (x : Option A) → OptionHas P x → ((a : A) → P a → Q (g a)) → OptionHas Q (option_map g x)
+mapped P Q g None h i = tt
+mapped P Q g (Some a) h i = i a h
+
+any_option : {A : Type 0} (x : Option A) → OptionHas Any x
+any_option None = tt
+any_option (Some a) = tt
+
+-- a value that is read is of the kind
+
+read_on : {A B : Type 0} (Q : B → Type 0) (r : Result A Refusal) (g : A → Result B Refusal) → ((x : A) → ResultHas Q (g x)) → ResultHas Q (cd.bind r g)
+unfolding cd.bind
+read_on Q (Ok x) g h = h x
+read_on Q (Err r) g h = tt
+
+nat_kind : (z : ℤ) → ResultHas (λ w. w.kind ≡ Nat) (nat_value z)
+nat_kind (pos n) = picked (λ w. w.kind ≡ Nat) _ (Ok _) (Err _) refl tt
+nat_kind (negsuc n) = tt
+
+nat_from_kind : (o : Option ℤ) → ResultHas (λ w. w.kind ≡ Nat) (nat_from o)
+nat_from_kind None = tt
+nat_from_kind (Some z) = nat_kind z
+
+keyed_kind : (kind : Kind) (es : List (List ℕ × ℕ)) → ResultHas (λ w. w.kind ≡ kind) (keyed_value kind es)
+unfolding keyed_value
+keyed_kind kind es = read_on (λ w. w.kind ≡ kind) _ _ (λ _. refl)
+
+valued : (kind : Kind) (t : Tree) → ResultHas (λ w. w.kind ≡ kind) (value_in kind t)
+unfolding value_in set_in bag_in
+valued Nat t = nat_from_kind (number_of t)
+valued Set t = read_on _ _ _ (λ items. read_on _ _ _ (λ keys. keyed_kind Set _))
+valued Bag t = read_on _ _ _ (λ items. read_on _ _ _ (λ pairs. read_on _ _ _ (λ es. keyed_kind Bag _)))
+
+-- steps of a call
+
+step_on : {A B : Type 0} (P : A → Type 0) (Q : B → Type 0) (r : Result A AmountRefusal) (g : A → Result B AmountRefusal) → ResultHas P r → ((x : A) → P x → ResultHas Q (g x)) → ResultHas Q (bind r g)
+unfolding bind
+step_on P Q (Ok x) g h i = i x h
+step_on P Q (Err r) g h i = tt
+
+wanted_has : {A : Type 0} (P : A → Type 0) (o : Option A) (r : AmountRefusal) → OptionHas P o → ResultHas P (wanted o r)
+unfolding wanted
+wanted_has P None r h = tt
+wanted_has P (Some a) r h = h
+
+needed : (b : Bool) (r : AmountRefusal) → ResultHas (λ _. b ≡ true) (need b r)
+unfolding need
+needed true r = refl
+needed false r = tt
+
+read_has : {A : Type 0} (P : A → Type 0) (r : Result A Refusal) → ResultHas P r → ResultHas P (read r)
+unfolding read
+read_has P (Ok x) h = h
+read_has P (Err r) h = tt
+
+worth_has : (kind : Kind) (t : Tree) → ResultHas (λ w. w.kind ≡ kind) (worth_in kind t)
+worth_has kind t = read_has (λ w. w.kind ≡ kind) (value_in kind t) (valued kind t)
+
+one_number : (a b : ℕ) → (a == b) ≡ true → a ≡ b
+one_number a b e = grind (arith, nat_tests)
+
+-- amounts have it whose brand has it, and what else AmountMath makes has it
+pub record AmountsKept (W : Tree → Type 0) : Type 0 where
+  pub nothing_given : W null
+  pub truths : (b : Bool) → W (boolean b)
+  pub fields_have : (x : List ℕ) (t : Tree) → W t → OptionHas W (field_of x t)
+  pub values : (w : Worth) → W (value_tree w)
+  pub amount_trees : (n : ℕ) (w : Worth) → W (brand_tree w.kind n) → W (amount_tree (record { brand = n; value = w }))
+  pub refusals : (r : AmountRefusal) → W (amount_refusal_tree r)
+
+module _ (W : Tree → Type 0) (k : AmountsKept W) where
+  abbrev BrandHas : Kind → ℕ → Type 0
+  BrandHas kind n = W (brand_tree kind n)
+
+  branded : (o : ObjKind) (n : ℕ) → W (object (record { kind = o; number = n })) → OptionHas (λ kind. BrandHas kind n) (kind_of_brand o)
+  branded Ertp n h = tt
+  branded Zoe n h = tt
+  branded Timer n h = tt
+  branded (Brand kind) n h = h
+  branded Issuer n h = tt
+  branded Mint n h = tt
+  branded Purse n h = tt
+  branded Deposit n h = tt
+  branded Payment n h = tt
+  branded Installation n h = tt
+  branded Instance n h = tt
+  branded Zcf n h = tt
+  branded Seat n h = tt
+  branded Zseat n h = tt
+  branded Zmint n h = tt
+  branded Facet n h = tt
+  branded Promise n h = tt
+
+  object_has : (t : Tree) → W t → OptionHas (λ o. W (object o)) (object_of t)
+  object_has null h = tt
+  object_has (boolean b) h = tt
+  object_has (number z) h = tt
+  object_has (text t) h = tt
+  object_has (array ts) h = tt
+  object_has (fields fs) h = tt
+  object_has (object o) h = h
+  object_has (function x) h = tt
+
+  brand_has : (t : Tree) → W t → OptionHas (λ own. BrandHas own.kind own.number) (brand_in t)
+  brand_has t h = and_then (λ o. W (object o)) _ (object_of t) _ (object_has t h) (λ o i. mapped (λ kind. BrandHas kind o.number) _ _ (kind_of_brand o.kind) (branded o.kind o.number i) (λ kind j. j))
+
+  amount_has : (t : Tree) → W t → OptionHas (λ a. BrandHas a.kind a.brand) (amount_fields t)
+  amount_has t h = chosen (λ a. BrandHas a.kind a.brand) _ _ None
+      (and_then (λ o. W (object o)) _ (option_and_then object_of (field_of (codes "brand") t)) _
+      (and_then W (λ o. W (object o)) (field_of (codes "brand") t) object_of (k.fields_have (codes "brand") t h) object_has)
+      (λ o i. and_then (λ kind. BrandHas kind o.number) _ (kind_of_brand o.kind) _ (branded o.kind o.number i)
+      (λ kind j. mapped Any _ _ (field_of (codes "value") t) (any_option _) (λ v _. j)))) tt
+
+  abbrev One : OneAmount → Type 0
+  One a = BrandHas a.value.kind a.brand
+
+  abbrev Two : TwoAmounts → Type 0
+  Two a = BrandHas a.left.kind a.brand × BrandHas a.right.kind a.brand
+
+  made_has : (v w : Tree) → W v → ResultHas One (amount_made v w)
+  unfolding amount_made
+  made_has v w h = step_on (λ own. BrandHas own.kind own.number) One _ _ (wanted_has _ (brand_in v) _ (brand_has v h))
+      (λ own i. step_on (λ x. x.kind ≡ own.kind) One _ _ (worth_has own.kind w) (λ x e. subst (λ kind. BrandHas kind own.number) (sym e) i))
+
+  given_has : (v : Tree) → W v → ResultHas One (amount_given v)
+  unfolding amount_given
+  given_has v h = step_on (λ a. BrandHas a.kind a.brand) One _ _ (wanted_has _ (amount_fields v) _ (amount_has v h))
+      (λ a i. step_on (λ x. x.kind ≡ a.kind) One _ _ (worth_has a.kind a.value) (λ x e. subst (λ kind. BrandHas kind a.brand) (sym e) i))
+
+  of_brand_has : (v w : Tree) → W v → ResultHas One (amount_of_brand v w)
+  unfolding amount_of_brand
+  of_brand_has v w h = step_on (λ own. BrandHas own.kind own.number) One _ _ (wanted_has _ (brand_in v) _ (brand_has v h))
+      (λ own i. step_on Any One _ _ (any _) (λ a _. step_on (λ _. (a.brand == own.number) ≡ true) One _ _ (needed _ _)
+      (λ _ e. step_on (λ x. x.kind ≡ own.kind) One _ _ (worth_has own.kind a.value)
+      (λ x q. subst (λ kind. BrandHas kind a.brand) (sym q) (subst (BrandHas own.kind) (sym (one_number a.brand own.number e)) i)))))
+
+  two_have : (v w : Tree) → W v → ResultHas Two (two_amounts v w)
+  unfolding two_amounts two_values
+  two_have v w h = step_on (λ a. BrandHas a.kind a.brand) Two _ _ (wanted_has _ (amount_fields v) _ (amount_has v h))
+      (λ a i. step_on Any Two _ _ (any _) (λ b _. step_on Any Two _ _ (any _)
+      (λ _ _. step_on (λ x. x.kind ≡ a.kind) Two _ _ (worth_has a.kind a.value)
+      (λ x e. step_on (λ y. y.kind ≡ a.kind) Two _ _ (worth_has a.kind b.value)
+      (λ y q. (subst (λ kind. BrandHas kind a.brand) (sym e) i, subst (λ kind. BrandHas kind a.brand) (sym q) i))))))
+
+  shown_has : (n : ℕ) (w : Worth) → BrandHas w.kind n → W (shown n w)
+  shown_has n w h = k.amount_trees n w h
+
+  one_shown : (r : Result OneAmount AmountRefusal) (g : OneAmount → Tree) → ResultHas One r → ((a : OneAmount) → One a → W (g a)) → ResultHas W (bind r (λ a. Ok (g a)))
+  one_shown r g h i = step_on One W r _ h i
+
+  two_tested : (r : Result TwoAmounts AmountRefusal) (g : TwoAmounts → Bool) → ResultHas W (bind r (λ a. Ok (boolean (g a))))
+  two_tested r g = step_on Any W r _ (any r) (λ a _. k.truths (g a))
+
+  abbrev Keeps : (Worth → Worth → Result Worth AmountRefusal) → Type 0
+  Keeps g = (a b : Worth) (n : ℕ) → BrandHas a.kind n → BrandHas b.kind n → ResultHas (λ w. BrandHas w.kind n) (g a b)
+
+  two_worked : (g : Worth → Worth → Result Worth AmountRefusal) (v w : Tree) → W v → Keeps g → ResultHas W (worked g v w)
+  two_worked g v w h i = step_on Two W _ _ (two_have v w h) (λ a j. step_on (λ x. BrandHas x.kind a.brand) W _ _ (i a.left a.right a.brand j.0 j.1) (λ x q. shown_has a.brand x q))
+
+  bounded : (w : Worth) (o : Option (List ℕ)) (n : ℕ) → BrandHas w.kind n → ResultHas (λ x. BrandHas x.kind n) (in_bounds w o)
+  bounded w (Some x) n h = tt
+  bounded w None n h = picked (λ x. BrandHas x.kind n) _ (Ok w) (Err _) h tt
+
+  checked_has : (w : Worth) (n : ℕ) → BrandHas w.kind n → ResultHas (λ x. BrandHas x.kind n) (checked w)
+  unfolding checked
+  checked_has w n h = bounded w (first_past (bound w.kind) w.content) n h
+
+  sum_keeps : Keeps sum_in
+  sum_keeps a b n h i = checked_has (with_content a _) n h
+
+  difference_keeps : Keeps difference_in
+  difference_keeps a b n h i = picked (λ x. BrandHas x.kind n) (has a b) (Ok _) (Err _) h tt
+
+  least_keeps : Keeps least_in
+  least_keeps a b n h i = picked (λ x. BrandHas x.kind n) (has b a) (Ok a) _ h (picked (λ x. BrandHas x.kind n) (has a b) (Ok b) (Err _) i tt)
+
+  greatest_keeps : Keeps greatest_in
+  greatest_keeps a b n h i = picked (λ x. BrandHas x.kind n) (has a b) (Ok a) _ h (picked (λ x. BrandHas x.kind n) (has b a) (Ok b) (Err _) i tt)
+
+  answer_has : (g : AmountFunction) (v w : Tree) → W v → W w → ResultHas W (answer g v w)
+  answer_has f.Make v w h i = one_shown (amount_made v w) _ (made_has v w h) (λ a j. shown_has a.brand a.value j)
+  answer_has f.MakeEmpty v w h i = step_on (λ own. BrandHas own.kind own.number) W _ _ (wanted_has _ (brand_in v) _ (brand_has v h)) (λ own j. shown_has own.number _ j)
+  answer_has f.MakeEmptyFromAmount v w h i = one_shown (amount_given v) _ (given_has v h) (λ a j. shown_has a.brand _ j)
+  answer_has f.IsEmpty v w h i = one_shown (amount_given v) _ (given_has v h) (λ a j. k.truths _)
+  answer_has f.IsGte v w h i = two_tested (two_amounts v w) _
+  answer_has f.IsEqual v w h i = two_tested (two_amounts v w) _
+  answer_has f.Add v w h i = two_worked sum_in v w h sum_keeps
+  answer_has f.Subtract v w h i = two_worked difference_in v w h difference_keeps
+  answer_has f.Min v w h i = two_worked least_in v w h least_keeps
+  answer_has f.Max v w h i = two_worked greatest_in v w h greatest_keeps
+  answer_has f.Coerce v w h i = one_shown (amount_of_brand v w) _ (of_brand_has v w h) (λ a j. shown_has a.brand a.value j)
+  answer_has f.GetValue v w h i = one_shown (amount_of_brand v w) _ (of_brand_has v w h) (λ a j. k.values a.value)
+
+  argument_has : (i : ℕ) (vs : List Tree) → AllHave W vs → W (argument i vs)
+  argument_has i [] h = k.nothing_given
+  argument_has zero (v ∷ vs) h = h.0
+  argument_has (suc i) (v ∷ vs) h = argument_has i vs h.1
+
+  answered : (r : Result Tree AmountRefusal) → ResultHas W r → AmountHas W r
+  answered (Ok v) h = h
+  answered (Err r) h = k.refusals r
+
+  named_has : (o : Option AmountFunction) (x : List ℕ) (vs : List Tree) → AllHave W vs → AmountHas W (answer_of o x vs)
+  named_has None x vs h = k.refusals _
+  named_has (Some g) x vs h = answered _ (answer_has g (argument 0 vs) (argument 1 vs) (argument_has 0 vs h) (argument_has 1 vs h))
+
+  pub amounts_have : (x : List ℕ) (vs : List Tree) → AllHave W vs → AmountHas W (amount_call x vs)
+  unfolding amount_call
+  amounts_have x vs h = named_has (function_named x) x vs h
+
+-- ---- what is known
+
+keys_within : (K : Known) (es : List (List ℕ × ℕ)) → ItemsWithin K (items_of (map key_tree es))
+keys_within K [] = tt
+keys_within K (e ∷ es) = (tt, keys_within K es)
+
+counted_within : (K : Known) (es : List (List ℕ × ℕ)) → ItemsWithin K (items_of (map counted_tree es))
+counted_within K [] = tt
+counted_within K (e ∷ es) = ((tt, (tt, tt)), counted_within K es)
+
+content_within : (K : Known) (kind : Kind) (c : Content) → Within K (content_tree kind c)
+content_within K Nat c = tt
+content_within K Set c = keys_within K (entries c)
+content_within K Bag c = counted_within K (entries c)
+
+value_within : (K : Known) (w : Worth) → Within K (value_tree w)
+unfolding value_tree
+value_within K w = content_within K w.kind w.content
+
+amount_within : (K : Known) (n : ℕ) (w : Worth) → Within K (brand_tree w.kind n) → Within K (amount_tree (record { brand = n; value = w }))
+unfolding amount_tree
+amount_within K n w h = (h, (value_within K w, tt))
+
+shown_within : (K : Known) (r : Refusal) → ItemsWithin K (items_of (shown_by r))
+shown_within K q.BadLine = tt
+shown_within K (q.BadField x) = (tt, tt)
+shown_within K (q.BadLabel x) = (tt, tt)
+shown_within K (q.BadKeyword x) = (tt, tt)
+shown_within K (q.UnknownName x) = (tt, tt)
+shown_within K (q.NameTaken x) = (tt, tt)
+shown_within K q.Pending = tt
+shown_within K (q.Broken x) = (tt, tt)
+shown_within K (q.WrongObject x) = (tt, tt)
+shown_within K (q.NoMethod x) = (tt, tt)
+shown_within K (q.BadArgs x) = (tt, tt)
+shown_within K q.LocalOnly = tt
+shown_within K q.BadValue = tt
+shown_within K (q.WrongBrand x) = (tt, tt)
+shown_within K (q.NotEnough x y) = (value_within K x, (value_within K y, tt))
+shown_within K (q.TooMuch x y) = (tt, (tt, tt))
+shown_within K (q.DeadPayment x) = (tt, tt)
+shown_within K (q.RepeatedPayment x) = (tt, tt)
+shown_within K (q.WrongAmount x y) = (value_within K x, (value_within K y, tt))
+shown_within K (q.NotInvitation x) = (tt, tt)
+shown_within K (q.Closed x) = (tt, tt)
+shown_within K (q.KeywordMismatch x) = (tt, tt)
+shown_within K q.BadExit = tt
+shown_within K (q.NotOnDemand x) = (tt, tt)
+shown_within K (q.SeatExited x) = (tt, tt)
+shown_within K (q.Limit x) = (tt, tt)
+shown_within K (q.TextRefused x y) = (tt, (tt, tt))
+shown_within K (q.Spent x) = (tt, tt)
+
+refusal_within : (K : Known) (r : AmountRefusal) → Within K (amount_refusal_tree r)
+unfolding amount_refusal_tree refusal_tree
+refusal_within K (Refused r) = (tt, (shown_within K r, tt))
+refusal_within K (Overlap x) = (tt, ((tt, tt), tt))
+
+get_within : (K : Known) (x : List ℕ) (fs : Fields) → Within K (fields fs) → OptionHas (Within K) (get x fs)
+get_within K x no_fields h = tt
+get_within K x (field y v fs) h = chosen (Within K) _ (Some v) _ h.0 (get_within K x fs h.1)
+
+field_within : (K : Known) (x : List ℕ) (t : Tree) → Within K t → OptionHas (Within K) (field_of x t)
+field_within K x null h = tt
+field_within K x (boolean b) h = tt
+field_within K x (number z) h = tt
+field_within K x (text t) h = tt
+field_within K x (array ts) h = tt
+field_within K x (fields fs) h = get_within K x fs h
+field_within K x (object o) h = tt
+field_within K x (function g) h = tt
+
+pub amounts_within : (K : Known) (x : List ℕ) (vs : List Tree) → AllHave (Within K) vs → AmountHas (Within K) (amount_call x vs)
+amounts_within K = amounts_have (Within K) (record {
+  nothing_given = tt;
+  truths = λ b. tt;
+  fields_have = field_within K;
+  values = value_within K;
+  amount_trees = amount_within K;
+  refusals = refusal_within K;
+})
+
+-- ---- data in form
+
+most_left : (a b n : ℕ) → max a b ≤ n → a ≤ n
+most_left a b n h = grind arith
+
+most_right : (a b n : ℕ) → max a b ≤ n → b ≤ n
+most_right a b n h = grind arith
+
+most_both : (a b n : ℕ) → a ≤ n → b ≤ n → max a b ≤ n
+most_both a b n h i = grind arith
+
+deeper : (n m : ℕ) → n ≤ m → 1 + n ≤ suc m
+deeper n m h = omega arith
+
+keys_ordered : (es : List (List ℕ × ℕ)) → OrderedItems (items_of (map key_tree es))
+keys_ordered [] = tt
+keys_ordered (e ∷ es) = (tt, keys_ordered es)
+
+keys_flat : (es : List (List ℕ × ℕ)) → items_nesting (items_of (map key_tree es)) ≤ 1
+keys_flat [] = omega arith
+keys_flat (e ∷ es) = most_both 0 (items_nesting (items_of (map key_tree es))) 1 (omega arith) (keys_flat es)
+
+counted_ordered : (es : List (List ℕ × ℕ)) → OrderedItems (items_of (map counted_tree es))
+counted_ordered [] = tt
+counted_ordered (e ∷ es) = ((tt, (tt, tt)), counted_ordered es)
+
+counted_flat : (es : List (List ℕ × ℕ)) → items_nesting (items_of (map counted_tree es)) ≤ 1
+counted_flat [] = omega arith
+counted_flat (e ∷ es) = most_both 1 (items_nesting (items_of (map counted_tree es))) 1 (omega arith) (counted_flat es)
+
+-- in order, and nests so deep at most
+abbrev Shallow : ℕ → Tree → Type 0
+Shallow n t = Ordered t × (nesting t ≤ n)
+
+content_form : (kind : Kind) (c : Content) → Shallow 2 (content_tree kind c)
+content_form Nat c = (tt, omega arith)
+content_form Set c = (keys_ordered (entries c), deeper _ 1 (keys_flat (entries c)))
+content_form Bag c = (counted_ordered (entries c), deeper _ 1 (counted_flat (entries c)))
+
+value_form : (w : Worth) → Shallow 2 (value_tree w)
+unfolding value_tree
+value_form w = content_form w.kind w.content
+
+within_form : (n : ℕ) (t : Tree) → n ≤ 32 → Shallow n t → InForm t
+within_form n t h i = (i.0, let q = i.1 in omega (arith, q))
+
+amount_form : (n : ℕ) (w : Worth) → InForm (amount_tree (record { brand = n; value = w }))
+unfolding amount_tree
+amount_form n w = let v = value_form w in within_form 3 (amount_tree (record { brand = n; value = w })) (omega arith) ((tt, refl, (v.0, tt, tt)), deeper _ 2 (most_both 0 _ 2 (omega arith) (most_both (nesting (value_tree w)) 0 2 v.1 (omega arith))))
+
+abbrev ShownFlat : Refusal → Type 0
+ShownFlat r = OrderedItems (items_of (shown_by r)) × (items_nesting (items_of (shown_by r)) ≤ 2)
+
+two_shown : (x y : Worth) → OrderedItems (item (value_tree x) (item (value_tree y) no_items)) × (items_nesting (item (value_tree x) (item (value_tree y) no_items)) ≤ 2)
+two_shown x y = let v = value_form x in let w = value_form y in ((v.0, (w.0, tt)), most_both (nesting (value_tree x)) _ 2 v.1 (most_both (nesting (value_tree y)) 0 2 w.1 (omega arith)))
+
+shown_form : (r : Refusal) → ShownFlat r
+shown_form q.BadLine = (tt, omega arith)
+shown_form (q.BadField x) = ((tt, tt), omega arith)
+shown_form (q.BadLabel x) = ((tt, tt), omega arith)
+shown_form (q.BadKeyword x) = ((tt, tt), omega arith)
+shown_form (q.UnknownName x) = ((tt, tt), omega arith)
+shown_form (q.NameTaken x) = ((tt, tt), omega arith)
+shown_form q.Pending = (tt, omega arith)
+shown_form (q.Broken x) = ((tt, tt), omega arith)
+shown_form (q.WrongObject x) = ((tt, tt), omega arith)
+shown_form (q.NoMethod x) = ((tt, tt), omega arith)
+shown_form (q.BadArgs x) = ((tt, tt), omega arith)
+shown_form q.LocalOnly = (tt, omega arith)
+shown_form q.BadValue = (tt, omega arith)
+shown_form (q.WrongBrand x) = ((tt, tt), omega arith)
+shown_form (q.NotEnough x y) = two_shown x y
+shown_form (q.TooMuch x y) = ((tt, (tt, tt)), omega arith)
+shown_form (q.DeadPayment x) = ((tt, tt), omega arith)
+shown_form (q.RepeatedPayment x) = ((tt, tt), omega arith)
+shown_form (q.WrongAmount x y) = two_shown x y
+shown_form (q.NotInvitation x) = ((tt, tt), omega arith)
+shown_form (q.Closed x) = ((tt, tt), omega arith)
+shown_form (q.KeywordMismatch x) = ((tt, tt), omega arith)
+shown_form q.BadExit = (tt, omega arith)
+shown_form (q.NotOnDemand x) = ((tt, tt), omega arith)
+shown_form (q.SeatExited x) = ((tt, tt), omega arith)
+shown_form (q.Limit x) = ((tt, tt), omega arith)
+shown_form (q.TextRefused x y) = ((tt, (tt, tt)), omega arith)
+shown_form (q.Spent x) = ((tt, tt), omega arith)
+
+refusal_form : (r : AmountRefusal) → InForm (amount_refusal_tree r)
+unfolding amount_refusal_tree refusal_tree
+refusal_form (Refused r) = let s = shown_form r in within_form 4 (amount_refusal_tree (Refused r)) (omega arith) ((tt, refl, (s.0, tt, tt)), deeper _ 3 (most_both 0 _ 3 (omega arith) (most_both _ 0 3 (deeper _ 2 s.1) (omega arith))))
+refusal_form (Overlap x) = within_form 4 (amount_refusal_tree (Overlap x)) (omega arith) ((tt, refl, ((tt, tt), tt, tt)), omega arith)
+
+get_form : (x : List ℕ) (fs : Fields) → OrderedFields fs → fields_nesting fs ≤ 32 → OptionHas InForm (get x fs)
+get_form x no_fields h i = tt
+get_form x (field y v fs) h i = chosen InForm _ (Some v) _ (h.0, most_left (nesting v) (fields_nesting fs) 32 i) (get_form x fs h.2 (most_right (nesting v) (fields_nesting fs) 32 i))
+
+one_in : (n : ℕ) → 1 + n ≤ 32 → n ≤ 32
+one_in n h = omega arith
+
+field_form : (x : List ℕ) (t : Tree) → InForm t → OptionHas InForm (field_of x t)
+field_form x null h = tt
+field_form x (boolean b) h = tt
+field_form x (number z) h = tt
+field_form x (text t) h = tt
+field_form x (array ts) h = tt
+field_form x (fields fs) h = get_form x fs h.0 (one_in _ h.1)
+field_form x (object o) h = tt
+field_form x (function g) h = tt
+
+pub amounts_in_form : (x : List ℕ) (vs : List Tree) → AllHave InForm vs → AmountHas InForm (amount_call x vs)
+amounts_in_form = amounts_have InForm (record {
+  nothing_given = (tt, omega arith);
+  truths = λ b. (tt, omega arith);
+  fields_have = field_form;
+  values = λ w. within_form 2 _ (omega arith) (value_form w);
+  amount_trees = λ n w h. amount_form n w;
+  refusals = refusal_form;
+})

@@ -1,0 +1,9 @@
+pub mod Plays
+pub mod Runs
+pub mod Safe
+pub mod Kept
+pub mod Amounts
+pub mod Within
+pub mod FormKept
+pub mod Licence
+pub mod Hosts

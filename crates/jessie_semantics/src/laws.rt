@@ -1,0 +1,30 @@
+// What the rules mean: each law holds of every module, function, list of arguments, list of state
+// values, meter and list of answers. The functions do nothing; their contracts are the laws.
+ghost use Rattle.std.specs.Prelude.{ℕ, List, length, ◌≤◌};
+ghost use Rattle.jessie_tree.specs.Tree.{Tree};
+ghost use Rattle.jessie_syntax.specs.Syntax.{Routine};
+ghost use Rattle.jessie_semantics.specs.Play.{Reply, after};
+ghost use Rattle.jessie_semantics.specs.Rules.{play};
+ghost use Rattle.jessie_semantics.specs.Keeping.{AllHave, RepliesHave, NextHas, Within, Fits, Handed, handed};
+ghost use Rattle.jessie_semantics.specs.Form.{InForm};
+
+/// Each object in the next call of the host, or in the outcome and the new state values, stands in the
+/// arguments, the old state values or an earlier answer; and there is one state value for each variable.
+pub fn objects_were_handed()
+    ensures { (rs : List Routine) (variables : List (List ℕ)) (f : List ℕ) (vs values : List Tree) (meter : ℕ) (answers : List Reply)
+        → NextHas (Within (Handed (handed vs values answers))) (length variables) (after (play rs variables f vs values meter) answers) }
+{}
+
+/// Where the host's room is at least the meter, each call is within what is left of it: what a call
+/// costs before it, and its answer's size, are taken off.
+pub fn calls_fit_the_room()
+    ensures { (rs : List Routine) (variables : List (List ℕ)) (f : List ℕ) (vs values : List Tree) (meter room : ℕ) → meter ≤ room → Fits room (play rs variables f vs values meter) }
+{}
+
+/// Where arguments, state values and answers have the fields of their records in byte order, each name
+/// once, and nest at most 32 deep, so does all that the host is asked next, or the outcome and the new
+/// state values.
+pub fn data_stays_in_form()
+    ensures { (rs : List Routine) (variables : List (List ℕ)) (f : List ℕ) (vs values : List Tree) (meter : ℕ) (answers : List Reply)
+        → AllHave InForm vs → AllHave InForm values → RepliesHave InForm answers → NextHas InForm (length variables) (after (play rs variables f vs values meter) answers) }
+{}
