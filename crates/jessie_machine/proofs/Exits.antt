@@ -1,0 +1,70 @@
+-- Where a part didn't come to a value.
+use Rattle.std.proofs.Common.{◌≡◌, ℕ, refl, sym, ap, subst}
+use Rattle.std.specs.Prelude.{Result, Ok, Err, IsErrAnd}
+use Rattle.jessie_tree.specs.Tree.{Tree}
+use Rattle.jessie_values.specs.declared.reasons.Reason.{Reason}
+use Rattle.jessie_values.specs.Reasons.{bad_step}
+use Rattle.jessie_values.specs.Outcomes.{Fails}
+use Rattle.jessie_values.specs.declared.reasons.ValueFault.{ValueFault}
+use Rattle.jessie_values.specs.declared.reasons.ValueFault.TheVariants as fault
+use Rattle.amount_calls.specs.declared.refusals.AmountRefusal.{AmountRefusal}
+use Rattle.amount_calls.specs.Refusals.{amount_refusal_tree}
+use Rattle.jessie_semantics.specs.Play.{Exchange}
+use Rattle.jessie_semantics.specs.Actions.{State, Action, ◌>>=◌, pure, throw}
+use Rattle.jessie_semantics.specs.Rules.{worked, counted}
+use Rattle.jessie_semantics.specs.Runs.{Halt, throws, unfinished, came, halted, Runs, Computes}
+use Rattle.jessie_semantics.proofs.Runs.{stop_runs, stop_computes, unfinished_runs, pure_computes, throw_computes, worked_ok, worked_err, counted_ok, counted_err}
+use Rattle.jessie_machine.specs.Stops.{come, fault_halt, halt}
+use Rattle.jessie_machine.specs.declared.stop.Stop.{Stop}
+use Rattle.jessie_machine.specs.declared.stop.Stop.TheVariants.{NoMemory}
+
+come_err : {T A : Type 0} (see : T → A) (r : Result T Stop) (e : Stop) → IsErrAnd r (λ x. x ≡ e) → come see r ≡ halted (halt e)
+come_err see (Ok x) e h = absurd h
+come_err see (Err x) e h = ap (λ z. halted (halt z)) h
+
+pub stops_here : {T A B : Type 0} {a : Action A} {s u : State} (see : T → B) (r : Result T Stop) (e : Stop) (g : A → Action B) → IsErrAnd r (λ x. x ≡ e)
+    → Computes a s (halted (halt e)) u → Computes (a >>= g) s (come see r) u
+stops_here {a = a} {s = s} {u = u} see r e g h c = subst (λ z. Computes (a >>= g) s z u) (sym (come_err see r e h)) (stop_computes g c)
+
+-- an action stops where its first part does
+pub stops : {W T A B : Type 0} {step : W → Exchange → W → Type 0} {v w : W} {a : Action A} {s u : State} (see : T → B) (r : Result T Stop) (e : Stop) (g : A → Action B) → IsErrAnd r (λ x. x ≡ e)
+    → Runs step v w a s (halted (halt e)) u → Runs step v w (a >>= g) s (come see r) u
+stops {step = step} {v = v} {w = w} {a = a} {s = s} {u = u} see r e g h c = subst (λ z. Runs step v w (a >>= g) s z u) (sym (come_err see r e h)) (stop_runs g c)
+
+-- for want of memory
+pub wants : {W T A : Type 0} {step : W → Exchange → W → Type 0} {v w : W} {a : Action A} {s u : State} (see : T → A) (r : Result T Stop) → IsErrAnd r (λ x. x ≡ NoMemory) → Runs step v w a s (come see r) u
+wants {step = step} {v = v} {w = w} {a = a} {s = s} {u = u} see r h = subst (λ z. Runs step v w a s z u) (sym (come_err see r NoMemory h)) unfinished_runs
+
+-- a bad step
+pub bad_computes : {A : Type 0} {s : State} (e : Stop) (r : Reason) → halt e ≡ throws (bad_step r) → Computes {A = A} (throw (bad_step r)) s (halted (halt e)) s
+bad_computes {A} {s} e r q = subst (λ h. Computes {A = A} (throw (bad_step r)) s (halted h) s) (sym q) (throw_computes (bad_step r) s)
+
+-- a pure function's result
+pub worked_as_ok : {A : Type 0} {s : State} (r : Result A Reason) (x : A) → r ≡ Ok x → Computes (worked r) s (came x) s
+worked_as_ok {A} {s} r x e = subst (λ r. Computes (worked r) s (came x) s) (sym e) (worked_ok x s)
+
+pub worked_as_err : {A : Type 0} {s : State} (r : Result A Reason) (e : Stop) (why : Reason) → r ≡ Err why → halt e ≡ throws (bad_step why) → Computes (worked r) s (halted (halt e)) s
+worked_as_err {A} {s} r e why q h = subst (λ x. Computes {A = A} (worked r) s (halted x) s) (sym h) (subst (λ r. Computes (worked r) s (halted (throws (bad_step why))) s) (sym q) (worked_err why s))
+
+pub pure_as : {A : Type 0} {s : State} (x y : A) → x ≡ y → Computes (pure x) s (came y) s
+pure_as {s = s} x y e = subst (λ y. Computes (pure x) s (came y) s) e (pure_computes x s)
+
+pub unfinished_computes : {A : Type 0} {a : Action A} {s u : State} → Computes a s (halted unfinished) u
+unfinished_computes = record { does = λ z. absurd z }
+
+halted_as : {A : Type 0} {a : Action A} {s : State} (h : Halt) (e : Stop) → halt e ≡ h → Computes a s (halted h) s → Computes a s (halted (halt e)) s
+halted_as {A} {a} {s} h e q c = subst (λ h. Computes a s (halted h) s) (sym q) c
+
+pub worked_as_fault : {A : Type 0} {s : State} (r : Result A Reason) (e : Stop) (f : ValueFault) → Fails f r → halt e ≡ fault_halt f → Computes (worked r) s (halted (halt e)) s
+worked_as_fault r e fault.NoMemory h q = halted_as unfinished e q unfinished_computes
+worked_as_fault r e (fault.BadStep why) h q = worked_as_err r e why h q
+
+-- an answer of AmountMath
+pub counted_as_ok : {s : State} (r : Result Tree AmountRefusal) (v : Tree) → r ≡ Ok v → Computes (counted r) s (came v) s
+counted_as_ok {s} r v e = subst (λ r. Computes (counted r) s (came v) s) (sym e) (counted_ok v s)
+
+pub counted_as_err : {s : State} (r : Result Tree AmountRefusal) (why : AmountRefusal) (t : Tree) → r ≡ Err why → t ≡ amount_refusal_tree why → Computes (counted r) s (halted (throws t)) s
+counted_as_err {s} r why t e q = subst (λ t. Computes (counted r) s (halted (throws t)) s) (sym q) (subst (λ r. Computes (counted r) s (halted (throws (amount_refusal_tree why))) s) (sym e) (counted_err why s))
+
+pub wants_here : {T A : Type 0} {a : Action A} {s u : State} (see : T → A) (r : Result T Stop) → IsErrAnd r (λ x. x ≡ NoMemory) → Computes a s (come see r) u
+wants_here {a = a} {s = s} {u = u} see r h = subst (λ z. Computes a s z u) (sym (come_err see r NoMemory h)) unfinished_computes

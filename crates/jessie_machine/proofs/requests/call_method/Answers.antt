@@ -1,0 +1,25 @@
+use Rattle.std.proofs.Common.{ap, sym, ◌∙◌, ◌+◌}
+use Rattle.jessie_tree.specs.Tree.{items_size}
+use Rattle.jessie_tree.specs.View.{tree, trees, items_of}
+use Rattle.jessie_values.specs.Outcomes.{of_kind}
+use Rattle.jessie_values.specs.declared.reasons.Reason.TheVariants.{WrongKind}
+use Rattle.jessie_semantics.specs.Actions.{charge, ask}
+use Rattle.jessie_semantics.specs.Play.{call}
+use Rattle.jessie_semantics.proofs.Runs.{computed, computes_as, then_runs, stop_runs, ask_runs, runs_as, host_runs}
+use Rattle.jessie_machine.specs.Host.{answered_with}
+use Rattle.jessie_machine.proofs.Exits.{stops, worked_as_ok, worked_as_err}
+use Rattle.jessie_machine.proofs.requests.call_method.Goals as goal
+
+pub returns-in_default-clause-runs : goal.returns-in_default-clause-runs
+returns-in_default-clause-runs g c = λ names values. stop_runs _ (computed (worked_as_err _ _ WrongKind (ap of_kind (sym c.object.ensures ∙ c.in_default.is)) c.bad.ensures))
+
+pub returns-in_err-take_call-clause-runs : goal.returns-in_err-take_call-clause-runs
+returns-in_err-take_call-clause-runs g c = λ names values.
+    then_runs _ (computed (worked_as_ok _ _ (ap of_kind (sym c.object.ensures ∙ c.in-Some.is))))
+    (host_runs _ _ (stops tree _ _ _ c.from_residual.ensures.1 (computed (computes_as (ap (λ l. charge (100 + items_size (items_of (trees l)))) (sym c.as_slice.ensures.value)) (c.in_err-take_call.ensures.does _ _)))))
+
+pub returns-clause-runs : goal.returns-clause-runs
+returns-clause-runs g c = λ names values.
+    then_runs _ (computed (worked_as_ok _ _ (ap of_kind (sym c.object.ensures ∙ c.in-Some.is))))
+    (host_runs _ _ (then_runs _ (computed (computes_as (ap (λ l. charge (100 + items_size (items_of (trees l)))) (sym c.as_slice.ensures.value)) (c.in_ok-take_call.ensures.does _ _)))
+    (then_runs _ (runs_as (ap (λ m. ask (call c.in-Some.object m (trees c.args.args.items))) (sym c.as_str.ensures)) (ask_runs (answered_with (call c.in-Some.object c.as_str.result.now (trees c.args.args.items)) c.in_ok-answer.answer) _ c.in_ok-answer.ensures.answered)) (computed (c.settle.ensures.does _ _)))))

@@ -1,0 +1,163 @@
+// Where an evaluation stands, and what is taken off the meter.
+ghost use Rattle.std.specs.Prelude.{◌≡◌, ◌≤◌, ◌+◌, ◌-◌, List, ℕ, length, IsOk, IfOk};
+ghost use Rattle.jessie_tree.specs.Tree.{Tree, size, items_size};
+ghost use Rattle.jessie_tree.specs.View.{tree, trees, items_of};
+ghost use Rattle.jessie_semantics.specs.Literals.{literal_tree};
+ghost use Rattle.jessie_semantics.specs.Play.{reply_size};
+ghost use Rattle.jessie_semantics.specs.Actions.{charge};
+ghost use Rattle.jessie_semantics.specs.Rules.{heard, literal_rule, given_back};
+ghost use Rattle.jessie_semantics.specs.Runs.{Computes};
+ghost use Rattle.jessie_machine.specs.Host.{reply_of};
+ghost use Rattle.jessie_machine.specs.Stops.{come};
+ghost use Rattle.jessie_machine.specs.Machine.{state, end_of};
+
+use crate::host::Answer;
+use crate::stop::{Stop, Thrown};
+use host_text::text::Text;
+use jessie_syntax::syntax::Literal;
+use jessie_tree::data::{Data, pay, pay_bytes, pay_items};
+use std::alloc::{AllocError, Global};
+
+/// The function's own names from the outermost, the state variables that were given a value, by their
+/// places, and what is left of the meter.
+#[derive(Drop)]
+pub struct Machine {
+    pub locals: Vec<(Text, Data)>,
+    pub changed: Vec<Option<Data>>,
+    pub meter: u64,
+}
+
+/// How a statement comes out, where it doesn't throw: the next one follows, or it leaves the function.
+#[derive(Drop)]
+pub enum End {
+    Next,
+    Leaves(Data),
+}
+
+/// What a call of the host costs beside the sizes of what it is shown.
+const CALL: u64 = 100;
+
+/// Takes a charge, where the meter has it.
+#[tactic(auto, unfolding(jessie_semantics::specs::Actions::charge))]
+pub fn take(machine: &mut Machine, amount: u64) -> Result<(), Stop>
+    ensures does { (names : List (List ℕ)) (values : List Tree) → Computes (charge amount) (state names values machine.old) (come (λ u. u) result) (state names values machine.new) }
+    ensures kept { machine.new.meter ≤ machine.old.meter }
+{
+    if machine.meter < amount {
+        return Err(Stop::Spent);
+    }
+    machine.meter -= amount;
+    Ok(())
+}
+
+/// Takes the size of the data, where the meter has it.
+#[tactic(auto, unfolding(jessie_semantics::specs::Actions::charge))]
+pub fn take_size(machine: &mut Machine, data: &Data) -> Result<(), Stop>
+    ensures does { (names : List (List ℕ)) (values : List Tree) → Computes (charge (size (tree «data».now))) (state names values machine.old) (come (λ u. u) result) (state names values machine.new) }
+    ensures left { machine.new.meter ≤ machine.old.meter - size (tree «data».now) }
+{
+    let Some(left) = pay(machine.meter, data) else {
+        machine.meter = 0;
+        return Err(Stop::Spent);
+    };
+    machine.meter = left;
+    Ok(())
+}
+
+/// Takes what a call of the host costs that is shown these, where the meter has it.
+#[tactic(auto, unfolding(jessie_semantics::specs::Actions::charge))]
+pub fn take_call(machine: &mut Machine, shown: &[Data]) -> Result<(), Stop>
+    ensures does { (names : List (List ℕ)) (values : List Tree) → Computes (charge (100 + items_size (items_of (trees shown.now)))) (state names values machine.old) (come (λ u. u) result) (state names values machine.new) }
+    ensures left { IsOk result → machine.new.meter + (100 + items_size (items_of (trees shown.now))) ≡ machine.old.meter }
+    ensures kept { machine.new.meter ≤ machine.old.meter }
+{
+    if machine.meter < CALL {
+        return Err(Stop::Spent);
+    }
+    let Some(left) = pay_items(machine.meter - CALL, shown) else {
+        return Err(Stop::Spent);
+    };
+    machine.meter = left;
+    Ok(())
+}
+
+/// Takes the size of the answer, which is a value or is thrown.
+pub fn settle(machine: &mut Machine, answer: Answer) -> Result<Data, Stop>
+    ensures does { (names : List (List ℕ)) (values : List Tree) → Computes (heard (reply_of answer)) (state names values machine.old) (come tree result) (state names values machine.new) }
+    ensures left { machine.new.meter ≤ machine.old.meter - reply_size (reply_of answer) }
+{
+    match answer {
+        Answer::Value(data) => {
+            take_size(machine, &data)?;
+            Ok(data)
+        }
+        Answer::Refused(data) => {
+            take_size(machine, &data)?;
+            Err(Stop::Throws(Thrown::Data(data)))
+        }
+    }
+}
+
+/// The data that a literal stands for.
+pub fn literal_data(alloc: Global, literal: &Literal) -> Result<Data, AllocError>
+    ensures { IfOk result (λ made. tree made ≡ literal_tree literal.now) }
+{
+    match literal {
+        Literal::Number(number) => Ok(Data::Number(*number)),
+        Literal::Text(text) => Ok(Data::Text(text.copy(alloc)?)),
+        Literal::Bool(truth) => Ok(Data::Bool(*truth)),
+        Literal::Null => Ok(Data::Null),
+    }
+}
+
+/// Takes the size of a text, where the meter has it.
+#[tactic(auto, unfolding(jessie_semantics::specs::Actions::charge))]
+fn take_text(machine: &mut Machine, text: &Text) -> Result<(), Stop>
+    ensures does { (names : List (List ℕ)) (values : List Tree) → Computes (charge (1 + length «text».now)) (state names values machine.old) (come (λ u. u) result) (state names values machine.new) }
+    ensures kept { machine.new.meter ≤ machine.old.meter }
+{
+    if machine.meter == 0 {
+        return Err(Stop::Spent);
+    }
+    let Some(left) = pay_bytes(machine.meter - 1, text) else {
+        return Err(Stop::Spent);
+    };
+    machine.meter = left;
+    Ok(())
+}
+
+/// Takes the size of a literal, where the meter has it.
+fn take_literal(machine: &mut Machine, literal: &Literal) -> Result<(), Stop>
+    ensures does { (names : List (List ℕ)) (values : List Tree) → Computes (charge (size (literal_tree literal.now))) (state names values machine.old) (come (λ u. u) result) (state names values machine.new) }
+    ensures kept { machine.new.meter ≤ machine.old.meter }
+{
+    match literal {
+        Literal::Number(_) => take(machine, 1),
+        Literal::Text(text) => take_text(machine, text),
+        Literal::Bool(_) => take(machine, 1),
+        Literal::Null => take(machine, 1),
+    }
+}
+
+/// The value of a literal, which is paid before it is made.
+pub fn read_literal(alloc: Global, machine: &mut Machine, literal: &Literal) -> Result<Data, Stop>
+    ensures does { (names : List (List ℕ)) (values : List Tree) → Computes (literal_rule (literal_tree literal.now)) (state names values machine.old) (come tree result) (state names values machine.new) }
+    ensures kept { machine.new.meter ≤ machine.old.meter }
+{
+    take(machine, 1)?;
+    take_literal(machine, literal)?;
+    let data = literal_data(alloc, literal)?;
+    Ok(data)
+}
+
+impl End {
+    /// What a function gives that ends so: null, where it isn't left.
+    pub fn into_data(self) -> Data
+        ensures { tree result ≡ given_back (end_of self) }
+    {
+        match self {
+            End::Next => Data::Null,
+            End::Leaves(data) => data,
+        }
+    }
+}

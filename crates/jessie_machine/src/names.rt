@@ -1,0 +1,256 @@
+// Names and what they stand for.
+ghost use Rattle.std.specs.Prelude.{◌≡◌, ◌≤◌, ◌<◌, ◌++◌, ◌∷◌, [], ℕ, List, Some, length, map, option_map, slice_get, IfOk, IfSome, OnOk};
+ghost use Rattle.jessie_tree.specs.Tree.{Tree};
+ghost use Rattle.jessie_tree.specs.View.{tree, trees, named_trees};
+ghost use Rattle.jessie_syntax.specs.Syntax.{routine, routines, variable_names};
+ghost use Rattle.jessie_values.specs.Reasons.{bad_step};
+ghost use Rattle.jessie_values.specs.declared.reasons.Reason.TheVariants.{WrongKind};
+ghost use Rattle.jessie_semantics.specs.Actions.{Bindings, put as put_name, paid, rebind};
+ghost use Rattle.jessie_semantics.specs.Rules.{program, find_routine, function_named, name_rule, pairs};
+ghost use Rattle.jessie_semantics.specs.Runs.{Computes};
+ghost use Rattle.jessie_machine.specs.Stops.{come};
+ghost use Rattle.jessie_machine.specs.Machine.{state, place, current, changes, changed_at, value_at, local_at, set_value};
+
+use crate::machine::{Machine, take};
+use crate::stop::{Stop, bad};
+use host_text::text::Text;
+use jessie_syntax::syntax::{Function, Module, Variable};
+use jessie_tree::data::{Data, pay};
+use jessie_values::reasons::Reason;
+use std::alloc::{AllocError, Global};
+
+/// The place of the innermost binding of the name.
+fn local_place(locals: &[(Text, Data)], name: &str) -> Option<usize>
+    ensures place { result ≡ place name.now (map (λ b. b.0) locals.now) }
+    ensures within { IfSome result (λ i. i < length locals.now) }
+{
+    let mut found = None;
+    for (i, binding) in locals.iter().enumerate() {
+        if binding.0.as_str() == name {
+            found = Some(i);
+        }
+    }
+    found
+}
+
+/// The place of the last state variable of the name.
+fn variable_place(variables: &[Variable], name: &str) -> Option<usize>
+    ensures { result ≡ place name.now (map (λ v. v.name) variables.now) }
+{
+    let mut last = None;
+    for (i, variable) in variables.iter().enumerate() {
+        if variable.name.as_str() == name {
+            last = Some(i);
+        }
+    }
+    last
+}
+
+/// The first function of the name.
+pub fn find_function<'a>(functions: &'a [Function], name: &str) -> Option<&'a Function>
+    ensures { option_map (λ f. routine f.now) result ≡ find_routine name.now (map routine functions.now) }
+{
+    for function in functions {
+        if function.name.as_str() == name {
+            return Some(function);
+        }
+    }
+    None
+}
+
+/// A copy of the data, which is paid first.
+#[tactic(auto, unfolding(jessie_semantics::specs::Actions::paid))]
+fn pay_copy(alloc: Global, meter: &mut u64, data: &Data) -> Result<Data, Stop>
+    ensures does { (t : Tree) (locals globals : Bindings) → Computes (paid t (Some (tree «data».now))) (record { locals = locals; globals = globals; meter = meter.old }) (come tree result) (record { locals = locals; globals = globals; meter = meter.new }) }
+    ensures kept { meter.new ≤ meter.old }
+{
+    match pay(*meter, data) {
+        None => Err(Stop::Spent),
+        Some(left) => {
+            *meter = left;
+            match data.copy(alloc) {
+                Ok(data) => Ok(data),
+                Err(_) => Err(Stop::NoMemory),
+            }
+        }
+    }
+}
+
+/// The function as a value, where there is one, which is paid first.
+#[tactic(auto, unfolding(jessie_semantics::specs::Actions::paid))]
+fn pay_function(alloc: Global, meter: &mut u64, function: Option<&Function>) -> Result<Data, Stop>
+    ensures does { (locals globals : Bindings) → Computes (paid (bad_step WrongKind) (function_named (option_map (λ f. routine f.now) function.entry))) (record { locals = locals; globals = globals; meter = meter.old }) (come tree result) (record { locals = locals; globals = globals; meter = meter.new }) }
+    ensures kept { meter.new ≤ meter.old }
+{
+    let Some(function) = function else {
+        return Err(bad(Reason::WrongKind));
+    };
+    if *meter == 0 {
+        return Err(Stop::Spent);
+    }
+    *meter -= 1;
+    match function.name.copy(alloc) {
+        Ok(name) => Ok(Data::Function(name)),
+        Err(_) => Err(Stop::NoMemory),
+    }
+}
+
+/// The value that the state variable at a place was given.
+fn given_value(changed: &[Option<Data>], i: usize) -> Option<&Data>
+    ensures { option_map (λ d. tree d.now) result ≡ changed_at (changes changed.now) i }
+{
+    if i < changed.len() {
+        changed[i].as_ref()
+    } else {
+        None
+    }
+}
+
+/// The value that the state variable at a place had.
+#[tactic(auto, using(crate::proofs::Places::place_found))]
+fn old_value(values: &[Data], i: usize) -> Option<&Data>
+    ensures { option_map (λ d. tree d.now) result ≡ slice_get (trees values.now) i }
+{
+    values.get(i)
+}
+
+/// The value of the state variable at a place: the one that it was given, if any, else its old one, and
+/// null where there is none. It is paid first.
+fn pay_variable(
+    alloc: Global,
+    meter: &mut u64,
+    values: &[Data],
+    changed: &[Option<Data>],
+    i: usize,
+) -> Result<Data, Stop>
+    ensures does { (t : Tree) (locals globals : Bindings) → Computes (paid t (Some (value_at (trees values.now) (changes changed.now) i))) (record { locals = locals; globals = globals; meter = meter.old }) (come tree result) (record { locals = locals; globals = globals; meter = meter.new }) }
+    ensures kept { meter.new ≤ meter.old }
+{
+    if let Some(data) = given_value(changed, i) {
+        return pay_copy(alloc, meter, data);
+    }
+    match old_value(values, i) {
+        Some(data) => pay_copy(alloc, meter, data),
+        None => pay_copy(alloc, meter, &Data::Null),
+    }
+}
+
+/// The value of the binding at a place, which is paid first.
+fn pay_local(
+    alloc: Global,
+    meter: &mut u64,
+    locals: &[(Text, Data)],
+    i: usize,
+) -> Result<Data, Stop>
+    requires { i < length locals.now }
+    ensures does { (t : Tree) (outer globals : Bindings) → Computes (paid t (Some (local_at (named_trees locals.now) i))) (record { locals = outer; globals = globals; meter = meter.old }) (come tree result) (record { locals = outer; globals = globals; meter = meter.new }) }
+    ensures kept { meter.new ≤ meter.old }
+{
+    let binding = &locals[i];
+    pay_copy(alloc, meter, &binding.1)
+}
+
+/// What the name stands for: the innermost of the function's own, else a state variable's value, else
+/// the function of the name. It is paid before it is copied.
+pub fn read_name(
+    alloc: Global,
+    module: &Module,
+    values: &[Data],
+    machine: &mut Machine,
+    name: &Text,
+) -> Result<Data, Stop>
+    ensures does { (room : ℕ) → Computes (name_rule (program (routines «module».now) room) name.now) (state (variable_names «module».now) (trees values.now) machine.old) (come tree result) (state (variable_names «module».now) (trees values.now) machine.new) }
+    ensures kept { machine.new.meter ≤ machine.old.meter }
+{
+    take(machine, 1)?;
+    if let Some(i) = local_place(machine.locals.as_slice(), name.as_str()) {
+        return pay_local(alloc, &mut machine.meter, machine.locals.as_slice(), i);
+    }
+    if let Some(i) = variable_place(module.variables.as_slice(), name.as_str()) {
+        let changed = machine.changed.as_slice();
+        return pay_variable(alloc, &mut machine.meter, values, changed, i);
+    }
+    let function = find_function(module.functions.as_slice(), name.as_str());
+    pay_function(alloc, &mut machine.meter, function)
+}
+
+/// Gives the binding at a place another value.
+fn set_local(locals: &mut Vec<(Text, Data)>, i: usize, data: Data)
+    requires { i < length locals.old.items }
+    ensures { named_trees locals.new.items ≡ set_value (named_trees locals.old.items) i (tree «data») }
+{
+    let binding = &mut locals[i];
+    binding.1 = data;
+}
+
+/// Makes a place for each state variable up to this one.
+fn make_place(changed: &mut Vec<Option<Data>>, i: usize) -> Result<(), AllocError>
+    ensures same { (names : List (List ℕ)) (values : List Tree) → current names values (changes changed.new.items) ≡ current names values (changes changed.old.items) }
+    ensures there { OnOk result (i < length changed.new.items) }
+{
+    'fill: while changed.len() <= i {
+        changed.push(None)?;
+    }
+    Ok(())
+}
+
+/// Gives the state variable at a place another value. Its old one stays where it was.
+fn set_variable(changed: &mut Vec<Option<Data>>, i: usize, data: Data)
+    requires { i < length changed.old.items }
+    ensures { (x : List ℕ) (names : List (List ℕ)) (values : List Tree) → Some i ≡ place x names → current names values (changes changed.new.items) ≡ rebind x (tree «data») (current names values (changes changed.old.items)) }
+{
+    changed[i] = Some(data);
+}
+
+/// Gives the innermost of the function's own names, else a state variable, another value.
+pub fn assign_name(
+    module: &Module,
+    machine: &mut Machine,
+    name: &Text,
+    data: Data,
+) -> Result<(), Stop>
+    ensures does { (values : List Tree) → Computes (put_name (bad_step WrongKind) name.now (tree «data»)) (state (variable_names «module».now) values machine.old) (come (λ u. u) result) (state (variable_names «module».now) values machine.new) }
+    ensures kept { machine.new.meter ≤ machine.old.meter }
+{
+    if let Some(i) = local_place(machine.locals.as_slice(), name.as_str()) {
+        set_local(&mut machine.locals, i, data);
+        return Ok(());
+    }
+    if let Some(i) = variable_place(module.variables.as_slice(), name.as_str()) {
+        make_place(&mut machine.changed, i)?;
+        set_variable(&mut machine.changed, i, data);
+        return Ok(());
+    }
+    Err(bad(Reason::WrongKind))
+}
+
+/// Puts a value behind the others, under a copy of the name.
+pub fn bind_name(
+    alloc: Global,
+    locals: &mut Vec<(Text, Data)>,
+    name: &Text,
+    data: Data,
+) -> Result<(), AllocError>
+    ensures { OnOk result (locals.new.items ≡ locals.old.items ++ (name.now, «data») ∷ []) }
+{
+    let name = name.copy(alloc)?;
+    locals.push((name, data))?;
+    Ok(())
+}
+
+/// The names with their values: a missing value is null, surplus ones are dropped.
+pub fn bind_all(
+    alloc: Global,
+    names: &[Text],
+    values: Vec<Data>,
+) -> Result<Vec<(Text, Data)>, AllocError>
+    ensures { IfOk result (λ bound. named_trees bound.items ≡ pairs names.now (trees values.items)) }
+{
+    let mut values = values.into_iter();
+    let mut bound = Vec::new(alloc);
+    for name in names {
+        let data = values.next().unwrap_or(Data::Null);
+        bind_name(alloc, &mut bound, name, data)?;
+    }
+    Ok(bound)
+}

@@ -1,0 +1,157 @@
+// What operators, steps and the language's own functions make of values, as steps of an evaluation.
+ghost use Rattle.std.specs.Prelude.{◌≤◌, ℕ, List, Result};
+ghost use Rattle.jessie_tree.specs.Tree.{Tree};
+ghost use Rattle.jessie_tree.specs.View.{tree, trees, named_trees};
+ghost use Rattle.jessie_values.specs.Operators.{truth};
+ghost use Rattle.jessie_values.specs.Dispatch.{operate, skips, unary};
+ghost use Rattle.jessie_values.specs.Steps.{field_at, index_at, list_items};
+ghost use Rattle.jessie_values.specs.Records.{made_array, made_record};
+ghost use Rattle.amount_calls.specs.AmountMath.{amount_call};
+ghost use Rattle.amount_calls.specs.Refusals.{Fails};
+ghost use Rattle.amount_calls.specs.declared.refusals.AmountRefusal.{AmountRefusal};
+ghost use Rattle.jessie_semantics.specs.Actions.{State};
+ghost use Rattle.jessie_semantics.specs.Rules.{worked, counted, field_rule};
+ghost use Rattle.jessie_semantics.specs.Runs.{Computes, halted};
+ghost use Rattle.jessie_machine.specs.Stops.{come, halt};
+ghost use Rattle.jessie_machine.specs.Machine.{all_seen, state};
+
+use crate::machine::{Machine, take};
+use crate::stop::{Stop, Thrown, bad, fault_stop};
+use amount_calls::functions::call_amount_math;
+use amount_calls::refusals::AmountFault;
+use host_text::text::Text;
+use jessie_syntax::syntax::{Operator, Unary};
+use jessie_tree::data::Data;
+use jessie_values::dispatch::{operate, skips, unary};
+use jessie_values::operators::truth;
+use jessie_values::records::{made_array, made_record};
+use jessie_values::steps::{field_at, index_at, list_items};
+use std::alloc::Global;
+
+/// The truth value that it is.
+pub fn check(data: &Data) -> Result<bool, Stop>
+    ensures { (s : State) → Computes (worked (truth (tree «data».now))) s (come (λ b. b) result) s }
+{
+    match truth(data) {
+        Ok(holds) => Ok(holds),
+        Err(reason) => Err(bad(reason)),
+    }
+}
+
+/// Whether the left side alone decides.
+pub fn decide(operator: Operator, left: &Data) -> Result<bool, Stop>
+    ensures { (s : State) → Computes (worked (skips operator (tree left.now))) s (come (λ b. b) result) s }
+{
+    match skips(operator, left) {
+        Ok(skipped) => Ok(skipped),
+        Err(reason) => Err(bad(reason)),
+    }
+}
+
+/// What the operator makes of both sides.
+pub fn apply(alloc: Global, operator: Operator, left: Data, right: &Data) -> Result<Data, Stop>
+    ensures { (s : State) → Computes (worked (operate operator (tree left) (tree right.now))) s (come tree result) s }
+{
+    match operate(alloc, operator, left, right) {
+        Ok(data) => Ok(data),
+        Err(fault) => Err(fault_stop(fault)),
+    }
+}
+
+/// What the operator makes of the value behind it.
+pub fn apply_unary(operator: Unary, data: &Data) -> Result<Data, Stop>
+    ensures { (s : State) → Computes (worked (unary operator (tree «data».now))) s (come tree result) s }
+{
+    match unary(operator, data) {
+        Ok(data) => Ok(data),
+        Err(reason) => Err(bad(reason)),
+    }
+}
+
+/// The field of a record.
+fn read_field(data: Data, name: &str) -> Result<Data, Stop>
+    ensures { (s : State) → Computes (worked (field_at name.now (tree «data»))) s (come tree result) s }
+{
+    match field_at(data, name) {
+        Ok(part) => Ok(part),
+        Err(reason) => Err(bad(reason)),
+    }
+}
+
+/// The step to a field of a record.
+pub fn run_field(machine: &mut Machine, target: Data, name: &Text) -> Result<Data, Stop>
+    ensures does { (names : List (List ℕ)) (values : List Tree) → Computes (field_rule name.now (tree target)) (state names values machine.old) (come tree result) (state names values machine.new) }
+    ensures kept { machine.new.meter ≤ machine.old.meter }
+{
+    take(machine, 1)?;
+    read_field(target, name.as_str())
+}
+
+/// The part at an index.
+pub fn read_index(data: Data, index: &Data) -> Result<Data, Stop>
+    ensures { (s : State) → Computes (worked (index_at (tree «data») (tree index.now))) s (come tree result) s }
+{
+    match index_at(data, index) {
+        Ok(part) => Ok(part),
+        Err(reason) => Err(bad(reason)),
+    }
+}
+
+/// The parts of an array.
+pub fn parts(data: Data) -> Result<Vec<Data>, Stop>
+    ensures { (s : State) → Computes (worked (list_items (tree «data»))) s (come all_seen result) s }
+{
+    match list_items(data) {
+        Ok(items) => Ok(items),
+        Err(reason) => Err(bad(reason)),
+    }
+}
+
+/// The array of these parts.
+pub fn make_array(items: Vec<Data>) -> Result<Data, Stop>
+    ensures { (s : State) → Computes (worked (made_array (trees items.items))) s (come tree result) s }
+{
+    match made_array(items) {
+        Ok(data) => Ok(data),
+        Err(reason) => Err(bad(reason)),
+    }
+}
+
+/// The record of these fields, in the text's order.
+pub fn make_record(alloc: Global, fields: Vec<(Text, Data)>) -> Result<Data, Stop>
+    ensures { (s : State) → Computes (worked (made_record (named_trees «fields».items))) s (come tree result) s }
+{
+    match made_record(alloc, fields) {
+        Ok(data) => Ok(data),
+        Err(fault) => Err(fault_stop(fault)),
+    }
+}
+
+/// That of a call of AmountMath that gave no value.
+fn amount_stop(alloc: Global, fault: &AmountFault) -> Stop
+    ensures { (s : State) (given : Result Tree AmountRefusal) → Fails fault.now given → Computes (counted given) s (halted (halt result)) s }
+{
+    match fault {
+        AmountFault::NoMemory => Stop::NoMemory,
+        AmountFault::Refused(refusal) => match refusal.data(alloc) {
+            Ok(data) => Stop::Throws(Thrown::Data(data)),
+            Err(_) => Stop::NoMemory,
+        },
+    }
+}
+
+fn let_go<T: Drop>(_value: T) {}
+
+/// What a function of AmountMath answers.
+pub fn call_amounts(alloc: Global, name: &Text, args: &[Data]) -> Result<Data, Stop>
+    ensures { (s : State) → Computes (counted (amount_call name.now (trees args.now))) s (come tree result) s }
+{
+    match call_amount_math(alloc, name.as_str(), args) {
+        Ok(data) => Ok(data),
+        Err(fault) => {
+            let stop = amount_stop(alloc, &fault);
+            let_go(fault);
+            Err(stop)
+        }
+    }
+}

@@ -1,0 +1,55 @@
+// Calls of the host.
+ghost use Rattle.std.specs.Prelude.{ℕ, List, ◌≤◌};
+ghost use Rattle.jessie_tree.specs.Tree.{Tree};
+ghost use Rattle.jessie_tree.specs.View.{tree, trees};
+ghost use Rattle.jessie_semantics.specs.Rules.{host_call, host_send};
+ghost use Rattle.jessie_semantics.specs.Runs.{Runs};
+ghost use Rattle.jessie_machine.specs.Stops.{come};
+ghost use Rattle.jessie_machine.specs.Machine.{state};
+
+use crate::host::Powers;
+use crate::machine::{Machine, settle, take_call};
+use crate::stop::{Stop, bad};
+use host_text::text::Text;
+use jessie_tree::data::Data;
+use jessie_values::reasons::Reason;
+
+/// Calls a method of an object of the host.
+pub fn call_method<P: Powers>(
+    powers: &mut P,
+    machine: &mut Machine,
+    target: &Data,
+    method: &Text,
+    args: Vec<Data>,
+) -> Result<Data, Stop>
+    requires { machine.old.meter ≤ P.room powers.old }
+    ensures runs { (names : List (List ℕ)) (values : List Tree) → Runs P.answers powers.old powers.new (host_call (tree target.now) method.now (trees args.items)) (state names values machine.old) (come tree result) (state names values machine.new) }
+    ensures fits { machine.new.meter ≤ P.room powers.new }
+{
+    let Some(object) = target.object() else {
+        return Err(bad(Reason::WrongKind));
+    };
+    take_call(machine, args.as_slice())?;
+    let answer = powers.call(object, method.as_str(), args)?;
+    settle(machine, answer)
+}
+
+/// Sends an object of the host a method's call.
+pub fn send_method<P: Powers>(
+    powers: &mut P,
+    machine: &mut Machine,
+    target: &Data,
+    method: &Text,
+    args: Vec<Data>,
+) -> Result<Data, Stop>
+    requires { machine.old.meter ≤ P.room powers.old }
+    ensures runs { (names : List (List ℕ)) (values : List Tree) → Runs P.answers powers.old powers.new (host_send (tree target.now) method.now (trees args.items)) (state names values machine.old) (come tree result) (state names values machine.new) }
+    ensures fits { machine.new.meter ≤ P.room powers.new }
+{
+    let Some(receiver) = target.object() else {
+        return Err(bad(Reason::WrongKind));
+    };
+    take_call(machine, args.as_slice())?;
+    let answer = powers.send(receiver, method.as_str(), args)?;
+    settle(machine, answer)
+}

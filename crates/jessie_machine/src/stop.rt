@@ -1,0 +1,72 @@
+// What keeps an evaluation from coming to a value.
+ghost use Rattle.std.specs.Prelude.{◌≡◌, IfOk};
+ghost use Rattle.jessie_tree.specs.View.{tree};
+ghost use Rattle.jessie_values.specs.Reasons.{bad_step};
+ghost use Rattle.jessie_semantics.specs.Runs.{throws};
+ghost use Rattle.jessie_machine.specs.Stops.{fault_halt, halt, thrown_tree};
+ghost use Rattle.jessie_machine.specs.declared.stop.Stop.TheVariants.{NoMemory};
+
+use jessie_tree::data::Data;
+use jessie_values::reasons::{Reason, ValueFault};
+use std::alloc::{AllocError, AllocFailed, Global};
+
+/// What is thrown. A bad step is made into data only where it is caught.
+#[derive(Drop)]
+pub enum Thrown {
+    Data(Data),
+    BadStep(Reason),
+}
+
+/// Why an evaluation doesn't go on.
+#[derive(Drop)]
+pub enum Stop {
+    Throws(Thrown),
+    /// The meter doesn't have the next charge.
+    Spent,
+    NoMemory,
+}
+
+impl From<AllocError> for Stop {
+    ghost from_gives = { λ _ stop. stop ≡ NoMemory };
+
+    fn from(_error: AllocError) -> Stop {
+        Stop::NoMemory
+    }
+}
+
+impl<T: Drop> From<AllocFailed<T>> for Stop {
+    ghost from_gives = { λ _ stop. stop ≡ NoMemory };
+
+    fn from(_error: AllocFailed<T>) -> Stop {
+        Stop::NoMemory
+    }
+}
+
+/// That of a bad step.
+pub fn bad(reason: Reason) -> Stop
+    ensures { halt result ≡ throws (bad_step reason) }
+{
+    Stop::Throws(Thrown::BadStep(reason))
+}
+
+/// That of a function of values that gave no value.
+pub fn fault_stop(fault: ValueFault) -> Stop
+    ensures { halt result ≡ fault_halt fault }
+{
+    match fault {
+        ValueFault::NoMemory => Stop::NoMemory,
+        ValueFault::BadStep(reason) => bad(reason),
+    }
+}
+
+impl Thrown {
+    /// The data that is thrown.
+    pub fn into_data(self, alloc: Global) -> Result<Data, AllocError>
+        ensures { IfOk result (λ made. tree made ≡ thrown_tree self) }
+    {
+        match self {
+            Thrown::Data(data) => Ok(data),
+            Thrown::BadStep(reason) => reason.data(alloc),
+        }
+    }
+}
