@@ -1,0 +1,245 @@
+-- The calls of the two parts: what they ask for, and what they make of the whole.
+use Rattle.std.proofs.Common.{◌≡◌, ℕ, ◌+◌, ◌-◌, ◌<◌, List, [], ◌∷◌, ◌++◌, length, take, refl, sym, ◌∙◌, ap, subst, arith}
+use Rattle.std.specs.Prelude.{slice_set, ◌^◌, ◌≤◌}
+use Rattle.amount_math.specs.Content.{Contains, nothing, sum, sum-nothing}
+use Rattle.amount_math.specs.Counted.{counted, counted-nothing}
+use Rattle.amount_math.specs.Held.{Held, GoesIn, ComesOut, HasRoom, IsHeld, with_less, with_more}
+use Rattle.amount_math.specs.Worth.{Worth, Fits, IsIssueRefusal, keys_of, with_content}
+use Rattle.amount_math.specs.declared.PutFault.{PutFault}
+use Rattle.amount_math.specs.declared.Kind.{Kind}
+use Rattle.amount_math.specs.declared.Kind.TheVariants.{Nat}
+use Rattle.ertp_mint.specs.BrandSupply.{BrandSupply, issued, retired}
+use Rattle.ertp_mint.specs.Circulating.{CanReturn, IsOut, StoredSupply, circulation_at, new_circulation, out_of, unissued, unretired, with_supply}
+use Rattle.list_edits.proofs.ListEdits.{length_set, read_set}
+use Rattle.transit.specs.Transit.{AreKept, CanHold, IsInStore, IsKept, IsOnItsWay, TransitView, empty_hand, held_at, whole_of, wholes, with_hand, with_out}
+use Rattle.transit.proofs.Wholes.{held_whole, issued_whole, let_go_whole, retired_whole, unissued_whole, unretired_whole, wholes-kept, wholes-length, wholes-push, wholes-read, wholes-take, wholes-roomed, wholes-set_out}
+use Rattle.transit.proofs.Keeping.{can_let_go, can_return, can_return_part, fits_hand, kept_held, kept_issued, kept_let_go, kept_push, kept_retired, kept_take, kept_set, kept_set_hand, kept_set_out, kept_unissued, kept_unretired, on_its_way}
+
+module _ (out : List StoredSupply) (hand : List Held) (are : AreKept out hand) where
+  abbrev pub view : TransitView
+  view = record { out = wholes out hand; hand = hand }
+
+  pub made : (b : ℕ) → b < length (wholes out hand) → b < length out
+  made b lt = omega (arith, lt, wholes-length out hand)
+
+  pub made_too : (b : ℕ) → b < length (wholes out hand) → b < length hand
+  made_too b lt = omega (arith, lt, wholes-length out hand, are.same)
+
+  module _ (b : ℕ) (lt : b < length (wholes out hand)) where
+    abbrev x : StoredSupply
+    x = circulation_at out b
+
+    abbrev h : Held
+    h = held_at hand b
+
+    abbrev whole : StoredSupply
+    whole = circulation_at (wholes out hand) b
+
+    pub reads : whole ≡ whole_of x h.value.content
+    reads = wholes-read out hand b are.same (made b lt)
+
+    pub is : IsKept x h
+    is = are.each b (made b lt)
+
+    -- a change of the supply alone
+    changed : (f : BrandSupply → BrandSupply) → unretired (f x.supply) h.value.content ≡ f (unretired x.supply h.value.content) → wholes (slice_set out b (with_supply x (f x.supply))) hand ≡ slice_set (wholes out hand) b (with_supply whole (f whole.supply))
+    changed f eq =
+        wholes-set_out out hand b are.same (made b lt) (with_supply x (f x.supply))
+        ∙ ap (λ s. slice_set (wholes out hand) b (with_supply x s)) eq
+        ∙ ap (λ (y : StoredSupply). slice_set (wholes out hand) b (with_supply y (f y.supply))) (sym reads)
+
+    pub changed_view : (f : BrandSupply → BrandSupply) → unretired (f x.supply) h.value.content ≡ f (unretired x.supply h.value.content) → (l : List StoredSupply) → l ≡ slice_set out b (with_supply x (f x.supply)) → ◌≡◌ {A = TransitView} (record { out = wholes l hand; hand = hand }) (with_out view b (with_supply whole (f whole.supply)))
+    changed_view f eq l new = ap (λ m. record { out = m; hand = hand }) (ap (λ m. wholes m hand) new ∙ changed f eq)
+
+    module _ (w : Worth) where
+      whole_has : Contains whole.supply.outstanding.content (sum h.value.content w.content) → Contains x.supply.outstanding.content w.content
+      whole_has has = on_its_way x h w is (subst (λ (y : StoredSupply). Contains y.supply.outstanding.content (sum h.value.content w.content)) reads has)
+
+      pub kind_there : whole.supply.outstanding.kind ≡ w.kind → x.supply.outstanding.kind ≡ w.kind
+      kind_there same = ap (λ (y : StoredSupply). y.supply.outstanding.kind) (sym reads) ∙ same
+
+      -- what is on its way is out
+      pub way_out : IsOnItsWay view (record { brand = b; value = w }) → IsOut x w
+      way_out way = record { kind = kind_there way.kind; has = whole_has way.has }
+
+      pub retire_keeps : IsOnItsWay view (record { brand = b; value = w }) → (l : List StoredSupply) → l ≡ slice_set out b (with_supply x (retired x.supply w.content)) → AreKept l hand
+      retire_keeps way l new = subst (λ m. AreKept m hand) (sym new) (kept_set_out out hand are b _ (made b lt) (kept_retired x h w is (whole_has way.has)))
+
+      pub retire_view : IsOnItsWay view (record { brand = b; value = w }) → (l : List StoredSupply) → l ≡ slice_set out b (with_supply x (retired x.supply w.content)) → ◌≡◌ {A = TransitView} (record { out = wholes l hand; hand = hand }) (with_out view b (with_supply whole (retired whole.supply w.content)))
+      retire_view way l new = changed_view (λ s. retired s w.content) (retired_whole x.supply h.value.content w.content is.burned (whole_has way.has)) l new
+
+      pub unissue_keeps : IsOnItsWay view (record { brand = b; value = w }) → (l : List StoredSupply) → l ≡ slice_set out b (with_supply x (unissued x.supply w.content)) → AreKept l hand
+      unissue_keeps way l new = subst (λ m. AreKept m hand) (sym new) (kept_set_out out hand are b _ (made b lt) (kept_unissued x h w is (whole_has way.has)))
+
+      pub unissue_view : IsOnItsWay view (record { brand = b; value = w }) → (l : List StoredSupply) → l ≡ slice_set out b (with_supply x (unissued x.supply w.content)) → ◌≡◌ {A = TransitView} (record { out = wholes l hand; hand = hand }) (with_out view b (with_supply whole (unissued whole.supply w.content)))
+      unissue_view way l new = changed_view (λ s. unissued s w.content) (unissued_whole x.supply h.value.content w.content (whole_has way.has)) l new
+
+      -- a retirement worked backwards
+      pub return_part : CanReturn whole w → CanReturn x w
+      return_part can = can_return_part x h w is (subst (λ y. CanReturn y w) reads can)
+
+      pub unretire_keeps : CanReturn whole w → (l : List StoredSupply) → l ≡ slice_set out b (with_supply x (unretired x.supply w.content)) → AreKept l hand
+      unretire_keeps can l new = subst (λ m. AreKept m hand) (sym new) (kept_set_out out hand are b _ (made b lt) (kept_unretired x h w is (subst (λ y. CanReturn y w) reads can)))
+
+      pub unretire_view : (l : List StoredSupply) → l ≡ slice_set out b (with_supply x (unretired x.supply w.content)) → ◌≡◌ {A = TransitView} (record { out = wholes l hand; hand = hand }) (with_out view b (with_supply whole (unretired whole.supply w.content)))
+      unretire_view l new = changed_view (λ s. unretired s w.content) (unretired_whole x.supply h.value.content w.content) l new
+
+      -- what is held, and what is let go
+      pub goes_in : CanHold view (record { brand = b; value = w }) → GoesIn h w
+      goes_in can = record {
+        kind = sym is.kind ∙ kind_there can.way.kind;
+        fits = fits_hand x h w is (subst (λ (y : StoredSupply). Contains y.supply.outstanding.content (sum h.value.content w.content)) reads can.way.has);
+        room = subst (λ k. HasRoom k (keys_of (sum h.value.content w.content)) h.room) (sym (sym is.kind ∙ kind_there can.way.kind)) can.room;
+      }
+
+      pub hold_keeps : IsOnItsWay view (record { brand = b; value = w }) → (l : List StoredSupply) (hs : List Held) → l ≡ slice_set out b (with_supply x (retired x.supply w.content)) → hs ≡ slice_set hand b (with_more h w.content) → AreKept l hs
+      hold_keeps way l hs new also = subst (λ m. AreKept m hs) (sym new) (subst (λ m. AreKept (slice_set out b (with_supply x (retired x.supply w.content))) m) (sym also)
+          (kept_set out hand are b _ _ (made b lt) (kept_held x h w is (whole_has way.has))))
+
+      pub hold_view : IsOnItsWay view (record { brand = b; value = w }) → (l : List StoredSupply) (hs : List Held) → l ≡ slice_set out b (with_supply x (retired x.supply w.content)) → hs ≡ slice_set hand b (with_more h w.content) → ◌≡◌ {A = TransitView} (record { out = wholes l hs; hand = hs }) (with_hand view b (with_more h w.content))
+      hold_view way l hs new also = (λ i. record { out = wholes (new i) (also i); hand = also i })
+          ∙ ap (λ m. record { out = m; hand = slice_set hand b (with_more h w.content) })
+          (wholes-kept out hand b are.same (made b lt) (with_supply x (retired x.supply w.content)) (with_more h w.content) (ap (with_supply x) (held_whole x.supply h.value.content w.content (whole_has way.has))))
+
+      pub comes_out : IsInStore view b w → ComesOut h w
+      comes_out there = record { kind = sym is.kind ∙ kind_there there.kind; has = there.has }
+
+      pub go_part : IsInStore view b w → CanReturn x w
+      go_part there = can_let_go x h w is (sym is.kind ∙ kind_there there.kind) there.has
+
+      pub go_keeps : IsInStore view b w → (l : List StoredSupply) (hs : List Held) → l ≡ slice_set out b (with_supply x (unretired x.supply w.content)) → hs ≡ slice_set hand b (with_less h w.content) → AreKept l hs
+      go_keeps there l hs new also = subst (λ m. AreKept m hs) (sym new) (subst (λ m. AreKept (slice_set out b (with_supply x (unretired x.supply w.content))) m) (sym also)
+          (kept_set out hand are b _ _ (made b lt) (kept_let_go x h w is there.has)))
+
+      pub go_view : IsInStore view b w → (l : List StoredSupply) (hs : List Held) → l ≡ slice_set out b (with_supply x (unretired x.supply w.content)) → hs ≡ slice_set hand b (with_less h w.content) → ◌≡◌ {A = TransitView} (record { out = wholes l hs; hand = hs }) (with_hand view b (with_less h w.content))
+      go_view there l hs new also = (λ i. record { out = wholes (new i) (also i); hand = also i })
+          ∙ ap (λ m. record { out = m; hand = slice_set hand b (with_less h w.content) })
+          (wholes-kept out hand b are.same (made b lt) (with_supply x (unretired x.supply w.content)) (with_less h w.content) (ap (with_supply x) (let_go_whole x.supply h.value.content w.content there.has)))
+
+      -- what was retired can be out again, in the new whole
+      pub retire_back : IsOnItsWay view (record { brand = b; value = w }) → (l : List StoredSupply) → l ≡ slice_set out b (with_supply x (retired x.supply w.content)) → CanReturn (circulation_at (wholes l hand) b) w
+      retire_back way l new =
+          let lt_new : b < length l = omega (arith, lt, wholes-length out hand, ap length new, length_set out b (with_supply x (retired x.supply w.content))) in
+          subst (λ z. CanReturn z w)
+          (sym (wholes-read l hand b (retire_keeps way l new).same lt_new ∙ ap (λ y. whole_of y h.value.content) (ap (λ m. circulation_at m b) new ∙ read_set out b (with_supply x (retired x.supply w.content)) (new_circulation Nat) (made b lt))))
+          (can_return x h w is (kind_there way.kind) (whole_has way.has))
+
+      -- the same of the element that the code has in its hand
+      pub goes_in_at : CanHold view (record { brand = b; value = w }) → (z : Held) (v : Worth) → z ≡ h → v ≡ w → GoesIn z v
+      goes_in_at can z v at same = subst (λ y. GoesIn y v) (sym at) (subst (λ u. GoesIn h u) (sym same) (goes_in can))
+
+      pub comes_out_at : IsInStore view b w → (z : Held) → z ≡ h → ComesOut z w
+      comes_out_at there z at = subst (λ y. ComesOut y w) (sym at) (comes_out there)
+
+    -- room alone
+    module _ (z : Held) (same : z.value ≡ h.value) where
+      pub roomed_keeps : AreKept out (slice_set hand b z)
+      roomed_keeps = kept_set_hand out hand are b z (made b lt) (record {
+        kind = is.kind ∙ ap (λ (v : Worth). v.kind) (sym same);
+        burned = omega (arith, is.burned, ap (λ (v : Worth). counted v.content) same);
+        fits = subst (λ (v : Worth). Fits x.supply.outstanding.kind (sum x.supply.outstanding.content v.content)) (sym same) is.fits;
+        room = subst (λ (v : Worth). HasRoom x.supply.outstanding.kind (keys_of (sum x.supply.outstanding.content v.content)) x.room) (sym same) is.room;
+      })
+
+      new_there : held_at (slice_set hand b z) b ≡ z
+      new_there = read_set hand b z (empty_hand Nat) (made_too b lt)
+
+      pub roomed_view : ◌≡◌ {A = TransitView} (record { out = wholes out (slice_set hand b z); hand = slice_set hand b z }) (with_hand view b (record { value = h.value; room = (held_at (slice_set hand b z) b).room }))
+      roomed_view =
+          ap (λ l. record { out = l; hand = slice_set hand b z }) (wholes-roomed out hand b are.same (made b lt) z (ap (λ (v : Worth). v.content) same))
+          ∙ (λ i. record { out = wholes out hand; hand = slice_set hand b (record { value = same i; room = (sym new_there i).room }) })
+
+      pub has_room : (y : Held) → y ≡ h → (keys : ℕ) → HasRoom y.value.kind (keys_of y.value.content + keys) z.room → HasRoom whole.supply.outstanding.kind (keys_of h.value.content + keys) (held_at (slice_set hand b z) b).room
+      has_room y at keys has =
+          subst (λ (v : Held). HasRoom whole.supply.outstanding.kind (keys_of h.value.content + keys) v.room) (sym new_there)
+          (subst (λ k. HasRoom k (keys_of h.value.content + keys) z.room) (sym (ap (λ (s : StoredSupply). s.supply.outstanding.kind) reads ∙ is.kind))
+          (subst (λ (v : Held). HasRoom v.value.kind (keys_of v.value.content + keys) z.room) at has))
+
+    -- where the hand's store has nothing, what is out stands there
+    pub out_whole : h.value.content ≡ nothing → out_of x ≡ out_of whole
+    out_whole empty =
+        (λ i. record { value = with_content x.supply.outstanding (sym (ap (sum x.supply.outstanding.content) empty ∙ sum-nothing x.supply.outstanding.content) i); room = x.room })
+        ∙ ap out_of (sym reads)
+
+    -- an issue, where the hand's store has nothing
+    module _ (w : Worth) (empty : h.value.content ≡ nothing) where
+      out_same : whole.supply.outstanding.content ≡ x.supply.outstanding.content
+      out_same = ap (λ (y : StoredSupply). y.supply.outstanding.content) reads ∙ ap (sum x.supply.outstanding.content) empty ∙ sum-nothing x.supply.outstanding.content
+
+      pub small_there : whole.supply.minted + counted w.content < 2 ^ 128 → x.supply.minted + counted w.content < 2 ^ 128
+      small_there small = omega (arith, small, ap (λ (y : StoredSupply). y.supply.minted) reads)
+
+      pub refused_so : (fault : PutFault) → IsIssueRefusal w.kind (sum x.supply.outstanding.content w.content) fault → IsIssueRefusal w.kind (sum whole.supply.outstanding.content w.content) fault
+      refused_so fault is = subst (λ c. IsIssueRefusal w.kind (sum c w.content) fault) (sym out_same) is
+
+      pub fits_so : Fits w.kind (sum x.supply.outstanding.content w.content) → Fits w.kind (sum whole.supply.outstanding.content w.content)
+      fits_so fits = subst (λ c. Fits w.kind (sum c w.content)) (sym out_same) fits
+
+      module _ (l : List StoredSupply) (new : l ≡ slice_set out b (with_supply (circulation_at l b) (issued x.supply w.content))) where
+        abbrev z : StoredSupply
+        z = with_supply (circulation_at l b) (issued x.supply w.content)
+
+        pub issued_made : b < length l
+        issued_made = omega (arith, lt, wholes-length out hand, ap length new, length_set out b z)
+
+        stands : circulation_at l b ≡ z
+        stands = ap (λ m. circulation_at m b) new ∙ read_set out b z (new_circulation Nat) (made b lt)
+
+        pub issue_keeps : IsHeld (out_of (circulation_at l b)) → AreKept l hand
+        issue_keeps held = subst (λ m. AreKept m hand) (sym new) (kept_set_out out hand are b z (made b lt) (kept_issued x z h w.content is empty refl (subst (λ y. IsHeld (out_of y)) stands held)))
+
+        module _ (held : IsHeld (out_of (circulation_at l b))) where
+          reads_new : circulation_at (wholes l hand) b ≡ whole_of (circulation_at l b) h.value.content
+          reads_new = wholes-read l hand b (issue_keeps held).same issued_made
+
+          same_supply : unretired (issued x.supply w.content) h.value.content ≡ issued whole.supply w.content
+          same_supply = issued_whole x.supply h.value.content w.content ∙ ap (λ (y : StoredSupply). issued y.supply w.content) (sym reads)
+
+          pub issue_view : ◌≡◌ {A = TransitView} (record { out = wholes l hand; hand = hand }) (with_out view b (with_supply (circulation_at (wholes l hand) b) (issued whole.supply w.content)))
+          issue_view = ap (λ m. record { out = m; hand = hand })
+              (ap (λ m. wholes m hand) new ∙ wholes-set_out out hand b are.same (made b lt) z
+              ∙ (λ i. slice_set (wholes out hand) b (record { supply = same_supply i; room = (sym reads_new i).room })))
+
+          pub issue_room : x.room ≤ (circulation_at l b).room → whole.room ≤ (circulation_at (wholes l hand) b).room
+          issue_room le = omega (arith, le, ap (λ (y : StoredSupply). y.room) reads, ap (λ (y : StoredSupply). y.room) reads_new)
+
+  -- ---- a brand more
+
+  module _ (kind : Kind) where
+    pub added_keeps : (l : List StoredSupply) (hs : List Held) → l ≡ out ++ new_circulation kind ∷ [] → hs ≡ hand ++ empty_hand kind ∷ [] → AreKept l hs
+    added_keeps l hs new also = subst (λ m. AreKept m hs) (sym new) (subst (λ m. AreKept (out ++ new_circulation kind ∷ []) m) (sym also) (kept_push out hand are kind))
+
+    fresh : whole_of (new_circulation kind) nothing ≡ new_circulation kind
+    fresh i = record { supply = record { outstanding = record { kind = kind; content = sum-nothing nothing i }; minted = 0; burned = none i }; room = 0 }
+      where
+        none : 0 - counted nothing ≡ 0
+        none = omega (arith, counted-nothing)
+
+    pub added_view : (l : List StoredSupply) (hs : List Held) → l ≡ out ++ new_circulation kind ∷ [] → hs ≡ hand ++ empty_hand kind ∷ [] → ◌≡◌ {A = TransitView} (record { out = wholes l hs; hand = hs }) (record { out = wholes out hand ++ new_circulation kind ∷ []; hand = hand ++ empty_hand kind ∷ [] })
+    added_view l hs new also = (λ i. record { out = wholes (new i) (also i); hand = also i })
+        ∙ ap (λ m. record { out = m; hand = hand ++ empty_hand kind ∷ [] }) (wholes-push out hand (new_circulation kind) (empty_hand kind) are.same ∙ ap (λ y. wholes out hand ++ y ∷ []) fresh)
+
+  -- ---- the last brand less
+
+  pub long_whole : length (wholes out hand) ≡ length out
+  long_whole = wholes-length out hand
+
+  pub fresh_there : 0 < length (wholes out hand) → (circulation_at (wholes out hand) (length (wholes out hand) - 1)).supply.minted ≡ 0 → (circulation_at out (length out - 1)).supply.minted ≡ 0
+  fresh_there some fresh =
+      ap (λ (y : StoredSupply). y.supply.minted) (sym (wholes-read out hand (length out - 1) are.same (omega (arith, some, long_whole))))
+      ∙ ap (λ n. (circulation_at (wholes out hand) (n - 1)).supply.minted) (sym long_whole) ∙ fresh
+
+  pub removed_keeps : (n : ℕ) (l : List StoredSupply) (hs : List Held) → l ≡ take n out → hs ≡ take n hand → AreKept l hs
+  removed_keeps n l hs new also = subst (λ m. AreKept m hs) (sym new) (subst (λ m. AreKept (take n out) m) (sym also) (kept_take out hand are n))
+
+  pub removed_out : (n : ℕ) (l : List StoredSupply) (hs : List Held) → l ≡ take n out → hs ≡ take n hand → wholes l hs ≡ take n (wholes out hand)
+  removed_out n l hs new also = (λ i. wholes (new i) (also i)) ∙ wholes-take out hand n are.same
+
+  pub last_hand : (n m : ℕ) → n ≡ m → m ≡ length hand → take (n - 1) hand ≡ take (length out - 1) hand
+  last_hand n m is at = ap (λ k. take (k - 1) hand) (is ∙ at ∙ sym are.same)
+
+  pub sym_long : length out ≡ length (wholes out hand)
+  sym_long = sym long_whole
+
+pub wholes_long : (out : List StoredSupply) (hand : List Held) → AreKept out hand → length hand ≡ length (wholes out hand)
+wholes_long out hand are = omega (arith, are.same, wholes-length out hand)

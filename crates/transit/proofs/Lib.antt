@@ -1,0 +1,3 @@
+pub mod Wholes
+pub mod Keeping
+pub mod Calls

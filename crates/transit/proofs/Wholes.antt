@@ -1,0 +1,110 @@
+-- What the whole supply is, of a brand and of all: what a step makes of the two parts, it makes of the whole.
+use Rattle.std.proofs.Common.{◌≡◌, ℕ, zero, suc, ◌+◌, ◌-◌, ◌<◌, ◌≤◌, List, [], ◌∷◌, ◌++◌, length, take, refl, sym, ◌∙◌, ap, arith}
+use Rattle.std.specs.Prelude.{slice_set}
+use Rattle.amount_math.specs.Content.{Content, Contains, count-difference, count-sum, difference, same_content, sum}
+use Rattle.amount_math.specs.Counted.{counted, counted-difference, counted-sum}
+use Rattle.amount_math.specs.Held.{Held}
+use Rattle.amount_math.specs.Worth.{with_content}
+use Rattle.amount_math.specs.declared.Kind.TheVariants.{Nat}
+use Rattle.ertp_mint.specs.BrandSupply.{BrandSupply, issued, retired}
+use Rattle.ertp_mint.specs.Circulating.{StoredSupply, circulation_at, new_circulation, unissued, unretired}
+use Rattle.list_edits.proofs.ListEdits.{set_same}
+use Rattle.transit.specs.Transit.{empty_hand, held_at, whole_of, wholes}
+
+-- ---- of all brands
+
+pub wholes-length : (out : List StoredSupply) (hand : List Held) → length (wholes out hand) ≡ length out
+wholes-length [] hs = refl
+wholes-length (x ∷ xs) [] = refl
+wholes-length (x ∷ xs) (h ∷ hs) = omega (arith, wholes-length xs hs)
+
+pub wholes-read : (out : List StoredSupply) (hand : List Held) (b : ℕ) → length out ≡ length hand → b < length out → circulation_at (wholes out hand) b ≡ whole_of (circulation_at out b) (held_at hand b).value.content
+wholes-read [] hs b same lt = absurd (omega arith)
+wholes-read (x ∷ xs) [] b same lt = absurd (omega arith)
+wholes-read (x ∷ xs) (h ∷ hs) zero same lt = refl
+wholes-read (x ∷ xs) (h ∷ hs) (suc b) same lt = wholes-read xs hs b (omega arith) (omega arith)
+
+pub wholes-set : (out : List StoredSupply) (hand : List Held) (b : ℕ) (x : StoredSupply) (h : Held) → length out ≡ length hand → wholes (slice_set out b x) (slice_set hand b h) ≡ slice_set (wholes out hand) b (whole_of x h.value.content)
+wholes-set [] [] b x h same = refl
+wholes-set [] (g ∷ gs) b x h same = absurd (omega arith)
+wholes-set (y ∷ ys) [] b x h same = absurd (omega arith)
+wholes-set (y ∷ ys) (g ∷ gs) zero x h same = refl
+wholes-set (y ∷ ys) (g ∷ gs) (suc b) x h same = ap (λ l. whole_of y g.value.content ∷ l) (wholes-set ys gs b x h (omega arith))
+
+pub wholes-push : (out : List StoredSupply) (hand : List Held) (x : StoredSupply) (h : Held) → length out ≡ length hand → wholes (out ++ x ∷ []) (hand ++ h ∷ []) ≡ wholes out hand ++ whole_of x h.value.content ∷ []
+wholes-push [] [] x h same = refl
+wholes-push [] (g ∷ gs) x h same = absurd (omega arith)
+wholes-push (y ∷ ys) [] x h same = absurd (omega arith)
+wholes-push (y ∷ ys) (g ∷ gs) x h same = ap (λ l. whole_of y g.value.content ∷ l) (wholes-push ys gs x h (omega arith))
+
+pub wholes-take : (out : List StoredSupply) (hand : List Held) (n : ℕ) → length out ≡ length hand → wholes (take n out) (take n hand) ≡ take n (wholes out hand)
+wholes-take [] [] zero same = refl
+wholes-take [] [] (suc n) same = refl
+wholes-take [] (g ∷ gs) n same = absurd (omega arith)
+wholes-take (y ∷ ys) [] n same = absurd (omega arith)
+wholes-take (y ∷ ys) (g ∷ gs) zero same = refl
+wholes-take (y ∷ ys) (g ∷ gs) (suc n) same = ap (λ l. whole_of y g.value.content ∷ l) (wholes-take ys gs n (omega arith))
+
+module _ (out : List StoredSupply) (hand : List Held) (b : ℕ) (same : length out ≡ length hand) (lt : b < length out) where
+  -- where the hand's store stays
+  pub wholes-set_out : (x : StoredSupply) → wholes (slice_set out b x) hand ≡ slice_set (wholes out hand) b (whole_of x (held_at hand b).value.content)
+  wholes-set_out x = ap (wholes (slice_set out b x)) (sym (set_same hand b (empty_hand Nat))) ∙ wholes-set out hand b x (held_at hand b) same
+
+  -- where both change so that the whole stays
+  pub wholes-kept : (x : StoredSupply) (h : Held) → whole_of x h.value.content ≡ whole_of (circulation_at out b) (held_at hand b).value.content → wholes (slice_set out b x) (slice_set hand b h) ≡ wholes out hand
+  wholes-kept x h is =
+      wholes-set out hand b x h same
+      ∙ ap (slice_set (wholes out hand) b) (is ∙ sym (wholes-read out hand b same lt))
+      ∙ set_same (wholes out hand) b (new_circulation Nat)
+
+  -- where the hand's store has the same, in another room
+  pub wholes-roomed : (h : Held) → h.value.content ≡ (held_at hand b).value.content → wholes out (slice_set hand b h) ≡ wholes out hand
+  wholes-roomed h is = ap (λ l. wholes l (slice_set hand b h)) (sym (set_same out b (new_circulation Nat))) ∙ wholes-kept (circulation_at out b) h (ap (whole_of (circulation_at out b)) is)
+
+-- ---- of one brand
+
+module _ (s : BrandSupply) (hand part : Content) where
+  abbrev out : Content
+  out = s.outstanding.content
+
+  less_then_more : Contains out part → sum (difference out part) hand ≡ difference (sum out hand) part
+  less_then_more has = same_content _ _ (λ k. omega (arith, count-sum (difference out part) hand k, count-difference out part k, count-difference (sum out hand) part k, count-sum out hand k, has.each k))
+
+  more_then_more : sum (sum out part) hand ≡ sum (sum out hand) part
+  more_then_more = same_content _ _ (λ k. omega (arith, count-sum (sum out part) hand k, count-sum out part k, count-sum (sum out hand) part k, count-sum out hand k))
+
+  pub issued_whole : unretired (issued s part) hand ≡ issued (unretired s hand) part
+  issued_whole i = record { outstanding = with_content s.outstanding (more_then_more i); minted = s.minted + counted part; burned = s.burned - counted hand }
+
+  pub unissued_whole : Contains out part → unretired (unissued s part) hand ≡ unissued (unretired s hand) part
+  unissued_whole has i = record { outstanding = with_content s.outstanding (less_then_more has i); minted = s.minted - counted part; burned = s.burned - counted hand }
+
+  pub retired_whole : counted hand ≤ s.burned → Contains out part → unretired (retired s part) hand ≡ retired (unretired s hand) part
+  retired_whole burned has i = record { outstanding = with_content s.outstanding (less_then_more has i); minted = s.minted; burned = later i }
+    where
+      later : (s.burned + counted part) - counted hand ≡ (s.burned - counted hand) + counted part
+      later = omega (arith, burned)
+
+  pub unretired_whole : unretired (unretired s part) hand ≡ unretired (unretired s hand) part
+  unretired_whole i = record { outstanding = with_content s.outstanding (more_then_more i); minted = s.minted; burned = either i }
+    where
+      either : (s.burned - counted part) - counted hand ≡ (s.burned - counted hand) - counted part
+      either = omega arith
+
+  pub held_whole : Contains out part → unretired (retired s part) (sum hand part) ≡ unretired s hand
+  held_whole has i = record { outstanding = with_content s.outstanding (same i); minted = s.minted; burned = less i }
+    where
+      same : sum (difference out part) (sum hand part) ≡ sum out hand
+      same = same_content _ _ (λ k. omega (arith, count-sum (difference out part) (sum hand part) k, count-difference out part k, count-sum hand part k, count-sum out hand k, has.each k))
+
+      less : (s.burned + counted part) - counted (sum hand part) ≡ s.burned - counted hand
+      less = omega (arith, counted-sum hand part)
+
+  pub let_go_whole : Contains hand part → unretired (unretired s part) (difference hand part) ≡ unretired s hand
+  let_go_whole has i = record { outstanding = with_content s.outstanding (same i); minted = s.minted; burned = less i }
+    where
+      same : sum (sum out part) (difference hand part) ≡ sum out hand
+      same = same_content _ _ (λ k. omega (arith, count-sum (sum out part) (difference hand part) k, count-difference hand part k, count-sum out part k, count-sum out hand k, has.each k))
+
+      less : (s.burned - counted part) - counted (difference hand part) ≡ s.burned - counted hand
+      less = omega (arith, counted-difference hand part has)

@@ -1,0 +1,188 @@
+//! Rights on their way in a turn: what is out of each brand, and the hand's own store, which takes what a
+//! turn gives up, and what is on its way while a turn is undone. It stands on amounts and parcels. Its one
+//! contract: each call gives the whole new supply and the whole new store; what the store has is out; no
+//! number of keys bounds it; and within the room that was taken before, nothing that undoing needs takes
+//! memory.
+#![tactic(auto)]
+
+ghost use Rattle.std.specs.Prelude.{◌≡◌, ◌<◌, ◌≤◌, ◌+◌, ◌-◌, ◌^◌, ◌++◌, ◌∷◌, [], length, take, IfErr, IfOk, OnErr, OnOk};
+ghost use Rattle.amount_math.specs.Content.{nothing, sum};
+ghost use Rattle.amount_math.specs.Counted.{counted};
+ghost use Rattle.amount_math.specs.Held.{HasRoom, with_less, with_more};
+ghost use Rattle.amount_math.specs.Worth.{Fits, IsIssueRefusal, keys_of};
+ghost use Rattle.ertp_mint.specs.BrandSupply.{issued, retired};
+ghost use Rattle.ertp_mint.specs.Circulating.{CanReturn, circulation_at, new_circulation, out_of, unissued, unretired, with_supply};
+ghost use Rattle.transit.specs.Transit.{CanHold, IsInStore, IsOnItsWay, empty_hand, held_at, in_store, kind_in, supply_in, with_hand, with_out};
+
+use amount_math::{Holding, Kind, PutFault, Value};
+use ertp_mint::{Circulations, Parcel};
+use std::alloc::{AllocError, Global};
+use std::marker::Model;
+
+/// What is out of each brand, and the hand's own store of it. Contracts see both by brand, and for how many
+/// keys there is room in each.
+#[derive(Debug, Drop)]
+pub struct Transit {
+    out: Circulations,
+    hand: Vec<Holding>,
+}
+
+impl Model for Transit {
+    ghost use Rattle.transit.specs.Transit.{AreKept, TransitView, coded_transit, wholes};
+
+    ghost Value = { TransitView };
+
+    ghost coded = { coded_transit };
+
+    ghost view = { λ a. record { out = wholes a.out a.hand.items; hand = a.hand.items } };
+
+    ghost invariant = { λ a. AreKept a.out a.hand.items };
+}
+
+impl Transit {
+    /// Nothing is out of any brand, and the hand has nothing.
+    pub fn new(alloc: Global) -> Transit
+        ensures { result ≡ record { out = []; hand = [] } }
+    {
+        Transit {
+            out: Circulations::new(alloc),
+            hand: Vec::new(alloc),
+        }
+    }
+
+    /// Takes in a new brand, with the next number, of which nothing was issued.
+    pub fn add_brand(&mut self, kind: Kind) -> Result<(), AllocError>
+        ensures ok { OnOk result (self.new ≡ record { out = self.old.out ++ new_circulation kind ∷ []; hand = self.old.hand ++ empty_hand kind ∷ [] }) }
+        ensures same { length self.old.hand ≡ length self.old.out }
+        ensures err { OnErr result (self.new ≡ self.old) }
+    {
+        let alloc = *self.hand.allocator();
+        self.hand.reserve(1)?;
+        self.out.add_brand(kind)?;
+        self.hand.push_reserved(Holding::empty(alloc, kind));
+        Ok(())
+    }
+
+    /// Takes the last brand back, of which nothing was issued.
+    pub fn undo_add_brand(&mut self)
+        requires made { 0 < length self.old.out }
+        requires fresh { (supply_in self.old (length self.old.out - 1)).minted ≡ 0 }
+        ensures out { self.new.out ≡ take (length self.old.out - 1) self.old.out }
+        ensures hand { self.new.hand ≡ take (length self.old.out - 1) self.old.hand }
+        ensures same { length self.new.hand ≡ length self.new.out }
+    {
+        self.out.undo_add_brand();
+        self.hand.truncate(self.hand.len() - 1);
+    }
+
+    /// What is out of a brand of which the hand's store has nothing.
+    pub fn outstanding(&self, brand: u16) -> &Holding
+        requires made { brand < length self.now.out }
+        requires empty { in_store self.now brand ≡ nothing }
+        ensures { result.now ≡ out_of (circulation_at self.now.out brand) }
+    {
+        let _ = &self.hand;
+        self.out.outstanding(brand)
+    }
+
+    /// The counts of all that was ever issued of a brand, together.
+    pub fn minted(&self, brand: u16) -> u128
+        requires { brand < length self.now.out }
+        ensures { result ≡ (supply_in self.now brand).minted }
+    {
+        let _ = &self.hand;
+        self.out.minted(brand)
+    }
+
+    /// Takes room in the hand's store for so many keys more of a brand.
+    pub fn make_room(&mut self, brand: u16, keys: usize) -> Result<(), AllocError>
+        requires { brand < length self.old.out }
+        ensures same { self.new ≡ with_hand self.old brand (record { value = (held_at self.old.hand brand).value; room = (held_at self.new.hand brand).room }) }
+        ensures room { (held_at self.old.hand brand).room ≤ (held_at self.new.hand brand).room }
+        ensures ok { OnOk result (HasRoom (kind_in self.old brand) (keys_of (in_store self.old brand) + keys) (held_at self.new.hand brand).room) }
+        ensures err { OnErr result (self.new ≡ self.old) }
+    {
+        let _ = &self.out;
+        self.hand[brand as usize].reserve(keys)
+    }
+
+    /// Brings a value out as a parcel, or hands it back, of a brand of which the hand's store has nothing.
+    pub fn issue(&mut self, brand: u16, value: Value) -> Result<Parcel, (Value, PutFault)>
+        requires made { brand < length self.old.out }
+        requires kind { kind_in self.old brand ≡ value.kind }
+        requires small { (supply_in self.old brand).minted + counted value.content < 2 ^ 128 }
+        requires empty { in_store self.old brand ≡ nothing }
+        ensures ok { OnOk result (self.new ≡ with_out self.old brand (with_supply (circulation_at self.new.out brand) (issued (supply_in self.old brand) value.content))) }
+        ensures parcel { IfOk result (λ parcel. parcel ≡ record { brand = brand; value = value }) }
+        ensures fits { OnOk result (Fits value.kind (sum (supply_in self.old brand).outstanding.content value.content)) }
+        ensures room { (circulation_at self.old.out brand).room ≤ (circulation_at self.new.out brand).room }
+        ensures back { IfErr result (λ (back, _). back ≡ value) }
+        ensures err { OnErr result (self.new ≡ self.old) }
+        ensures refused { IfErr result (λ (_, fault). IsIssueRefusal value.kind (sum (supply_in self.old brand).outstanding.content value.content) fault) }
+    {
+        let _ = &self.hand;
+        match self.out.issue(brand, value) {
+            Ok(parcel) => {
+                let _kind = self.out.outstanding(brand).kind();
+                return Ok(parcel);
+            }
+            Err(fault) => return Err(fault),
+        }
+    }
+
+    /// Works an issue backwards, which takes no memory and ends its parcel.
+    pub fn undo_issue(&mut self, parcel: Parcel)
+        requires { IsOnItsWay self.old parcel }
+        ensures { self.new ≡ with_out self.old parcel.brand (with_supply (circulation_at self.old.out parcel.brand) (unissued (supply_in self.old parcel.brand) parcel.value.content)) }
+    {
+        let _ = &self.hand;
+        self.out.undo_issue(parcel);
+    }
+
+    /// Ends a parcel that is on its way, which takes no memory, and gives its value back, for working it
+    /// backwards.
+    pub fn retire(&mut self, parcel: Parcel) -> Value
+        requires { IsOnItsWay self.old parcel }
+        ensures value { result ≡ parcel.value }
+        ensures retired { self.new ≡ with_out self.old parcel.brand (with_supply (circulation_at self.old.out parcel.brand) (retired (supply_in self.old parcel.brand) parcel.value.content)) }
+        ensures back { CanReturn (circulation_at self.new.out parcel.brand) parcel.value }
+    {
+        let _ = &self.hand;
+        self.out.retire(parcel)
+    }
+
+    /// Works a retirement backwards, which takes no memory. Of two equal values the one becomes the parcel.
+    pub fn undo_retire(&mut self, brand: u16, value: Value, spare: Value) -> Parcel
+        requires made { brand < length self.old.out }
+        requires same { spare ≡ value }
+        requires back { CanReturn (circulation_at self.old.out brand) value }
+        ensures parcel { result ≡ record { brand = brand; value = value } }
+        ensures unretired { self.new ≡ with_out self.old brand (with_supply (circulation_at self.old.out brand) (unretired (supply_in self.old brand) value.content)) }
+    {
+        let _ = &self.hand;
+        self.out.undo_retire(brand, value, spare)
+    }
+
+    /// Takes a parcel that is on its way into the hand's store, within its room, which takes no memory.
+    pub fn hold(&mut self, parcel: Parcel)
+        requires { CanHold self.old parcel }
+        ensures held { self.new ≡ with_hand self.old parcel.brand (with_more (held_at self.old.hand parcel.brand) parcel.value.content) }
+        ensures made { parcel.brand < length self.old.hand }
+    {
+        let brand = parcel.brand();
+        let value = self.out.retire(parcel);
+        self.hand[brand as usize].put_back(value);
+    }
+
+    /// Gives a parcel out of the hand's store, which takes no memory. Of two equal values the one becomes it.
+    pub fn let_go(&mut self, brand: u16, value: Value, spare: Value) -> Parcel
+        requires same { spare ≡ value }
+        requires there { IsInStore self.old brand value }
+        ensures parcel { result ≡ record { brand = brand; value = value } }
+        ensures made { brand < length self.old.hand }
+        ensures less { self.new ≡ with_hand self.old brand (with_less (held_at self.old.hand brand) value.content) }
+    {
+        self.hand[brand as usize].take_out(&value);
+        self.out.undo_retire(brand, value, spare)
+    }
+}
