@@ -1,0 +1,4 @@
+pub mod FlowLaws
+pub mod Undone
+pub mod Agreeing
+pub mod Sound

@@ -1,0 +1,202 @@
+-- What all hold together stays what is out, whatever is taken or given.
+use Rattle.std.proofs.Common.{◌≡◌, ◌≢◌, ◌+◌, ◌<◌, ◌≤◌, ◌==◌, inl, inr, ℕ, zero, suc, Bool, true, false, cond, List, [], ◌∷◌, ◌++◌, length, map, refl, sym, ◌∙◌, ap, subst, arith}
+use Rattle.std.specs.Prelude.{slice_index_or, slice_set}
+use Rattle.std.proofs.lemmas.Bool.{cases_eq, eq-eqb, ne_eqb}
+use Rattle.amount_math.specs.Content.{Content, Contains, nothing, sum, difference, count, count-sum, count-difference, count-nothing, same_content}
+use Rattle.amount_math.specs.Worth.{Worth}
+use Rattle.amount_math.specs.declared.Amount.{Amount}
+use Rattle.amount_math.specs.declared.Kind.{Kind}
+use Rattle.amount_math.specs.declared.Kind.TheVariants.{Nat}
+use Rattle.ertp_mint.specs.BrandSupply.{BrandSupply, issued, new_supply, retired, supply_at}
+use Rattle.ertp_mint.specs.Stocks.{empty_amount, no_amount}
+use Rattle.payments.specs.Papers.{Paper, live_paper, paper_at, spent_paper}
+use Rattle.rights_model.specs.declared.Holder.{Holder}
+use Rattle.rights_model.specs.declared.Holder.TheVariants.{Purse, Payment, Slot, Hand, Outside}
+use Rattle.right_steps.specs.Lists.{Lists, CanGive, CanTake, amount_of, given, less, more, purse_at, taken, with_new_brand, with_new_purse}
+use Rattle.right_steps.specs.Tables.{IsSound, Right, all_in, hand_minus, hand_plus, in_brand, right_in, right_on}
+use Rattle.list_edits.proofs.ListEdits.{length_map, map_push, map_set, read_before, read_map, read_other, read_past, read_pushed, read_set}
+
+-- how many of a brand's element a content of another is
+abbrev pub part : ℕ → Content → ℕ → List ℕ → ℕ
+part b c e k = cond (b == e) (count c k) 0
+
+pub plus_count : (h : ℕ → Content) (b : ℕ) (c : Content) (e : ℕ) (k : List ℕ) → count (hand_plus h b c e) k ≡ count (h e) k + part b c e k
+plus_count h b c e k = elim (b == e) as (λ t. count (cond t (sum (h e) c) (h e)) k ≡ count (h e) k + cond t (count c k) 0) [
+  | true ↦ count-sum (h e) c k
+  | false ↦ omega arith
+]
+
+-- an equation at b, and where the brand is another
+pub at_or_else : (P : ℕ → Bool → Type 0) (b e : ℕ) → P b true → ((b ≢ e) → P e false) → P e (b == e)
+at_or_else P b e here there = elim (cases_eq b e) [
+  | inl same ↦ subst (P e) (sym (eq-eqb b e same)) (subst (λ q. P q true) same here)
+  | inr differs ↦ subst (P e) (sym (ne_eqb b e differs)) (there differs)
+]
+
+pub minus_count : (h : ℕ → Content) (b : ℕ) (c : Content) (e : ℕ) (k : List ℕ) → Contains (h b) c → count (hand_minus h b c e) k + part b c e k ≡ count (h e) k
+minus_count h b c e k has = at_or_else (λ q t. count (cond t (difference (h q) c) (h q)) k + cond t (count c k) 0 ≡ count (h q) k) b e
+    (omega (arith, count-difference (h b) c k, has.each k))
+    (λ _. omega arith)
+
+abbrev less_right : Right → Content → Right
+less_right r c = record { brand = r.brand; content = difference r.content c }
+
+abbrev more_right : Right → Content → Right
+more_right r c = record { brand = r.brand; content = sum r.content c }
+
+brand_less : (r : Right) (b : ℕ) (c : Content) (e : ℕ) (k : List ℕ) → r.brand ≡ b → Contains r.content c → count (in_brand (less_right r c) e) k + part b c e k ≡ count (in_brand r e) k
+brand_less r b c e k brand has = subst (λ x. count (in_brand (less_right r c) e) k + part x c e k ≡ count (in_brand r e) k) brand
+    (elim (r.brand == e) as (λ t. count (cond t (difference r.content c) nothing) k + cond t (count c k) 0 ≡ count (cond t r.content nothing) k) [
+      | true ↦ omega (arith, count-difference r.content c k, has.each k)
+      | false ↦ omega arith
+    ])
+
+brand_more : (r : Right) (b : ℕ) (c : Content) (e : ℕ) (k : List ℕ) → r.brand ≡ b → count (in_brand (more_right r c) e) k ≡ count (in_brand r e) k + part b c e k
+brand_more r b c e k brand = subst (λ x. count (in_brand (more_right r c) e) k ≡ count (in_brand r e) k + part x c e k) brand
+    (elim (r.brand == e) as (λ t. count (cond t (sum r.content c) nothing) k ≡ count (cond t r.content nothing) k + cond t (count c k) 0) [
+      | true ↦ count-sum r.content c k
+      | false ↦ omega arith
+    ])
+
+-- a payment that is live has what it has, and a spent one nothing
+live_count : (b : ℕ) (w : Worth) (e : ℕ) (k : List ℕ) → count (in_brand (right_on (live_paper (amount_of b w))) e) k ≡ part b w.content e k
+live_count b w e k = elim (b == e) as (λ t. count (cond t w.content nothing) k ≡ cond t (count w.content k) 0) [
+  | true ↦ refl
+  | false ↦ count-nothing k
+]
+
+spent_count : (b e : ℕ) (k : List ℕ) → count (in_brand (right_on (spent_paper b)) e) k ≡ 0
+spent_count b e k = elim (b == e) as (λ t. count (cond t nothing nothing) k ≡ 0) [ true ↦ count-nothing k | false ↦ count-nothing k ]
+
+-- ---- lists of rights
+
+all_in-set : (l : List Right) (n : ℕ) (x d : Right) (e : ℕ) (k : List ℕ) → n < length l → all_in (slice_set l n x) e k + count (in_brand (slice_index_or l n d) e) k ≡ all_in l e k + count (in_brand x e) k
+all_in-set [] n x d e k lt = absurd (omega arith)
+all_in-set (r ∷ rs) zero x d e k lt = omega arith
+all_in-set (r ∷ rs) (suc n) x d e k lt = omega (arith, all_in-set rs n x d e k (omega arith))
+
+all_in-push : (l : List Right) (x : Right) (e : ℕ) (k : List ℕ) → all_in (l ++ x ∷ []) e k ≡ all_in l e k + count (in_brand x e) k
+all_in-push [] x e k = omega arith
+all_in-push (r ∷ rs) x e k = omega (arith, all_in-push rs x e k)
+
+purses-set : (l : List Amount) (n : ℕ) (x : Amount) (e : ℕ) (k : List ℕ) → n < length l → all_in (map right_in (slice_set l n x)) e k + count (in_brand (right_in (purse_at l n)) e) k ≡ all_in (map right_in l) e k + count (in_brand (right_in x) e) k
+purses-set l n x e k lt = omega (
+  arith,
+  ap (λ m. all_in m e k) (map_set right_in l n x),
+  all_in-set (map right_in l) n (right_in x) (right_in no_amount) e k (omega (arith, lt, length_map right_in l)),
+  ap (λ r. count (in_brand r e) k) (read_map right_in l n no_amount),
+)
+
+papers-set : (l : List Paper) (n : ℕ) (x : Paper) (e : ℕ) (k : List ℕ) → n < length l → all_in (map right_on (slice_set l n x)) e k + count (in_brand (right_on (paper_at l n)) e) k ≡ all_in (map right_on l) e k + count (in_brand (right_on x) e) k
+papers-set l n x e k lt = omega (
+  arith,
+  ap (λ m. all_in m e k) (map_set right_on l n x),
+  all_in-set (map right_on l) n (right_on x) (right_on (spent_paper 0)) e k (omega (arith, lt, length_map right_on l)),
+  ap (λ r. count (in_brand r e) k) (read_map right_on l n (spent_paper 0)),
+)
+
+-- what is out of each brand
+abbrev out_count : List BrandSupply → ℕ → List ℕ → ℕ
+out_count l e k = count (supply_at l e).outstanding.content k
+
+out_more : (l : List BrandSupply) (b : ℕ) (c : Content) (e : ℕ) (k : List ℕ) → b < length l → out_count (slice_set l b (issued (supply_at l b) c)) e k ≡ out_count l e k + part b c e k
+out_more l b c e k lt = at_or_else (λ q t. out_count (slice_set l b (issued (supply_at l b) c)) q k ≡ out_count l q k + cond t (count c k) 0) b e
+    (ap (λ (x : BrandSupply). count x.outstanding.content k) (read_set l b (issued (supply_at l b) c) (new_supply Nat) lt) ∙ count-sum (supply_at l b).outstanding.content c k)
+    (λ differs. omega (arith, ap (λ (x : BrandSupply). count x.outstanding.content k) (read_other l b e (issued (supply_at l b) c) (new_supply Nat) differs)))
+
+out_less : (l : List BrandSupply) (b : ℕ) (c : Content) (e : ℕ) (k : List ℕ) → b < length l → Contains (supply_at l b).outstanding.content c → out_count (slice_set l b (retired (supply_at l b) c)) e k + part b c e k ≡ out_count l e k
+out_less l b c e k lt has = at_or_else (λ q t. out_count (slice_set l b (retired (supply_at l b) c)) q k + cond t (count c k) 0 ≡ out_count l q k) b e
+    (omega (arith, ap (λ (x : BrandSupply). count x.outstanding.content k) (read_set l b (retired (supply_at l b) c) (new_supply Nat) lt), count-difference (supply_at l b).outstanding.content c k, has.each k))
+    (λ differs. omega (arith, ap (λ (x : BrandSupply). count x.outstanding.content k) (read_other l b e (retired (supply_at l b) c) (new_supply Nat) differs)))
+
+-- ---- a take into the hand, and a put from it
+
+module _ (s : Lists) (h : ℕ → Content) (b : ℕ) (w : Worth) (is : IsSound s h) where
+  pub sound_taken : (from : Holder) → CanTake s from b w → IsSound (taken s from b w) (hand_plus h b w.content)
+  sound_taken (Purse n) can = record {
+    balanced = λ e k. omega (
+      arith,
+      is.balanced e k,
+      purses-set s.purses n (less (purse_at s.purses n) w.content) e k can.made,
+      brand_less (right_in (purse_at s.purses n)) b w.content e k can.brand can.has,
+      plus_count h b w.content e k,
+    );
+  }
+  sound_taken (Payment n) can = record {
+    balanced = λ e k. omega (
+      arith,
+      is.balanced e k,
+      papers-set s.payments n (spent_paper b) e k can.made,
+      ap (λ (p : Paper). count (in_brand (right_on p) e) k) can.is,
+      live_count b w e k,
+      spent_count b e k,
+      plus_count h b w.content e k,
+    );
+  }
+  sound_taken (Slot v j) can = absurd can
+  sound_taken Hand can = absurd can
+  sound_taken Outside can = record { balanced = λ e k. omega (arith, is.balanced e k, out_more s.out b w.content e k can.made, plus_count h b w.content e k) }
+
+  pub sound_given : (to : Holder) → CanGive s to b w → Contains (h b) w.content → IsSound (given s to b w) (hand_minus h b w.content)
+  sound_given (Purse n) can has = record {
+    balanced = λ e k. omega (
+      arith,
+      is.balanced e k,
+      purses-set s.purses n (more (purse_at s.purses n) w.content) e k can.made,
+      brand_more (right_in (purse_at s.purses n)) b w.content e k can.meet.brand,
+      minus_count h b w.content e k has,
+    );
+  }
+  sound_given (Payment n) can has = record {
+    balanced = λ e k. omega (
+      arith,
+      is.balanced e k,
+      ap (λ m. all_in m e k) (map_push right_on s.payments (live_paper (amount_of b w))),
+      all_in-push (map right_on s.payments) (right_on (live_paper (amount_of b w))) e k,
+      live_count b w e k,
+      minus_count h b w.content e k has,
+    );
+  }
+  sound_given (Slot v j) can has = absurd can
+  sound_given Hand can has = absurd can
+  sound_given Outside can has = record { balanced = λ e k. omega (arith, is.balanced e k, out_less s.out b w.content e k can.made can.has, minus_count h b w.content e k has) }
+
+-- what the hand has is out
+pub hand_is_out : (s : Lists) (h : ℕ → Content) → IsSound s h → (b : ℕ) → Contains (supply_at s.out b).outstanding.content (h b)
+hand_is_out s h is b = record { each = λ k. omega (arith, is.balanced b k) }
+
+-- of a brand that was not made it has nothing
+pub none_past : (s : Lists) (h : ℕ → Content) → IsSound s h → (b : ℕ) → length s.out ≤ b → h b ≡ nothing
+none_past s h is b le = same_content _ _ (λ k. omega (arith, is.balanced b k, ap (λ (x : BrandSupply). count x.outstanding.content k) (read_past s.out (new_supply Nat) b le), count-nothing k))
+
+-- ---- openings
+
+pub sound_new_purse : (s : Lists) (h : ℕ → Content) (b : ℕ) (kind : Kind) → IsSound s h → IsSound (with_new_purse s b kind) h
+sound_new_purse s h b kind is = record {
+  balanced = λ e k. omega (
+    arith,
+    is.balanced e k,
+    ap (λ m. all_in m e k) (map_push right_in s.purses (empty_amount b kind)),
+    all_in-push (map right_in s.purses) (right_in (empty_amount b kind)) e k,
+    spent_count b e k,
+  );
+}
+
+pub sound_new_brand : (s : Lists) (h : ℕ → Content) (kind : Kind) → IsSound s h → IsSound (with_new_brand s kind) h
+sound_new_brand s h kind is = record { balanced = λ e k. is.balanced e k ∙ sym (same e k) }
+  where
+    same : (e : ℕ) (k : List ℕ) → out_count (s.out ++ new_supply kind ∷ []) e k ≡ out_count s.out e k
+    same e k = elim (cases_eq (length s.out) e) [
+      | inl at ↦ ap (λ (x : BrandSupply). count x.outstanding.content k) (read_pushed s.out (new_supply kind) (new_supply Nat) e (sym at)) ∙ sym (ap (λ (x : BrandSupply). count x.outstanding.content k) (read_past s.out (new_supply Nat) e (omega (arith, at))))
+      | inr apart ↦ ap (λ (x : BrandSupply). count x.outstanding.content k) (read_before s.out (new_supply kind) (new_supply Nat) e apart)
+    ]
+
+pub sound_alike : (s : Lists) (h g : ℕ → Content) → ((e : ℕ) → h e ≡ g e) → IsSound s h → IsSound s g
+sound_alike s h g alike is = record { balanced = λ e k. omega (arith, is.balanced e k, ap (λ x. count x k) (alike e)) }
+
+-- what came to the hand is there, and without it the hand is as before
+pub plus_has : (h : ℕ → Content) (b : ℕ) (c : Content) → Contains (hand_plus h b c b) c
+plus_has h b c = record { each = λ k. omega (arith, plus_count h b c b k, ap (λ t. cond t (count c k) 0) (eq-eqb b b refl)) }
+
+pub in_and_out : (h : ℕ → Content) (b : ℕ) (c : Content) (e : ℕ) → hand_minus (hand_plus h b c) b c e ≡ h e
+in_and_out h b c e = same_content _ _ (λ k. omega (arith, minus_count (hand_plus h b c) b c e k (plus_has h b c), plus_count h b c e k))

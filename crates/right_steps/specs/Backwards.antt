@@ -1,0 +1,143 @@
+-- Steps worked backwards, the last first: what they give, and when they can be.
+use Rattle.std.specs.Prelude.{◌≡◌, ◌<◌, ◌≤◌, ◌+◌, ◌-◌, ◌==◌, if◌then◌else◌, ℕ, List, [], ◌∷◌, Option, Some, count_by, length}
+use Rattle.amount_math.specs.Content.{Content, Contains, nothing, sum, difference}
+use Rattle.amount_math.specs.Held.{HasRoom}
+use Rattle.amount_math.specs.Worth.{Worth, keys_of}
+use Rattle.amount_math.specs.declared.Amount.{Amount}
+use Rattle.ertp_mint.specs.Balances.{StoredAmount, GoesIn}
+use Rattle.ertp_mint.specs.BrandSupply.{BrandSupply, supply_at}
+use Rattle.ertp_mint.specs.Circulating.{StoredSupply, CanReturn}
+use Rattle.payments.specs.Papers.{is_live, live_paper, paper_at, spent_paper}
+use Rattle.rights_model.specs.declared.Holder.{Holder}
+use Rattle.rights_model.specs.declared.Holder.TheVariants.{Purse, Payment, Slot, Hand, Outside}
+use Rattle.rights_model.specs.declared.Movement.{Movement}
+use Rattle.right_steps.specs.declared.Step.{Step}
+use Rattle.right_steps.specs.declared.Step.TheVariants.{Moves, OpensPurse, AddsBrand}
+use Rattle.right_steps.specs.Lists.{Lists, GivesUp, amount_of, back, kind_of, purse_at, ungiven, without_last_brand, without_last_purse}
+
+-- what they give. Each step that moves has the next of the movements
+abbrev pub all_back : Lists → List Step → List Movement → Lists
+all_back s [] ms = s
+all_back s (Moves spare ∷ ks) [] = s
+all_back s (Moves spare ∷ ks) (m ∷ ms) = all_back (back s m) ks ms
+all_back s (OpensPurse ∷ ks) ms = all_back (without_last_purse s) ks ms
+all_back s (AddsBrand ∷ ks) ms = all_back (without_last_brand s) ks ms
+
+-- ---- the hand
+
+-- what the hand has of a brand after a movement
+abbrev pub from_hand : Holder → Content → Content → Content
+from_hand Hand c part = difference c part
+from_hand (Purse n) c part = c
+from_hand (Payment n) c part = c
+from_hand (Slot seat keyword) c part = c
+from_hand Outside c part = c
+
+abbrev pub to_hand : Holder → Content → Content → Content
+to_hand Hand c part = sum c part
+to_hand (Purse n) c part = c
+to_hand (Payment n) c part = c
+to_hand (Slot seat keyword) c part = c
+to_hand Outside c part = c
+
+-- and after movements, of which the last stands first
+abbrev pub in_hand : List Movement → ℕ → Content
+in_hand [] b = nothing
+in_hand (m ∷ ms) b = if m.brand == b then to_hand m.to (from_hand m.from (in_hand ms b) m.value.content) m.value.content else in_hand ms b
+
+-- a movement from the hand takes what is there
+abbrev pub HandHas : Holder → Content → Content → Type 0
+HandHas Hand c part = Contains c part
+HandHas (Purse n) c part = Unit {0}
+HandHas (Payment n) c part = Unit {0}
+HandHas (Slot seat keyword) c part = Unit {0}
+HandHas Outside c part = Unit {0}
+
+-- ---- rooms: apart from the lists, since they only grow
+
+-- for how many keys there is room in each purse, and for how many live payments; for how many keys of what is out of each brand, and of what the hand has of it
+pub record Rooms : Type 0 where
+  pub purses : ℕ → ℕ
+  pub capacity : ℕ
+  pub out : ℕ → ℕ
+  pub hand : ℕ → ℕ
+
+pub record HasGrown (R Q : Rooms) : Type 0 where
+  pub purses : (n : ℕ) → R.purses n ≤ Q.purses n
+  pub capacity : R.capacity ≤ Q.capacity
+  pub out : (b : ℕ) → R.out b ≤ Q.out b
+  pub hand : (b : ℕ) → R.hand b ≤ Q.hand b
+
+abbrev pub stored : Amount → ℕ → StoredAmount
+stored a room = record { amount = a; room = room }
+
+abbrev pub stored_supply : BrandSupply → ℕ → StoredSupply
+stored_supply s room = record { supply = s; room = room }
+
+-- ---- when they can be worked backwards, within the rooms
+
+-- a purse takes again what it gave
+pub record TakesBack (R : Rooms) (s : Lists) (n b : ℕ) (w : Worth) : Type 0 where
+  pub made : n < length s.purses
+  pub goes : GoesIn (stored (purse_at s.purses n) (R.purses n)) (amount_of b w)
+
+-- a spent payment can be live again
+pub record CanRevive (R : Rooms) (s : Lists) (n b : ℕ) (w : Worth) : Type 0 where
+  pub made : n < length s.payments
+  pub spent : paper_at s.payments n ≡ spent_paper b
+  pub vacancy : count_by is_live s.payments < R.capacity
+
+-- the last payment is the one that was made
+pub record IsLast (s : Lists) (n b : ℕ) (w : Worth) : Type 0 where
+  pub last : length s.payments ≡ n + 1
+  pub is : paper_at s.payments n ≡ live_paper (amount_of b w)
+
+abbrev pub CanUntake : Rooms → Lists → Holder → ℕ → Worth → Type 0
+CanUntake R s (Purse n) b w = TakesBack R s n b w
+CanUntake R s (Payment n) b w = CanRevive R s n b w
+CanUntake R s (Slot seat keyword) b w = ⊥
+CanUntake R s Hand b w = Unit {0}
+CanUntake R s Outside b w = Unit {0}
+
+abbrev pub CanUngive : Rooms → Lists → Holder → ℕ → Worth → Type 0
+CanUngive R s (Purse n) b w = GivesUp s n b w
+CanUngive R s (Payment n) b w = IsLast s n b w
+CanUngive R s (Slot seat keyword) b w = ⊥
+CanUngive R s Hand b w = Unit {0}
+CanUngive R s Outside b w = CanReturn (stored_supply (supply_at s.out b) (R.out b)) w
+
+-- a second one of the value is there, where a parcel is made of it when it comes out of the hand or from outside again
+abbrev pub HasSpare : Holder → Option Worth → Worth → Type 0
+HasSpare Hand spare w = spare ≡ Some w
+HasSpare Outside spare w = spare ≡ Some w
+HasSpare (Purse n) spare w = Unit {0}
+HasSpare (Payment n) spare w = Unit {0}
+HasSpare (Slot seat keyword) spare w = Unit {0}
+
+-- a movement, before which there were these. On the way back what the hand has then and what is moved are out
+pub record CanBack (R : Rooms) (s : Lists) (spare : Option Worth) (m : Movement) (ms : List Movement) : Type 0 where
+  pub ungive : CanUngive R s m.to m.brand m.value
+  pub untake : CanUntake R (ungiven s m.to m.brand m.value) m.from m.brand m.value
+  pub made : m.brand < length s.out
+  pub kind : kind_of s m.brand ≡ m.value.kind
+  pub has : HandHas m.from (in_hand ms m.brand) m.value.content
+  pub spared : HasSpare m.to spare m.value
+  pub out : Contains (supply_at (ungiven s m.to m.brand m.value).out m.brand).outstanding.content (sum (from_hand m.from (in_hand ms m.brand) m.value.content) m.value.content)
+  pub room : HasRoom m.value.kind (keys_of (in_hand ms m.brand)) (R.hand m.brand)
+
+-- the last purse has nothing
+pub record HasEmptyLast (s : Lists) : Type 0 where
+  pub some : 0 < length s.purses
+  pub empty : (purse_at s.purses (length s.purses - 1)).value.content ≡ nothing
+
+-- of the last brand nothing was issued
+pub record HasFreshLast (s : Lists) : Type 0 where
+  pub some : 0 < length s.out
+  pub fresh : (supply_at s.out (length s.out - 1)).minted ≡ 0
+
+abbrev pub CanAllBack : Rooms → Lists → List Step → List Movement → Type 0
+CanAllBack R s [] ms = ms ≡ []
+CanAllBack R s (Moves spare ∷ ks) [] = ⊥
+CanAllBack R s (Moves spare ∷ ks) (m ∷ ms) = CanBack R s spare m ms × CanAllBack R (back s m) ks ms
+CanAllBack R s (OpensPurse ∷ ks) ms = HasEmptyLast s × CanAllBack R (without_last_purse s) ks ms
+CanAllBack R s (AddsBrand ∷ ks) ms = HasFreshLast s × CanAllBack R (without_last_brand s) ks ms

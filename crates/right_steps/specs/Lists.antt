@@ -1,0 +1,162 @@
+-- What a vault has, as lists, and what the halves of a movement make of them.
+use Rattle.std.specs.Prelude.{◌≡◌, ℕ, ◌-◌, ◌<◌, List, [], ◌∷◌, ◌++◌, length, slice_index_or, slice_set, take, refl}
+use Rattle.std.specs.Coded.{Coded, code_by, coded×, coded_list, coded_ℕ}
+use Rattle.amount_math.specs.Amount.{Meet, coded_amount, holding}
+use Rattle.amount_math.specs.Content.{Content, Contains, sum, difference}
+use Rattle.amount_math.specs.Worth.{Worth, Fits, IsValue}
+use Rattle.amount_math.specs.declared.Amount.{Amount}
+use Rattle.amount_math.specs.declared.Kind.{Kind}
+use Rattle.ertp_mint.specs.BrandSupply.{BrandSupply, coded_supply, issued, new_supply, retired, supply_at}
+use Rattle.ertp_mint.specs.Circulating.{unissued, unretired}
+use Rattle.ertp_mint.specs.Stocks.{empty_amount, no_amount}
+use Rattle.payments.specs.Papers.{Paper, coded_paper, live_paper, paper_at, spent_paper}
+use Rattle.rights_model.specs.declared.Holder.{Holder}
+use Rattle.rights_model.specs.declared.Holder.TheVariants.{Purse, Payment, Slot, Hand, Outside}
+use Rattle.rights_model.specs.declared.Movement.{Movement}
+
+-- purses and payments by number, how many open slots each will be a payment, and what is out of each brand
+pub record Lists : Type 0 where
+  pub purses : List Amount
+  pub payments : List Paper
+  pub owed : ℕ
+  pub out : List BrandSupply
+
+-- the numbers that stand for them, which a model needs
+abbrev pub coded_lists : Coded Lists
+coded_lists = code_by (List Amount × (List Paper × (ℕ × List BrandSupply))) (coded× (coded_list coded_amount) (coded× (coded_list coded_paper) (coded× coded_ℕ (coded_list coded_supply)))) (λ s. (s.purses, (s.payments, (s.owed, s.out)))) (λ p. record { purses = p.0; payments = p.1.0; owed = p.1.1.0; out = p.1.1.1 }) (λ _. refl)
+
+abbrev pub no_lists : Lists
+no_lists = record { purses = []; payments = []; owed = 0; out = [] }
+
+-- a value as an amount of a brand
+abbrev pub amount_of : ℕ → Worth → Amount
+amount_of b w = record { brand = b; value = w }
+
+abbrev pub purse_at : List Amount → ℕ → Amount
+purse_at purses n = slice_index_or purses n no_amount
+
+abbrev pub kind_of : Lists → ℕ → Kind
+kind_of s b = (supply_at s.out b).outstanding.kind
+
+-- with a content more, and with a content less
+abbrev pub more : Amount → Content → Amount
+more a c = holding a (sum a.value.content c)
+
+abbrev pub less : Amount → Content → Amount
+less a c = holding a (difference a.value.content c)
+
+abbrev pub with_purses : Lists → List Amount → Lists
+with_purses s l = record s { purses = l }
+
+abbrev pub with_payments : Lists → List Paper → Lists
+with_payments s l = record s { payments = l }
+
+abbrev pub with_outs : Lists → List BrandSupply → Lists
+with_outs s l = record s { out = l }
+
+abbrev pub with_purse : Lists → ℕ → Amount → Lists
+with_purse s n a = with_purses s (slice_set s.purses n a)
+
+abbrev pub with_payment : Lists → ℕ → Paper → Lists
+with_payment s n p = with_payments s (slice_set s.payments n p)
+
+abbrev pub with_out : Lists → ℕ → BrandSupply → Lists
+with_out s b x = with_outs s (slice_set s.out b x)
+
+-- what a holder gives is gone there; a payment is then spent; what comes from outside is out
+abbrev pub taken : Lists → Holder → ℕ → Worth → Lists
+taken s (Purse n) b w = with_purse s n (less (purse_at s.purses n) w.content)
+taken s (Payment n) b w = with_payment s n (spent_paper b)
+taken s (Slot seat keyword) b w = s
+taken s Hand b w = s
+taken s Outside b w = with_out s b (issued (supply_at s.out b) w.content)
+
+-- what a holder gets is there; a payment is made by it; what goes outside is no longer out
+abbrev pub given : Lists → Holder → ℕ → Worth → Lists
+given s (Purse n) b w = with_purse s n (more (purse_at s.purses n) w.content)
+given s (Payment n) b w = with_payments s (s.payments ++ live_paper (amount_of b w) ∷ [])
+given s (Slot seat keyword) b w = s
+given s Hand b w = s
+given s Outside b w = with_out s b (retired (supply_at s.out b) w.content)
+
+abbrev pub moved : Lists → Movement → Lists
+moved s m = given (taken s m.from m.brand m.value) m.to m.brand m.value
+
+-- a purse more, with nothing of a brand, and a brand more, of which nothing was issued
+abbrev pub with_new_purse : Lists → ℕ → Kind → Lists
+with_new_purse s b kind = with_purses s (s.purses ++ empty_amount b kind ∷ [])
+
+abbrev pub with_new_brand : Lists → Kind → Lists
+with_new_brand s kind = with_outs s (s.out ++ new_supply kind ∷ [])
+
+-- ---- the same turned round
+
+-- what was given is taken out again
+abbrev pub ungiven : Lists → Holder → ℕ → Worth → Lists
+ungiven s (Purse n) b w = with_purse s n (less (purse_at s.purses n) w.content)
+ungiven s (Payment n) b w = with_payments s (take n s.payments)
+ungiven s (Slot seat keyword) b w = s
+ungiven s Hand b w = s
+ungiven s Outside b w = with_out s b (unretired (supply_at s.out b) w.content)
+
+-- what was taken is put in again
+abbrev pub untaken : Lists → Holder → ℕ → Worth → Lists
+untaken s (Purse n) b w = with_purse s n (more (purse_at s.purses n) w.content)
+untaken s (Payment n) b w = with_payment s n (live_paper (amount_of b w))
+untaken s (Slot seat keyword) b w = s
+untaken s Hand b w = s
+untaken s Outside b w = with_out s b (unissued (supply_at s.out b) w.content)
+
+abbrev pub back : Lists → Movement → Lists
+back s m = untaken (ungiven s m.to m.brand m.value) m.from m.brand m.value
+
+abbrev pub without_last_purse : Lists → Lists
+without_last_purse s = with_purses s (take (length s.purses - 1) s.purses)
+
+abbrev pub without_last_brand : Lists → Lists
+without_last_brand s = with_outs s (take (length s.out - 1) s.out)
+
+-- ---- when a movement's halves can be made
+
+-- a purse of the brand gives a value up
+pub record GivesUp (s : Lists) (n b : ℕ) (w : Worth) : Type 0 where
+  pub made : n < length s.purses
+  pub brand : (purse_at s.purses n).brand ≡ b
+  pub kind : (purse_at s.purses n).value.kind ≡ w.kind
+  pub has : Contains (purse_at s.purses n).value.content w.content
+
+-- a purse of the brand takes a value
+pub record TakesUp (s : Lists) (n b : ℕ) (w : Worth) : Type 0 where
+  pub made : n < length s.purses
+  pub meet : Meet (purse_at s.purses n) (amount_of b w)
+  pub value : IsValue (purse_at s.purses n).value.kind (sum (purse_at s.purses n).value.content w.content)
+
+-- a payment is live, and has just this
+pub record IsWhole (s : Lists) (n b : ℕ) (w : Worth) : Type 0 where
+  pub made : n < length s.payments
+  pub is : paper_at s.payments n ≡ live_paper (amount_of b w)
+
+-- a value may come out of a brand, and it is out
+pub record MayCome (s : Lists) (b : ℕ) (w : Worth) : Type 0 where
+  pub made : b < length s.out
+  pub kind : kind_of s b ≡ w.kind
+  pub fits : Fits w.kind (sum (supply_at s.out b).outstanding.content w.content)
+
+pub record IsOutOf (s : Lists) (b : ℕ) (w : Worth) : Type 0 where
+  pub made : b < length s.out
+  pub kind : kind_of s b ≡ w.kind
+  pub has : Contains (supply_at s.out b).outstanding.content w.content
+
+abbrev pub CanTake : Lists → Holder → ℕ → Worth → Type 0
+CanTake s (Purse n) b w = GivesUp s n b w
+CanTake s (Payment n) b w = IsWhole s n b w
+CanTake s (Slot seat keyword) b w = ⊥
+CanTake s Hand b w = ⊥
+CanTake s Outside b w = MayCome s b w
+
+abbrev pub CanGive : Lists → Holder → ℕ → Worth → Type 0
+CanGive s (Purse n) b w = TakesUp s n b w
+CanGive s (Payment n) b w = n ≡ length s.payments
+CanGive s (Slot seat keyword) b w = ⊥
+CanGive s Hand b w = ⊥
+CanGive s Outside b w = IsOutOf s b w

@@ -1,0 +1,72 @@
+-- The table of who holds what, made of a vault's lists; when lists and a hand agree with a table; and when all that is held is what is out.
+use Rattle.std.specs.Prelude.{◌≡◌, ◌+◌, ◌==◌, if◌then◌else◌, ℕ, suc, List, [], ◌∷◌, ◌++◌, map, Option, Some, None}
+use Rattle.amount_math.specs.Content.{Content, nothing, sum, difference, count}
+use Rattle.amount_math.specs.Worth.{Worth}
+use Rattle.amount_math.specs.declared.Amount.{Amount}
+use Rattle.ertp_mint.specs.BrandSupply.{supply_at}
+use Rattle.payments.specs.Papers.{Paper, paper_at}
+use Rattle.rights_model.specs.declared.Holder.{Holder}
+use Rattle.rights_model.specs.declared.Holder.TheVariants.{Purse, Payment, Slot, Hand, Outside}
+use Rattle.rights_model.specs.Place.{Place}
+use Rattle.rights_model.specs.Table.{Table, holds}
+use Rattle.rights_model.specs.Tabulated.{tabulated}
+use Rattle.right_steps.specs.Lists.{Lists, purse_at}
+
+-- a content of a brand, of whatever kind
+pub record Right : Type 0 where
+  pub brand : ℕ
+  pub content : Content
+
+abbrev pub right_in : Amount → Right
+right_in a = record { brand = a.brand; content = a.value.content }
+
+-- a spent payment has nothing
+abbrev pub content_held : Option Worth → Content
+content_held None = nothing
+content_held (Some w) = w.content
+
+abbrev pub right_on : Paper → Right
+right_on p = record { brand = p.brand; content = content_held p.held }
+
+-- what a right has of a brand
+abbrev pub in_brand : Right → ℕ → Content
+in_brand r b = if r.brand == b then r.content else nothing
+
+-- what each holder has of a brand, where the hand has this
+abbrev pub content_in : Lists → (ℕ → Content) → Holder → ℕ → Content
+content_in s hand (Purse n) b = in_brand (right_in (purse_at s.purses n)) b
+content_in s hand (Payment n) b = in_brand (right_on (paper_at s.payments n)) b
+content_in s hand (Slot seat keyword) b = nothing
+content_in s hand Hand b = hand b
+content_in s hand Outside b = nothing
+
+abbrev pub no_hand : ℕ → Content
+no_hand e = nothing
+
+abbrev pub hand_plus : (ℕ → Content) → ℕ → Content → ℕ → Content
+hand_plus h b c e = if b == e then sum (h e) c else h e
+
+abbrev pub hand_minus : (ℕ → Content) → ℕ → Content → ℕ → Content
+hand_minus h b c e = if b == e then difference (h e) c else h e
+
+-- the place of each right, numbered from n
+abbrev pub numbered : (ℕ → Holder) → ℕ → List Right → List Place
+numbered who n [] = []
+numbered who n (r ∷ rs) = (who n, r.brand) ∷ numbered who (suc n) rs
+
+-- the table of the lists, with nothing in the hand
+unfoldable pub table_of : Lists → Table
+table_of s = tabulated (λ p. content_in s no_hand p.0 p.1) (numbered Purse 0 (map right_in s.purses) ++ numbered Payment 0 (map right_on s.payments))
+
+-- the table has what the lists and the hand have
+pub record Agrees (s : Lists) (hand : ℕ → Content) (t : Table) : Type 0 where
+  pub each : (h : Holder) (b : ℕ) → holds t h b ≡ content_in s hand h b
+
+-- how many of an element rights have of a brand
+abbrev pub all_in : List Right → ℕ → List ℕ → ℕ
+all_in [] b k = 0
+all_in (r ∷ rs) b k = count (in_brand r b) k + all_in rs b k
+
+-- all that is held, the hand's too, is what is out
+pub record IsSound (s : Lists) (hand : ℕ → Content) : Type 0 where
+  pub balanced : (b : ℕ) (k : List ℕ) → all_in (map right_in s.purses) b k + all_in (map right_on s.payments) b k + count (hand b) k ≡ count (supply_at s.out b).outstanding.content k

@@ -1,0 +1,67 @@
+//! Laws of the lists and of movements made together. Their bodies are empty: what they state is proved of
+//! the definitions.
+
+ghost use Rattle.std.specs.Prelude.{◌≡◌, ℕ, List};
+ghost use Rattle.amount_math.specs.Content.{Contains};
+ghost use Rattle.amount_math.specs.declared.Kind.{Kind as AmountKind};
+ghost use Rattle.rights_model.specs.Table as table;
+ghost use Rattle.rights_model.specs.Table.{CanMoveAll, Table, holds, table_after};
+ghost use Rattle.right_steps.specs.Flows.{AreInside, IsApart, Part, SameFlows, combined, content_of, gathered, split_up, spread};
+ghost use Rattle.right_steps.specs.Lists.{CanGive, CanTake, Lists, back, moved, taken};
+ghost use Rattle.right_steps.specs.Tables.{IsSound, no_hand, table_of};
+
+use rights_model::{Holder, Movement};
+
+/// Lists of movements that can be made and have the same flows make the same table.
+pub fn same_flows_make_one_table(written: &[Movement], done: &[Movement])
+    ghost before: { Table }
+    requires written { CanMoveAll before written.now }
+    requires done { CanMoveAll before done.now }
+    requires same { SameFlows written.now done.now }
+    ensures { table_after before written.now ≡ table_after before done.now }
+{}
+
+/// What a movement's halves make of the lists, worked backwards, is as it was before.
+pub fn steps_are_undone(step: &Movement)
+    ghost lists: { Lists }
+    requires takes { CanTake lists step.now.from step.now.brand step.now.value }
+    requires gives { CanGive (taken lists step.now.from step.now.brand step.now.value) step.now.to step.now.brand step.now.value }
+    ensures { back (moved lists step.now) step.now ≡ lists }
+{}
+
+/// The table of the lists follows a movement between holders: what it makes of the lists, it makes of the
+/// table.
+pub fn table_follows(step: &Movement)
+    ghost lists: { Lists }
+    requires takes { CanTake lists step.now.from step.now.brand step.now.value }
+    requires gives { CanGive (taken lists step.now.from step.now.brand step.now.value) step.now.to step.now.brand step.now.value }
+    ensures { table_of (moved lists step.now) ≡ table.moved (table_of lists) step.now }
+{}
+
+/// All that is held stays what is out, whatever moves between holders.
+pub fn balance_is_kept(step: &Movement)
+    ghost lists: { Lists }
+    requires takes { CanTake lists step.now.from step.now.brand step.now.value }
+    requires gives { CanGive (taken lists step.now.from step.now.brand step.now.value) step.now.to step.now.brand step.now.value }
+    requires balanced { IsSound lists no_hand }
+    ensures { IsSound (moved lists step.now) no_hand }
+{}
+
+/// A combination that is written part by part makes the table that is made where its parts are gathered in
+/// the hand, and all of them are put at once; and where the one can be made, so can the other.
+pub fn combination_goes_by_the_hand()
+    ensures can { (before : Table) (b : ℕ) (kind : AmountKind) (to : Holder) (parts : List Part) → AreInside parts → IsApart to parts → IsApart Holder.Hand parts
+        → CanMoveAll before (gathered b to parts) → CanMoveAll before (combined b kind to parts) }
+    ensures table { (before : Table) (b : ℕ) (kind : AmountKind) (to : Holder) (parts : List Part) → AreInside parts → IsApart to parts → IsApart Holder.Hand parts
+        → CanMoveAll before (gathered b to parts) → table_after before (gathered b to parts) ≡ table_after before (combined b kind to parts) }
+{}
+
+/// A split that is written part by part makes the table that is made where all of it is taken in the hand at
+/// once, and its parts are put from there; which can be made where the holder has them all.
+pub fn split_goes_by_the_hand()
+    ensures can { (before : Table) (b : ℕ) (kind : AmountKind) (from : Holder) (parts : List Part) → IsApart Holder.Hand parts
+        → Contains (holds before from b) (content_of parts) → CanMoveAll before (split_up b kind from parts) }
+    ensures table { (before : Table) (b : ℕ) (kind : AmountKind) (from : Holder) (parts : List Part) → IsApart Holder.Hand parts
+        → Contains (holds before from b) (content_of parts) → CanMoveAll before (spread b from parts)
+        → table_after before (spread b from parts) ≡ table_after before (split_up b kind from parts) }
+{}
