@@ -1,0 +1,175 @@
+-- A draft: the lists as they are, the movements so far, and what was given up. What is kept is told by the lists worked backwards.
+use Rattle.std.specs.Prelude.{◌≡◌, ℕ, ◌+◌, ◌<◌, ◌≤◌, List, [], ◌∷◌, ◌++◌, Bool, true, false, length, slice_index_or, slice_set, refl}
+use Rattle.std.proofs.Common.{reverse}
+use Rattle.std.specs.Coded.{Coded, code_by, coded×, coded_bool, coded_list}
+use Rattle.amount_math.specs.Amount.{Meet}
+use Rattle.amount_math.specs.Content.{Content, coded_content, Contains, nothing, sum}
+use Rattle.amount_math.specs.Held.{HasRoom, keys_in}
+use Rattle.amount_math.specs.Worth.{IsPutRefusal, IsValue, Worth, keys_of}
+use Rattle.amount_math.specs.declared.Amount.{Amount}
+use Rattle.amount_math.specs.declared.Kind.{Kind}
+use Rattle.amount_math.specs.declared.PutFault.{PutFault}
+use Rattle.amount_math.specs.declared.PutFault.TheVariants.{NoMemory}
+use Rattle.ertp_mint.specs.Stocks.{most_made}
+use Rattle.payments.specs.Papers.{live_paper, paper_at}
+use Rattle.rights_model.specs.declared.Holder.{Holder}
+use Rattle.rights_model.specs.declared.Holder.TheVariants.{Purse, Payment, Slot, Hand, Outside}
+use Rattle.rights_model.specs.declared.Movement.{Movement}
+use Rattle.rights_model.specs.Table.{Table, CanMoveAll, coded_movement, table_after}
+use Rattle.right_steps.specs.declared.Step.{Step}
+use Rattle.right_steps.specs.Backwards.{CanAllBack, all_back, in_hand}
+use Rattle.right_steps.specs.Lists.{Lists, amount_of, coded_lists, kind_of, moved, purse_at, with_new_brand}
+use Rattle.right_steps.specs.Tables.{Agrees, IsSound, content_held, no_hand, table_of}
+use Rattle.vault_draft.specs.Memory.{given_up_in, lists_of, rooms_of, store_of}
+use Rattle.vault_draft.specs.declared.stores.Stores.{Stores}
+
+-- what was kept at its beginning, what is now, the movements between, and what the hand's own store has of each brand
+pub record DraftState : Type 0 where
+  pub kept : Lists
+  pub now : Lists
+  pub movements : List Movement
+  pub given_up : List Content
+  pub is_spoiled : Bool
+
+-- the numbers that stand for it, which a model needs
+abbrev pub coded_draft : Coded DraftState
+coded_draft =
+    code_by (Lists × (Lists × (List Movement × (List Content × Bool)))) (coded× coded_lists (coded× coded_lists (coded× (coded_list coded_movement) (coded× (coded_list coded_content) coded_bool))))
+    (λ d. (d.kept, (d.now, (d.movements, (d.given_up, d.is_spoiled))))) (λ p. record { kept = p.0; now = p.1.0; movements = p.1.1.0; given_up = p.1.1.1.0; is_spoiled = p.1.1.1.1 }) (λ _. refl)
+
+abbrev pub draft_of : Stores → List Step → List Movement → Bool → DraftState
+draft_of p ks ms spoiled = record { kept = all_back (lists_of p) (reverse ks) (reverse ms); now = lists_of p; movements = ms; given_up = given_up_in p; is_spoiled = spoiled }
+
+-- what was given up of a brand
+abbrev pub given_at : DraftState → ℕ → Content
+given_at d b = slice_index_or d.given_up b nothing
+
+-- what the hand has: what was taken and not put
+abbrev pub hand_now : DraftState → ℕ → Content
+hand_now d b = in_hand (reverse d.movements) b
+
+-- the table as it was kept, after the movements so far
+abbrev pub table_now : DraftState → Table
+table_now d = table_after (table_of d.kept) d.movements
+
+-- the draft after one more movement, after an opening, and after a parcel was given up: no movement
+abbrev pub after : DraftState → Movement → DraftState
+after d m = record d { now = moved d.now m; movements = d.movements ++ m ∷ [] }
+
+abbrev pub opened : DraftState → Lists → DraftState
+opened d now = record d { now = now }
+
+abbrev pub with_brand : DraftState → Kind → DraftState
+with_brand d kind = record d { now = with_new_brand d.now kind; given_up = d.given_up ++ nothing ∷ [] }
+
+abbrev pub given_up_too : DraftState → Amount → DraftState
+given_up_too d a = record d { given_up = slice_set d.given_up a.brand (sum (given_at d a.brand) a.value.content); is_spoiled = true }
+
+-- ---- what a caller may know of a draft
+
+-- all that is held was and is what is out, and its table follows the movements
+pub record IsValid (d : DraftState) : Type 0 where
+  pub sound : IsSound d.now (hand_now d)
+  pub agrees : Agrees d.now (hand_now d) (table_now d)
+  pub moves : CanMoveAll (table_of d.kept) d.movements
+  pub was_sound : IsSound d.kept no_hand
+
+-- ---- what the calls ask for
+
+-- a holder that a part may be asked of: a purse that was made, or a payment that is live and has just that
+pub record IsPurseOf (s : Lists) (n : ℕ) (w : Worth) : Type 0 where
+  pub made : n < length s.purses
+  pub kind : (purse_at s.purses n).value.kind ≡ w.kind
+
+pub record IsPaymentOf (s : Lists) (n : ℕ) (w : Worth) : Type 0 where
+  pub made : n < length s.payments
+  pub is : paper_at s.payments n ≡ live_paper (amount_of (paper_at s.payments n).brand w)
+
+abbrev pub IsSource : Lists → Holder → Worth → Type 0
+IsSource s (Purse n) w = IsPurseOf s n w
+IsSource s (Payment n) w = IsPaymentOf s n w
+IsSource s (Slot seat keyword) w = ⊥
+IsSource s Hand w = ⊥
+IsSource s Outside w = ⊥
+
+-- the brand of a holder, and what it has
+abbrev pub brand_of : Lists → Holder → ℕ
+brand_of s (Purse n) = (purse_at s.purses n).brand
+brand_of s (Payment n) = (paper_at s.payments n).brand
+brand_of s (Slot seat keyword) = 0
+brand_of s Hand = 0
+brand_of s Outside = 0
+
+abbrev pub held_by : Lists → Holder → Content
+held_by s (Purse n) = (purse_at s.purses n).value.content
+held_by s (Payment n) = content_held (paper_at s.payments n).held
+held_by s (Slot seat keyword) = nothing
+held_by s Hand = nothing
+held_by s Outside = nothing
+
+-- a brand that was made, whose values are of the kind
+pub record IsOfBrand (s : Lists) (b : ℕ) (w : Worth) : Type 0 where
+  pub made : b < length s.out
+  pub kind : kind_of s b ≡ w.kind
+
+-- a holder that takes rights of the parcel's brand: a purse, or the next payment, which isn't one too many
+pub record IsPurseFor (s : Lists) (n : ℕ) (a : Amount) : Type 0 where
+  pub made : n < length s.purses
+  pub meet : Meet (purse_at s.purses n) a
+
+pub record IsNextPayment (s : Lists) (n : ℕ) : Type 0 where
+  pub next : n ≡ length s.payments
+  pub left : length s.payments + s.owed < most_made
+
+abbrev pub IsTarget : Lists → Holder → Amount → Type 0
+IsTarget s (Purse n) a = IsPurseFor s n a
+IsTarget s (Payment n) a = IsNextPayment s n
+IsTarget s (Slot seat keyword) a = ⊥
+IsTarget s Hand a = ⊥
+IsTarget s Outside a = ⊥
+
+-- the sum that a put makes is a value; and why a put is refused
+abbrev pub TakesIn : Lists → Holder → Amount → Type 0
+TakesIn s (Purse n) a = IsValue (purse_at s.purses n).value.kind (sum (purse_at s.purses n).value.content a.value.content)
+TakesIn s (Payment n) a = Unit {0}
+TakesIn s (Slot seat keyword) a = Unit {0}
+TakesIn s Hand a = Unit {0}
+TakesIn s Outside a = Unit {0}
+
+abbrev pub IsPutFault : Lists → Holder → Amount → PutFault → Type 0
+IsPutFault s (Purse n) a fault = IsPutRefusal (purse_at s.purses n).value.kind (sum (purse_at s.purses n).value.content a.value.content) fault
+IsPutFault s (Payment n) a fault = fault ≡ NoMemory
+IsPutFault s (Slot seat keyword) a fault = fault ≡ NoMemory
+IsPutFault s Hand a fault = fault ≡ NoMemory
+IsPutFault s Outside a fault = fault ≡ NoMemory
+
+-- the hand, less what was given up, has it
+pub record HandKeeps (d : DraftState) (a : Amount) : Type 0 where
+  pub brand : IsOfBrand d.now a.brand a.value
+  pub has : Contains (hand_now d a.brand) (sum (given_at d a.brand) a.value.content)
+
+-- the hand, less what was given up, is empty
+pub record HandGoes (d : DraftState) : Type 0 where
+  pub each : (b : ℕ) → b < length d.now.out → given_at d b ≡ hand_now d b
+
+-- nothing is in the hand, and nothing was given up
+pub record IsClean (d : DraftState) : Type 0 where
+  pub sound : d.is_spoiled ≡ false
+  pub hand : (b : ℕ) → hand_now d b ≡ nothing
+
+-- ---- what is kept of a draft in memory
+
+-- all of it can be worked backwards in the room that there is; for what the hand has there is room in its own store, which is bounded by the keys that were taken; and that store has something only of a spoiled draft
+pub record IsDraft (p : Stores) (ks : List Step) (ms : List Movement) (keys : ℕ) (spoiled : Bool) : Type 0 where
+  pub can : CanAllBack (rooms_of p) (lists_of p) (reverse ks) (reverse ms)
+  pub bounded : (b : ℕ) → keys_in (kind_of (lists_of p) b) (in_hand (reverse ms) b) ≤ keys
+  pub room : (b : ℕ) → b < length p.transit.out → HasRoom (kind_of (lists_of p) b) (keys_of (in_hand (reverse ms) b)) ((rooms_of p).hand b)
+  pub clear : spoiled ≡ false → (b : ℕ) → b < length p.transit.out → store_of p b ≡ nothing
+  pub valid : IsValid (draft_of p ks ms spoiled)
+
+-- nothing is on its way in a vault
+pub record IsVault (p : Stores) (ks : List Step) (ms : List Movement) : Type 0 where
+  pub no_steps : ks ≡ []
+  pub no_movements : ms ≡ []
+  pub empty : (b : ℕ) → b < length p.transit.out → store_of p b ≡ nothing
+  pub sound : IsSound (lists_of p) no_hand

@@ -1,0 +1,3 @@
+pub mod Memory
+pub mod Drafts
+pub mod Working

@@ -1,0 +1,104 @@
+-- The stores in memory, as lists and as rooms, and what each half of a movement, worked forwards or back, leaves of them.
+use Rattle.std.specs.Prelude.{◌≡◌, ℕ, ◌<◌, List, length, map, Option, Some}
+use Rattle.amount_math.specs.Content.{Content}
+use Rattle.amount_math.specs.Held.{Held}
+use Rattle.amount_math.specs.Worth.{Worth}
+use Rattle.amount_math.specs.declared.Amount.{Amount}
+use Rattle.ertp_mint.specs.Balances.{StoredAmount}
+use Rattle.ertp_mint.specs.BrandSupply.{BrandSupply}
+use Rattle.ertp_mint.specs.Circulating.{StoredSupply, CanReturn, circulation_at}
+use Rattle.purses.specs.Purses.{room_at}
+use Rattle.right_steps.specs.Backwards.{CanUngive, CanUntake, HasGrown, Rooms}
+use Rattle.right_steps.specs.Lists.{Lists, given, taken}
+use Rattle.right_steps.specs.Tables.{hand_minus, hand_plus}
+use Rattle.rights_model.specs.declared.Holder.{Holder}
+use Rattle.rights_model.specs.declared.Holder.TheVariants.{Purse, Payment, Slot, Hand, Outside}
+use Rattle.transit.specs.Transit.{CanHold, IsInStore, IsOnItsWay, held_at, in_store}
+use Rattle.vault_draft.specs.declared.stores.Stores.{Stores}
+
+abbrev pub amount_in : StoredAmount → Amount
+amount_in s = s.amount
+
+abbrev pub supply_of : StoredSupply → BrandSupply
+supply_of s = s.supply
+
+abbrev pub lists_of : Stores → Lists
+lists_of p = record { purses = map amount_in p.purses; payments = p.payments.papers; owed = p.payments.slots; out = map supply_of p.transit.out }
+
+abbrev pub rooms_of : Stores → Rooms
+rooms_of p = record { purses = λ n. room_at p.purses n; capacity = p.payments.capacity; out = λ b. (circulation_at p.transit.out b).room; hand = λ b. (held_at p.transit.hand b).room }
+
+-- what the hand's own store has
+abbrev pub store_of : Stores → ℕ → Content
+store_of p b = in_store p.transit b
+
+-- ---- halves
+
+-- the lists are these, the hand's store has this, and no room is less
+pub record IsHalf (p q : Stores) (s : Lists) (h : ℕ → Content) : Type 0 where
+  pub lists : lists_of q ≡ s
+  pub hand : (b : ℕ) → store_of q b ≡ h b
+  pub rooms : HasGrown (rooms_of p) (rooms_of q)
+
+abbrev pub store_ungiven : (ℕ → Content) → Holder → ℕ → Content → ℕ → Content
+store_ungiven h Hand b c = hand_minus h b c
+store_ungiven h (Purse n) b c = h
+store_ungiven h (Payment n) b c = h
+store_ungiven h (Slot seat keyword) b c = h
+store_ungiven h Outside b c = h
+
+abbrev pub store_untaken : (ℕ → Content) → Holder → ℕ → Content → ℕ → Content
+store_untaken h Hand b c = hand_plus h b c
+store_untaken h (Purse n) b c = h
+store_untaken h (Payment n) b c = h
+store_untaken h (Slot seat keyword) b c = h
+store_untaken h Outside b c = h
+
+-- a value comes out of the hand's store, or from Outside, with a second one of it
+pub record ComesWithSpare (there : Type 0) (second : Option Worth) (w : Worth) : Type 0 where
+  pub comes : there
+  pub spare : second ≡ Some w
+
+pub record Returns (p : Stores) (b : ℕ) (w : Worth) : Type 0 where
+  pub made : b < length p.transit.out
+  pub can : CanReturn (circulation_at p.transit.out b) w
+
+abbrev pub CanUngiveHere : Stores → Holder → ℕ → Worth → Option Worth → Type 0
+CanUngiveHere p (Purse n) b w spare = CanUngive (rooms_of p) (lists_of p) (Purse n) b w
+CanUngiveHere p (Payment n) b w spare = CanUngive (rooms_of p) (lists_of p) (Payment n) b w
+CanUngiveHere p (Slot seat keyword) b w spare = ⊥
+CanUngiveHere p Hand b w spare = ComesWithSpare (IsInStore p.transit b w) spare w
+CanUngiveHere p Outside b w spare = ComesWithSpare (Returns p b w) spare w
+
+abbrev pub CanUntakeHere : Stores → Holder → Amount → Type 0
+CanUntakeHere p (Purse n) a = CanUntake (rooms_of p) (lists_of p) (Purse n) a.brand a.value
+CanUntakeHere p (Payment n) a = CanUntake (rooms_of p) (lists_of p) (Payment n) a.brand a.value
+CanUntakeHere p (Slot seat keyword) a = ⊥
+CanUntakeHere p Hand a = CanHold p.transit a
+CanUntakeHere p Outside a = IsOnItsWay p.transit a
+
+-- what was given up of each brand
+abbrev pub content_in_store : Held → Content
+content_in_store h = h.value.content
+
+abbrev pub given_up_in : Stores → List Content
+given_up_in p = map content_in_store p.transit.hand
+
+-- the lists are these, what was given up is the same, and no room is less
+pub record IsForward (p q : Stores) (s : Lists) : Type 0 where
+  pub lists : lists_of q ≡ s
+  pub given_up : given_up_in q ≡ given_up_in p
+  pub rooms : HasGrown (rooms_of p) (rooms_of q)
+
+-- room alone was made
+abbrev pub IsRoomed : Stores → Stores → Type 0
+IsRoomed p q = IsForward p q (lists_of p)
+
+-- a half was made, and can be worked backwards
+pub record IsTaken (p q : Stores) (h : Holder) (b : ℕ) (w : Worth) : Type 0 where
+  pub half : IsForward p q (taken (lists_of p) h b w)
+  pub back : CanUntake (rooms_of q) (lists_of q) h b w
+
+pub record IsGiven (p q : Stores) (h : Holder) (b : ℕ) (w : Worth) : Type 0 where
+  pub half : IsForward p q (given (lists_of p) h b w)
+  pub back : CanUngive (rooms_of q) (lists_of q) h b w
