@@ -2,3 +2,4 @@ pub mod BrandSupply
 pub mod Stocks
 pub mod Balances
 pub mod Circulating
+pub mod Places

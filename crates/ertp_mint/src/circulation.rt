@@ -1,35 +1,36 @@
 //! What is out of one brand.
 
-ghost use Rattle.std.specs.Prelude.{◌≡◌, ◌<◌, ◌≤◌, ◌+◌, ◌^◌, IfErr, IsOk, OnOk, OnErr};
-ghost use Rattle.amount_math.specs.Content.{sum};
+ghost use Rattle.std.specs.Prelude.{◌≡◌, ◌<◌, ◌+◌, ◌^◌, IfErr, IsOk, OnOk, OnErr};
+ghost use Rattle.amount_math.specs.Content.{Contains, sum};
 ghost use Rattle.amount_math.specs.Counted.{counted};
 ghost use Rattle.amount_math.specs.Worth.{Fits, IsIssueRefusal};
-ghost use Rattle.ertp_mint.specs.BrandSupply.{AddsUp, issued, retired};
-ghost use Rattle.ertp_mint.specs.Circulating.{CanReturn, IsOut, new_circulation, out_of, unissued, unretired, with_supply};
+ghost use Rattle.ertp_mint.specs.Circulating.{CanReturn, Circulates, IsOut, new_circulation, with_forgotten, with_issued, with_retired, with_unissued, with_unretired};
 
-use amount_math::{Holding, Kind, PutFault, Value};
-use std::alloc::{AllocError, Global};
+use crate::keys_out::KeysOut;
+use crate::place::Change;
+use amount_math::{Kind, PutFault, Value};
+use std::alloc::Global;
 use std::marker::Model;
 
-/// What is out of a brand, in a place of its own, and the totals of counts minted and burned.
-#[derive(Debug, Drop)]
+/// What is out of a brand, key by key, and the totals of counts minted and burned.
+#[derive(Drop)]
 pub(crate) struct Circulation {
-    held: Holding,
+    kind: Kind,
+    keys: KeysOut,
     minted: u128,
     burned: u128,
 }
 
 impl Model for Circulation {
-    ghost use Rattle.ertp_mint.specs.BrandSupply.{AddsUp};
-    ghost use Rattle.ertp_mint.specs.Circulating.{StoredSupply, coded_stored_supply};
+    ghost use Rattle.ertp_mint.specs.Circulating.{Circulates, CirculationView, coded_circulation};
 
-    ghost Value = { StoredSupply };
+    ghost Value = { CirculationView };
 
-    ghost coded = { coded_stored_supply };
+    ghost coded = { coded_circulation };
 
-    ghost view = { λ a. record { supply = record { outstanding = a.held.value; minted = a.minted; burned = a.burned }; room = a.held.room } };
+    ghost view = { λ a. record { supply = record { outstanding = record { kind = a.kind; content = a.keys.out }; minted = a.minted; burned = a.burned }; kept = a.keys.kept } };
 
-    ghost invariant = { λ a. AddsUp (record { outstanding = a.held.value; minted = a.minted; burned = a.burned }) };
+    ghost invariant = { λ a. Circulates (record { supply = record { outstanding = record { kind = a.kind; content = a.keys.out }; minted = a.minted; burned = a.burned }; kept = a.keys.kept }) };
 }
 
 impl Circulation {
@@ -37,19 +38,26 @@ impl Circulation {
         ensures { result ≡ new_circulation kind }
     {
         Circulation {
-            held: Holding::empty(alloc, kind),
+            kind,
+            keys: KeysOut::new(alloc),
             minted: 0,
             burned: 0,
         }
     }
 
-    /// What is out: minted less burned.
-    pub fn outstanding(&self) -> &Holding
-        ensures outstanding { result.now ≡ out_of self.now }
-        ensures adds_up { AddsUp self.now.supply }
+    /// The kind of the brand's values, and that all adds up.
+    pub fn kind(&self) -> Kind
+        ensures kind { result ≡ self.now.supply.outstanding.kind }
+        ensures circulates { Circulates self.now }
     {
-        let _minted = self.minted;
-        &self.held
+        self.kind
+    }
+
+    /// The counts of all that is out, together.
+    pub fn total(&self) -> u128
+        ensures { result ≡ counted self.now.supply.outstanding.content }
+    {
+        self.minted - self.burned
     }
 
     pub fn minted(&self) -> u128
@@ -64,69 +72,69 @@ impl Circulation {
         self.burned
     }
 
-    /// Counts a value that fits as out, where there is memory for the room that it wants.
-    fn raise(&mut self, value: Value) -> Result<(), AllocError>
-        requires kind { self.old.supply.outstanding.kind ≡ value.kind }
-        requires fits { Fits self.old.supply.outstanding.kind (sum self.old.supply.outstanding.content value.content) }
-        requires room { self.old.supply.minted + counted value.content < 2 ^ 128 }
-        ensures ok { OnOk result (self.new.supply ≡ issued self.old.supply value.content) }
-        ensures room { self.old.room ≤ self.new.room }
-        ensures err { OnErr result (self.new ≡ self.old) }
+    /// That a value may come out too, or why it mayn't.
+    pub fn can_issue(&self, value: &Value) -> Result<(), PutFault>
+        requires { self.now.supply.outstanding.kind ≡ value.now.kind }
+        ensures ok { IsOk result → Fits value.now.kind (sum self.now.supply.outstanding.content value.now.content) }
+        ensures sure { Fits value.now.kind (sum self.now.supply.outstanding.content value.now.content) → IsOk result }
+        ensures refused { IfErr result (IsIssueRefusal value.now.kind (sum self.now.supply.outstanding.content value.now.content)) }
     {
-        self.held.make_room_for(&value)?;
-        self.minted += value.total();
-        self.held.put_back(value);
-        Ok(())
+        self.keys.can_issue(value)
     }
 
-    /// Counts a value as out. Its keys are copied; those that are out already stay in their places.
+    /// Counts a value as out. Keys of which nothing is out or kept yet take memory.
     pub fn issue(&mut self, value: &Value) -> Result<(), PutFault>
         requires kind { self.old.supply.outstanding.kind ≡ value.now.kind }
         requires room { self.old.supply.minted + counted value.now.content < 2 ^ 128 }
-        ensures ok { OnOk result (self.new.supply ≡ issued self.old.supply value.now.content) }
-        ensures fits { OnOk result (Fits self.old.supply.outstanding.kind (sum self.old.supply.outstanding.content value.now.content)) }
-        ensures room { self.old.room ≤ self.new.room }
+        ensures ok { OnOk result (self.new ≡ with_issued self.old value.now.content) }
+        ensures fits { OnOk result (Fits value.now.kind (sum self.old.supply.outstanding.content value.now.content)) }
         ensures out { OnOk result (IsOut self.new value.now) }
-        ensures undone { OnOk result (unissued self.new.supply value.now.content ≡ self.old.supply) }
+        ensures undone { OnOk result (with_unissued self.new value.now.content ≡ self.old) }
         ensures err { OnErr result (self.new ≡ self.old) }
-        ensures refused { IfErr result (IsIssueRefusal self.old.supply.outstanding.kind (sum self.old.supply.outstanding.content value.now.content)) }
+        ensures refused { IfErr result (IsIssueRefusal value.now.kind (sum self.old.supply.outstanding.content value.now.content)) }
     {
-        self.held.can_fit(value)?;
-        let Ok(copy) = value.copy() else {
+        self.keys.can_issue(value)?;
+        let Ok(()) = self.keys.issue(value) else {
             return Err(PutFault::NoMemory);
         };
-        match self.raise(copy) {
-            Ok(()) => Ok(()),
-            Err(_) => Err(PutFault::NoMemory),
-        }
+        self.minted += value.total();
+        Ok(())
     }
 
     /// Works an issue backwards.
     pub fn undo_issue(&mut self, value: &Value)
         requires { IsOut self.old value.now }
-        ensures { self.new ≡ with_supply self.old (unissued self.old.supply value.now.content) }
+        ensures { self.new ≡ with_unissued self.old value.now.content }
     {
-        self.held.take_out(value);
+        self.keys.change(Change::UndoIssue, value);
         self.minted -= value.total();
     }
 
-    /// Counts a value as no longer out.
+    /// Counts a value as no longer out, and keeps it.
     pub fn retire(&mut self, value: &Value)
         requires { IsOut self.old value.now }
-        ensures retired { self.new ≡ with_supply self.old (retired self.old.supply value.now.content) }
+        ensures retired { self.new ≡ with_retired self.old value.now.content }
         ensures back { CanReturn self.new value.now }
-        ensures undone { unretired self.new.supply value.now.content ≡ self.old.supply }
+        ensures undone { with_unretired self.new value.now.content ≡ self.old }
     {
-        self.held.take_out(value);
+        self.keys.change(Change::Retire, value);
         self.burned += value.total();
     }
 
     /// Works a retirement backwards.
-    pub fn undo_retire(&mut self, value: Value)
-        requires { CanReturn self.old value }
-        ensures { self.new ≡ with_supply self.old (unretired self.old.supply value.content) }
+    pub fn undo_retire(&mut self, value: &Value)
+        requires { CanReturn self.old value.now }
+        ensures { self.new ≡ with_unretired self.old value.now.content }
     {
+        self.keys.change(Change::UndoRetire, value);
         self.burned -= value.total();
-        self.held.put_back(value);
+    }
+
+    /// Keeps a value no longer.
+    pub fn forget(&mut self, value: &Value)
+        requires { Contains self.old.kept value.now.content }
+        ensures { self.new ≡ with_forgotten self.old value.now.content }
+    {
+        self.keys.change(Change::Forget, value);
     }
 }

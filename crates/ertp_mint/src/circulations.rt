@@ -1,21 +1,21 @@
 //! The supply of each brand, which is changed in place.
 
-ghost use Rattle.std.specs.Prelude.{[], ◌≡◌, ◌<◌, ◌≤◌, ◌+◌, ◌-◌, ◌^◌, ◌++◌, ◌∷◌, length, slice_set, take, IfOk, IfErr, IsOk, OnOk, OnErr};
-ghost use Rattle.amount_math.specs.Content.{sum};
+ghost use Rattle.std.specs.Prelude.{[], ◌≡◌, ◌<◌, ◌+◌, ◌-◌, ◌^◌, ◌++◌, ◌∷◌, length, slice_set, take, IfOk, IfErr, IsOk, OnOk, OnErr};
+ghost use Rattle.amount_math.specs.Content.{Contains, sum};
 ghost use Rattle.amount_math.specs.Counted.{counted};
 ghost use Rattle.amount_math.specs.Worth.{Fits, IsIssueRefusal};
-ghost use Rattle.ertp_mint.specs.BrandSupply.{AddsUp, issued, retired};
-ghost use Rattle.ertp_mint.specs.Circulating.{CanReturn, IsOut, circulation_at, new_circulation, out_of, unissued, unretired, with_supply};
+ghost use Rattle.ertp_mint.specs.Circulating.{CanReturn, Circulates, IsOut, circulation_at, new_circulation, with_forgotten, with_issued, with_retired, with_unissued, with_unretired};
 
 use crate::Parcel;
 use crate::circulation::Circulation;
-use amount_math::{Holding, Kind, PutFault, Value};
+use amount_math::{Kind, PutFault, Value};
 use std::alloc::{AllocError, Global};
 use std::marker::Model;
 
-/// What is out of each brand, by its number, with the totals of counts minted and burned. Contracts see for
-/// how many keys there is room too; no call lessens it but the one that takes a brand back.
-#[derive(Debug, Drop)]
+/// What is out of each brand, by its number, with the totals of counts minted and burned. It finds a key at
+/// a cost of the logarithm of how many are out. Contracts see what is kept too: what was retired and may
+/// come out again, which takes no memory until it is forgotten.
+#[derive(Drop)]
 pub struct Circulations {
     brands: Vec<Circulation>,
 }
@@ -23,11 +23,11 @@ pub struct Circulations {
 impl Model for Circulations {
     ghost use Rattle.std.specs.Prelude.{List};
     ghost use Rattle.std.specs.Coded.{coded_list};
-    ghost use Rattle.ertp_mint.specs.Circulating.{StoredSupply, coded_stored_supply};
+    ghost use Rattle.ertp_mint.specs.Circulating.{CirculationView, coded_circulation};
 
-    ghost Value = { List StoredSupply };
+    ghost Value = { List CirculationView };
 
-    ghost coded = { coded_list coded_stored_supply };
+    ghost coded = { coded_list coded_circulation };
 
     ghost view = { λ a. a.brands.items };
 }
@@ -62,13 +62,21 @@ impl Circulations {
         let _last = self.brands.pop();
     }
 
-    /// What is out of a brand: minted less burned.
-    pub fn outstanding(&self, brand: u16) -> &Holding
+    /// The kind of a brand's values, and that what is out, what was burned and what was minted add up.
+    pub fn kind(&self, brand: u16) -> Kind
         requires { brand < length self.now }
-        ensures outstanding { result.now ≡ out_of (circulation_at self.now brand) }
-        ensures adds_up { AddsUp (circulation_at self.now brand).supply }
+        ensures kind { result ≡ (circulation_at self.now brand).supply.outstanding.kind }
+        ensures circulates { Circulates (circulation_at self.now brand) }
     {
-        self.brands[brand as usize].outstanding()
+        self.brands[brand as usize].kind()
+    }
+
+    /// The counts of all that is out of a brand, together: minted less burned.
+    pub fn total(&self, brand: u16) -> u128
+        requires { brand < length self.now }
+        ensures { result ≡ counted (circulation_at self.now brand).supply.outstanding.content }
+    {
+        self.brands[brand as usize].total()
     }
 
     /// The counts of all that was ever issued of a brand, together.
@@ -96,22 +104,21 @@ impl Circulations {
         ensures sure { Fits value.now.kind (sum (circulation_at self.now brand).supply.outstanding.content value.now.content) → IsOk result }
         ensures refused { IfErr result (IsIssueRefusal value.now.kind (sum (circulation_at self.now brand).supply.outstanding.content value.now.content)) }
     {
-        self.brands[brand as usize].outstanding().can_fit(value)
+        self.brands[brand as usize].can_issue(value)
     }
 
     /// Brings a value out as a parcel, or hands it back: `Overlap` where a key of a set is out already,
-    /// `TooMuch` where a count would pass its bound. How many keys are out is not bounded. The value's keys
-    /// take memory; no list of the keys that are out is copied.
+    /// `TooMuch` where a count would pass its bound. How many keys are out is not bounded. Keys of which
+    /// nothing is out or kept yet take memory.
     pub fn issue(&mut self, brand: u16, value: Value) -> Result<Parcel, (Value, PutFault)>
         requires made { brand < length self.old }
         requires kind { (circulation_at self.old brand).supply.outstanding.kind ≡ value.kind }
         requires room { (circulation_at self.old brand).supply.minted + counted value.content < 2 ^ 128 }
-        ensures ok { OnOk result (self.new ≡ slice_set self.old brand (with_supply (circulation_at self.new brand) (issued (circulation_at self.old brand).supply value.content))) }
+        ensures ok { OnOk result (self.new ≡ slice_set self.old brand (with_issued (circulation_at self.old brand) value.content)) }
         ensures parcel { IfOk result (λ parcel. parcel ≡ record { brand = brand; value = value }) }
         ensures fits { OnOk result (Fits value.kind (sum (circulation_at self.old brand).supply.outstanding.content value.content)) }
-        ensures room { (circulation_at self.old brand).room ≤ (circulation_at self.new brand).room }
         ensures out { OnOk result (IsOut (circulation_at self.new brand) value) }
-        ensures undone { OnOk result (unissued (circulation_at self.new brand).supply value.content ≡ (circulation_at self.old brand).supply) }
+        ensures undone { OnOk result (with_unissued (circulation_at self.new brand) value.content ≡ circulation_at self.old brand) }
         ensures back { IfErr result (λ (back, _). back ≡ value) }
         ensures err { OnErr result (self.new ≡ self.old) }
         ensures refused { IfErr result (λ (_, fault). IsIssueRefusal value.kind (sum (circulation_at self.old brand).supply.outstanding.content value.content) fault) }
@@ -126,7 +133,7 @@ impl Circulations {
     pub fn undo_issue(&mut self, parcel: Parcel)
         requires made { parcel.brand < length self.old }
         requires out { IsOut (circulation_at self.old parcel.brand) parcel.value }
-        ensures { self.new ≡ slice_set self.old parcel.brand (with_supply (circulation_at self.old parcel.brand) (unissued (circulation_at self.old parcel.brand).supply parcel.value.content)) }
+        ensures { self.new ≡ slice_set self.old parcel.brand (with_unissued (circulation_at self.old parcel.brand) parcel.value.content) }
     {
         let (brand, value) = parcel.into_parts();
         self.brands[brand as usize].undo_issue(&value);
@@ -137,25 +144,32 @@ impl Circulations {
         requires made { parcel.brand < length self.old }
         requires out { IsOut (circulation_at self.old parcel.brand) parcel.value }
         ensures value { result ≡ parcel.value }
-        ensures retired { self.new ≡ slice_set self.old parcel.brand (with_supply (circulation_at self.old parcel.brand) (retired (circulation_at self.old parcel.brand).supply parcel.value.content)) }
+        ensures retired { self.new ≡ slice_set self.old parcel.brand (with_retired (circulation_at self.old parcel.brand) parcel.value.content) }
         ensures back { CanReturn (circulation_at self.new parcel.brand) parcel.value }
-        ensures undone { unretired (circulation_at self.new parcel.brand).supply parcel.value.content ≡ (circulation_at self.old parcel.brand).supply }
+        ensures undone { with_unretired (circulation_at self.new parcel.brand) parcel.value.content ≡ circulation_at self.old parcel.brand }
     {
         let (brand, value) = parcel.into_parts();
         self.brands[brand as usize].retire(&value);
         value
     }
 
-    /// Works a retirement backwards, which takes no memory. Of two equal values the one becomes the parcel,
-    /// and the keys of the other are out again, since each key is kept in both places.
-    pub fn undo_retire(&mut self, brand: u16, value: Value, spare: Value) -> Parcel
+    /// Works a retirement backwards, which takes no memory: the value becomes the parcel again.
+    pub fn undo_retire(&mut self, brand: u16, value: Value) -> Parcel
         requires made { brand < length self.old }
-        requires same { spare ≡ value }
         requires back { CanReturn (circulation_at self.old brand) value }
         ensures parcel { result ≡ record { brand = brand; value = value } }
-        ensures unretired { self.new ≡ slice_set self.old brand (with_supply (circulation_at self.old brand) (unretired (circulation_at self.old brand).supply value.content)) }
+        ensures unretired { self.new ≡ slice_set self.old brand (with_unretired (circulation_at self.old brand) value.content) }
     {
-        self.brands[brand as usize].undo_retire(spare);
+        self.brands[brand as usize].undo_retire(&value);
         Parcel::issued(brand, value)
+    }
+
+    /// Keeps a retired value no longer, which takes no memory: what it takes to come out again goes.
+    pub fn forget(&mut self, brand: u16, value: &Value)
+        requires made { brand < length self.old }
+        requires kept { Contains (circulation_at self.old brand).kept value.now.content }
+        ensures { self.new ≡ slice_set self.old brand (with_forgotten (circulation_at self.old brand) value.now.content) }
+    {
+        self.brands[brand as usize].forget(value);
     }
 }

@@ -1,22 +1,27 @@
-use Rattle.std.proofs.Common.{◌∙◌, ap, arith}
-use Rattle.amount_math.specs.Content.{count-sum}
-use Rattle.amount_math.specs.Worth.{Worth}
-use Rattle.ertp_mint.specs.BrandSupply.{BrandSupply, issued}
-use Rattle.ertp_mint.specs.Circulating.{issued_back, unissued}
+use Rattle.std.proofs.Common.{◌∙◌, refl, subst, sym}
+use Rattle.amount_math.specs.Content.{sum}
+use Rattle.amount_math.specs.Worth.{Fits}
+use Rattle.ertp_mint.specs.Circulating.{CirculationView, with_issued_back}
+use Rattle.ertp_mint.proofs.Circulated.{circulates_issued, issued_is_out, may_issue, view_of}
 use Rattle.ertp_mint.proofs.circulation.Circulation.issue.Goals as goal
 
-pub returns-in-Ok-raise-clause-out : goal.returns-in-Ok-raise-clause-out
-returns-in-Ok-raise-clause-out c =
-    let old = c.args.self.now.supply in
-    let is = c.in-Ok-raise.ensures.ok ∙ ap (λ (w : Worth). issued old w.content) c.in-Ok.ensures in
-    record {
-      kind = ap (λ (s : BrandSupply). s.outstanding.kind) is ∙ c.requires.kind;
-      has = rw is (record { each = λ k. omega (arith, count-sum old.outstanding.content c.args.value.now.content k) });
-    }
+pub issue-requires : goal.issue-requires
+issue-requires c = may_issue c.args.value.now.kind c.self.inside.keys c.args.value.now.content (c.in_ok-can_issue.ensures.ok refl)
 
-pub returns-in-Ok-raise-clause-undone : goal.returns-in-Ok-raise-clause-undone
-returns-in-Ok-raise-clause-undone c =
-    let old = c.args.self.now.supply in
+pub invariant_of-self-2 : goal.invariant_of-self-2
+invariant_of-self-2 c =
+    let s : CirculationView = view_of c.self.inside.kind c.self.inside.keys c.self.inside.minted c.self.inside.burned in
     let part = c.args.value.now.content in
-    let is = c.in-Ok-raise.ensures.ok ∙ ap (λ (w : Worth). issued old w.content) c.in-Ok.ensures in
-    ap (λ (s : BrandSupply). unissued s part) is ∙ issued_back old part
+    let kinds = rw (← c.self.view_is) at c.requires.kind in
+    rw (c.in-Ok.ensures.ok, c.total.ensures.total) (circulates_issued s part c.self.invariant (subst (λ k. Fits k (sum s.supply.outstanding.content part)) (sym kinds) (c.in_ok-can_issue.ensures.ok refl)))
+
+pub returns-clause-out : goal.returns-clause-out
+returns-clause-out c =
+    let s : CirculationView = view_of c.self.inside.kind c.self.inside.keys c.self.inside.minted c.self.inside.burned in
+    let kinds = rw (← c.self.view_is) at c.requires.kind in
+    rw (c.in-Ok.ensures.ok, c.total.ensures.total) (issued_is_out s c.args.value.now kinds)
+
+pub returns-clause-undone : goal.returns-clause-undone
+returns-clause-undone c =
+    let s : CirculationView = view_of c.self.inside.kind c.self.inside.keys c.self.inside.minted c.self.inside.burned in
+    rw (c.in-Ok.ensures.ok, c.total.ensures.total) (with_issued_back s c.args.value.now.content) ∙ c.self.view_is
