@@ -18,7 +18,7 @@ use Rattle.rights_model.specs.declared.Movement.{Movement}
 use Rattle.right_steps.specs.declared.Step.{Step}
 use Rattle.right_steps.specs.declared.Step.TheVariants.{Moves, OpensPurse, AddsBrand}
 use Rattle.right_steps.specs.Backwards.{Rooms, HasGrown, CanUntake, CanUngive, CanAllBack}
-use Rattle.right_steps.specs.Lists.{Lists, CanGive, CanTake, back, given, kind_of, less, more, purse_at, taken, ungiven, untaken, with_new_brand, with_new_purse, with_outs, with_payments, with_purses, without_last_brand, without_last_purse}
+use Rattle.right_steps.specs.Lists.{Lists, CanGive, CanTake, back, given, less, more, purse_at, taken, ungiven, untaken, with_new_brand, with_new_purse, with_outs, with_payments, with_purses, without_last_brand, without_last_purse}
 use Rattle.list_edits.proofs.ListEdits.{set_same, set_set, take_all_but, without_pushed, written_back}
 
 more_less : (a : Amount) (c : Content) → Contains a.value.content c → more (less a c) c ≡ a
@@ -69,19 +69,18 @@ module _ (R Q : Rooms) (grown : HasGrown R Q) where
   ungive_grows s (Payment n) b w can = can
   ungive_grows s (Slot seat keyword) b w can = can
   ungive_grows s Hand b w can = can
-  ungive_grows s Outside b w can = record { kind = can.kind; fits = can.fits; room = more_room (kind_of s b) _ (R.out b) (Q.out b) (grown.out b) can.room; burned = can.burned }
+  ungive_grows s Outside b w can = can
 
   pub all_grows : (s : Lists) (ks : List Step) (ms : List Movement) → CanAllBack R s ks ms → CanAllBack Q s ks ms
   all_grows s [] ms can = can
-  all_grows s (Moves spare ∷ ks) [] can = can
-  all_grows s (Moves spare ∷ ks) (m ∷ ms) can = (
+  all_grows s (Moves ∷ ks) [] can = can
+  all_grows s (Moves ∷ ks) (m ∷ ms) can = (
     record {
       ungive = ungive_grows s m.to m.brand m.value can.0.ungive;
       untake = untake_grows (ungiven s m.to m.brand m.value) m.from m.brand m.value can.0.untake;
       made = can.0.made;
       kind = can.0.kind;
       has = can.0.has;
-      spared = can.0.spared;
       out = can.0.out;
       room = more_room m.value.kind _ (R.hand m.brand) (Q.hand m.brand) (grown.hand m.brand) can.0.room;
     },

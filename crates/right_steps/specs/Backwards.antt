@@ -1,12 +1,11 @@
 -- Steps worked backwards, the last first: what they give, and when they can be.
-use Rattle.std.specs.Prelude.{◌≡◌, ◌<◌, ◌≤◌, ◌+◌, ◌-◌, ◌==◌, if◌then◌else◌, ℕ, List, [], ◌∷◌, Option, Some, count_by, length}
+use Rattle.std.specs.Prelude.{◌≡◌, ◌<◌, ◌≤◌, ◌+◌, ◌-◌, ◌==◌, if◌then◌else◌, ℕ, List, [], ◌∷◌, count_by, length}
 use Rattle.amount_math.specs.Content.{Content, Contains, nothing, sum, difference}
 use Rattle.amount_math.specs.Held.{HasRoom}
-use Rattle.amount_math.specs.Worth.{Worth, keys_of}
+use Rattle.amount_math.specs.Worth.{Fits, Worth, keys_of}
 use Rattle.amount_math.specs.declared.Amount.{Amount}
 use Rattle.ertp_mint.specs.Balances.{StoredAmount, GoesIn}
-use Rattle.ertp_mint.specs.BrandSupply.{BrandSupply, supply_at}
-use Rattle.ertp_mint.specs.Circulating.{StoredSupply, CanReturn}
+use Rattle.ertp_mint.specs.BrandSupply.{supply_at}
 use Rattle.payments.specs.Papers.{is_live, live_paper, paper_at, spent_paper}
 use Rattle.rights_model.specs.declared.Holder.{Holder}
 use Rattle.rights_model.specs.declared.Holder.TheVariants.{Purse, Payment, Slot, Hand, Outside}
@@ -18,8 +17,8 @@ use Rattle.right_steps.specs.Lists.{Lists, GivesUp, amount_of, back, kind_of, pu
 -- what they give. Each step that moves has the next of the movements
 abbrev pub all_back : Lists → List Step → List Movement → Lists
 all_back s [] ms = s
-all_back s (Moves spare ∷ ks) [] = s
-all_back s (Moves spare ∷ ks) (m ∷ ms) = all_back (back s m) ks ms
+all_back s (Moves ∷ ks) [] = s
+all_back s (Moves ∷ ks) (m ∷ ms) = all_back (back s m) ks ms
 all_back s (OpensPurse ∷ ks) ms = all_back (without_last_purse s) ks ms
 all_back s (AddsBrand ∷ ks) ms = all_back (without_last_brand s) ks ms
 
@@ -53,26 +52,36 @@ HandHas (Payment n) c part = Unit {0}
 HandHas (Slot seat keyword) c part = Unit {0}
 HandHas Outside c part = Unit {0}
 
+-- ---- what was retired
+
+-- what is kept of a brand after a movement, which may come out again without memory
+abbrev pub to_outside : Holder → Content → Content → Content
+to_outside Outside c part = sum c part
+to_outside (Purse n) c part = c
+to_outside (Payment n) c part = c
+to_outside (Slot seat keyword) c part = c
+to_outside Hand c part = c
+
+-- and after movements, of which the last stands first: what they retired
+abbrev pub retired_by : List Movement → ℕ → Content
+retired_by [] b = nothing
+retired_by (m ∷ ms) b = if m.brand == b then to_outside m.to (retired_by ms b) m.value.content else retired_by ms b
+
 -- ---- rooms: apart from the lists, since they only grow
 
--- for how many keys there is room in each purse, and for how many live payments; for how many keys of what is out of each brand, and of what the hand has of it
+-- for how many keys there is room in each purse, and for how many live payments; and for how many keys of what the hand has of each brand
 pub record Rooms : Type 0 where
   pub purses : ℕ → ℕ
   pub capacity : ℕ
-  pub out : ℕ → ℕ
   pub hand : ℕ → ℕ
 
 pub record HasGrown (R Q : Rooms) : Type 0 where
   pub purses : (n : ℕ) → R.purses n ≤ Q.purses n
   pub capacity : R.capacity ≤ Q.capacity
-  pub out : (b : ℕ) → R.out b ≤ Q.out b
   pub hand : (b : ℕ) → R.hand b ≤ Q.hand b
 
 abbrev pub stored : Amount → ℕ → StoredAmount
 stored a room = record { amount = a; room = room }
-
-abbrev pub stored_supply : BrandSupply → ℕ → StoredSupply
-stored_supply s room = record { supply = s; room = room }
 
 -- ---- when they can be worked backwards, within the rooms
 
@@ -86,6 +95,11 @@ pub record CanRevive (R : Rooms) (s : Lists) (n b : ℕ) (w : Worth) : Type 0 wh
   pub made : n < length s.payments
   pub spent : paper_at s.payments n ≡ spent_paper b
   pub vacancy : count_by is_live s.payments < R.capacity
+
+-- what was retired may be out again: no count passes the kind's bound then. What is kept for it is what movements retired
+pub record MayReturn (s : Lists) (b : ℕ) (w : Worth) : Type 0 where
+  pub kind : kind_of s b ≡ w.kind
+  pub fits : Fits (kind_of s b) (sum (supply_at s.out b).outstanding.content w.content)
 
 -- the last payment is the one that was made
 pub record IsLast (s : Lists) (n b : ℕ) (w : Worth) : Type 0 where
@@ -104,24 +118,15 @@ CanUngive R s (Purse n) b w = GivesUp s n b w
 CanUngive R s (Payment n) b w = IsLast s n b w
 CanUngive R s (Slot seat keyword) b w = ⊥
 CanUngive R s Hand b w = Unit {0}
-CanUngive R s Outside b w = CanReturn (stored_supply (supply_at s.out b) (R.out b)) w
-
--- a second one of the value is there, where a parcel is made of it when it comes out of the hand or from outside again
-abbrev pub HasSpare : Holder → Option Worth → Worth → Type 0
-HasSpare Hand spare w = spare ≡ Some w
-HasSpare Outside spare w = spare ≡ Some w
-HasSpare (Purse n) spare w = Unit {0}
-HasSpare (Payment n) spare w = Unit {0}
-HasSpare (Slot seat keyword) spare w = Unit {0}
+CanUngive R s Outside b w = MayReturn s b w
 
 -- a movement, before which there were these. On the way back what the hand has then and what is moved are out
-pub record CanBack (R : Rooms) (s : Lists) (spare : Option Worth) (m : Movement) (ms : List Movement) : Type 0 where
+pub record CanBack (R : Rooms) (s : Lists) (m : Movement) (ms : List Movement) : Type 0 where
   pub ungive : CanUngive R s m.to m.brand m.value
   pub untake : CanUntake R (ungiven s m.to m.brand m.value) m.from m.brand m.value
   pub made : m.brand < length s.out
   pub kind : kind_of s m.brand ≡ m.value.kind
   pub has : HandHas m.from (in_hand ms m.brand) m.value.content
-  pub spared : HasSpare m.to spare m.value
   pub out : Contains (supply_at (ungiven s m.to m.brand m.value).out m.brand).outstanding.content (sum (from_hand m.from (in_hand ms m.brand) m.value.content) m.value.content)
   pub room : HasRoom m.value.kind (keys_of (in_hand ms m.brand)) (R.hand m.brand)
 
@@ -137,7 +142,7 @@ pub record HasFreshLast (s : Lists) : Type 0 where
 
 abbrev pub CanAllBack : Rooms → Lists → List Step → List Movement → Type 0
 CanAllBack R s [] ms = ms ≡ []
-CanAllBack R s (Moves spare ∷ ks) [] = ⊥
-CanAllBack R s (Moves spare ∷ ks) (m ∷ ms) = CanBack R s spare m ms × CanAllBack R (back s m) ks ms
+CanAllBack R s (Moves ∷ ks) [] = ⊥
+CanAllBack R s (Moves ∷ ks) (m ∷ ms) = CanBack R s m ms × CanAllBack R (back s m) ks ms
 CanAllBack R s (OpensPurse ∷ ks) ms = HasEmptyLast s × CanAllBack R (without_last_purse s) ks ms
 CanAllBack R s (AddsBrand ∷ ks) ms = HasFreshLast s × CanAllBack R (without_last_brand s) ks ms

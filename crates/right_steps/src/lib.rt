@@ -5,14 +5,11 @@
 
 pub mod laws;
 
-use amount_math::Value;
-
 /// What is kept of a step of a turn, beside its movement, for working it backwards.
-#[derive(Debug, Drop)]
+#[derive(Clone, Copy, Debug)]
 pub enum Step {
-    /// A movement. Where it goes to the hand or outside, with a second one of its value, of which a parcel
-    /// is made when it comes out of there again.
-    Moves(Option<Value>),
+    /// A movement.
+    Moves,
     /// A purse was opened.
     OpensPurse,
     /// A brand was taken in.

@@ -1,21 +1,20 @@
 -- The calls of the two parts: what they ask for, and what they make of the whole.
-use Rattle.std.proofs.Common.{◌≡◌, ℕ, ◌+◌, ◌-◌, ◌<◌, List, [], ◌∷◌, ◌++◌, length, take, refl, sym, ◌∙◌, ap, subst, arith}
+use Rattle.std.proofs.Common.{◌≡◌, ℕ, ◌+◌, ◌-◌, ◌<◌, List, [], ◌∷◌, ◌++◌, length, take, sym, ◌∙◌, ap, subst, arith}
 use Rattle.std.specs.Prelude.{slice_set, ◌^◌, ◌≤◌}
-use Rattle.amount_math.specs.Content.{Contains, nothing, sum, sum-nothing}
-use Rattle.amount_math.specs.Counted.{counted, counted-nothing}
-use Rattle.amount_math.specs.Held.{Held, GoesIn, ComesOut, HasRoom, IsHeld, with_less, with_more}
-use Rattle.amount_math.specs.Worth.{Worth, Fits, IsIssueRefusal, keys_of, with_content}
+use Rattle.amount_math.specs.Content.{Contains, count-difference, difference, difference-nothing, nothing, sum, sum-nothing}
+use Rattle.amount_math.specs.Counted.{counted, counted-difference, counted-nothing}
+use Rattle.amount_math.specs.Held.{Held, GoesIn, ComesOut, HasRoom, with_less, with_more}
+use Rattle.amount_math.specs.Worth.{Worth, Fits, IsIssueRefusal, keys_of}
 use Rattle.amount_math.specs.declared.PutFault.{PutFault}
 use Rattle.amount_math.specs.declared.Kind.{Kind}
 use Rattle.amount_math.specs.declared.Kind.TheVariants.{Nat}
-use Rattle.ertp_mint.specs.BrandSupply.{BrandSupply, issued, retired}
-use Rattle.ertp_mint.specs.Circulating.{CanReturn, IsOut, StoredSupply, circulation_at, new_circulation, out_of, unissued, unretired, with_supply}
+use Rattle.ertp_mint.specs.Circulating.{CanReturn, IsOut, CirculationView, circulation_at, new_circulation, with_forgotten, with_issued, with_retired, with_unissued, with_unretired}
 use Rattle.list_edits.proofs.ListEdits.{length_set, read_set}
 use Rattle.transit.specs.Transit.{AreKept, CanHold, IsInStore, IsKept, IsOnItsWay, TransitView, empty_hand, held_at, whole_of, wholes, with_hand, with_out}
-use Rattle.transit.proofs.Wholes.{held_whole, issued_whole, let_go_whole, retired_whole, unissued_whole, unretired_whole, wholes-kept, wholes-length, wholes-push, wholes-read, wholes-take, wholes-roomed, wholes-set_out}
-use Rattle.transit.proofs.Keeping.{can_let_go, can_return, can_return_part, fits_hand, kept_held, kept_issued, kept_let_go, kept_push, kept_retired, kept_take, kept_set, kept_set_hand, kept_set_out, kept_unissued, kept_unretired, on_its_way}
+use Rattle.transit.proofs.Wholes.{forgotten_circulation, held_circulation, issued_circulation, let_go_circulation, retired_circulation, unissued_circulation, unretired_circulation, wholes-kept, wholes-length, wholes-push, wholes-read, wholes-take, wholes-roomed, wholes-set_out}
+use Rattle.transit.proofs.Keeping.{can_let_go, can_return, can_return_part, fits_hand, kept_forgotten, kept_held, kept_issued, kept_let_go, kept_push, kept_retired, kept_take, kept_set, kept_set_hand, kept_set_out, kept_unissued, kept_unretired, on_its_way}
 
-module _ (out : List StoredSupply) (hand : List Held) (are : AreKept out hand) where
+module _ (out : List CirculationView) (hand : List Held) (are : AreKept out hand) where
   abbrev pub view : TransitView
   view = record { out = wholes out hand; hand = hand }
 
@@ -26,13 +25,13 @@ module _ (out : List StoredSupply) (hand : List Held) (are : AreKept out hand) w
   made_too b lt = omega (arith, lt, wholes-length out hand, are.same)
 
   module _ (b : ℕ) (lt : b < length (wholes out hand)) where
-    abbrev x : StoredSupply
+    abbrev x : CirculationView
     x = circulation_at out b
 
     abbrev h : Held
     h = held_at hand b
 
-    abbrev whole : StoredSupply
+    abbrev whole : CirculationView
     whole = circulation_at (wholes out hand) b
 
     pub reads : whole ≡ whole_of x h.value.content
@@ -41,65 +40,76 @@ module _ (out : List StoredSupply) (hand : List Held) (are : AreKept out hand) w
     pub is : IsKept x h
     is = are.each b (made b lt)
 
-    -- a change of the supply alone
-    changed : (f : BrandSupply → BrandSupply) → unretired (f x.supply) h.value.content ≡ f (unretired x.supply h.value.content) → wholes (slice_set out b (with_supply x (f x.supply))) hand ≡ slice_set (wholes out hand) b (with_supply whole (f whole.supply))
-    changed f eq =
-        wholes-set_out out hand b are.same (made b lt) (with_supply x (f x.supply))
-        ∙ ap (λ s. slice_set (wholes out hand) b (with_supply x s)) eq
-        ∙ ap (λ (y : StoredSupply). slice_set (wholes out hand) b (with_supply y (f y.supply))) (sym reads)
-
-    pub changed_view : (f : BrandSupply → BrandSupply) → unretired (f x.supply) h.value.content ≡ f (unretired x.supply h.value.content) → (l : List StoredSupply) → l ≡ slice_set out b (with_supply x (f x.supply)) → ◌≡◌ {A = TransitView} (record { out = wholes l hand; hand = hand }) (with_out view b (with_supply whole (f whole.supply)))
-    changed_view f eq l new = ap (λ m. record { out = m; hand = hand }) (ap (λ m. wholes m hand) new ∙ changed f eq)
+    -- a change of what is out
+    changed_view : (f : CirculationView → CirculationView) → whole_of (f x) h.value.content ≡ f (whole_of x h.value.content) → (l : List CirculationView) → l ≡ slice_set out b (f x) → ◌≡◌ {A = TransitView} (record { out = wholes l hand; hand = hand }) (with_out view b (f whole))
+    changed_view f eq l new = ap (λ m. record { out = m; hand = hand })
+        (ap (λ m. wholes m hand) new ∙ wholes-set_out out hand b are.same (made b lt) (f x) ∙ ap (slice_set (wholes out hand) b) (eq ∙ ap f (sym reads)))
 
     module _ (w : Worth) where
       whole_has : Contains whole.supply.outstanding.content (sum h.value.content w.content) → Contains x.supply.outstanding.content w.content
-      whole_has has = on_its_way x h w is (subst (λ (y : StoredSupply). Contains y.supply.outstanding.content (sum h.value.content w.content)) reads has)
+      whole_has has = on_its_way x h w is (subst (λ (y : CirculationView). Contains y.supply.outstanding.content (sum h.value.content w.content)) reads has)
 
       pub kind_there : whole.supply.outstanding.kind ≡ w.kind → x.supply.outstanding.kind ≡ w.kind
-      kind_there same = ap (λ (y : StoredSupply). y.supply.outstanding.kind) (sym reads) ∙ same
+      kind_there same = ap (λ (y : CirculationView). y.supply.outstanding.kind) (sym reads) ∙ same
 
       -- what is on its way is out
       pub way_out : IsOnItsWay view (record { brand = b; value = w }) → IsOut x w
       way_out way = record { kind = kind_there way.kind; has = whole_has way.has }
 
-      pub retire_keeps : IsOnItsWay view (record { brand = b; value = w }) → (l : List StoredSupply) → l ≡ slice_set out b (with_supply x (retired x.supply w.content)) → AreKept l hand
+      pub retire_keeps : IsOnItsWay view (record { brand = b; value = w }) → (l : List CirculationView) → l ≡ slice_set out b (with_retired x w.content) → AreKept l hand
       retire_keeps way l new = subst (λ m. AreKept m hand) (sym new) (kept_set_out out hand are b _ (made b lt) (kept_retired x h w is (whole_has way.has)))
 
-      pub retire_view : IsOnItsWay view (record { brand = b; value = w }) → (l : List StoredSupply) → l ≡ slice_set out b (with_supply x (retired x.supply w.content)) → ◌≡◌ {A = TransitView} (record { out = wholes l hand; hand = hand }) (with_out view b (with_supply whole (retired whole.supply w.content)))
-      retire_view way l new = changed_view (λ s. retired s w.content) (retired_whole x.supply h.value.content w.content is.burned (whole_has way.has)) l new
+      pub retire_view : IsOnItsWay view (record { brand = b; value = w }) → (l : List CirculationView) → l ≡ slice_set out b (with_retired x w.content) → ◌≡◌ {A = TransitView} (record { out = wholes l hand; hand = hand }) (with_out view b (with_retired whole w.content))
+      retire_view way l new = changed_view (λ y. with_retired y w.content) (retired_circulation x h.value.content w.content is.burned is.kept (whole_has way.has)) l new
 
-      pub unissue_keeps : IsOnItsWay view (record { brand = b; value = w }) → (l : List StoredSupply) → l ≡ slice_set out b (with_supply x (unissued x.supply w.content)) → AreKept l hand
+      pub unissue_keeps : IsOnItsWay view (record { brand = b; value = w }) → (l : List CirculationView) → l ≡ slice_set out b (with_unissued x w.content) → AreKept l hand
       unissue_keeps way l new = subst (λ m. AreKept m hand) (sym new) (kept_set_out out hand are b _ (made b lt) (kept_unissued x h w is (whole_has way.has)))
 
-      pub unissue_view : IsOnItsWay view (record { brand = b; value = w }) → (l : List StoredSupply) → l ≡ slice_set out b (with_supply x (unissued x.supply w.content)) → ◌≡◌ {A = TransitView} (record { out = wholes l hand; hand = hand }) (with_out view b (with_supply whole (unissued whole.supply w.content)))
-      unissue_view way l new = changed_view (λ s. unissued s w.content) (unissued_whole x.supply h.value.content w.content (whole_has way.has)) l new
+      pub unissue_view : IsOnItsWay view (record { brand = b; value = w }) → (l : List CirculationView) → l ≡ slice_set out b (with_unissued x w.content) → ◌≡◌ {A = TransitView} (record { out = wholes l hand; hand = hand }) (with_out view b (with_unissued whole w.content))
+      unissue_view way l new = changed_view (λ y. with_unissued y w.content) (unissued_circulation x h.value.content w.content (whole_has way.has)) l new
+
+      -- what comes back was burned beside what the hand's store has
+      both_burned : CanReturn whole w → counted x.kept ≤ x.supply.burned → counted w.content + counted h.value.content ≤ x.supply.burned
+      both_burned can burned =
+          let kept = (subst (λ y. CanReturn y w) reads can).kept in
+          omega (arith, burned, counted-difference x.kept h.value.content is.kept, counted-difference (difference x.kept h.value.content) w.content kept)
 
       -- a retirement worked backwards
       pub return_part : CanReturn whole w → CanReturn x w
       return_part can = can_return_part x h w is (subst (λ y. CanReturn y w) reads can)
 
-      pub unretire_keeps : CanReturn whole w → (l : List StoredSupply) → l ≡ slice_set out b (with_supply x (unretired x.supply w.content)) → AreKept l hand
-      unretire_keeps can l new = subst (λ m. AreKept m hand) (sym new) (kept_set_out out hand are b _ (made b lt) (kept_unretired x h w is (subst (λ y. CanReturn y w) reads can)))
+      pub unretire_keeps : CanReturn whole w → counted x.kept ≤ x.supply.burned → (l : List CirculationView) → l ≡ slice_set out b (with_unretired x w.content) → AreKept l hand
+      unretire_keeps can burned l new = subst (λ m. AreKept m hand) (sym new) (kept_set_out out hand are b _ (made b lt) (kept_unretired x h w is (subst (λ y. CanReturn y w) reads can) (both_burned can burned)))
 
-      pub unretire_view : (l : List StoredSupply) → l ≡ slice_set out b (with_supply x (unretired x.supply w.content)) → ◌≡◌ {A = TransitView} (record { out = wholes l hand; hand = hand }) (with_out view b (with_supply whole (unretired whole.supply w.content)))
-      unretire_view l new = changed_view (λ s. unretired s w.content) (unretired_whole x.supply h.value.content w.content) l new
+      -- a value kept no longer
+      pub forget_part : Contains whole.kept w.content → Contains x.kept w.content
+      forget_part has = record { each = λ k. omega (arith, count-difference x.kept h.value.content k, (subst (λ (y : CirculationView). Contains y.kept w.content) reads has).each k) }
+
+      pub forget_keeps : Contains whole.kept w.content → (l : List CirculationView) → l ≡ slice_set out b (with_forgotten x w.content) → AreKept l hand
+      forget_keeps has l new = subst (λ m. AreKept m hand) (sym new) (kept_set_out out hand are b _ (made b lt) (kept_forgotten x h w is (subst (λ (y : CirculationView). Contains y.kept w.content) reads has)))
+
+      pub forget_view : (l : List CirculationView) → l ≡ slice_set out b (with_forgotten x w.content) → ◌≡◌ {A = TransitView} (record { out = wholes l hand; hand = hand }) (with_out view b (with_forgotten whole w.content))
+      forget_view l new = changed_view (λ y. with_forgotten y w.content) (forgotten_circulation x h.value.content w.content) l new
+
+      pub unretire_view : (l : List CirculationView) → l ≡ slice_set out b (with_unretired x w.content) → ◌≡◌ {A = TransitView} (record { out = wholes l hand; hand = hand }) (with_out view b (with_unretired whole w.content))
+      unretire_view l new = changed_view (λ y. with_unretired y w.content) (unretired_circulation x h.value.content w.content) l new
 
       -- what is held, and what is let go
       pub goes_in : CanHold view (record { brand = b; value = w }) → GoesIn h w
       goes_in can = record {
         kind = sym is.kind ∙ kind_there can.way.kind;
-        fits = fits_hand x h w is (subst (λ (y : StoredSupply). Contains y.supply.outstanding.content (sum h.value.content w.content)) reads can.way.has);
+        fits = fits_hand x h w is (subst (λ (y : CirculationView). Contains y.supply.outstanding.content (sum h.value.content w.content)) reads can.way.has);
         room = subst (λ k. HasRoom k (keys_of (sum h.value.content w.content)) h.room) (sym (sym is.kind ∙ kind_there can.way.kind)) can.room;
       }
 
-      pub hold_keeps : IsOnItsWay view (record { brand = b; value = w }) → (l : List StoredSupply) (hs : List Held) → l ≡ slice_set out b (with_supply x (retired x.supply w.content)) → hs ≡ slice_set hand b (with_more h w.content) → AreKept l hs
-      hold_keeps way l hs new also = subst (λ m. AreKept m hs) (sym new) (subst (λ m. AreKept (slice_set out b (with_supply x (retired x.supply w.content))) m) (sym also)
+      pub hold_keeps : IsOnItsWay view (record { brand = b; value = w }) → (l : List CirculationView) (hs : List Held) → l ≡ slice_set out b (with_retired x w.content) → hs ≡ slice_set hand b (with_more h w.content) → AreKept l hs
+      hold_keeps way l hs new also = subst (λ m. AreKept m hs) (sym new) (subst (λ m. AreKept (slice_set out b (with_retired x w.content)) m) (sym also)
           (kept_set out hand are b _ _ (made b lt) (kept_held x h w is (whole_has way.has))))
 
-      pub hold_view : IsOnItsWay view (record { brand = b; value = w }) → (l : List StoredSupply) (hs : List Held) → l ≡ slice_set out b (with_supply x (retired x.supply w.content)) → hs ≡ slice_set hand b (with_more h w.content) → ◌≡◌ {A = TransitView} (record { out = wholes l hs; hand = hs }) (with_hand view b (with_more h w.content))
+      pub hold_view : IsOnItsWay view (record { brand = b; value = w }) → (l : List CirculationView) (hs : List Held) → l ≡ slice_set out b (with_retired x w.content) → hs ≡ slice_set hand b (with_more h w.content) → ◌≡◌ {A = TransitView} (record { out = wholes l hs; hand = hs }) (with_hand view b (with_more h w.content))
       hold_view way l hs new also = (λ i. record { out = wholes (new i) (also i); hand = also i })
           ∙ ap (λ m. record { out = m; hand = slice_set hand b (with_more h w.content) })
-          (wholes-kept out hand b are.same (made b lt) (with_supply x (retired x.supply w.content)) (with_more h w.content) (ap (with_supply x) (held_whole x.supply h.value.content w.content (whole_has way.has))))
+          (wholes-kept out hand b are.same (made b lt) (with_retired x w.content) (with_more h w.content) (held_circulation x h.value.content w.content (whole_has way.has)))
 
       pub comes_out : IsInStore view b w → ComesOut h w
       comes_out there = record { kind = sym is.kind ∙ kind_there there.kind; has = there.has }
@@ -107,21 +117,21 @@ module _ (out : List StoredSupply) (hand : List Held) (are : AreKept out hand) w
       pub go_part : IsInStore view b w → CanReturn x w
       go_part there = can_let_go x h w is (sym is.kind ∙ kind_there there.kind) there.has
 
-      pub go_keeps : IsInStore view b w → (l : List StoredSupply) (hs : List Held) → l ≡ slice_set out b (with_supply x (unretired x.supply w.content)) → hs ≡ slice_set hand b (with_less h w.content) → AreKept l hs
-      go_keeps there l hs new also = subst (λ m. AreKept m hs) (sym new) (subst (λ m. AreKept (slice_set out b (with_supply x (unretired x.supply w.content))) m) (sym also)
+      pub go_keeps : IsInStore view b w → (l : List CirculationView) (hs : List Held) → l ≡ slice_set out b (with_unretired x w.content) → hs ≡ slice_set hand b (with_less h w.content) → AreKept l hs
+      go_keeps there l hs new also = subst (λ m. AreKept m hs) (sym new) (subst (λ m. AreKept (slice_set out b (with_unretired x w.content)) m) (sym also)
           (kept_set out hand are b _ _ (made b lt) (kept_let_go x h w is there.has)))
 
-      pub go_view : IsInStore view b w → (l : List StoredSupply) (hs : List Held) → l ≡ slice_set out b (with_supply x (unretired x.supply w.content)) → hs ≡ slice_set hand b (with_less h w.content) → ◌≡◌ {A = TransitView} (record { out = wholes l hs; hand = hs }) (with_hand view b (with_less h w.content))
+      pub go_view : IsInStore view b w → (l : List CirculationView) (hs : List Held) → l ≡ slice_set out b (with_unretired x w.content) → hs ≡ slice_set hand b (with_less h w.content) → ◌≡◌ {A = TransitView} (record { out = wholes l hs; hand = hs }) (with_hand view b (with_less h w.content))
       go_view there l hs new also = (λ i. record { out = wholes (new i) (also i); hand = also i })
           ∙ ap (λ m. record { out = m; hand = slice_set hand b (with_less h w.content) })
-          (wholes-kept out hand b are.same (made b lt) (with_supply x (unretired x.supply w.content)) (with_less h w.content) (ap (with_supply x) (let_go_whole x.supply h.value.content w.content there.has)))
+          (wholes-kept out hand b are.same (made b lt) (with_unretired x w.content) (with_less h w.content) (let_go_circulation x h.value.content w.content there.has))
 
       -- what was retired can be out again, in the new whole
-      pub retire_back : IsOnItsWay view (record { brand = b; value = w }) → (l : List StoredSupply) → l ≡ slice_set out b (with_supply x (retired x.supply w.content)) → CanReturn (circulation_at (wholes l hand) b) w
+      pub retire_back : IsOnItsWay view (record { brand = b; value = w }) → (l : List CirculationView) → l ≡ slice_set out b (with_retired x w.content) → CanReturn (circulation_at (wholes l hand) b) w
       retire_back way l new =
-          let lt_new : b < length l = omega (arith, lt, wholes-length out hand, ap length new, length_set out b (with_supply x (retired x.supply w.content))) in
+          let lt_new : b < length l = omega (arith, lt, wholes-length out hand, ap length new, length_set out b (with_retired x w.content)) in
           subst (λ z. CanReturn z w)
-          (sym (wholes-read l hand b (retire_keeps way l new).same lt_new ∙ ap (λ y. whole_of y h.value.content) (ap (λ m. circulation_at m b) new ∙ read_set out b (with_supply x (retired x.supply w.content)) (new_circulation Nat) (made b lt))))
+          (sym (wholes-read l hand b (retire_keeps way l new).same lt_new ∙ ap (λ y. whole_of y h.value.content) (ap (λ m. circulation_at m b) new ∙ read_set out b (with_retired x w.content) (new_circulation Nat) (made b lt))))
           (can_return x h w is (kind_there way.kind) (whole_has way.has))
 
       -- the same of the element that the code has in its hand
@@ -138,7 +148,7 @@ module _ (out : List StoredSupply) (hand : List Held) (are : AreKept out hand) w
         kind = is.kind ∙ ap (λ (v : Worth). v.kind) (sym same);
         burned = omega (arith, is.burned, ap (λ (v : Worth). counted v.content) same);
         fits = subst (λ (v : Worth). Fits x.supply.outstanding.kind (sum x.supply.outstanding.content v.content)) (sym same) is.fits;
-        room = subst (λ (v : Worth). HasRoom x.supply.outstanding.kind (keys_of (sum x.supply.outstanding.content v.content)) x.room) (sym same) is.room;
+        kept = subst (λ (v : Worth). Contains x.kept v.content) (sym same) is.kept;
       })
 
       new_there : held_at (slice_set hand b z) b ≡ z
@@ -152,22 +162,16 @@ module _ (out : List StoredSupply) (hand : List Held) (are : AreKept out hand) w
       pub has_room : (y : Held) → y ≡ h → (keys : ℕ) → HasRoom y.value.kind (keys_of y.value.content + keys) z.room → HasRoom whole.supply.outstanding.kind (keys_of h.value.content + keys) (held_at (slice_set hand b z) b).room
       has_room y at keys has =
           subst (λ (v : Held). HasRoom whole.supply.outstanding.kind (keys_of h.value.content + keys) v.room) (sym new_there)
-          (subst (λ k. HasRoom k (keys_of h.value.content + keys) z.room) (sym (ap (λ (s : StoredSupply). s.supply.outstanding.kind) reads ∙ is.kind))
+          (subst (λ k. HasRoom k (keys_of h.value.content + keys) z.room) (sym (ap (λ (s : CirculationView). s.supply.outstanding.kind) reads ∙ is.kind))
           (subst (λ (v : Held). HasRoom v.value.kind (keys_of v.value.content + keys) z.room) at has))
-
-    -- where the hand's store has nothing, what is out stands there
-    pub out_whole : h.value.content ≡ nothing → out_of x ≡ out_of whole
-    out_whole empty =
-        (λ i. record { value = with_content x.supply.outstanding (sym (ap (sum x.supply.outstanding.content) empty ∙ sum-nothing x.supply.outstanding.content) i); room = x.room })
-        ∙ ap out_of (sym reads)
 
     -- an issue, where the hand's store has nothing
     module _ (w : Worth) (empty : h.value.content ≡ nothing) where
       out_same : whole.supply.outstanding.content ≡ x.supply.outstanding.content
-      out_same = ap (λ (y : StoredSupply). y.supply.outstanding.content) reads ∙ ap (sum x.supply.outstanding.content) empty ∙ sum-nothing x.supply.outstanding.content
+      out_same = ap (λ (y : CirculationView). y.supply.outstanding.content) reads ∙ ap (sum x.supply.outstanding.content) empty ∙ sum-nothing x.supply.outstanding.content
 
       pub small_there : whole.supply.minted + counted w.content < 2 ^ 128 → x.supply.minted + counted w.content < 2 ^ 128
-      small_there small = omega (arith, small, ap (λ (y : StoredSupply). y.supply.minted) reads)
+      small_there small = omega (arith, small, ap (λ (y : CirculationView). y.supply.minted) reads)
 
       pub refused_so : (fault : PutFault) → IsIssueRefusal w.kind (sum x.supply.outstanding.content w.content) fault → IsIssueRefusal w.kind (sum whole.supply.outstanding.content w.content) fault
       refused_so fault is = subst (λ c. IsIssueRefusal w.kind (sum c w.content) fault) (sym out_same) is
@@ -175,47 +179,26 @@ module _ (out : List StoredSupply) (hand : List Held) (are : AreKept out hand) w
       pub fits_so : Fits w.kind (sum x.supply.outstanding.content w.content) → Fits w.kind (sum whole.supply.outstanding.content w.content)
       fits_so fits = subst (λ c. Fits w.kind (sum c w.content)) (sym out_same) fits
 
-      module _ (l : List StoredSupply) (new : l ≡ slice_set out b (with_supply (circulation_at l b) (issued x.supply w.content))) where
-        abbrev z : StoredSupply
-        z = with_supply (circulation_at l b) (issued x.supply w.content)
+      module _ (same : whole.supply.outstanding.kind ≡ w.kind) (fits : Fits w.kind (sum x.supply.outstanding.content w.content)) (l : List CirculationView) (new : l ≡ slice_set out b (with_issued x w.content)) where
+        pub issue_keeps : AreKept l hand
+        issue_keeps = subst (λ m. AreKept m hand) (sym new) (kept_set_out out hand are b (with_issued x w.content) (made b lt) (kept_issued x h w is empty (kind_there w same) fits))
 
-        pub issued_made : b < length l
-        issued_made = omega (arith, lt, wholes-length out hand, ap length new, length_set out b z)
-
-        stands : circulation_at l b ≡ z
-        stands = ap (λ m. circulation_at m b) new ∙ read_set out b z (new_circulation Nat) (made b lt)
-
-        pub issue_keeps : IsHeld (out_of (circulation_at l b)) → AreKept l hand
-        issue_keeps held = subst (λ m. AreKept m hand) (sym new) (kept_set_out out hand are b z (made b lt) (kept_issued x z h w.content is empty refl (subst (λ y. IsHeld (out_of y)) stands held)))
-
-        module _ (held : IsHeld (out_of (circulation_at l b))) where
-          reads_new : circulation_at (wholes l hand) b ≡ whole_of (circulation_at l b) h.value.content
-          reads_new = wholes-read l hand b (issue_keeps held).same issued_made
-
-          same_supply : unretired (issued x.supply w.content) h.value.content ≡ issued whole.supply w.content
-          same_supply = issued_whole x.supply h.value.content w.content ∙ ap (λ (y : StoredSupply). issued y.supply w.content) (sym reads)
-
-          pub issue_view : ◌≡◌ {A = TransitView} (record { out = wholes l hand; hand = hand }) (with_out view b (with_supply (circulation_at (wholes l hand) b) (issued whole.supply w.content)))
-          issue_view = ap (λ m. record { out = m; hand = hand })
-              (ap (λ m. wholes m hand) new ∙ wholes-set_out out hand b are.same (made b lt) z
-              ∙ (λ i. slice_set (wholes out hand) b (record { supply = same_supply i; room = (sym reads_new i).room })))
-
-          pub issue_room : x.room ≤ (circulation_at l b).room → whole.room ≤ (circulation_at (wholes l hand) b).room
-          issue_room le = omega (arith, le, ap (λ (y : StoredSupply). y.room) reads, ap (λ (y : StoredSupply). y.room) reads_new)
+        pub issue_view : ◌≡◌ {A = TransitView} (record { out = wholes l hand; hand = hand }) (with_out view b (with_issued whole w.content))
+        issue_view = changed_view (λ y. with_issued y w.content) (issued_circulation x h.value.content w.content) l new
 
   -- ---- a brand more
 
   module _ (kind : Kind) where
-    pub added_keeps : (l : List StoredSupply) (hs : List Held) → l ≡ out ++ new_circulation kind ∷ [] → hs ≡ hand ++ empty_hand kind ∷ [] → AreKept l hs
+    pub added_keeps : (l : List CirculationView) (hs : List Held) → l ≡ out ++ new_circulation kind ∷ [] → hs ≡ hand ++ empty_hand kind ∷ [] → AreKept l hs
     added_keeps l hs new also = subst (λ m. AreKept m hs) (sym new) (subst (λ m. AreKept (out ++ new_circulation kind ∷ []) m) (sym also) (kept_push out hand are kind))
 
     fresh : whole_of (new_circulation kind) nothing ≡ new_circulation kind
-    fresh i = record { supply = record { outstanding = record { kind = kind; content = sum-nothing nothing i }; minted = 0; burned = none i }; room = 0 }
+    fresh i = record { supply = record { outstanding = record { kind = kind; content = sum-nothing nothing i }; minted = 0; burned = none i }; kept = difference-nothing nothing i }
       where
         none : 0 - counted nothing ≡ 0
         none = omega (arith, counted-nothing)
 
-    pub added_view : (l : List StoredSupply) (hs : List Held) → l ≡ out ++ new_circulation kind ∷ [] → hs ≡ hand ++ empty_hand kind ∷ [] → ◌≡◌ {A = TransitView} (record { out = wholes l hs; hand = hs }) (record { out = wholes out hand ++ new_circulation kind ∷ []; hand = hand ++ empty_hand kind ∷ [] })
+    pub added_view : (l : List CirculationView) (hs : List Held) → l ≡ out ++ new_circulation kind ∷ [] → hs ≡ hand ++ empty_hand kind ∷ [] → ◌≡◌ {A = TransitView} (record { out = wholes l hs; hand = hs }) (record { out = wholes out hand ++ new_circulation kind ∷ []; hand = hand ++ empty_hand kind ∷ [] })
     added_view l hs new also = (λ i. record { out = wholes (new i) (also i); hand = also i })
         ∙ ap (λ m. record { out = m; hand = hand ++ empty_hand kind ∷ [] }) (wholes-push out hand (new_circulation kind) (empty_hand kind) are.same ∙ ap (λ y. wholes out hand ++ y ∷ []) fresh)
 
@@ -226,13 +209,13 @@ module _ (out : List StoredSupply) (hand : List Held) (are : AreKept out hand) w
 
   pub fresh_there : 0 < length (wholes out hand) → (circulation_at (wholes out hand) (length (wholes out hand) - 1)).supply.minted ≡ 0 → (circulation_at out (length out - 1)).supply.minted ≡ 0
   fresh_there some fresh =
-      ap (λ (y : StoredSupply). y.supply.minted) (sym (wholes-read out hand (length out - 1) are.same (omega (arith, some, long_whole))))
+      ap (λ (y : CirculationView). y.supply.minted) (sym (wholes-read out hand (length out - 1) are.same (omega (arith, some, long_whole))))
       ∙ ap (λ n. (circulation_at (wholes out hand) (n - 1)).supply.minted) (sym long_whole) ∙ fresh
 
-  pub removed_keeps : (n : ℕ) (l : List StoredSupply) (hs : List Held) → l ≡ take n out → hs ≡ take n hand → AreKept l hs
+  pub removed_keeps : (n : ℕ) (l : List CirculationView) (hs : List Held) → l ≡ take n out → hs ≡ take n hand → AreKept l hs
   removed_keeps n l hs new also = subst (λ m. AreKept m hs) (sym new) (subst (λ m. AreKept (take n out) m) (sym also) (kept_take out hand are n))
 
-  pub removed_out : (n : ℕ) (l : List StoredSupply) (hs : List Held) → l ≡ take n out → hs ≡ take n hand → wholes l hs ≡ take n (wholes out hand)
+  pub removed_out : (n : ℕ) (l : List CirculationView) (hs : List Held) → l ≡ take n out → hs ≡ take n hand → wholes l hs ≡ take n (wholes out hand)
   removed_out n l hs new also = (λ i. wholes (new i) (also i)) ∙ wholes-take out hand n are.same
 
   pub last_hand : (n m : ℕ) → n ≡ m → m ≡ length hand → take (n - 1) hand ≡ take (length out - 1) hand
@@ -241,5 +224,5 @@ module _ (out : List StoredSupply) (hand : List Held) (are : AreKept out hand) w
   pub sym_long : length out ≡ length (wholes out hand)
   sym_long = sym long_whole
 
-pub wholes_long : (out : List StoredSupply) (hand : List Held) → AreKept out hand → length hand ≡ length (wholes out hand)
+pub wholes_long : (out : List CirculationView) (hand : List Held) → AreKept out hand → length hand ≡ length (wholes out hand)
 wholes_long out hand are = omega (arith, are.same, wholes-length out hand)

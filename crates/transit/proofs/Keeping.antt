@@ -1,21 +1,18 @@
 -- What is kept of a brand stays so, whatever is done.
-use Rattle.std.proofs.Common.{◌≡◌, inl, inr, ℕ, zero, suc, ◌<◌, List, [], ◌∷◌, ◌++◌, length, take, refl, sym, ◌∙◌, ap, subst, arith}
+use Rattle.std.proofs.Common.{◌≡◌, inl, inr, ℕ, zero, suc, ◌+◌, ◌<◌, ◌≤◌, List, [], ◌∷◌, ◌++◌, length, take, refl, sym, ◌∙◌, ap, subst, arith}
 use Rattle.std.specs.Prelude.{slice_set}
 use Rattle.std.proofs.lemmas.Bool.{cases_eq}
 use Rattle.amount_math.specs.Content.{Content, Contains, count-difference, count-nothing, count-sum, difference, nothing, same_content, sum, sum-nothing}
-use Rattle.amount_math.specs.Counted.{counted-difference, counted-nothing, counted-sum}
-use Rattle.amount_math.specs.Held.{Held, HasRoom, IsHeld, room_for_fewer, with_less, with_more}
-use Rattle.amount_math.specs.KindLaws.{keys_within, outstanding_fits}
-use Rattle.amount_math.specs.Worth.{Fits, Worth, fits_within, keys_of}
+use Rattle.amount_math.specs.Counted.{counted, counted-difference, counted-nothing, counted-sum}
+use Rattle.amount_math.specs.Held.{Held, with_less, with_more}
+use Rattle.amount_math.specs.Worth.{Fits, Worth, fits_within}
 use Rattle.amount_math.specs.declared.Kind.{Kind}
-use Rattle.amount_math.specs.declared.Kind.TheVariants.{Nat, Set, Bag}
-use Rattle.amount_math.proofs.Places.{keys_of-nothing}
-use Rattle.ertp_mint.specs.BrandSupply.{BrandSupply, issued, retired}
-use Rattle.ertp_mint.specs.Circulating.{CanReturn, StoredSupply, circulation_at, new_circulation, out_of, unissued, unretired, with_supply}
+use Rattle.amount_math.specs.declared.Kind.TheVariants.{Nat}
+use Rattle.ertp_mint.specs.Circulating.{CanReturn, CirculationView, circulation_at, new_circulation, with_forgotten, with_issued, with_retired, with_unissued, with_unretired}
 use Rattle.list_edits.proofs.ListEdits.{length_push, length_set, read_before, read_other, read_pushed, read_set, read_take, set_same}
 use Rattle.transit.specs.Transit.{AreKept, IsKept, empty_hand, held_at, whole_of}
 
-module _ (x : StoredSupply) (h : Held) (w : Worth) (is : IsKept x h) where
+module _ (x : CirculationView) (h : Held) (w : Worth) (is : IsKept x h) where
   abbrev out : Content
   out = x.supply.outstanding.content
 
@@ -29,59 +26,55 @@ module _ (x : StoredSupply) (h : Held) (w : Worth) (is : IsKept x h) where
   pub on_its_way : Contains (sum out hand) (sum hand w.content) → Contains out w.content
   on_its_way has = record { each = λ k. omega (arith, has.each k, count-sum out hand k, count-sum hand w.content k) }
 
-  fewer : (c : Content) → Contains (sum out hand) c → HasRoom kind (keys_of c) x.room
-  fewer c has = room_for_fewer kind (keys_of c) (keys_of (sum out hand)) x.room (keys_within (sum out hand) c has) is.room
-
   fit : (c : Content) → Contains (sum out hand) c → Fits kind c
   fit c has = fits_within kind (sum out hand) c has is.fits
 
   left_in : Contains out w.content → Contains (sum out hand) (sum (difference out w.content) hand)
   left_in has = record { each = λ k. omega (arith, count-sum out hand k, count-sum (difference out w.content) hand k, count-difference out w.content k) }
 
-  pub kept_retired : Contains out w.content → IsKept (with_supply x (retired x.supply w.content)) h
+  pub kept_retired : Contains out w.content → IsKept (with_retired x w.content) h
   kept_retired has = record {
     kind = is.kind;
     burned = omega (arith, is.burned);
     fits = fit _ (left_in has);
-    room = fewer _ (left_in has);
+    kept = record { each = λ k. omega (arith, is.kept.each k, count-sum x.kept w.content k) };
   }
 
-  pub kept_unissued : Contains out w.content → IsKept (with_supply x (unissued x.supply w.content)) h
+  pub kept_unissued : Contains out w.content → IsKept (with_unissued x w.content) h
   kept_unissued has = record {
     kind = is.kind;
     burned = is.burned;
     fits = fit _ (left_in has);
-    room = fewer _ (left_in has);
+    kept = is.kept;
   }
 
   same_whole : Contains out w.content → sum (difference out w.content) (sum hand w.content) ≡ sum out hand
   same_whole has = same_content _ _ (λ k. omega (arith, count-sum (difference out w.content) (sum hand w.content) k, count-difference out w.content k, count-sum hand w.content k, count-sum out hand k, has.each k))
 
-  pub kept_held : Contains out w.content → IsKept (with_supply x (retired x.supply w.content)) (with_more h w.content)
+  pub kept_held : Contains out w.content → IsKept (with_retired x w.content) (with_more h w.content)
   kept_held has = record {
     kind = is.kind;
     burned = omega (arith, is.burned, counted-sum hand w.content);
     fits = subst (Fits kind) (sym (same_whole has)) is.fits;
-    room = subst (λ c. HasRoom kind (keys_of c) x.room) (sym (same_whole has)) is.room;
+    kept = record { each = λ k. omega (arith, is.kept.each k, count-sum x.kept w.content k, count-sum hand w.content k) };
   }
 
   whole_again : Contains hand w.content → sum (sum out w.content) (difference hand w.content) ≡ sum out hand
   whole_again has = same_content _ _ (λ k. omega (arith, count-sum (sum out w.content) (difference hand w.content) k, count-difference hand w.content k, count-sum out w.content k, count-sum out hand k, has.each k))
 
-  pub kept_let_go : Contains hand w.content → IsKept (with_supply x (unretired x.supply w.content)) (with_less h w.content)
+  pub kept_let_go : Contains hand w.content → IsKept (with_unretired x w.content) (with_less h w.content)
   kept_let_go has = record {
     kind = is.kind;
     burned = omega (arith, is.burned, counted-difference hand w.content has);
     fits = subst (Fits kind) (sym (whole_again has)) is.fits;
-    room = subst (λ c. HasRoom kind (keys_of c) x.room) (sym (whole_again has)) is.room;
+    kept = record { each = λ k. omega (arith, is.kept.each k, count-difference x.kept w.content k, count-difference hand w.content k) };
   }
 
   pub can_let_go : h.value.kind ≡ w.kind → Contains hand w.content → CanReturn x w
   can_let_go same has = record {
     kind = is.kind ∙ same;
+    kept = record { each = λ k. omega (arith, is.kept.each k, has.each k) };
     fits = fit _ (within has);
-    room = fewer _ (within has);
-    burned = omega (arith, is.burned, counted-difference hand w.content has);
   }
     where
       within : Contains hand w.content → Contains (sum out hand) (sum out w.content)
@@ -92,12 +85,11 @@ module _ (x : StoredSupply) (h : Held) (w : Worth) (is : IsKept x h) where
   fits_hand has = subst (λ k. Fits k (sum hand w.content)) is.kind (fit _ has)
 
   -- what is retired can be out again, beside what the hand's store has
-  pub can_return : kind ≡ w.kind → Contains out w.content → CanReturn (whole_of (with_supply x (retired x.supply w.content)) hand) w
+  pub can_return : kind ≡ w.kind → Contains out w.content → CanReturn (whole_of (with_retired x w.content) hand) w
   can_return same has = record {
     kind = same;
+    kept = record { each = λ k. omega (arith, is.kept.each k, count-difference (sum x.kept w.content) hand k, count-sum x.kept w.content k) };
     fits = subst (Fits kind) (sym back) is.fits;
-    room = subst (λ c. HasRoom kind (keys_of c) x.room) (sym back) is.room;
-    burned = omega (arith, is.burned);
   }
     where
       back : sum (sum (difference out w.content) hand) w.content ≡ sum out hand
@@ -113,34 +105,42 @@ module _ (x : StoredSupply) (h : Held) (w : Worth) (is : IsKept x h) where
     pub can_return_part : CanReturn x w
     can_return_part = record {
       kind = can.kind;
+      kept = record { each = λ k. omega (arith, can.kept.each k, count-difference x.kept hand k) };
       fits = fits_within kind (sum (sum out hand) w.content) (sum out w.content) among can.fits;
-      room = room_for_fewer kind _ (keys_of (sum (sum out hand) w.content)) x.room (keys_within (sum (sum out hand) w.content) (sum out w.content) among) can.room;
-      burned = omega (arith, can.burned);
     }
 
-    pub kept_unretired : IsKept (with_supply x (unretired x.supply w.content)) h
-    kept_unretired = record {
+    pub kept_unretired : counted w.content + counted hand ≤ x.supply.burned → IsKept (with_unretired x w.content) h
+    kept_unretired burned = record {
       kind = is.kind;
-      burned = omega (arith, can.burned, is.burned);
+      burned = omega (arith, burned);
       fits = subst (Fits kind) beside can.fits;
-      room = subst (λ c. HasRoom kind (keys_of c) x.room) beside can.room;
+      kept = record { each = λ k. omega (arith, can.kept.each k, is.kept.each k, count-difference x.kept hand k, count-difference x.kept w.content k) };
     }
+
+  pub kept_forgotten : Contains (whole_of x hand).kept w.content → IsKept (with_forgotten x w.content) h
+  kept_forgotten has = record {
+    kind = is.kind;
+    burned = is.burned;
+    fits = is.fits;
+    kept = record { each = λ k. omega (arith, has.each k, is.kept.each k, count-difference x.kept hand k, count-difference x.kept w.content k) };
+  }
 
 -- what was issued, where the hand's store has nothing
-pub kept_issued : (x y : StoredSupply) (h : Held) (c : Content) → IsKept x h → h.value.content ≡ nothing → y.supply ≡ issued x.supply c → IsHeld (out_of y) → IsKept y h
-kept_issued x y h c is empty new held =
-    let whole : sum y.supply.outstanding.content h.value.content ≡ y.supply.outstanding.content = ap (sum y.supply.outstanding.content) empty ∙ sum-nothing y.supply.outstanding.content in
+pub kept_issued : (x : CirculationView) (h : Held) (w : Worth) → IsKept x h → h.value.content ≡ nothing → x.supply.outstanding.kind ≡ w.kind → Fits w.kind (sum x.supply.outstanding.content w.content) → IsKept (with_issued x w.content) h
+kept_issued x h w is empty same fits =
+    let new = sum x.supply.outstanding.content w.content in
+    let whole : sum new h.value.content ≡ new = ap (sum new) empty ∙ sum-nothing new in
     record {
-      kind = ap (λ (s : BrandSupply). s.outstanding.kind) new ∙ is.kind;
-      burned = omega (arith, is.burned, ap (λ (s : BrandSupply). s.burned) new);
-      fits = subst (Fits y.supply.outstanding.kind) (sym whole) (outstanding_fits y.supply.outstanding.kind y.supply.outstanding.content held.out);
-      room = subst (λ d. HasRoom y.supply.outstanding.kind (keys_of d) y.room) (sym whole) held.room;
+      kind = is.kind;
+      burned = is.burned;
+      fits = subst (Fits x.supply.outstanding.kind) (sym whole) (subst (λ k. Fits k new) (sym same) fits);
+      kept = is.kept;
     }
 
 -- ---- of all brands
 
-module _ (out : List StoredSupply) (hand : List Held) (are : AreKept out hand) where
-  pub kept_set : (b : ℕ) (y : StoredSupply) (g : Held) → b < length out → IsKept y g → AreKept (slice_set out b y) (slice_set hand b g)
+module _ (out : List CirculationView) (hand : List Held) (are : AreKept out hand) where
+  pub kept_set : (b : ℕ) (y : CirculationView) (g : Held) → b < length out → IsKept y g → AreKept (slice_set out b y) (slice_set hand b g)
   kept_set b y g lt is = record {
     same = length_set out b y ∙ are.same ∙ sym (length_set hand b g);
     each = λ q less. elim (cases_eq b q) [
@@ -153,7 +153,7 @@ module _ (out : List StoredSupply) (hand : List Held) (are : AreKept out hand) w
     ];
   }
 
-  pub kept_set_out : (b : ℕ) (y : StoredSupply) → b < length out → IsKept y (held_at hand b) → AreKept (slice_set out b y) hand
+  pub kept_set_out : (b : ℕ) (y : CirculationView) → b < length out → IsKept y (held_at hand b) → AreKept (slice_set out b y) hand
   kept_set_out b y lt is = subst (λ l. AreKept (slice_set out b y) l) (set_same hand b (empty_hand Nat)) (kept_set b y (held_at hand b) lt is)
 
   pub kept_set_hand : (b : ℕ) (g : Held) → b < length out → IsKept (circulation_at out b) g → AreKept out (slice_set hand b g)
@@ -173,20 +173,12 @@ module _ (out : List StoredSupply) (hand : List Held) (are : AreKept out hand) w
     ];
   }
     where
-      none : sum nothing nothing ≡ nothing
-      none = sum-nothing nothing
-
-      no_room : (k : Kind) → HasRoom k (keys_of (sum nothing nothing)) 0
-      no_room Nat = tt
-      no_room Set = omega (arith, ap keys_of none, keys_of-nothing)
-      no_room Bag = omega (arith, ap keys_of none, keys_of-nothing)
-
       fresh : (k : Kind) → IsKept (new_circulation k) (empty_hand k)
       fresh k = record {
         kind = refl;
         burned = omega (arith, counted-nothing);
         fits = record { each = λ e. omega (arith, count-sum nothing nothing e, count-nothing e) };
-        room = no_room k;
+        kept = record { each = λ e. omega arith };
       }
 
   pub kept_take : (n : ℕ) → AreKept (take n out) (take n hand)
@@ -197,7 +189,7 @@ module _ (out : List StoredSupply) (hand : List Held) (are : AreKept out hand) w
         (subst (λ z. IsKept (circulation_at out q) z) (sym (read_take hand n q (empty_hand Nat) (omega (arith, less, same out hand n are.same)))) (are.each q (shorter out n q less)));
   }
     where
-      same : (xs : List StoredSupply) (hs : List Held) (n : ℕ) → length xs ≡ length hs → length (take n xs) ≡ length (take n hs)
+      same : (xs : List CirculationView) (hs : List Held) (n : ℕ) → length xs ≡ length hs → length (take n xs) ≡ length (take n hs)
       same [] [] zero e = refl
       same [] [] (suc n) e = refl
       same [] (g ∷ gs) n e = absurd (omega arith)
@@ -205,7 +197,7 @@ module _ (out : List StoredSupply) (hand : List Held) (are : AreKept out hand) w
       same (y ∷ ys) (g ∷ gs) zero e = refl
       same (y ∷ ys) (g ∷ gs) (suc n) e = omega (arith, same ys gs n (omega arith))
 
-      shorter : (xs : List StoredSupply) (n q : ℕ) → q < length (take n xs) → q < length xs
+      shorter : (xs : List CirculationView) (n q : ℕ) → q < length (take n xs) → q < length xs
       shorter [] zero q lt = lt
       shorter [] (suc n) q lt = lt
       shorter (y ∷ ys) zero q lt = absurd (omega arith)

@@ -7,37 +7,37 @@ use Rattle.amount_math.specs.Held.{Held}
 use Rattle.amount_math.specs.Worth.{with_content}
 use Rattle.amount_math.specs.declared.Kind.TheVariants.{Nat}
 use Rattle.ertp_mint.specs.BrandSupply.{BrandSupply, issued, retired}
-use Rattle.ertp_mint.specs.Circulating.{StoredSupply, circulation_at, new_circulation, unissued, unretired}
+use Rattle.ertp_mint.specs.Circulating.{CirculationView, circulation_at, new_circulation, unissued, unretired, with_forgotten, with_issued, with_retired, with_unissued, with_unretired}
 use Rattle.list_edits.proofs.ListEdits.{set_same}
 use Rattle.transit.specs.Transit.{empty_hand, held_at, whole_of, wholes}
 
 -- ---- of all brands
 
-pub wholes-length : (out : List StoredSupply) (hand : List Held) → length (wholes out hand) ≡ length out
+pub wholes-length : (out : List CirculationView) (hand : List Held) → length (wholes out hand) ≡ length out
 wholes-length [] hs = refl
 wholes-length (x ∷ xs) [] = refl
 wholes-length (x ∷ xs) (h ∷ hs) = omega (arith, wholes-length xs hs)
 
-pub wholes-read : (out : List StoredSupply) (hand : List Held) (b : ℕ) → length out ≡ length hand → b < length out → circulation_at (wholes out hand) b ≡ whole_of (circulation_at out b) (held_at hand b).value.content
+pub wholes-read : (out : List CirculationView) (hand : List Held) (b : ℕ) → length out ≡ length hand → b < length out → circulation_at (wholes out hand) b ≡ whole_of (circulation_at out b) (held_at hand b).value.content
 wholes-read [] hs b same lt = absurd (omega arith)
 wholes-read (x ∷ xs) [] b same lt = absurd (omega arith)
 wholes-read (x ∷ xs) (h ∷ hs) zero same lt = refl
 wholes-read (x ∷ xs) (h ∷ hs) (suc b) same lt = wholes-read xs hs b (omega arith) (omega arith)
 
-pub wholes-set : (out : List StoredSupply) (hand : List Held) (b : ℕ) (x : StoredSupply) (h : Held) → length out ≡ length hand → wholes (slice_set out b x) (slice_set hand b h) ≡ slice_set (wholes out hand) b (whole_of x h.value.content)
+pub wholes-set : (out : List CirculationView) (hand : List Held) (b : ℕ) (x : CirculationView) (h : Held) → length out ≡ length hand → wholes (slice_set out b x) (slice_set hand b h) ≡ slice_set (wholes out hand) b (whole_of x h.value.content)
 wholes-set [] [] b x h same = refl
 wholes-set [] (g ∷ gs) b x h same = absurd (omega arith)
 wholes-set (y ∷ ys) [] b x h same = absurd (omega arith)
 wholes-set (y ∷ ys) (g ∷ gs) zero x h same = refl
 wholes-set (y ∷ ys) (g ∷ gs) (suc b) x h same = ap (λ l. whole_of y g.value.content ∷ l) (wholes-set ys gs b x h (omega arith))
 
-pub wholes-push : (out : List StoredSupply) (hand : List Held) (x : StoredSupply) (h : Held) → length out ≡ length hand → wholes (out ++ x ∷ []) (hand ++ h ∷ []) ≡ wholes out hand ++ whole_of x h.value.content ∷ []
+pub wholes-push : (out : List CirculationView) (hand : List Held) (x : CirculationView) (h : Held) → length out ≡ length hand → wholes (out ++ x ∷ []) (hand ++ h ∷ []) ≡ wholes out hand ++ whole_of x h.value.content ∷ []
 wholes-push [] [] x h same = refl
 wholes-push [] (g ∷ gs) x h same = absurd (omega arith)
 wholes-push (y ∷ ys) [] x h same = absurd (omega arith)
 wholes-push (y ∷ ys) (g ∷ gs) x h same = ap (λ l. whole_of y g.value.content ∷ l) (wholes-push ys gs x h (omega arith))
 
-pub wholes-take : (out : List StoredSupply) (hand : List Held) (n : ℕ) → length out ≡ length hand → wholes (take n out) (take n hand) ≡ take n (wholes out hand)
+pub wholes-take : (out : List CirculationView) (hand : List Held) (n : ℕ) → length out ≡ length hand → wholes (take n out) (take n hand) ≡ take n (wholes out hand)
 wholes-take [] [] zero same = refl
 wholes-take [] [] (suc n) same = refl
 wholes-take [] (g ∷ gs) n same = absurd (omega arith)
@@ -45,13 +45,13 @@ wholes-take (y ∷ ys) [] n same = absurd (omega arith)
 wholes-take (y ∷ ys) (g ∷ gs) zero same = refl
 wholes-take (y ∷ ys) (g ∷ gs) (suc n) same = ap (λ l. whole_of y g.value.content ∷ l) (wholes-take ys gs n (omega arith))
 
-module _ (out : List StoredSupply) (hand : List Held) (b : ℕ) (same : length out ≡ length hand) (lt : b < length out) where
+module _ (out : List CirculationView) (hand : List Held) (b : ℕ) (same : length out ≡ length hand) (lt : b < length out) where
   -- where the hand's store stays
-  pub wholes-set_out : (x : StoredSupply) → wholes (slice_set out b x) hand ≡ slice_set (wholes out hand) b (whole_of x (held_at hand b).value.content)
+  pub wholes-set_out : (x : CirculationView) → wholes (slice_set out b x) hand ≡ slice_set (wholes out hand) b (whole_of x (held_at hand b).value.content)
   wholes-set_out x = ap (wholes (slice_set out b x)) (sym (set_same hand b (empty_hand Nat))) ∙ wholes-set out hand b x (held_at hand b) same
 
   -- where both change so that the whole stays
-  pub wholes-kept : (x : StoredSupply) (h : Held) → whole_of x h.value.content ≡ whole_of (circulation_at out b) (held_at hand b).value.content → wholes (slice_set out b x) (slice_set hand b h) ≡ wholes out hand
+  pub wholes-kept : (x : CirculationView) (h : Held) → whole_of x h.value.content ≡ whole_of (circulation_at out b) (held_at hand b).value.content → wholes (slice_set out b x) (slice_set hand b h) ≡ wholes out hand
   wholes-kept x h is =
       wholes-set out hand b x h same
       ∙ ap (slice_set (wholes out hand) b) (is ∙ sym (wholes-read out hand b same lt))
@@ -108,3 +108,39 @@ module _ (s : BrandSupply) (hand part : Content) where
 
       less : (s.burned - counted part) - counted (difference hand part) ≡ s.burned - counted hand
       less = omega (arith, counted-difference hand part has)
+
+-- ---- with what is kept
+
+module _ (x : CirculationView) (hand part : Content) where
+  pub issued_circulation : whole_of (with_issued x part) hand ≡ with_issued (whole_of x hand) part
+  issued_circulation i = record { supply = issued_whole x.supply hand part i; kept = difference x.kept hand }
+
+  pub unissued_circulation : Contains x.supply.outstanding.content part → whole_of (with_unissued x part) hand ≡ with_unissued (whole_of x hand) part
+  unissued_circulation has i = record { supply = unissued_whole x.supply hand part has i; kept = difference x.kept hand }
+
+  pub retired_circulation : counted hand ≤ x.supply.burned → Contains x.kept hand → Contains x.supply.outstanding.content part → whole_of (with_retired x part) hand ≡ with_retired (whole_of x hand) part
+  retired_circulation burned keeps has i = record { supply = retired_whole x.supply hand part burned has i; kept = later i }
+    where
+      later : difference (sum x.kept part) hand ≡ sum (difference x.kept hand) part
+      later = same_content _ _ (λ k. omega (arith, count-difference (sum x.kept part) hand k, count-sum x.kept part k, count-sum (difference x.kept hand) part k, count-difference x.kept hand k, keeps.each k))
+
+  either : difference (difference x.kept part) hand ≡ difference (difference x.kept hand) part
+  either = same_content _ _ (λ k. omega (arith, count-difference (difference x.kept part) hand k, count-difference x.kept part k, count-difference (difference x.kept hand) part k, count-difference x.kept hand k))
+
+  pub unretired_circulation : whole_of (with_unretired x part) hand ≡ with_unretired (whole_of x hand) part
+  unretired_circulation i = record { supply = unretired_whole x.supply hand part i; kept = either i }
+
+  pub forgotten_circulation : whole_of (with_forgotten x part) hand ≡ with_forgotten (whole_of x hand) part
+  forgotten_circulation i = record { supply = unretired x.supply hand; kept = either i }
+
+  pub held_circulation : Contains x.supply.outstanding.content part → whole_of (with_retired x part) (sum hand part) ≡ whole_of x hand
+  held_circulation has i = record { supply = held_whole x.supply hand part has i; kept = same i }
+    where
+      same : difference (sum x.kept part) (sum hand part) ≡ difference x.kept hand
+      same = same_content _ _ (λ k. omega (arith, count-difference (sum x.kept part) (sum hand part) k, count-sum x.kept part k, count-sum hand part k, count-difference x.kept hand k))
+
+  pub let_go_circulation : Contains hand part → whole_of (with_unretired x part) (difference hand part) ≡ whole_of x hand
+  let_go_circulation has i = record { supply = let_go_whole x.supply hand part has i; kept = same i }
+    where
+      same : difference (difference x.kept part) (difference hand part) ≡ difference x.kept hand
+      same = same_content _ _ (λ k. omega (arith, count-difference (difference x.kept part) (difference hand part) k, count-difference x.kept part k, count-difference hand part k, count-difference x.kept hand k, has.each k))

@@ -9,16 +9,16 @@ use Rattle.amount_math.specs.declared.Amount.{Amount}
 use Rattle.amount_math.specs.declared.Kind.{Kind}
 use Rattle.amount_math.specs.declared.Kind.TheVariants.{Nat}
 use Rattle.ertp_mint.specs.BrandSupply.{BrandSupply}
-use Rattle.ertp_mint.specs.Circulating.{StoredSupply, circulation_at, coded_stored_supply, unretired, with_supply}
+use Rattle.ertp_mint.specs.Circulating.{CirculationView, circulation_at, coded_circulation, with_unretired}
 
 -- by brand: what is out, what the hand's store has being out too, and what that store has
 pub record TransitView : Type 0 where
-  pub out : List StoredSupply
+  pub out : List CirculationView
   pub hand : List Held
 
 -- the numbers that stand for them, which a model needs
 abbrev pub coded_transit : Coded TransitView
-coded_transit = code_by (List StoredSupply × List Held) (coded× (coded_list coded_stored_supply) (coded_list coded_held)) (λ t. (t.out, t.hand)) (λ p. record { out = p.0; hand = p.1 }) (λ _. refl)
+coded_transit = code_by (List CirculationView × List Held) (coded× (coded_list coded_circulation) (coded_list coded_held)) (λ t. (t.out, t.hand)) (λ p. record { out = p.0; hand = p.1 }) (λ _. refl)
 
 -- a store of the hand that was just made, and what is read where none was
 abbrev pub empty_hand : Kind → Held
@@ -36,8 +36,8 @@ supply_in t b = (circulation_at t.out b).supply
 abbrev pub kind_in : TransitView → ℕ → Kind
 kind_in t b = (supply_in t b).outstanding.kind
 
--- with another supply of a brand, in whatever room, and with another store of the hand
-abbrev pub with_out : TransitView → ℕ → StoredSupply → TransitView
+-- with another circulation of a brand, and with another store of the hand
+abbrev pub with_out : TransitView → ℕ → CirculationView → TransitView
 with_out t b x = record t { out = slice_set t.out b x }
 
 abbrev pub with_hand : TransitView → ℕ → Held → TransitView
@@ -62,21 +62,21 @@ pub record IsInStore (t : TransitView) (b : ℕ) (w : Worth) : Type 0 where
 
 -- ---- how it is kept: what the hand's store has is counted as retired meanwhile
 
--- what is out, where so much of it is in the hand's store
-abbrev pub whole_of : StoredSupply → Content → StoredSupply
-whole_of x c = with_supply x (unretired x.supply c)
+-- what is out, where so much of it is in the hand's store, and what is kept beside that
+abbrev pub whole_of : CirculationView → Content → CirculationView
+whole_of x c = with_unretired x c
 
-abbrev pub wholes : List StoredSupply → List Held → List StoredSupply
+abbrev pub wholes : List CirculationView → List Held → List CirculationView
 wholes [] hs = []
 wholes (x ∷ xs) [] = x ∷ xs
 wholes (x ∷ xs) (h ∷ hs) = whole_of x h.value.content ∷ wholes xs hs
 
-pub record IsKept (x : StoredSupply) (h : Held) : Type 0 where
+pub record IsKept (x : CirculationView) (h : Held) : Type 0 where
   pub kind : x.supply.outstanding.kind ≡ h.value.kind
   pub burned : counted h.value.content ≤ x.supply.burned
   pub fits : Fits x.supply.outstanding.kind (sum x.supply.outstanding.content h.value.content)
-  pub room : HasRoom x.supply.outstanding.kind (keys_of (sum x.supply.outstanding.content h.value.content)) x.room
+  pub kept : Contains x.kept h.value.content
 
-pub record AreKept (out : List StoredSupply) (hand : List Held) : Type 0 where
+pub record AreKept (out : List CirculationView) (hand : List Held) : Type 0 where
   pub same : length out ≡ length hand
   pub each : (b : ℕ) → b < length out → IsKept (circulation_at out b) (held_at hand b)

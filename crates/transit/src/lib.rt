@@ -6,12 +6,11 @@
 #![tactic(auto)]
 
 ghost use Rattle.std.specs.Prelude.{◌≡◌, ◌<◌, ◌≤◌, ◌+◌, ◌-◌, ◌^◌, ◌++◌, ◌∷◌, [], length, take, IfErr, IfOk, OnErr, OnOk};
-ghost use Rattle.amount_math.specs.Content.{nothing, sum};
+ghost use Rattle.amount_math.specs.Content.{Contains, nothing, sum};
 ghost use Rattle.amount_math.specs.Counted.{counted};
 ghost use Rattle.amount_math.specs.Held.{HasRoom, with_less, with_more};
 ghost use Rattle.amount_math.specs.Worth.{Fits, IsIssueRefusal, keys_of};
-ghost use Rattle.ertp_mint.specs.BrandSupply.{issued, retired};
-ghost use Rattle.ertp_mint.specs.Circulating.{CanReturn, circulation_at, new_circulation, out_of, unissued, unretired, with_supply};
+ghost use Rattle.ertp_mint.specs.Circulating.{CanReturn, circulation_at, new_circulation, with_forgotten, with_issued, with_retired, with_unissued, with_unretired};
 ghost use Rattle.transit.specs.Transit.{CanHold, IsInStore, IsOnItsWay, empty_hand, held_at, in_store, kind_in, supply_in, with_hand, with_out};
 
 use amount_math::{Holding, Kind, PutFault, Value};
@@ -19,9 +18,9 @@ use ertp_mint::{Circulations, Parcel};
 use std::alloc::{AllocError, Global};
 use std::marker::Model;
 
-/// What is out of each brand, and the hand's own store of it. Contracts see both by brand, and for how many
-/// keys there is room in each.
-#[derive(Debug, Drop)]
+/// What is out of each brand, and the hand's own store of it. Contracts see both by brand: what was retired
+/// and is kept, and for how many keys there is room in the hand's store.
+#[derive(Drop)]
 pub struct Transit {
     out: Circulations,
     hand: Vec<Holding>,
@@ -75,16 +74,6 @@ impl Transit {
         self.hand.truncate(self.hand.len() - 1);
     }
 
-    /// What is out of a brand of which the hand's store has nothing.
-    pub fn outstanding(&self, brand: u16) -> &Holding
-        requires made { brand < length self.now.out }
-        requires empty { in_store self.now brand ≡ nothing }
-        ensures { result.now ≡ out_of (circulation_at self.now.out brand) }
-    {
-        let _ = &self.hand;
-        self.out.outstanding(brand)
-    }
-
     /// The counts of all that was ever issued of a brand, together.
     pub fn minted(&self, brand: u16) -> u128
         requires { brand < length self.now.out }
@@ -112,20 +101,16 @@ impl Transit {
         requires kind { kind_in self.old brand ≡ value.kind }
         requires small { (supply_in self.old brand).minted + counted value.content < 2 ^ 128 }
         requires empty { in_store self.old brand ≡ nothing }
-        ensures ok { OnOk result (self.new ≡ with_out self.old brand (with_supply (circulation_at self.new.out brand) (issued (supply_in self.old brand) value.content))) }
+        ensures ok { OnOk result (self.new ≡ with_out self.old brand (with_issued (circulation_at self.old.out brand) value.content)) }
         ensures parcel { IfOk result (λ parcel. parcel ≡ record { brand = brand; value = value }) }
         ensures fits { OnOk result (Fits value.kind (sum (supply_in self.old brand).outstanding.content value.content)) }
-        ensures room { (circulation_at self.old.out brand).room ≤ (circulation_at self.new.out brand).room }
         ensures back { IfErr result (λ (back, _). back ≡ value) }
         ensures err { OnErr result (self.new ≡ self.old) }
         ensures refused { IfErr result (λ (_, fault). IsIssueRefusal value.kind (sum (supply_in self.old brand).outstanding.content value.content) fault) }
     {
         let _ = &self.hand;
         match self.out.issue(brand, value) {
-            Ok(parcel) => {
-                let _kind = self.out.outstanding(brand).kind();
-                return Ok(parcel);
-            }
+            Ok(parcel) => return Ok(parcel),
             Err(fault) => return Err(fault),
         }
     }
@@ -133,7 +118,7 @@ impl Transit {
     /// Works an issue backwards, which takes no memory and ends its parcel.
     pub fn undo_issue(&mut self, parcel: Parcel)
         requires { IsOnItsWay self.old parcel }
-        ensures { self.new ≡ with_out self.old parcel.brand (with_supply (circulation_at self.old.out parcel.brand) (unissued (supply_in self.old parcel.brand) parcel.value.content)) }
+        ensures { self.new ≡ with_out self.old parcel.brand (with_unissued (circulation_at self.old.out parcel.brand) parcel.value.content) }
     {
         let _ = &self.hand;
         self.out.undo_issue(parcel);
@@ -144,23 +129,33 @@ impl Transit {
     pub fn retire(&mut self, parcel: Parcel) -> Value
         requires { IsOnItsWay self.old parcel }
         ensures value { result ≡ parcel.value }
-        ensures retired { self.new ≡ with_out self.old parcel.brand (with_supply (circulation_at self.old.out parcel.brand) (retired (supply_in self.old parcel.brand) parcel.value.content)) }
+        ensures retired { self.new ≡ with_out self.old parcel.brand (with_retired (circulation_at self.old.out parcel.brand) parcel.value.content) }
         ensures back { CanReturn (circulation_at self.new.out parcel.brand) parcel.value }
     {
         let _ = &self.hand;
         self.out.retire(parcel)
     }
 
-    /// Works a retirement backwards, which takes no memory. Of two equal values the one becomes the parcel.
-    pub fn undo_retire(&mut self, brand: u16, value: Value, spare: Value) -> Parcel
+    /// Works a retirement backwards, which takes no memory.
+    pub fn undo_retire(&mut self, brand: u16, value: Value) -> Parcel
         requires made { brand < length self.old.out }
-        requires same { spare ≡ value }
         requires back { CanReturn (circulation_at self.old.out brand) value }
         ensures parcel { result ≡ record { brand = brand; value = value } }
-        ensures unretired { self.new ≡ with_out self.old brand (with_supply (circulation_at self.old.out brand) (unretired (supply_in self.old brand) value.content)) }
+        ensures unretired { self.new ≡ with_out self.old brand (with_unretired (circulation_at self.old.out brand) value.content) }
     {
         let _ = &self.hand;
-        self.out.undo_retire(brand, value, spare)
+        let _kind = self.out.kind(brand);
+        self.out.undo_retire(brand, value)
+    }
+
+    /// Keeps a retired value no longer, which takes no memory.
+    pub fn forget(&mut self, brand: u16, value: &Value)
+        requires made { brand < length self.old.out }
+        requires kept { Contains (circulation_at self.old.out brand).kept value.now.content }
+        ensures { self.new ≡ with_out self.old brand (with_forgotten (circulation_at self.old.out brand) value.now.content) }
+    {
+        let _ = &self.hand;
+        self.out.forget(brand, value);
     }
 
     /// Takes a parcel that is on its way into the hand's store, within its room, which takes no memory.
@@ -174,15 +169,14 @@ impl Transit {
         self.hand[brand as usize].put_back(value);
     }
 
-    /// Gives a parcel out of the hand's store, which takes no memory. Of two equal values the one becomes it.
-    pub fn let_go(&mut self, brand: u16, value: Value, spare: Value) -> Parcel
-        requires same { spare ≡ value }
-        requires there { IsInStore self.old brand value }
+    /// Gives a parcel out of the hand's store, which takes no memory.
+    pub fn let_go(&mut self, brand: u16, value: Value) -> Parcel
+        requires { IsInStore self.old brand value }
         ensures parcel { result ≡ record { brand = brand; value = value } }
         ensures made { brand < length self.old.hand }
         ensures less { self.new ≡ with_hand self.old brand (with_less (held_at self.old.hand brand) value.content) }
     {
         self.hand[brand as usize].take_out(&value);
-        self.out.undo_retire(brand, value, spare)
+        self.out.undo_retire(brand, value)
     }
 }

@@ -1,6 +1,5 @@
 -- A step worked backwards in memory: it can be, and what is left stands.
 use Rattle.std.proofs.Common.{◌≡◌, ℕ, ◌-◌, ◌<◌, ◌==◌, Bool, true, false, cond, List, ◌∷◌, length, take, map, refl, sym, ◌∙◌, ap, subst, arith}
-use Rattle.std.specs.Prelude.{Option}
 use Rattle.std.proofs.lemmas.Bool.{eq-eqb}
 use Rattle.amount_math.specs.Content.{Content, Contains, count-sum, difference, difference-sum, nothing, sum, sum-difference}
 use Rattle.amount_math.specs.Held.{Held, HasRoom, more_room}
@@ -9,19 +8,19 @@ use Rattle.amount_math.specs.declared.Amount.{Amount}
 use Rattle.amount_math.specs.declared.Kind.TheVariants.{Nat}
 use Rattle.ertp_mint.specs.Balances.{StoredAmount, no_store}
 use Rattle.ertp_mint.specs.BrandSupply.{BrandSupply, new_supply, supply_at}
-use Rattle.ertp_mint.specs.Circulating.{StoredSupply, circulation_at, new_circulation, unretired}
+use Rattle.ertp_mint.specs.Circulating.{CirculationView, circulation_at, new_circulation, unretired}
 use Rattle.list_edits.proofs.ListEdits.{length_map, length_set, length_taken, map_take, read_set, read_take}
 use Rattle.purses.specs.Purses.{content_at, room_at}
 use Rattle.right_steps.specs.declared.Step.{Step}
 use Rattle.right_steps.specs.declared.Step.TheVariants.{Moves, OpensPurse, AddsBrand}
-use Rattle.right_steps.specs.Backwards.{CanAllBack, CanBack, CanUngive, CanUntake, HandHas, HasSpare, Rooms, all_back, from_hand, in_hand, to_hand}
+use Rattle.right_steps.specs.Backwards.{CanAllBack, CanBack, CanUngive, CanUntake, HandHas, Rooms, all_back, from_hand, in_hand, retired_by, to_hand, to_outside}
 use Rattle.right_steps.specs.Lists.{Lists, amount_of, back, kind_of, purse_at, ungiven, untaken, with_outs, with_purses, without_last_brand, without_last_purse}
 use Rattle.right_steps.proofs.Sound.{at_or_else}
 use Rattle.rights_model.specs.declared.Holder.{Holder}
 use Rattle.rights_model.specs.declared.Holder.TheVariants.{Purse, Payment, Slot, Hand, Outside}
 use Rattle.rights_model.specs.declared.Movement.{Movement}
 use Rattle.transit.specs.Transit.{IsOnItsWay, TransitView, empty_hand, held_at}
-use Rattle.vault_draft.specs.Memory.{CanUngiveHere, CanUntakeHere, IsHalf, amount_in, lists_of, store_of, store_ungiven, store_untaken, supply_of}
+use Rattle.vault_draft.specs.Memory.{CanUngiveHere, CanUntakeHere, IsHalf, amount_in, kept_of, kept_ungiven, lists_of, store_of, store_ungiven, store_untaken, supply_of}
 use Rattle.vault_draft.specs.Working.{IsWorking}
 use Rattle.vault_draft.specs.declared.stores.Stores.{Stores}
 use Rattle.vault_draft.proofs.Halves.{purse_read, supply_read}
@@ -51,6 +50,17 @@ module _ (b : ℕ) (c : Content) where
   store_after_untake (Payment n) S Y e has is = is ∙ same_either (b == e) (Y e)
   store_after_untake (Slot v j) S Y e has is = is ∙ same_either (b == e) (Y e)
   store_after_untake Outside S Y e has is = is ∙ same_either (b == e) (Y e)
+
+  -- what is kept
+  kept_after_ungive : (h : Holder) (S X : ℕ → Content) (e : ℕ) → S e ≡ cond (b == e) (to_outside h (X e) c) (X e) → kept_ungiven S h b c e ≡ X e
+  kept_after_ungive Outside S X e is = elim (b == e) as (λ t. S e ≡ cond t (sum (X e) c) (X e) → cond t (difference (S e) c) (S e) ≡ X e) [
+    | true ↦ λ eq. ap (λ x. difference x c) eq ∙ difference-sum (X e) c
+    | false ↦ λ eq. eq
+  ] is
+  kept_after_ungive (Purse n) S X e is = is ∙ same_either (b == e) (X e)
+  kept_after_ungive (Payment n) S X e is = is ∙ same_either (b == e) (X e)
+  kept_after_ungive (Slot v j) S X e is = is ∙ same_either (b == e) (X e)
+  kept_after_ungive Hand S X e is = is ∙ same_either (b == e) (X e)
 
 -- ---- lengths and kinds stay
 
@@ -91,7 +101,7 @@ kind_stays s Outside b w lt = ap (λ (x : BrandSupply). x.outstanding.kind) (rea
 
 -- ---- one movement
 
-module _ (R : Rooms) (kept : Lists) (p : Stores) (spare : Option Worth) (m : Movement) (ks : List Step) (ms : List Movement) (is : IsWorking R kept p (Moves spare ∷ ks) (m ∷ ms)) where
+module _ (R : Rooms) (kept : Lists) (p : Stores) (m : Movement) (ks : List Step) (ms : List Movement) (is : IsWorking R kept p (Moves ∷ ks) (m ∷ ms)) where
   abbrev b : ℕ
   b = m.brand
 
@@ -101,7 +111,7 @@ module _ (R : Rooms) (kept : Lists) (p : Stores) (spare : Option Worth) (m : Mov
   abbrev s : Lists
   s = lists_of p
 
-  can : CanBack R s spare m ms
+  can : CanBack R s m ms
   can = is.can.0
 
   brand_here : b < length p.transit.out
@@ -113,36 +123,31 @@ module _ (R : Rooms) (kept : Lists) (p : Stores) (spare : Option Worth) (m : Mov
   kind_now : (circulation_at p.transit.out b).supply.outstanding.kind ≡ w.kind
   kind_now = ap (λ (x : BrandSupply). x.outstanding.kind) (sym (supply_read p.transit.out b)) ∙ can.kind
 
-  pub can_ungive : CanUngiveHere p m.to b w spare
-  can_ungive = at m.to store_now can.ungive can.spared
+  kept_now : kept_of p b ≡ to_outside m.to (retired_by ms b) w.content
+  kept_now = is.retired b brand_here ∙ ap (λ t. cond t (to_outside m.to (retired_by ms b) w.content) (retired_by ms b)) (eq-eqb b b refl)
+
+  pub can_ungive : CanUngiveHere p m.to b w
+  can_ungive = at m.to store_now kept_now can.ungive
     where
-      at : (h : Holder) → store_of p b ≡ to_hand h (from_hand m.from (in_hand ms b) w.content) w.content → CanUngive R s h b w → HasSpare h spare w → CanUngiveHere p h b w spare
-      at (Purse n) has may sp = may
-      at (Payment n) has may sp = may
-      at (Slot v j) has may sp = may
-      at Hand has may sp = record {
-        comes = record {
-          made = brand_here;
-          kind = kind_now;
-          has = subst (λ x. Contains x w.content) (sym has) (record { each = λ k. omega (arith, count-sum (from_hand m.from (in_hand ms b) w.content) w.content k) });
-        };
-        spare = sp;
+      at : (h : Holder) → store_of p b ≡ to_hand h (from_hand m.from (in_hand ms b) w.content) w.content → kept_of p b ≡ to_outside h (retired_by ms b) w.content → CanUngive R s h b w → CanUngiveHere p h b w
+      at (Purse n) has keeps may = may
+      at (Payment n) has keeps may = may
+      at (Slot v j) has keeps may = may
+      at Hand has keeps may = record {
+        made = brand_here;
+        kind = kind_now;
+        has = subst (λ x. Contains x w.content) (sym has) (record { each = λ k. omega (arith, count-sum (from_hand m.from (in_hand ms b) w.content) w.content k) });
       }
-      at Outside has may sp = record {
-        comes = record {
-          made = brand_here;
-          can = record {
-            kind = kind_now;
-            fits = subst (λ (x : BrandSupply). Fits x.outstanding.kind (sum x.outstanding.content w.content)) (supply_read p.transit.out b) may.fits;
-            room = subst (λ (x : BrandSupply). HasRoom x.outstanding.kind (keys_of (sum x.outstanding.content w.content)) (circulation_at p.transit.out b).room) (supply_read p.transit.out b)
-                (more_room (kind_of s b) (keys_of (sum (supply_at s.out b).outstanding.content w.content)) (R.out b) (circulation_at p.transit.out b).room (is.rooms.out b brand_here) may.room);
-            burned = omega (arith, may.burned, ap (λ (x : BrandSupply). x.burned) (supply_read p.transit.out b));
-          };
+      at Outside has keeps may = record {
+        made = brand_here;
+        can = record {
+          kind = kind_now;
+          kept = subst (λ x. Contains x w.content) (sym keeps) (record { each = λ k. omega (arith, count-sum (retired_by ms b) w.content k) });
+          fits = subst (λ (x : BrandSupply). Fits x.outstanding.kind (sum x.outstanding.content w.content)) (supply_read p.transit.out b) may.fits;
         };
-        spare = sp;
       }
 
-  module _ (q : Stores) (half : IsHalf p q (ungiven s m.to b w) (store_ungiven (store_of p) m.to b w.content)) where
+  module _ (q : Stores) (half : IsHalf p q (ungiven s m.to b w) (store_ungiven (store_of p) m.to b w.content) (kept_ungiven (kept_of p) m.to b w.content)) where
     long_out : length q.transit.out ≡ length p.transit.out
     long_out = omega (arith, length_map supply_of q.transit.out, length_map supply_of p.transit.out, ap (λ (l : Lists). length l.out) half.lists, outs_long s m.to b w)
 
@@ -193,7 +198,7 @@ module _ (R : Rooms) (kept : Lists) (p : Stores) (spare : Option Worth) (m : Mov
         }
         at Outside has kept may = on_its_way
 
-    module _ (r : Stores) (other : IsHalf q r (untaken (lists_of q) m.from b w) (store_untaken (store_of q) m.from b w.content)) where
+    module _ (r : Stores) (other : IsHalf q r (untaken (lists_of q) m.from b w) (store_untaken (store_of q) m.from b w.content) (kept_of q)) where
       lists_back : lists_of r ≡ back s m
       lists_back = other.lists ∙ ap (λ (l : Lists). untaken l m.from b w) half.lists
 
@@ -210,9 +215,9 @@ module _ (R : Rooms) (kept : Lists) (p : Stores) (spare : Option Worth) (m : Mov
         rooms = record {
           purses = λ n lt. omega (arith, is.rooms.purses n (omega (arith, lt, last_purses, long_purses)), half.rooms.purses n, other.rooms.purses n);
           capacity = omega (arith, is.rooms.capacity, half.rooms.capacity, other.rooms.capacity);
-          out = λ e lt. omega (arith, is.rooms.out e (omega (arith, lt, last_long, long_out)), half.rooms.out e, other.rooms.out e);
           hand = λ e lt. omega (arith, is.rooms.hand e (omega (arith, lt, last_long, long_out)), half.rooms.hand e, other.rooms.hand e);
         };
+        retired = λ e lt. other.kept e ∙ half.kept e ∙ kept_after_ungive b w.content m.to (kept_of p) (retired_by ms) e (is.retired e (omega (arith, lt, last_long, long_out)));
         hand = λ e lt. other.hand e ∙ store_after_untake b w.content m.from (store_of q) (in_hand ms) e can.has (store_half e (omega (arith, lt, last_long)));
       }
 
@@ -246,10 +251,10 @@ module _ (R : Rooms) (kept : Lists) (p : Stores) (ks : List Step) (ms : List Mov
                 ap (λ (x : StoredAmount). x.room) (read_take p.purses (length p.purses - 1) n no_store there),
               );
           capacity = is.rooms.capacity;
-          out = is.rooms.out;
           hand = is.rooms.hand;
         };
         hand = is.hand;
+        retired = is.retired;
       }
 
   pub brand_is_fresh : IsWorking R kept p (AddsBrand ∷ ks) ms → (0 < length p.transit.out) × ((circulation_at p.transit.out (length p.transit.out - 1)).supply.minted ≡ 0)
@@ -273,13 +278,8 @@ module _ (R : Rooms) (kept : Lists) (p : Stores) (ks : List Step) (ms : List Mov
         rooms = record {
           purses = is.rooms.purses;
           capacity = is.rooms.capacity;
-          out = λ e lt. omega (
-            arith,
-            is.rooms.out e (shorter p.transit.out (length p.transit.out - 1) e (there e lt)),
-            ap (λ l. (circulation_at l e).room) new,
-            ap (λ (x : StoredSupply). x.room) (read_take p.transit.out (length p.transit.out - 1) e (new_circulation Nat) (there e lt)),
-          );
           hand = λ e lt. omega (arith, is.rooms.hand e (shorter p.transit.out (length p.transit.out - 1) e (there e lt)), ap (λ (h : Held). h.room) (held e lt));
         };
         hand = λ e lt. ap (λ (h : Held). h.value.content) (held e lt) ∙ is.hand e (shorter p.transit.out (length p.transit.out - 1) e (there e lt));
+        retired = λ e lt. ap (λ l. (circulation_at l e).kept) new ∙ ap (λ (x : CirculationView). x.kept) (read_take p.transit.out (length p.transit.out - 1) e (new_circulation Nat) (there e lt)) ∙ is.retired e (shorter p.transit.out (length p.transit.out - 1) e (there e lt));
       }

@@ -1,6 +1,5 @@
 -- Takes and puts as the code makes them, with what it pushed.
 use Rattle.std.proofs.Common.{◌≡◌, ℕ, ◌+◌, Bool, false, List, [], ◌∷◌, ◌++◌, sym, ◌∙◌, ap, subst, arith}
-use Rattle.std.specs.Prelude.{Option, Some}
 use Rattle.amount_math.specs.Content.{nothing, sum}
 use Rattle.amount_math.specs.Held.{HasRoom, keys_in}
 use Rattle.amount_math.specs.Worth.{Fits, Worth, keys_of}
@@ -8,7 +7,6 @@ use Rattle.amount_math.specs.declared.Amount.{Amount}
 use Rattle.ertp_mint.specs.BrandSupply.{BrandSupply, supply_at}
 use Rattle.right_steps.specs.declared.Step.{Step}
 use Rattle.right_steps.specs.declared.Step.TheVariants.{Moves}
-use Rattle.right_steps.specs.Backwards.{HasSpare}
 use Rattle.right_steps.specs.Lists.{CanGive, CanTake, Lists, MayCome, kind_of}
 use Rattle.rights_model.specs.declared.Holder.{Holder}
 use Rattle.rights_model.specs.declared.Holder.TheVariants.{Hand, Outside}
@@ -22,8 +20,8 @@ use Rattle.vault_draft.proofs.Halves.{supply_read}
 use Rattle.vault_draft.proofs.Steps.{brands_there, same_store}
 use Rattle.vault_draft.proofs.Taking.{can_retire, draft_put, draft_put_after, draft_taken, draft_taken_after}
 
-module _ (p q : Stores) (ks ls : List Step) (ms ns : List Movement) (keys : ℕ) (spoiled : Bool) (spare : Option Worth) (to : Holder) (a : Amount) (m : Movement) (sound : spoiled ≡ false) (is : IsDraft p ks ms keys spoiled) (keep : HandKeeps (draft_of p ks ms spoiled) a) (gave : IsGiven p q to a.brand a.value)
-    (steps : ls ≡ ks ++ Moves spare ∷ []) (moves : ns ≡ ms ++ m ∷ []) (noted : m ≡ movement a.brand Hand to a.value) where
+module _ (p q : Stores) (ks ls : List Step) (ms ns : List Movement) (keys : ℕ) (spoiled : Bool) (to : Holder) (a : Amount) (m : Movement) (sound : spoiled ≡ false) (is : IsDraft p ks ms keys spoiled) (keep : HandKeeps (draft_of p ks ms spoiled) a) (gave : IsGiven p q to a.brand a.value)
+    (steps : ls ≡ ks ++ Moves ∷ []) (moves : ns ≡ ms ++ m ∷ []) (noted : m ≡ movement a.brand Hand to a.value) where
   all_moves : ns ≡ ms ++ movement a.brand Hand to a.value ∷ []
   all_moves = moves ∙ ap (λ x. ms ++ x ∷ []) noted
 
@@ -33,24 +31,21 @@ module _ (p q : Stores) (ks ls : List Step) (ms ns : List Movement) (keys : ℕ)
   keep_sound : HandKeeps (draft_of p ks ms false) a
   keep_sound = subst (λ t. HandKeeps (draft_of p ks ms t) a) sound keep
 
-  pub put_keeps_so : CanGive (lists_of p) to a.brand a.value → HasSpare to spare a.value → IsDraft q ls ns keys spoiled
-  put_keeps_so can spared = subst (λ t. IsDraft q ls ns keys t) (sym sound) (subst (λ l. IsDraft q l ns keys false) (sym steps) (subst (λ l. IsDraft q (ks ++ Moves spare ∷ []) l keys false) (sym all_moves)
-      (draft_put p q ks ms keys spare to a is_sound gave can keep_sound spared)))
+  pub put_keeps_so : CanGive (lists_of p) to a.brand a.value → IsDraft q ls ns keys spoiled
+  put_keeps_so can = subst (λ t. IsDraft q ls ns keys t) (sym sound) (subst (λ l. IsDraft q l ns keys false) (sym steps) (subst (λ l. IsDraft q (ks ++ Moves ∷ []) l keys false) (sym all_moves)
+      (draft_put p q ks ms keys to a is_sound gave can keep_sound)))
 
   pub put_after_so : CanGive (lists_of p) to a.brand a.value → draft_of q ls ns spoiled ≡ after (draft_of p ks ms spoiled) (movement a.brand Hand to a.value)
   put_after_so can =
       (λ i. draft_of q (steps i) (all_moves i) (sound i))
-      ∙ draft_put_after p q ks ms keys spare to a is_sound gave can
+      ∙ draft_put_after p q ks ms keys to a is_sound gave can
       ∙ ap (λ t. after (draft_of p ks ms t) (movement a.brand Hand to a.value)) (sym sound)
 
   pub can_retire_so : CanGive (lists_of p) Outside a.brand a.value
   can_retire_so = can_retire p ks ms keys a is_sound keep_sound
 
-module _ (p r q : Stores) (ks ls : List Step) (ms ns : List Movement) (keys more : ℕ) (spoiled : Bool) (from : Holder) (b c : ℕ) (w v : Worth) (m : Movement) (sound : spoiled ≡ false) (is : IsDraft p ks ms keys spoiled) (roomed : IsRoomed p r) (took : IsTaken r q from b w) (can : CanTake (lists_of p) from b w) (at : c ≡ b) (same : v ≡ w)
-    (steps : ls ≡ ks ++ Moves (Some v) ∷ []) (moves : ns ≡ ms ++ m ∷ []) (noted : m ≡ movement c from Hand w) where
-  all_steps : ls ≡ ks ++ Moves (Some w) ∷ []
-  all_steps = steps ∙ ap (λ x. ks ++ Moves (Some x) ∷ []) same
-
+module _ (p r q : Stores) (ks ls : List Step) (ms ns : List Movement) (keys more : ℕ) (spoiled : Bool) (from : Holder) (b c : ℕ) (w : Worth) (m : Movement) (sound : spoiled ≡ false) (is : IsDraft p ks ms keys spoiled) (roomed : IsRoomed p r) (took : IsTaken r q from b w) (can : CanTake (lists_of p) from b w) (at : c ≡ b)
+    (steps : ls ≡ ks ++ Moves ∷ []) (moves : ns ≡ ms ++ m ∷ []) (noted : m ≡ movement c from Hand w) where
   moves_so : ns ≡ ms ++ movement b from Hand w ∷ []
   moves_so = moves ∙ ap (λ x. ms ++ x ∷ []) (noted ∙ ap (λ x. movement x from Hand w) at)
 
@@ -59,12 +54,12 @@ module _ (p r q : Stores) (ks ls : List Step) (ms ns : List Movement) (keys more
 
   pub taken_after_so : draft_of q ls ns spoiled ≡ after (draft_of p ks ms spoiled) (movement b from Hand w)
   taken_after_so =
-      (λ i. draft_of q (all_steps i) (moves_so i) (sound i))
+      (λ i. draft_of q (steps i) (moves_so i) (sound i))
       ∙ draft_taken_after p r q ks ms keys more from b w was_sound roomed took can
       ∙ ap (λ t. after (draft_of p ks ms t) (movement b from Hand w)) (sym sound)
 
   pub taken_keeps_so : IsOfBrand (lists_of p) b w → more ≡ keys + keys_in w.kind w.content → HasRoom (kind_of (lists_of p) c) (keys_of (store_of p c) + more) ((rooms_of r).hand c) → IsDraft q ls ns more spoiled
-  taken_keeps_so brand counted room = subst (λ t. IsDraft q ls ns more t) (sym sound) (subst (λ l. IsDraft q l ns more false) (sym all_steps) (subst (λ l. IsDraft q (ks ++ Moves (Some w) ∷ []) l more false) (sym moves_so)
+  taken_keeps_so brand counted room = subst (λ t. IsDraft q ls ns more t) (sym sound) (subst (λ l. IsDraft q l ns more false) (sym steps) (subst (λ l. IsDraft q (ks ++ Moves ∷ []) l more false) (sym moves_so)
       (draft_taken p r q ks ms keys more from b w was_sound roomed took can brand counted (subst (λ x. HasRoom (kind_of (lists_of p) x) (keys_of (store_of p x) + more) ((rooms_of r).hand x)) at room))))
 
 -- what may come out, and that the hand's store has nothing then

@@ -9,7 +9,7 @@ use Rattle.amount_math.specs.declared.Kind.{Kind}
 use Rattle.amount_math.specs.declared.Kind.TheVariants.{Nat}
 use Rattle.ertp_mint.specs.Balances.{StoredAmount, empty_store}
 use Rattle.ertp_mint.specs.BrandSupply.{BrandSupply, new_supply, supply_at}
-use Rattle.ertp_mint.specs.Circulating.{StoredSupply, circulation_at, new_circulation}
+use Rattle.ertp_mint.specs.Circulating.{CirculationView, circulation_at, new_circulation}
 use Rattle.ertp_mint.specs.Stocks.{empty_amount, no_amount}
 use Rattle.list_edits.proofs.ListEdits.{length_map, length_push, map_push, read_before, read_past, read_pushed}
 use Rattle.purses.specs.Purses.{room_at}
@@ -24,7 +24,7 @@ use Rattle.right_steps.proofs.Undone.{all_grows, unadded, unopened}
 use Rattle.rights_model.specs.declared.Movement.{Movement}
 use Rattle.rights_model.specs.Table.{CanMoveAll, table_after}
 use Rattle.transit.specs.Transit.{TransitView, empty_hand, held_at}
-use Rattle.vault_draft.specs.Memory.{amount_in, content_in_store, given_up_in, lists_of, rooms_of, store_of, supply_of}
+use Rattle.vault_draft.specs.Memory.{amount_in, content_in_store, given_up_in, kept_of, lists_of, rooms_of, store_of, supply_of}
 use Rattle.vault_draft.specs.Drafts.{IsDraft, draft_of, opened, table_now, with_brand}
 use Rattle.vault_draft.specs.declared.stores.Stores.{Stores}
 use Rattle.vault_draft.proofs.Steps.{brands_there, keys_none, last_first, room_for_none}
@@ -53,7 +53,7 @@ module _ (p : Stores) (ks : List Step) (ms : List Movement) (keys : ℕ) (spoile
       along (x ∷ xs) (suc n) = along xs n
 
   grown : HasGrown (rooms_of p) (rooms_of q)
-  grown = record { purses = room_before; capacity = omega arith; out = λ e. omega arith; hand = λ e. omega arith }
+  grown = record { purses = room_before; capacity = omega arith; hand = λ e. omega arith }
 
   last_is_empty : (purse_at (lists_of q).purses (length (lists_of q).purses - 1)).value.content ≡ nothing
   last_is_empty =
@@ -75,6 +75,7 @@ module _ (p : Stores) (ks : List Step) (ms : List Movement) (keys : ℕ) (spoile
     bounded = is.bounded;
     room = is.room;
     clear = is.clear;
+    retired = is.retired;
     valid = record {
       sound = subst (λ (s : Lists). IsSound s (in_hand (reverse ms))) (sym lists) (sound_new_purse (lists_of p) (in_hand (reverse ms)) b kind is.valid.sound);
       agrees = subst (λ (s : Lists). Agrees (lists_of q) (in_hand (reverse ms)) (table_after (table_of s) ms)) (sym kept_after)
@@ -99,12 +100,13 @@ module _ (p : Stores) (ks : List Step) (ms : List Movement) (keys : ℕ) (kind :
   kept_too : all_back (lists_of r) (reverse (ks ++ AddsBrand ∷ [])) (reverse ms) ≡ all_back (lists_of p) (reverse ks) (reverse ms)
   kept_too = ap (λ (x : List Step). all_back (lists_of r) x (reverse ms)) (last_first ks AddsBrand) ∙ ap (λ (s : Lists). all_back s (reverse ks) (reverse ms)) back_too
 
-  out_room : (e : ℕ) → (circulation_at p.transit.out e).room ≤ (circulation_at t.out e).room
-  out_room e = subst (λ (u : TransitView). (circulation_at p.transit.out e).room ≤ (circulation_at u.out e).room) (sym new) (along p.transit.out e)
+  kept_same : (e : ℕ) → kept_of r e ≡ kept_of p e
+  kept_same e = ap (λ (u : TransitView). (circulation_at u.out e).kept) new ∙ along p.transit.out e
     where
-      along : (xs : List StoredSupply) (n : ℕ) → (circulation_at xs n).room ≤ (circulation_at (xs ++ new_circulation kind ∷ []) n).room
-      along [] n = omega arith
-      along (x ∷ xs) zero = omega arith
+      along : (xs : List CirculationView) (n : ℕ) → (circulation_at (xs ++ new_circulation kind ∷ []) n).kept ≡ (circulation_at xs n).kept
+      along [] zero = refl
+      along [] (suc n) = refl
+      along (x ∷ xs) zero = refl
       along (x ∷ xs) (suc n) = along xs n
 
   hand_room : (e : ℕ) → (held_at p.transit.hand e).room ≤ (held_at t.hand e).room
@@ -116,7 +118,7 @@ module _ (p : Stores) (ks : List Step) (ms : List Movement) (keys : ℕ) (kind :
       along (x ∷ xs) (suc n) = along xs n
 
   grown_too : HasGrown (rooms_of p) (rooms_of r)
-  grown_too = record { purses = λ n. omega arith; capacity = omega arith; out = out_room; hand = hand_room }
+  grown_too = record { purses = λ n. omega arith; capacity = omega arith; hand = hand_room }
 
   -- what the hand's store has at each brand, and the kinds
   store_same : (e : ℕ) → store_of r e ≡ store_of p e
@@ -169,6 +171,7 @@ module _ (p : Stores) (ks : List Step) (ms : List Movement) (keys : ℕ) (kind :
       | inl at ↦ ap (λ (h : Held). h.value.content) (read_past p.transit.hand (empty_hand Nat) e (omega (arith, alike, at, brands_there p)))
       | inr apart ↦ is.clear sound e (omega (arith, lt, long, apart, brands_there p))
     ];
+    retired = λ e. kept_same e ∙ is.retired e;
     valid = record {
       sound = subst (λ (s : Lists). IsSound s (in_hand (reverse ms))) (sym lists_too) (sound_new_brand (lists_of p) (in_hand (reverse ms)) kind is.valid.sound);
       agrees = subst (λ (s : Lists). Agrees (lists_of r) (in_hand (reverse ms)) (table_after (table_of s) ms)) (sym kept_too)

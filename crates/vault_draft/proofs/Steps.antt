@@ -1,6 +1,6 @@
 -- How a draft begins and ends, and what each step keeps.
-use Rattle.std.proofs.Common.{◌≡◌, ◌≢◌, ℕ, ◌+◌, ◌<◌, ◌≤◌, ◌==◌, Bool, true, false, cond, List, [], ◌∷◌, ◌++◌, length, map, reverse, refl, sym, ◌∙◌, ap, subst, arith}
-use Rattle.std.specs.Prelude.{Option, Some, slice_index_or, slice_set}
+use Rattle.std.proofs.Common.{◌≡◌, ◌≢◌, ℕ, zero, suc, ◌+◌, ◌-◌, ◌<◌, ◌≤◌, ◌==◌, Bool, true, false, cond, List, [], ◌∷◌, ◌++◌, length, map, reverse, take, refl, sym, ◌∙◌, ap, subst, arith}
+use Rattle.std.specs.Prelude.{slice_index_or, slice_set}
 use Rattle.std.proofs.lemmas.Bool.{eq-eqb}
 use Rattle.std.proofs.lemmas.List.{length-reverse, reverse-append}
 use Rattle.amount_math.specs.Content.{Content, Contains, Contains-trans, count, count-difference, difference, nothing, sum, sum-difference}
@@ -13,13 +13,13 @@ use Rattle.amount_math.specs.declared.Kind.TheVariants.{Nat, Set, Bag}
 use Rattle.amount_math.proofs.Places.{keys_of-nothing}
 use Rattle.ertp_mint.specs.Balances.{StoredAmount}
 use Rattle.ertp_mint.specs.BrandSupply.{BrandSupply, issued, new_supply, retired, supply_at}
-use Rattle.ertp_mint.specs.Circulating.{circulation_at}
+use Rattle.ertp_mint.specs.Circulating.{CirculationView, circulation_at}
 use Rattle.list_edits.proofs.ListEdits.{keeps, length_map, length_set, map_set, read_map}
 use Rattle.payments.specs.Papers.{Paper}
 use Rattle.right_steps.specs.declared.Step.{Step}
-use Rattle.right_steps.specs.declared.Step.TheVariants.{Moves}
-use Rattle.right_steps.specs.Backwards.{CanAllBack, CanBack, HandHas, HasSpare, Rooms, all_back, from_hand, in_hand}
-use Rattle.right_steps.specs.Lists.{CanGive, CanTake, Lists, back, given, kind_of, moved, taken, ungiven}
+use Rattle.right_steps.specs.declared.Step.TheVariants.{Moves, OpensPurse, AddsBrand}
+use Rattle.right_steps.specs.Backwards.{CanAllBack, CanBack, HandHas, Rooms, all_back, from_hand, in_hand, retired_by, to_outside}
+use Rattle.right_steps.specs.Lists.{CanGive, CanTake, Lists, back, given, kind_of, moved, taken, ungiven, untaken, without_last_brand, without_last_purse}
 use Rattle.right_steps.specs.Tables.{Agrees, IsSound, all_in, hand_minus, hand_plus, no_hand, right_in, right_on, table_of}
 use Rattle.right_steps.proofs.Agreeing.{agrees_alike, agrees_from_hand, agrees_given, agrees_in_hand, agrees_taken, can_move_in, can_move_out, one_table, table_agrees}
 use Rattle.right_steps.proofs.Sound.{at_or_else, hand_is_out, sound_alike, sound_given, sound_taken}
@@ -31,9 +31,9 @@ use Rattle.rights_model.specs.Table as table
 use Rattle.rights_model.specs.Table.{Table, CanMove, CanMoveAll, movement, table_after}
 use Rattle.rights_model.proofs.TableLaws.{CanMoveAll-push, table_after-push}
 use Rattle.transit.specs.Transit.{CanHold, TransitView, empty_hand, held_at, with_hand}
-use Rattle.vault_draft.specs.Memory.{IsForward, IsGiven, IsRoomed, IsTaken, amount_in, content_in_store, given_up_in, lists_of, rooms_of, store_of, supply_of}
+use Rattle.vault_draft.specs.Memory.{IsForgotten, IsForward, IsGiven, IsRoomed, IsTaken, amount_in, content_in_store, given_up_in, kept_given, kept_of, lists_of, rooms_of, store_of, supply_of}
 use Rattle.vault_draft.specs.Drafts.{HandGoes, HandKeeps, IsClean, IsDraft, IsValid, IsVault, after, draft_of, given_up_too, table_now}
-use Rattle.vault_draft.specs.Working.{IsWorking}
+use Rattle.vault_draft.specs.Working.{AreMade, IsForgetting, IsWorking}
 use Rattle.vault_draft.specs.declared.stores.Stores.{Stores}
 use Rattle.vault_draft.proofs.Halves.{supply_read}
 
@@ -83,12 +83,19 @@ brands_there p = length_map supply_of p.transit.out
 
 -- ---- beginning and end
 
+-- where nothing is kept of the brands that were made, nothing is of any
+none_kept : (l : List CirculationView) → ((b : ℕ) → b < length l → (circulation_at l b).kept ≡ nothing) → (b : ℕ) → (circulation_at l b).kept ≡ nothing
+none_kept [] none b = refl
+none_kept (x ∷ l) none zero = none 0 (omega arith)
+none_kept (x ∷ l) none (suc b) = none_kept l (λ e lt. none (suc e) (omega (arith, lt))) b
+
 pub begins : (p : Stores) (ks : List Step) (ms : List Movement) → IsVault p ks ms → IsDraft p ks ms 0 false
 begins p ks ms is = subst (λ (l : List Step). IsDraft p l ms 0 false) (sym is.no_steps) (subst (λ (l : List Movement). IsDraft p [] l 0 false) (sym is.no_movements) (record {
   can = refl;
   bounded = λ b. no_keys (kind_of (lists_of p) b);
   room = λ b lt. room_for_none (kind_of (lists_of p) b) ((rooms_of p).hand b);
   clear = λ sound b lt. is.empty b lt;
+  retired = none_kept p.transit.out is.kept;
   valid = record { sound = is.sound; agrees = table_agrees (lists_of p); moves = tt; was_sound = is.sound };
 }))
 
@@ -103,7 +110,8 @@ pub starts : (p : Stores) (ks : List Step) (ms : List Movement) (keys : ℕ) (sp
 starts p ks ms keys spoiled is goes = record {
   kept_is = refl;
   can = is.can;
-  rooms = record { purses = λ n lt. omega arith; capacity = omega arith; out = λ b lt. omega arith; hand = λ b lt. omega arith };
+  rooms = record { purses = λ n lt. omega arith; capacity = omega arith; hand = λ b lt. omega arith };
+  retired = λ b lt. is.retired b;
   hand = λ b lt. sym (given_read p b) ∙ goes.each b (omega (arith, lt, brands_there p));
 }
 
@@ -123,21 +131,65 @@ ended R kept p ks ms sound none is =
         no_steps = none;
         no_movements = no_more;
         empty = λ b lt. at_end.hand b lt ∙ ap (λ (l : List Movement). in_hand l b) at_end.can;
+        kept = λ b lt. at_end.retired b lt ∙ ap (λ (l : List Movement). retired_by l b) at_end.can;
         sound = subst (λ (s : Lists). IsSound s no_hand) (sym at_end.kept_is) sound;
       },
     )
 
-pub committed : (p : Stores) (ks ls : List Step) (ms ns : List Movement) (keys : ℕ) (spoiled : Bool) → IsDraft p ks ms keys spoiled → ls ≡ [] → ns ≡ [] → IsClean (draft_of p ks ms spoiled) → IsVault p ls ns
-committed p ks ls ms ns keys spoiled is no_steps no_movements clean = record {
-  no_steps = no_steps;
-  no_movements = no_movements;
-  empty = λ b lt. is.clear clean.sound b lt;
-  sound = sound_alike (lists_of p) (in_hand (reverse ms)) no_hand clean.hand is.valid.sound;
+-- what is done to forget starts and ends
+brands_made : (R : Rooms) (s : Lists) (ks : List Step) (ms : List Movement) (n : ℕ) → length s.out ≤ n → CanAllBack R s ks ms → AreMade n ms
+brands_made R s [] ms n le can = subst (AreMade n) (sym can) tt
+brands_made R s (Moves ∷ ks) [] n le can = absurd can
+brands_made R s (Moves ∷ ks) (m ∷ ms) n le can = (omega (arith, le, can.0.made), brands_made R (back s m) ks ms n (omega (arith, le, back_long s m)) can.1)
+  where
+    ungiven_long : (x : Lists) (h : Holder) (b : ℕ) (w : Worth) → length (ungiven x h b w).out ≡ length x.out
+    ungiven_long x (Purse n) b w = refl
+    ungiven_long x (Payment n) b w = refl
+    ungiven_long x (Slot v j) b w = refl
+    ungiven_long x Hand b w = refl
+    ungiven_long x Outside b w = length_set x.out b _
+
+    untaken_long : (x : Lists) (h : Holder) (b : ℕ) (w : Worth) → length (untaken x h b w).out ≡ length x.out
+    untaken_long x (Purse n) b w = refl
+    untaken_long x (Payment n) b w = refl
+    untaken_long x (Slot v j) b w = refl
+    untaken_long x Hand b w = refl
+    untaken_long x Outside b w = length_set x.out b _
+
+    back_long : (x : Lists) (m : Movement) → length (back x m).out ≡ length x.out
+    back_long x m = untaken_long (ungiven x m.to m.brand m.value) m.from m.brand m.value ∙ ungiven_long x m.to m.brand m.value
+brands_made R s (OpensPurse ∷ ks) ms n le can = brands_made R (without_last_purse s) ks ms n le can.1
+brands_made R s (AddsBrand ∷ ks) ms n le can = brands_made R (without_last_brand s) ks ms n (omega (arith, le, taken_short s.out (length s.out - 1))) can.1
+  where
+    taken_short : {X : Type 0} (xs : List X) (n : ℕ) → length (take n xs) ≤ length xs
+    taken_short [] zero = omega arith
+    taken_short [] (suc n) = omega arith
+    taken_short (x ∷ xs) zero = omega arith
+    taken_short (x ∷ xs) (suc n) = omega (arith, taken_short xs n)
+
+pub forget_starts : (p : Stores) (ks : List Step) (ms : List Movement) (keys : ℕ) (spoiled : Bool) → IsDraft p ks ms keys spoiled → IsForgetting p p (reverse ms)
+forget_starts p ks ms keys spoiled is = record {
+  lists = refl;
+  given_up = refl;
+  made = brands_made (rooms_of p) (lists_of p) (reverse ks) (reverse ms) (length p.transit.out) (omega (arith, brands_there p)) is.can;
+  kept = is.retired;
 }
 
-pub committed_table : (p : Stores) (ks : List Step) (ms : List Movement) (keys : ℕ) (spoiled : Bool) → IsDraft p ks ms keys spoiled → IsClean (draft_of p ks ms spoiled) → table_of (lists_of p) ≡ table_now (draft_of p ks ms spoiled)
-committed_table p ks ms keys spoiled is clean =
-    one_table (lists_of p) no_hand _ _ (table_agrees (lists_of p)) (agrees_alike (lists_of p) (in_hand (reverse ms)) no_hand _ clean.hand is.valid.agrees)
+pub forget_ends : (p q : Stores) (ms : List Movement) → ms ≡ [] → IsForgetting p q (reverse ms) → IsForgotten p q
+forget_ends p q ms none is = record { lists = is.lists; given_up = is.given_up; kept = λ b. is.kept b ∙ ap (λ (l : List Movement). retired_by (reverse l) b) none }
+
+pub committed : (p q : Stores) (ks ls : List Step) (ms ns : List Movement) (keys : ℕ) (spoiled : Bool) → IsDraft p ks ms keys spoiled → IsForgotten p q → ls ≡ [] → ns ≡ [] → IsClean (draft_of p ks ms spoiled) → IsVault q ls ns
+committed p q ks ls ms ns keys spoiled is gone no_steps no_movements clean = record {
+  no_steps = no_steps;
+  no_movements = no_movements;
+  empty = λ b lt. same_store p q gone.given_up b ∙ is.clear clean.sound b (omega (arith, lt, brands_there p, brands_there q, ap (λ (s : Lists). length s.out) gone.lists));
+  kept = λ b lt. gone.kept b;
+  sound = subst (λ (s : Lists). IsSound s no_hand) (sym gone.lists) (sound_alike (lists_of p) (in_hand (reverse ms)) no_hand clean.hand is.valid.sound);
+}
+
+pub committed_table : (p q : Stores) (ks : List Step) (ms : List Movement) (keys : ℕ) (spoiled : Bool) → IsDraft p ks ms keys spoiled → IsForgotten p q → IsClean (draft_of p ks ms spoiled) → table_of (lists_of q) ≡ table_now (draft_of p ks ms spoiled)
+committed_table p q ks ms keys spoiled is gone clean =
+    ap table_of gone.lists ∙ one_table (lists_of p) no_hand _ _ (table_agrees (lists_of p)) (agrees_alike (lists_of p) (in_hand (reverse ms)) no_hand _ clean.hand is.valid.agrees)
 
 -- ---- room alone is made
 
@@ -151,6 +203,7 @@ room_stays p q ks ms keys spoiled is roomed = record {
   room = λ b lt. subst (λ (s : Lists). HasRoom (kind_of s b) (keys_of (in_hand (reverse ms) b)) ((rooms_of q).hand b)) (sym roomed.lists)
       (more_room (kind_of (lists_of p) b) (keys_of (in_hand (reverse ms) b)) ((rooms_of p).hand b) ((rooms_of q).hand b) (roomed.rooms.hand b) (is.room b (before b lt)));
   clear = λ sound b lt. same_store p q roomed.given_up b ∙ is.clear sound b (before b lt);
+  retired = λ b. roomed.kept b ∙ is.retired b;
   valid = subst IsValid (sym (same_draft p q ks ms spoiled roomed)) is.valid;
 }
   where
@@ -162,40 +215,42 @@ room_stays p q ks ms keys spoiled is roomed = record {
 pub last_first : {X : Type 0} (xs : List X) (x : X) → reverse (xs ++ x ∷ []) ≡ x ∷ reverse xs
 last_first xs x = reverse-append xs (x ∷ [])
 
-module _ (p q : Stores) (ks : List Step) (ms : List Movement) (spare : Option Worth) (m : Movement) (keys more : ℕ) (is : IsDraft p ks ms keys false)
-    (step : IsForward p q (moved (lists_of p) m)) (undone : back (moved (lists_of p) m) m ≡ lists_of p) where
+module _ (p q : Stores) (ks : List Step) (ms : List Movement) (m : Movement) (keys more : ℕ) (k : ℕ → Content) (is : IsDraft p ks ms keys false)
+    (step : IsForward p q (moved (lists_of p) m) k) (undone : back (moved (lists_of p) m) m ≡ lists_of p) where
   back_there : back (lists_of q) m ≡ lists_of p
   back_there = ap (λ (s : Lists). back s m) step.lists ∙ undone
 
-  kept_after : all_back (lists_of q) (reverse (ks ++ Moves spare ∷ [])) (reverse (ms ++ m ∷ [])) ≡ all_back (lists_of p) (reverse ks) (reverse ms)
+  kept_after : all_back (lists_of q) (reverse (ks ++ Moves ∷ [])) (reverse (ms ++ m ∷ [])) ≡ all_back (lists_of p) (reverse ks) (reverse ms)
   kept_after =
-      (λ i. all_back (lists_of q) (last_first ks (Moves spare) i) (last_first ms m i))
+      (λ i. all_back (lists_of q) (last_first ks Moves i) (last_first ms m i))
       ∙ ap (λ (s : Lists). all_back s (reverse ks) (reverse ms)) back_there
 
-  table_then : table_now (draft_of q (ks ++ Moves spare ∷ []) (ms ++ m ∷ []) false) ≡ table.moved (table_now (draft_of p ks ms false)) m
+  table_then : table_now (draft_of q (ks ++ Moves ∷ []) (ms ++ m ∷ []) false) ≡ table.moved (table_now (draft_of p ks ms false)) m
   table_then = ap (λ (s : Lists). table_after (table_of s) (ms ++ m ∷ [])) kept_after ∙ table_after-push (table_of (all_back (lists_of p) (reverse ks) (reverse ms))) ms m
 
-  pub draft_after : draft_of q (ks ++ Moves spare ∷ []) (ms ++ m ∷ []) false ≡ after (draft_of p ks ms false) m
+  pub draft_after : draft_of q (ks ++ Moves ∷ []) (ms ++ m ∷ []) false ≡ after (draft_of p ks ms false) m
   draft_after = λ i. record { kept = kept_after i; now = step.lists i; movements = ms ++ m ∷ []; given_up = step.given_up i; is_spoiled = false }
 
-  pub pushed : CanBack (rooms_of q) (lists_of q) spare m (reverse ms)
+  pub pushed : CanBack (rooms_of q) (lists_of q) m (reverse ms)
       → ((b : ℕ) → keys_in (kind_of (lists_of q) b) (in_hand (m ∷ reverse ms) b) ≤ more)
       → ((b : ℕ) → b < length q.transit.out → HasRoom (kind_of (lists_of q) b) (keys_of (in_hand (m ∷ reverse ms) b)) ((rooms_of q).hand b))
       → length q.transit.out ≡ length p.transit.out
+      → ((b : ℕ) → k b ≡ retired_by (m ∷ reverse ms) b)
       → IsSound (lists_of q) (in_hand (m ∷ reverse ms))
       → Agrees (lists_of q) (in_hand (m ∷ reverse ms)) (table.moved (table_now (draft_of p ks ms false)) m)
       → CanMove (table_now (draft_of p ks ms false)) m
-      → IsDraft q (ks ++ Moves spare ∷ []) (ms ++ m ∷ []) more false
-  pushed can bounded room brands sound agrees moves = record {
-    can = subst (λ (l : List Movement). CanAllBack (rooms_of q) (lists_of q) (reverse (ks ++ Moves spare ∷ [])) l) (sym (last_first ms m))
-        (subst (λ (l : List Step). CanAllBack (rooms_of q) (lists_of q) l (m ∷ reverse ms)) (sym (last_first ks (Moves spare)))
+      → IsDraft q (ks ++ Moves ∷ []) (ms ++ m ∷ []) more false
+  pushed can bounded room brands retires sound agrees moves = record {
+    can = subst (λ (l : List Movement). CanAllBack (rooms_of q) (lists_of q) (reverse (ks ++ Moves ∷ [])) l) (sym (last_first ms m))
+        (subst (λ (l : List Step). CanAllBack (rooms_of q) (lists_of q) l (m ∷ reverse ms)) (sym (last_first ks Moves))
         (can, subst (λ (s : Lists). CanAllBack (rooms_of q) s (reverse ks) (reverse ms)) (sym back_there) (all_grows (rooms_of p) (rooms_of q) step.rooms (lists_of p) (reverse ks) (reverse ms) is.can)));
     bounded = λ b. subst (λ (l : List Movement). keys_in (kind_of (lists_of q) b) (in_hand l b) ≤ more) (sym (last_first ms m)) (bounded b);
     room = λ b lt. subst (λ (l : List Movement). HasRoom (kind_of (lists_of q) b) (keys_of (in_hand l b)) ((rooms_of q).hand b)) (sym (last_first ms m)) (room b lt);
     clear = λ sound b lt. same_store p q step.given_up b ∙ is.clear sound b (omega (arith, lt, brands));
+    retired = λ b. step.kept b ∙ retires b ∙ ap (λ (l : List Movement). retired_by l b) (sym (last_first ms m));
     valid = record {
       sound = subst (λ (l : List Movement). IsSound (lists_of q) (in_hand l)) (sym (last_first ms m)) sound;
-      agrees = subst (λ (l : List Movement). Agrees (lists_of q) (in_hand l) (table_now (draft_of q (ks ++ Moves spare ∷ []) (ms ++ m ∷ []) false))) (sym (last_first ms m))
+      agrees = subst (λ (l : List Movement). Agrees (lists_of q) (in_hand l) (table_now (draft_of q (ks ++ Moves ∷ []) (ms ++ m ∷ []) false))) (sym (last_first ms m))
           (subst (λ (t : Table). Agrees (lists_of q) (in_hand (m ∷ reverse ms)) t) (sym table_then) agrees);
       moves = subst (λ (s : Lists). CanMoveAll (table_of s) (ms ++ m ∷ [])) (sym kept_after) (CanMoveAll-push (table_of (all_back (lists_of p) (reverse ks) (reverse ms))) ms m is.valid.moves moves);
       was_sound = subst (λ (s : Lists). IsSound s no_hand) (sym kept_after) is.valid.was_sound;
@@ -232,6 +287,19 @@ long_given s (Slot v j) b w = refl
 long_given s Hand b w = refl
 long_given s Outside b w = length_set s.out b _
 
+-- ---- what is kept
+
+either_way : (t : Bool) (x : Content) → cond t x x ≡ x
+either_way true x = refl
+either_way false x = refl
+
+kept_after_give : (b : ℕ) (c : Content) (h : Holder) (S X : ℕ → Content) (e : ℕ) → S e ≡ X e → kept_given S h b c e ≡ cond (b == e) (to_outside h (X e) c) (X e)
+kept_after_give b c Outside S X e is = ap (λ x. cond (b == e) (sum x c) x) is
+kept_after_give b c (Purse n) S X e is = is ∙ sym (either_way (b == e) (X e))
+kept_after_give b c (Payment n) S X e is = is ∙ sym (either_way (b == e) (X e))
+kept_after_give b c (Slot v j) S X e is = is ∙ sym (either_way (b == e) (X e))
+kept_after_give b c Hand S X e is = is ∙ sym (either_way (b == e) (X e))
+
 -- ---- a take into the hand
 
 in_hand_plus : (s : Lists) (h : Holder) (b : ℕ) (w : Worth) (ms : List Movement) → CanTake s h b w → in_hand (movement b h Hand w ∷ ms) ≡ hand_plus (in_hand ms) b w.content
@@ -265,8 +333,8 @@ module _ (p q : Stores) (ks : List Step) (ms : List Movement) (keys more : ℕ) 
   plus : in_hand (m ∷ reverse ms) ≡ hand_plus h b w.content
   plus = in_hand_plus (lists_of p) from b w (reverse ms) can
 
-  pub take_after : draft_of q (ks ++ Moves (Some w) ∷ []) (ms ++ m ∷ []) false ≡ after (draft_of p ks ms false) m
-  take_after = draft_after p q ks ms (Some w) m keys more is took.half (untaken-taken (lists_of p) from b w can)
+  pub take_after : draft_of q (ks ++ Moves ∷ []) (ms ++ m ∷ []) false ≡ after (draft_of p ks ms false) m
+  take_after = draft_after p q ks ms m keys more (kept_of p) is took.half (untaken-taken (lists_of p) from b w can)
 
   kind_here : (e : ℕ) → kind_of (lists_of q) e ≡ kind_of (lists_of p) e
   kind_here e = ap (λ (s : Lists). kind_of s e) took.half.lists ∙ kind_taken (lists_of p) from b w e
@@ -292,15 +360,14 @@ module _ (p q : Stores) (ks : List Step) (ms : List Movement) (keys more : ℕ) 
         (λ differs made. more_room (kind_of (lists_of p) e) (keys_of (h e)) ((rooms_of p).hand e) ((rooms_of q).hand e) (took.half.rooms.hand e) (is.room e made))
         (omega (arith, lt, brands))
 
-    pub take_keeps : IsDraft q (ks ++ Moves (Some w) ∷ []) (ms ++ m ∷ []) more false
-    take_keeps = pushed p q ks ms (Some w) m keys more is took.half (untaken-taken (lists_of p) from b w can)
+    pub take_keeps : IsDraft q (ks ++ Moves ∷ []) (ms ++ m ∷ []) more false
+    take_keeps = pushed p q ks ms m keys more (kept_of p) is took.half (untaken-taken (lists_of p) from b w can)
         (record {
           ungive = tt;
           untake = took.back;
           made = omega (arith, brand, brands, brands_there q);
           kind = kind_here b ∙ kind;
           has = no_hand_needed (lists_of p) from b w (h b) can;
-          spared = refl;
           out = subst (λ x. Contains (supply_at (lists_of q).out b).outstanding.content (sum x w.content)) (sym (not_from_hand (lists_of p) from b w (h b) can))
               (subst (λ x. Contains (supply_at (lists_of q).out b).outstanding.content x) plus_here (hand_is_out (lists_of q) (hand_plus h b w.content) sound_then b));
           room = subst (λ k. HasRoom k (keys_of (h b)) ((rooms_of q).hand b)) kind
@@ -309,6 +376,7 @@ module _ (p q : Stores) (ks : List Step) (ms : List Movement) (keys more : ℕ) 
         (λ e. subst (λ (g : ℕ → Content). keys_in (kind_of (lists_of q) e) (g e) ≤ more) (sym plus) (subst (λ k. keys_in k (hand_plus h b w.content e) ≤ more) (sym (kind_here e)) (few e)))
         (λ e lt. subst (λ (g : ℕ → Content). HasRoom (kind_of (lists_of q) e) (keys_of (g e)) ((rooms_of q).hand e)) (sym plus) (subst (λ k. HasRoom k (keys_of (hand_plus h b w.content e)) ((rooms_of q).hand e)) (sym (kind_here e)) (roomy e lt)))
         brands
+        (λ e. is.retired e ∙ sym (either_way (b == e) (retired_by (reverse ms) e)))
         (subst (λ (g : ℕ → Content). IsSound (lists_of q) g) (sym plus) sound_then)
         (subst (λ (g : ℕ → Content). Agrees (lists_of q) g (table.moved (table_now (draft_of p ks ms false)) m)) (sym plus)
         (subst (λ (s : Lists). Agrees s (hand_plus h b w.content) (table.moved (table_now (draft_of p ks ms false)) m)) (sym took.half.lists)
@@ -325,7 +393,7 @@ in_hand_minus s (Slot v j) b w ms can = absurd can
 in_hand_minus s Hand b w ms can = absurd can
 in_hand_minus s Outside b w ms can = refl
 
-module _ (p q : Stores) (ks : List Step) (ms : List Movement) (keys : ℕ) (spare : Option Worth) (to : Holder) (b : ℕ) (w : Worth) (is : IsDraft p ks ms keys false) (gave : IsGiven p q to b w) (can : CanGive (lists_of p) to b w) where
+module _ (p q : Stores) (ks : List Step) (ms : List Movement) (keys : ℕ) (to : Holder) (b : ℕ) (w : Worth) (is : IsDraft p ks ms keys false) (gave : IsGiven p q to b w) (can : CanGive (lists_of p) to b w) where
   abbrev g : ℕ → Content
   g = in_hand (reverse ms)
 
@@ -338,8 +406,8 @@ module _ (p q : Stores) (ks : List Step) (ms : List Movement) (keys : ℕ) (spar
   undone_put : back (moved (lists_of p) n) n ≡ lists_of p
   undone_put = ungiven-given (lists_of p) to b w can
 
-  pub put_after : draft_of q (ks ++ Moves spare ∷ []) (ms ++ n ∷ []) false ≡ after (draft_of p ks ms false) n
-  put_after = draft_after p q ks ms spare n keys keys is gave.half undone_put
+  pub put_after : draft_of q (ks ++ Moves ∷ []) (ms ++ n ∷ []) false ≡ after (draft_of p ks ms false) n
+  put_after = draft_after p q ks ms n keys keys (kept_given (kept_of p) to b w.content) is gave.half undone_put
 
   kind_there : (e : ℕ) → kind_of (lists_of q) e ≡ kind_of (lists_of p) e
   kind_there e = ap (λ (s : Lists). kind_of s e) gave.half.lists ∙ kind_given (lists_of p) to b w e
@@ -353,16 +421,15 @@ module _ (p q : Stores) (ks : List Step) (ms : List Movement) (keys : ℕ) (spar
     | false ↦ record { each = λ k. omega arith }
   ]
 
-  module _ (brand : b < length p.transit.out) (kind : kind_of (lists_of p) b ≡ w.kind) (has : Contains (g b) w.content) (spared : HasSpare to spare w) where
-    pub put_keeps : IsDraft q (ks ++ Moves spare ∷ []) (ms ++ n ∷ []) keys false
-    put_keeps = pushed p q ks ms spare n keys keys is gave.half undone_put
+  module _ (brand : b < length p.transit.out) (kind : kind_of (lists_of p) b ≡ w.kind) (has : Contains (g b) w.content) where
+    pub put_keeps : IsDraft q (ks ++ Moves ∷ []) (ms ++ n ∷ []) keys false
+    put_keeps = pushed p q ks ms n keys keys (kept_given (kept_of p) to b w.content) is gave.half undone_put
         (record {
           ungive = gave.back;
           untake = tt;
           made = omega (arith, brand, brands_same, brands_there q);
           kind = kind_there b ∙ kind;
           has = has;
-          spared = spared;
           out = subst (λ (s : Lists). Contains (supply_at s.out b).outstanding.content (sum (difference (g b) w.content) w.content)) (sym (ap (λ (s : Lists). ungiven s to b w) gave.half.lists ∙ ungiven-given (lists_of p) to b w can))
               (subst (λ x. Contains (supply_at (lists_of p).out b).outstanding.content x) (sym (sum-difference (g b) w.content has)) (hand_is_out (lists_of p) g is.valid.sound b));
           room = subst (λ k. HasRoom k (keys_of (g b)) ((rooms_of q).hand b)) kind
@@ -374,6 +441,7 @@ module _ (p q : Stores) (ks : List Step) (ms : List Movement) (keys : ℕ) (spar
         (room_for_fewer (kind_of (lists_of p) e) (keys_of (hand_minus g b w.content e)) (keys_of (g e)) ((rooms_of q).hand e) (keys_within (g e) (hand_minus g b w.content e) (less_at e))
         (more_room (kind_of (lists_of p) e) (keys_of (g e)) ((rooms_of p).hand e) ((rooms_of q).hand e) (gave.half.rooms.hand e) (is.room e (omega (arith, lt, brands_same)))))))
         brands_same
+        (λ e. kept_after_give b w.content to (kept_of p) (retired_by (reverse ms)) e (is.retired e))
         (subst (λ (x : ℕ → Content). IsSound (lists_of q) x) (sym minus) (subst (λ (s : Lists). IsSound s (hand_minus g b w.content)) (sym gave.half.lists) (sound_given (lists_of p) g b w is.valid.sound to can has)))
         (subst (λ (x : ℕ → Content). Agrees (lists_of q) x (table.moved (table_now (draft_of p ks ms false)) n)) (sym minus)
         (subst (λ (s : Lists). Agrees s (hand_minus g b w.content) (table.moved (table_now (draft_of p ks ms false)) n)) (sym gave.half.lists)
@@ -426,13 +494,13 @@ module _ (p : Stores) (ks : List Step) (ms : List Movement) (keys : ℕ) (spoile
       can = subst (λ (s : Lists). CanAllBack (rooms_of q) s (reverse ks) (reverse ms)) (sym lists_same) (all_grows (rooms_of p) (rooms_of q) (record {
         purses = λ n. omega arith;
         capacity = omega arith;
-        out = λ b. omega (arith, ap (λ l. (circulation_at l b).room) out_same);
         hand = λ b. omega (arith, hand_rooms b);
       }) (lists_of p) (reverse ks) (reverse ms) is.can);
       bounded = λ b. subst (λ (s : Lists). keys_in (kind_of s b) (in_hand (reverse ms) b) ≤ keys) (sym lists_same) (is.bounded b);
       room = λ b lt. subst (λ (s : Lists). HasRoom (kind_of s b) (keys_of (in_hand (reverse ms) b)) ((rooms_of q).hand b)) (sym lists_same)
           (subst (λ r. HasRoom (kind_of (lists_of p) b) (keys_of (in_hand (reverse ms) b)) r) (sym (hand_rooms b)) (is.room b (omega (arith, lt, ap length out_same))));
       clear = λ sound. absurd (sound_not sound);
+      retired = λ b. ap (λ l. (circulation_at l b).kept) out_same ∙ is.retired b;
       valid = subst (λ (s : Lists). IsValid (record { kept = all_back s (reverse ks) (reverse ms); now = s; movements = ms; given_up = given_up_in q; is_spoiled = true })) (sym lists_same)
           (record { sound = is.valid.sound; agrees = is.valid.agrees; moves = is.valid.moves; was_sound = is.valid.was_sound });
     }
@@ -447,6 +515,7 @@ nothing_made p ks ms purses payments out steps movements = record {
   no_steps = steps;
   no_movements = movements;
   empty = λ b lt. absurd (none b lt);
+  kept = λ b lt. absurd (none b lt);
   sound = record { balanced = λ b k. omega (arith, no_purses b k, no_papers b k, ap (λ l. count (supply_at (map supply_of l) b).outstanding.content k) out) };
 }
   where

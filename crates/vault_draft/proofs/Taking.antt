@@ -1,6 +1,5 @@
 -- A take and a put as the draft's calls make them: room first, then the step.
 use Rattle.std.proofs.Common.{◌≡◌, ℕ, ◌+◌, false, List, [], ◌∷◌, ◌++◌, length, reverse, refl, sym, ◌∙◌, ap, subst, arith}
-use Rattle.std.specs.Prelude.{Option, None, Some}
 use Rattle.amount_math.specs.Content.{Contains, Contains-trans, count-sum}
 use Rattle.amount_math.specs.Held.{HasRoom, keys_in, more_room, room_for_fewer}
 use Rattle.amount_math.specs.Worth.{Worth, keys_of}
@@ -8,7 +7,7 @@ use Rattle.amount_math.specs.declared.Amount.{Amount}
 use Rattle.ertp_mint.specs.BrandSupply.{supply_at}
 use Rattle.right_steps.specs.declared.Step.{Step}
 use Rattle.right_steps.specs.declared.Step.TheVariants.{Moves}
-use Rattle.right_steps.specs.Backwards.{HasSpare, in_hand}
+use Rattle.right_steps.specs.Backwards.{in_hand}
 use Rattle.right_steps.specs.Lists.{CanGive, CanTake, Lists, kind_of}
 use Rattle.right_steps.proofs.Sound.{hand_is_out}
 use Rattle.rights_model.specs.declared.Holder.{Holder}
@@ -36,13 +35,6 @@ can_give s (Slot v j) a target value = absurd target
 can_give s Hand a target value = absurd target
 can_give s Outside a target value = absurd target
 
-pub no_spare : (s : Lists) (h : Holder) (a : Amount) → IsTarget s h a → HasSpare h None a.value
-no_spare s (Purse n) a target = tt
-no_spare s (Payment n) a target = tt
-no_spare s (Slot v j) a target = absurd target
-no_spare s Hand a target = absurd target
-no_spare s Outside a target = absurd target
-
 -- what the hand keeps is in it
 pub carried : (d : DraftState) (a : Amount) → HandKeeps d a → Contains (in_hand (reverse d.movements) a.brand) a.value.content
 carried d a keep = record { each = λ k. omega (arith, keep.has.each k, count-sum (given_at d a.brand) a.value.content k) }
@@ -62,11 +54,11 @@ module _ (p r q : Stores) (ks : List Step) (ms : List Movement) (keys more : ℕ
   can_then : CanTake (lists_of r) from b w
   can_then = subst (λ (s : Lists). CanTake s from b w) (sym roomed.lists) can
 
-  pub draft_taken_after : draft_of q (ks ++ Moves (Some w) ∷ []) (ms ++ movement b from Hand w ∷ []) false ≡ after (draft_of p ks ms false) (movement b from Hand w)
+  pub draft_taken_after : draft_of q (ks ++ Moves ∷ []) (ms ++ movement b from Hand w ∷ []) false ≡ after (draft_of p ks ms false) (movement b from Hand w)
   draft_taken_after = take_after r q ks ms keys more from b w roomed_draft took can_then ∙ ap (λ (d : DraftState). after d (movement b from Hand w)) (same_draft p r ks ms false roomed)
 
   pub draft_taken : IsOfBrand (lists_of p) b w → more ≡ keys + keys_in w.kind w.content → HasRoom (kind_of (lists_of p) b) (keys_of (store_of p b) + more) ((rooms_of r).hand b)
-      → IsDraft q (ks ++ Moves (Some w) ∷ []) (ms ++ movement b from Hand w ∷ []) more false
+      → IsDraft q (ks ++ Moves ∷ []) (ms ++ movement b from Hand w ∷ []) more false
   draft_taken brand counted room = take_keeps r q ks ms keys more from b w roomed_draft took can_then
       (omega (arith, brand.made, brands_there r, ap (λ (s : Lists). length s.out) roomed.lists))
       (ap (λ (s : Lists). kind_of s b) roomed.lists ∙ brand.kind)
@@ -75,10 +67,10 @@ module _ (p r q : Stores) (ks : List Step) (ms : List Movement) (keys more : ℕ
       (more_room (kind_of (lists_of p) b) more ((rooms_of r).hand b) ((rooms_of q).hand b) (took.half.rooms.hand b)
       (room_for_fewer (kind_of (lists_of p) b) more (keys_of (store_of p b) + more) ((rooms_of r).hand b) (omega arith) room)))
 
-module _ (p q : Stores) (ks : List Step) (ms : List Movement) (keys : ℕ) (spare : Option Worth) (to : Holder) (a : Amount) (is : IsDraft p ks ms keys false) (gave : IsGiven p q to a.brand a.value) (can : CanGive (lists_of p) to a.brand a.value) where
-  pub draft_put_after : draft_of q (ks ++ Moves spare ∷ []) (ms ++ movement a.brand Hand to a.value ∷ []) false ≡ after (draft_of p ks ms false) (movement a.brand Hand to a.value)
-  draft_put_after = put_after p q ks ms keys spare to a.brand a.value is gave can
+module _ (p q : Stores) (ks : List Step) (ms : List Movement) (keys : ℕ) (to : Holder) (a : Amount) (is : IsDraft p ks ms keys false) (gave : IsGiven p q to a.brand a.value) (can : CanGive (lists_of p) to a.brand a.value) where
+  pub draft_put_after : draft_of q (ks ++ Moves ∷ []) (ms ++ movement a.brand Hand to a.value ∷ []) false ≡ after (draft_of p ks ms false) (movement a.brand Hand to a.value)
+  draft_put_after = put_after p q ks ms keys to a.brand a.value is gave can
 
-  pub draft_put : HandKeeps (draft_of p ks ms false) a → HasSpare to spare a.value → IsDraft q (ks ++ Moves spare ∷ []) (ms ++ movement a.brand Hand to a.value ∷ []) keys false
-  draft_put keep spared = put_keeps p q ks ms keys spare to a.brand a.value is gave can
-      (omega (arith, keep.brand.made, brands_there p)) keep.brand.kind (carried (draft_of p ks ms false) a keep) spared
+  pub draft_put : HandKeeps (draft_of p ks ms false) a → IsDraft q (ks ++ Moves ∷ []) (ms ++ movement a.brand Hand to a.value ∷ []) keys false
+  draft_put keep = put_keeps p q ks ms keys to a.brand a.value is gave can
+      (omega (arith, keep.brand.made, brands_there p)) keep.brand.kind (carried (draft_of p ks ms false) a keep)

@@ -17,10 +17,10 @@ use Rattle.rights_model.specs.declared.Holder.TheVariants.{Purse, Payment, Slot,
 use Rattle.rights_model.specs.declared.Movement.{Movement}
 use Rattle.rights_model.specs.Table.{Table, CanMoveAll, coded_movement, table_after}
 use Rattle.right_steps.specs.declared.Step.{Step}
-use Rattle.right_steps.specs.Backwards.{CanAllBack, all_back, in_hand}
+use Rattle.right_steps.specs.Backwards.{CanAllBack, all_back, in_hand, retired_by}
 use Rattle.right_steps.specs.Lists.{Lists, amount_of, coded_lists, kind_of, moved, purse_at, with_new_brand}
 use Rattle.right_steps.specs.Tables.{Agrees, IsSound, content_held, no_hand, table_of}
-use Rattle.vault_draft.specs.Memory.{given_up_in, lists_of, rooms_of, store_of}
+use Rattle.vault_draft.specs.Memory.{given_up_in, kept_of, lists_of, rooms_of, store_of}
 use Rattle.vault_draft.specs.declared.stores.Stores.{Stores}
 
 -- what was kept at its beginning, what is now, the movements between, and what the hand's own store has of each brand
@@ -159,17 +159,19 @@ pub record IsClean (d : DraftState) : Type 0 where
 
 -- ---- what is kept of a draft in memory
 
--- all of it can be worked backwards in the room that there is; for what the hand has there is room in its own store, which is bounded by the keys that were taken; and that store has something only of a spoiled draft
+-- all of it can be worked backwards in the room that there is; for what the hand has there is room in its own store, which is bounded by the keys that were taken; that store has something only of a spoiled draft; and what is kept was retired by movements
 pub record IsDraft (p : Stores) (ks : List Step) (ms : List Movement) (keys : ℕ) (spoiled : Bool) : Type 0 where
   pub can : CanAllBack (rooms_of p) (lists_of p) (reverse ks) (reverse ms)
   pub bounded : (b : ℕ) → keys_in (kind_of (lists_of p) b) (in_hand (reverse ms) b) ≤ keys
   pub room : (b : ℕ) → b < length p.transit.out → HasRoom (kind_of (lists_of p) b) (keys_of (in_hand (reverse ms) b)) ((rooms_of p).hand b)
   pub clear : spoiled ≡ false → (b : ℕ) → b < length p.transit.out → store_of p b ≡ nothing
+  pub retired : (b : ℕ) → kept_of p b ≡ retired_by (reverse ms) b
   pub valid : IsValid (draft_of p ks ms spoiled)
 
--- nothing is on its way in a vault
+-- nothing is on its way in a vault, and nothing retired is kept
 pub record IsVault (p : Stores) (ks : List Step) (ms : List Movement) : Type 0 where
   pub no_steps : ks ≡ []
   pub no_movements : ms ≡ []
   pub empty : (b : ℕ) → b < length p.transit.out → store_of p b ≡ nothing
+  pub kept : (b : ℕ) → b < length p.transit.out → kept_of p b ≡ nothing
   pub sound : IsSound (lists_of p) no_hand

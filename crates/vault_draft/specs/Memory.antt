@@ -1,12 +1,12 @@
 -- The stores in memory, as lists and as rooms, and what each half of a movement, worked forwards or back, leaves of them.
-use Rattle.std.specs.Prelude.{◌≡◌, ℕ, ◌<◌, List, length, map, Option, Some}
-use Rattle.amount_math.specs.Content.{Content}
+use Rattle.std.specs.Prelude.{◌≡◌, ℕ, ◌<◌, List, length, map}
+use Rattle.amount_math.specs.Content.{Content, nothing}
 use Rattle.amount_math.specs.Held.{Held}
 use Rattle.amount_math.specs.Worth.{Worth}
 use Rattle.amount_math.specs.declared.Amount.{Amount}
 use Rattle.ertp_mint.specs.Balances.{StoredAmount}
 use Rattle.ertp_mint.specs.BrandSupply.{BrandSupply}
-use Rattle.ertp_mint.specs.Circulating.{StoredSupply, CanReturn, circulation_at}
+use Rattle.ertp_mint.specs.Circulating.{CirculationView, CanReturn, circulation_at}
 use Rattle.purses.specs.Purses.{room_at}
 use Rattle.right_steps.specs.Backwards.{CanUngive, CanUntake, HasGrown, Rooms}
 use Rattle.right_steps.specs.Lists.{Lists, given, taken}
@@ -19,25 +19,30 @@ use Rattle.vault_draft.specs.declared.stores.Stores.{Stores}
 abbrev pub amount_in : StoredAmount → Amount
 amount_in s = s.amount
 
-abbrev pub supply_of : StoredSupply → BrandSupply
+abbrev pub supply_of : CirculationView → BrandSupply
 supply_of s = s.supply
 
 abbrev pub lists_of : Stores → Lists
 lists_of p = record { purses = map amount_in p.purses; payments = p.payments.papers; owed = p.payments.slots; out = map supply_of p.transit.out }
 
 abbrev pub rooms_of : Stores → Rooms
-rooms_of p = record { purses = λ n. room_at p.purses n; capacity = p.payments.capacity; out = λ b. (circulation_at p.transit.out b).room; hand = λ b. (held_at p.transit.hand b).room }
+rooms_of p = record { purses = λ n. room_at p.purses n; capacity = p.payments.capacity; hand = λ b. (held_at p.transit.hand b).room }
 
 -- what the hand's own store has
 abbrev pub store_of : Stores → ℕ → Content
 store_of p b = in_store p.transit b
 
+-- what was retired of a brand and is kept, since it may come out again
+abbrev pub kept_of : Stores → ℕ → Content
+kept_of p b = (circulation_at p.transit.out b).kept
+
 -- ---- halves
 
--- the lists are these, the hand's store has this, and no room is less
-pub record IsHalf (p q : Stores) (s : Lists) (h : ℕ → Content) : Type 0 where
+-- the lists are these, the hand's store has this, this is kept, and no room is less
+pub record IsHalf (p q : Stores) (s : Lists) (h k : ℕ → Content) : Type 0 where
   pub lists : lists_of q ≡ s
   pub hand : (b : ℕ) → store_of q b ≡ h b
+  pub kept : (b : ℕ) → kept_of q b ≡ k b
   pub rooms : HasGrown (rooms_of p) (rooms_of q)
 
 abbrev pub store_ungiven : (ℕ → Content) → Holder → ℕ → Content → ℕ → Content
@@ -54,21 +59,32 @@ store_untaken h (Payment n) b c = h
 store_untaken h (Slot seat keyword) b c = h
 store_untaken h Outside b c = h
 
--- a value comes out of the hand's store, or from Outside, with a second one of it
-pub record ComesWithSpare (there : Type 0) (second : Option Worth) (w : Worth) : Type 0 where
-  pub comes : there
-  pub spare : second ≡ Some w
+-- what is kept once it came back from outside, and once it went there
+abbrev pub kept_ungiven : (ℕ → Content) → Holder → ℕ → Content → ℕ → Content
+kept_ungiven k Outside b c = hand_minus k b c
+kept_ungiven k (Purse n) b c = k
+kept_ungiven k (Payment n) b c = k
+kept_ungiven k (Slot seat keyword) b c = k
+kept_ungiven k Hand b c = k
 
+abbrev pub kept_given : (ℕ → Content) → Holder → ℕ → Content → ℕ → Content
+kept_given k Outside b c = hand_plus k b c
+kept_given k (Purse n) b c = k
+kept_given k (Payment n) b c = k
+kept_given k (Slot seat keyword) b c = k
+kept_given k Hand b c = k
+
+-- what was retired can be out again
 pub record Returns (p : Stores) (b : ℕ) (w : Worth) : Type 0 where
   pub made : b < length p.transit.out
   pub can : CanReturn (circulation_at p.transit.out b) w
 
-abbrev pub CanUngiveHere : Stores → Holder → ℕ → Worth → Option Worth → Type 0
-CanUngiveHere p (Purse n) b w spare = CanUngive (rooms_of p) (lists_of p) (Purse n) b w
-CanUngiveHere p (Payment n) b w spare = CanUngive (rooms_of p) (lists_of p) (Payment n) b w
-CanUngiveHere p (Slot seat keyword) b w spare = ⊥
-CanUngiveHere p Hand b w spare = ComesWithSpare (IsInStore p.transit b w) spare w
-CanUngiveHere p Outside b w spare = ComesWithSpare (Returns p b w) spare w
+abbrev pub CanUngiveHere : Stores → Holder → ℕ → Worth → Type 0
+CanUngiveHere p (Purse n) b w = CanUngive (rooms_of p) (lists_of p) (Purse n) b w
+CanUngiveHere p (Payment n) b w = CanUngive (rooms_of p) (lists_of p) (Payment n) b w
+CanUngiveHere p (Slot seat keyword) b w = ⊥
+CanUngiveHere p Hand b w = IsInStore p.transit b w
+CanUngiveHere p Outside b w = Returns p b w
 
 abbrev pub CanUntakeHere : Stores → Holder → Amount → Type 0
 CanUntakeHere p (Purse n) a = CanUntake (rooms_of p) (lists_of p) (Purse n) a.brand a.value
@@ -84,21 +100,28 @@ content_in_store h = h.value.content
 abbrev pub given_up_in : Stores → List Content
 given_up_in p = map content_in_store p.transit.hand
 
--- the lists are these, what was given up is the same, and no room is less
-pub record IsForward (p q : Stores) (s : Lists) : Type 0 where
+-- the lists are these, what was given up is the same, this is kept, and no room is less
+pub record IsForward (p q : Stores) (s : Lists) (k : ℕ → Content) : Type 0 where
   pub lists : lists_of q ≡ s
   pub given_up : given_up_in q ≡ given_up_in p
+  pub kept : (b : ℕ) → kept_of q b ≡ k b
   pub rooms : HasGrown (rooms_of p) (rooms_of q)
 
 -- room alone was made
 abbrev pub IsRoomed : Stores → Stores → Type 0
-IsRoomed p q = IsForward p q (lists_of p)
+IsRoomed p q = IsForward p q (lists_of p) (kept_of p)
 
 -- a half was made, and can be worked backwards
 pub record IsTaken (p q : Stores) (h : Holder) (b : ℕ) (w : Worth) : Type 0 where
-  pub half : IsForward p q (taken (lists_of p) h b w)
+  pub half : IsForward p q (taken (lists_of p) h b w) (kept_of p)
   pub back : CanUntake (rooms_of q) (lists_of q) h b w
 
 pub record IsGiven (p q : Stores) (h : Holder) (b : ℕ) (w : Worth) : Type 0 where
-  pub half : IsForward p q (given (lists_of p) h b w)
+  pub half : IsForward p q (given (lists_of p) h b w) (kept_given (kept_of p) h b w.content)
   pub back : CanUngive (rooms_of q) (lists_of q) h b w
+
+-- what movements retired is kept no longer, and all else stays
+pub record IsForgotten (p q : Stores) : Type 0 where
+  pub lists : lists_of q ≡ lists_of p
+  pub given_up : given_up_in q ≡ given_up_in p
+  pub kept : (b : ℕ) → kept_of q b ≡ nothing

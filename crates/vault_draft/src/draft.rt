@@ -13,8 +13,8 @@ ghost use Rattle.right_steps.specs.Lists.{Lists, amount_of, kind_of, no_lists, w
 ghost use Rattle.right_steps.specs.Tables.{table_of};
 ghost use Rattle.rights_model.specs.Table.{movement};
 ghost use Rattle.vault_draft.specs.Drafts.{HandGoes, HandKeeps, IsClean, IsOfBrand, IsPutFault, IsSource, IsTarget, IsValid, TakesIn, after, brand_of, given_up_too, held_by, opened, table_now, with_brand};
-ghost use Rattle.vault_draft.specs.Memory.{IsRoomed, lists_of, rooms_of, store_of};
-ghost use Rattle.vault_draft.specs.Working.{IsWorking};
+ghost use Rattle.vault_draft.specs.Memory.{IsForgotten, IsRoomed, lists_of, rooms_of, store_of};
+ghost use Rattle.vault_draft.specs.Working.{IsForgetting, IsWorking};
 
 use crate::stores::Stores;
 use amount_math::{Kind, PutFault, TakeFault, Value};
@@ -120,7 +120,7 @@ fn work_back(stores: &mut Stores, movements: &mut Vec<Movement>, step: Step)
         → IsWorking rooms kept stores.new steps (reverse movements.new.items) }
 {
     match step {
-        Step::Moves(spare) => {
+        Step::Moves => {
             let Some(movement) = movements.pop() else {
                 unreachable!();
             };
@@ -130,11 +130,22 @@ fn work_back(stores: &mut Stores, movements: &mut Vec<Movement>, step: Step)
                 to,
                 value,
             } = movement;
-            let parcel = stores.ungive(&to, brand, value, spare);
+            let parcel = stores.ungive(&to, brand, value);
             stores.untake(&from, parcel);
         }
         Step::OpensPurse => stores.purses.undo_open(),
         Step::AddsBrand => stores.transit.undo_add_brand(),
+    }
+}
+
+/// Keeps what the movements retired no longer, and forgets them. It takes no memory.
+fn forget_all(stores: &mut Stores, movements: &mut Vec<Movement>)
+    requires { IsForgetting stores.old stores.old (reverse movements.old.items) }
+    ensures stores { IsForgotten stores.old stores.new }
+    ensures movements { movements.new.items ≡ [] }
+{
+    while let Some(movement) = movements.pop() {
+        stores.forget(&movement);
     }
 }
 
@@ -146,14 +157,14 @@ impl Draft {
         ensures table { table_of result ≡ table_now self }
     {
         let Draft {
-            stores,
+            mut stores,
             mut steps,
             mut movements,
             keys: _,
             is_spoiled: _,
         } = self;
         steps.clear();
-        movements.clear();
+        forget_all(&mut stores, &mut movements);
         Vault {
             stores,
             steps,
@@ -251,15 +262,11 @@ impl Draft {
         ) else {
             return Err(AllocError);
         };
-        let Noted {
-            movement,
-            spare,
-            keys,
-        } = noted;
+        let Noted { movement, keys } = noted;
         let parcel = self.stores.take_from(from, value);
         self.keys = keys;
         self.movements.push_reserved(movement);
-        self.steps.push_reserved(Step::Moves(Some(spare)));
+        self.steps.push_reserved(Step::Moves);
         Ok(parcel)
     }
 
@@ -288,7 +295,7 @@ impl Draft {
         match self.stores.give_to(to, parcel) {
             Ok(()) => {
                 self.movements.push_reserved(movement);
-                self.steps.push_reserved(Step::Moves(None));
+                self.steps.push_reserved(Step::Moves);
                 Ok(())
             }
             Err(fault) => Err(fault),
@@ -321,14 +328,10 @@ impl Draft {
         };
         match self.stores.issue(brand, value) {
             Ok(parcel) => {
-                let Noted {
-                    movement,
-                    spare,
-                    keys,
-                } = noted;
+                let Noted { movement, keys } = noted;
                 self.keys = keys;
                 self.movements.push_reserved(movement);
-                self.steps.push_reserved(Step::Moves(Some(spare)));
+                self.steps.push_reserved(Step::Moves);
                 Ok(parcel)
             }
             Err(fault) => Err(fault),
@@ -352,9 +355,9 @@ impl Draft {
         ) else {
             return Err(parcel);
         };
-        let spare = self.stores.retire(parcel);
+        self.stores.retire(parcel);
         self.movements.push_reserved(movement);
-        self.steps.push_reserved(Step::Moves(Some(spare)));
+        self.steps.push_reserved(Step::Moves);
         Ok(())
     }
 
@@ -404,11 +407,10 @@ impl Draft {
     }
 }
 
-/// What a take wants kept: its movement, a second one of its value, and how many keys the turn took then.
+/// What a take wants kept: its movement, and how many keys the turn took then.
 #[derive(Drop)]
 struct Noted {
     movement: Movement,
-    spare: Value,
     keys: usize,
 }
 
@@ -462,7 +464,6 @@ fn note_take(
     ensures step_room { OnOk result (vec_len steps.new < vec_capacity steps.new) }
     ensures movement_room { OnOk result (vec_len movements.new < vec_capacity movements.new) }
     ensures movement { IfOk result (λ noted. noted.movement ≡ movement brand from.now Holder.Hand value.now) }
-    ensures spare { IfOk result (λ noted. noted.spare ≡ value.now) }
     ensures keys { IfOk result (λ noted. noted.keys ≡ keys + keys_in value.now.kind value.now.content) }
     ensures hand_room { IfOk result (λ noted. HasRoom (kind_of (lists_of stores.old) brand) (keys_of (store_of stores.old brand) + noted.keys) ((rooms_of stores.new).hand brand)) }
 {
@@ -471,13 +472,8 @@ fn note_take(
     };
     room_for_take(stores, steps, movements, brand, keys)?;
     let alloc = *movements.allocator();
-    let spare = value.copy()?;
     let movement = movement_of(alloc, brand, from, &Holder::Hand, value)?;
-    Ok(Noted {
-        movement,
-        spare,
-        keys,
-    })
+    Ok(Noted { movement, keys })
 }
 
 /// Makes ready for a put of a value.

@@ -1,6 +1,6 @@
 //! The stores of a vault, and the halves of a movement on them.
 
-ghost use Rattle.std.specs.Prelude.{◌≡◌, ◌<◌, ◌+◌, ◌^◌, length, IfErr, IsTrue, IfOk, OnErr, OnOk, ◌↔◌};
+ghost use Rattle.std.specs.Prelude.{◌≡◌, ◌<◌, ◌+◌, ◌^◌, ◌∷◌, List, length, IfErr, IsTrue, IfOk, OnErr, OnOk, ◌↔◌};
 ghost use Rattle.amount_math.specs.Content.{Contains, nothing, sum};
 ghost use Rattle.amount_math.specs.Counted.{counted};
 ghost use Rattle.ertp_mint.specs.Stocks.{most_made};
@@ -9,13 +9,14 @@ ghost use Rattle.transit.specs.Transit.{IsOnItsWay, in_store, kind_in, supply_in
 ghost use Rattle.payments.specs.Papers.{IsKept};
 ghost use Rattle.right_steps.specs.Lists.{ungiven, untaken};
 ghost use Rattle.vault_draft.specs.Drafts.{IsPutFault, IsSource, IsTarget, TakesIn, brand_of, held_by};
-ghost use Rattle.vault_draft.specs.Memory.{CanUngiveHere, CanUntakeHere, IsGiven, IsHalf, IsRoomed, IsTaken, lists_of, store_of, store_ungiven, store_untaken};
+ghost use Rattle.vault_draft.specs.Memory.{CanUngiveHere, CanUntakeHere, IsGiven, IsHalf, IsRoomed, IsTaken, kept_of, kept_ungiven, lists_of, store_of, store_ungiven, store_untaken};
+ghost use Rattle.vault_draft.specs.Working.{IsForgetting};
 
 use amount_math::{PutFault, Value};
 use ertp_mint::Parcel;
 use payments::{MakeFault, PaymentRef, Payments};
 use purses::Purses;
-use rights_model::Holder;
+use rights_model::{Holder, Movement};
 use transit::Transit;
 
 /// Purses, payments, what is out of each brand, and the hand's own store.
@@ -28,40 +29,24 @@ pub struct Stores {
 
 impl Stores {
     /// Takes out again what was given to a holder. It takes no memory.
-    pub(crate) fn ungive(
-        &mut self,
-        to: &Holder,
-        brand: u16,
-        value: Value,
-        spare: Option<Value>,
-    ) -> Parcel
-        requires { CanUngiveHere self.old to.now brand value spare }
-        ensures half { IsHalf self.old self.new (ungiven (lists_of self.old) to.now brand value) (store_ungiven (store_of self.old) to.now brand value.content) }
+    pub(crate) fn ungive(&mut self, to: &Holder, brand: u16, value: Value) -> Parcel
+        requires { CanUngiveHere self.old to.now brand value }
+        ensures half { IsHalf self.old self.new (ungiven (lists_of self.old) to.now brand value) (store_ungiven (store_of self.old) to.now brand value.content) (kept_ungiven (kept_of self.old) to.now brand value.content) }
         ensures parcel { result ≡ record { brand = brand; value = value } }
     {
         match to {
             Holder::Purse(purse) => self.purses.undo_put(*purse, value),
             Holder::Payment(_) => self.payments.undo_make(),
             Holder::Slot(_, _) => unreachable!(),
-            Holder::Hand => {
-                let Some(spare) = spare else {
-                    unreachable!();
-                };
-                self.transit.let_go(brand, value, spare)
-            }
-            Holder::Outside => {
-                let Some(spare) = spare else {
-                    unreachable!();
-                };
-                self.transit.undo_retire(brand, value, spare)
-            }
+            Holder::Hand => self.transit.let_go(brand, value),
+            Holder::Outside => self.transit.undo_retire(brand, value),
         }
     }
 
     /// Puts in again what was taken of a holder. It takes no memory.
     pub(crate) fn untake(&mut self, from: &Holder, parcel: Parcel)
         requires { CanUntakeHere self.old from.now parcel }
-        ensures { IsHalf self.old self.new (untaken (lists_of self.old) from.now parcel.brand parcel.value) (store_untaken (store_of self.old) from.now parcel.brand parcel.value.content) }
+        ensures { IsHalf self.old self.new (untaken (lists_of self.old) from.now parcel.brand parcel.value) (store_untaken (store_of self.old) from.now parcel.brand parcel.value.content) (kept_of self.old) }
     {
         match from {
             Holder::Purse(purse) => self.purses.undo_take(*purse, parcel),
@@ -152,12 +137,21 @@ impl Stores {
     }
 
     /// Ends a parcel that is on its way, so that it can be worked backwards without memory. It takes none.
-    pub(crate) fn retire(&mut self, parcel: Parcel) -> Value
+    pub(crate) fn retire(&mut self, parcel: Parcel)
         requires { IsOnItsWay self.old.transit parcel }
-        ensures value { result ≡ parcel.value }
-        ensures given { IsGiven self.old self.new Holder.Outside parcel.brand parcel.value }
+        ensures { IsGiven self.old self.new Holder.Outside parcel.brand parcel.value }
     {
-        self.transit.retire(parcel)
+        let _value = self.transit.retire(parcel);
+    }
+
+    /// Keeps what a movement retired no longer. It takes no memory.
+    pub(crate) fn forget(&mut self, movement: &Movement)
+        requires { (start : Stores) × (rest : List Movement) × IsForgetting start self.old (movement.now ∷ rest) }
+        ensures { (start : Stores) (rest : List Movement) → IsForgetting start self.old (movement.now ∷ rest) → IsForgetting start self.new rest }
+    {
+        if let Holder::Outside = movement.to {
+            self.transit.forget(movement.brand, &movement.value);
+        }
     }
 
     /// Makes the next payment of a parcel, or hands it back for want of memory.

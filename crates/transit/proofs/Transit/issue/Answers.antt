@@ -1,6 +1,4 @@
-use Rattle.std.proofs.Common.{subst}
-use Rattle.amount_math.specs.Held.{IsHeld}
-use Rattle.transit.proofs.Calls.{fits_so, issue_keeps, issue_room, issue_view, issued_made, kind_there, made, refused_so, small_there}
+use Rattle.transit.proofs.Calls.{fits_so, issue_keeps, issue_view, kind_there, made, refused_so, small_there}
 use Rattle.transit.proofs.Transit.issue.Goals as goal
 
 pub issue-requires-clause-made : goal.issue-requires-clause-made
@@ -16,27 +14,16 @@ issue-requires-clause-room c =
     let there = rw (← c.self.view_is) at c.requires.made in
     small_there c.self.inside.out c.self.inside.hand.items c.self.invariant c.args.brand there c.args.value (rw (← c.self.view_is) at c.requires.empty) (rw (← c.self.view_is) at c.requires.small)
 
-pub outstanding-requires : goal.outstanding-requires
-outstanding-requires c =
-    let there = rw (← c.self.view_is) at c.requires.made in
-    issued_made c.self.inside.out c.self.inside.hand.items c.self.invariant c.args.brand there c.args.value (rw (← c.self.view_is) at c.requires.empty) c.issue.new.self c.in-Ok.ensures.ok
-
 pub invariant_of-self : goal.invariant_of-self
 invariant_of-self c =
     let there = rw (← c.self.view_is) at c.requires.made in
-    issue_keeps c.self.inside.out c.self.inside.hand.items c.self.invariant c.args.brand there c.args.value (rw (← c.self.view_is) at c.requires.empty) c.issue.new.self c.in-Ok.ensures.ok (subst IsHeld c.outstanding.ensures.outstanding c.kind-kind.ensures.held)
+    issue_keeps c.self.inside.out c.self.inside.hand.items c.self.invariant c.args.brand there c.args.value (rw (← c.self.view_is) at c.requires.empty) (rw (← c.self.view_is) at c.requires.kind) c.in-Ok.ensures.fits c.issue.new.self c.in-Ok.ensures.ok
 
 pub returns-in-Ok-clause-ok : goal.returns-in-Ok-clause-ok
 returns-in-Ok-clause-ok c =
     let there = rw (← c.self.view_is) at c.requires.made in
     rw (← c.self.view_is)
-    (issue_view c.self.inside.out c.self.inside.hand.items c.self.invariant c.args.brand there c.args.value (rw (← c.self.view_is) at c.requires.empty) c.issue.new.self c.in-Ok.ensures.ok (subst IsHeld c.outstanding.ensures.outstanding c.kind-kind.ensures.held))
-
-pub returns-in-Ok-clause-room : goal.returns-in-Ok-clause-room
-returns-in-Ok-clause-room c =
-    let there = rw (← c.self.view_is) at c.requires.made in
-    rw (← c.self.view_is)
-    (issue_room c.self.inside.out c.self.inside.hand.items c.self.invariant c.args.brand there c.args.value (rw (← c.self.view_is) at c.requires.empty) c.issue.new.self c.in-Ok.ensures.ok (subst IsHeld c.outstanding.ensures.outstanding c.kind-kind.ensures.held) c.issue.ensures.room)
+    (issue_view c.self.inside.out c.self.inside.hand.items c.self.invariant c.args.brand there c.args.value (rw (← c.self.view_is) at c.requires.empty) (rw (← c.self.view_is) at c.requires.kind) c.in-Ok.ensures.fits c.issue.new.self c.in-Ok.ensures.ok)
 
 pub returns-in-Ok-clause-fits : goal.returns-in-Ok-clause-fits
 returns-in-Ok-clause-fits c =

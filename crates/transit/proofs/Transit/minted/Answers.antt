@@ -1,5 +1,5 @@
 use Rattle.std.proofs.Common.{◌∙◌, ap, sym}
-use Rattle.ertp_mint.specs.Circulating.{StoredSupply}
+use Rattle.ertp_mint.specs.Circulating.{CirculationView}
 use Rattle.transit.proofs.Calls.{made, reads}
 use Rattle.transit.proofs.Transit.minted.Goals as goal
 
@@ -9,4 +9,4 @@ minted-requires c = let there = rw (← c.self.view_is) at c.requires in made c.
 pub returns : goal.returns
 returns c =
     let there = rw (← c.self.view_is) at c.requires in
-    rw (← c.self.view_is) (c.minted.ensures ∙ sym (ap (λ (y : StoredSupply). y.supply.minted) (reads c.self.inside.out c.self.inside.hand.items c.self.invariant c.args.brand there)))
+    rw (← c.self.view_is) (c.minted.ensures ∙ sym (ap (λ (y : CirculationView). y.supply.minted) (reads c.self.inside.out c.self.inside.hand.items c.self.invariant c.args.brand there)))

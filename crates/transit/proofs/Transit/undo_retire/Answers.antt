@@ -12,9 +12,12 @@ undo_retire-requires-clause-back c =
 pub invariant_of-self : goal.invariant_of-self
 invariant_of-self c =
     let there = rw (← c.self.view_is) at c.requires.made in
-    unretire_keeps c.self.inside.out c.self.inside.hand.items c.self.invariant c.args.brand there c.args.value (rw (← c.self.view_is) at c.requires.back) _ c.undo_retire.ensures.unretired
+    unretire_keeps c.self.inside.out c.self.inside.hand.items c.self.invariant c.args.brand there c.args.value (rw (← c.self.view_is) at c.requires.back) c.kind-kind.ensures.circulates.kept _ c.undo_retire.ensures.unretired
 
 pub returns-clause-unretired : goal.returns-clause-unretired
 returns-clause-unretired c =
     let there = rw (← c.self.view_is) at c.requires.made in
     rw (← c.self.view_is) (unretire_view c.self.inside.out c.self.inside.hand.items c.self.invariant c.args.brand there c.args.value _ c.undo_retire.ensures.unretired)
+
+pub kind-kind-requires : goal.kind-kind-requires
+kind-kind-requires c = let there = rw (← c.self.view_is) at c.requires.made in made c.self.inside.out c.self.inside.hand.items c.self.invariant c.args.brand there

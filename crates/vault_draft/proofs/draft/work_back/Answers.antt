@@ -3,15 +3,15 @@ use Rattle.vault_draft.proofs.Steps.{last_first}
 use Rattle.vault_draft.proofs.draft.work_back.Goals as goal
 
 pub ungive-parcel-requires : goal.ungive-parcel-requires
-ungive-parcel-requires c = can_ungive _ _ _ _ _ _ _ (rw (c.in-Moves.is, c.in-Some.ensures.items, last_first) at c.requires.3)
+ungive-parcel-requires c = can_ungive _ _ _ _ _ _ (rw (c.in-Moves.is, c.in-Some.ensures.items, last_first) at c.requires.3)
 
 pub untake-requires : goal.untake-requires
-untake-requires c = rw c.ungive-parcel.ensures.parcel (can_untake _ _ _ _ _ _ _ (rw (c.in-Moves.is, c.in-Some.ensures.items, last_first) at c.requires.3) c.ungive-parcel.new.self c.ungive-parcel.ensures.half)
+untake-requires c = rw c.ungive-parcel.ensures.parcel (can_untake _ _ _ _ _ _ (rw (c.in-Moves.is, c.in-Some.ensures.items, last_first) at c.requires.3) c.ungive-parcel.new.self c.ungive-parcel.ensures.half)
 
 pub returns-in-Some : goal.returns-in-Some
 returns-in-Some c = λ rooms kept steps is.
     let working = rw (c.in-Moves.is, c.in-Some.ensures.items, last_first) at is in
-    moved_back rooms kept _ _ _ steps _ working c.ungive-parcel.new.self c.ungive-parcel.ensures.half c.untake.new.self (rw c.ungive-parcel.ensures.parcel at c.untake.ensures)
+    moved_back rooms kept _ _ steps _ working c.ungive-parcel.new.self c.ungive-parcel.ensures.half c.untake.new.self (rw c.ungive-parcel.ensures.parcel at c.untake.ensures)
 
 pub returns-in-OpensPurse : goal.returns-in-OpensPurse
 returns-in-OpensPurse c = λ rooms kept steps is. purse_closed rooms kept c.args.stores.now steps _ (rw c.in-OpensPurse.is at is) c.undo_open.new.self c.undo_open.ensures

@@ -1,5 +1,4 @@
 use Rattle.std.proofs.Common.{◌∙◌, ap, List, [], ◌∷◌, ◌++◌}
-use Rattle.std.specs.Prelude.{None}
 use Rattle.right_steps.specs.declared.Step.{Step}
 use Rattle.right_steps.specs.declared.Step.TheVariants.{Moves}
 use Rattle.rights_model.specs.declared.Holder.TheVariants.{Hand}
@@ -8,7 +7,7 @@ use Rattle.rights_model.specs.Table.{movement}
 use Rattle.vault_draft.specs.Memory.{lists_of}
 use Rattle.vault_draft.proofs.Made.{put_after_so, put_keeps_so}
 use Rattle.vault_draft.proofs.Steps.{room_stays}
-use Rattle.vault_draft.proofs.Taking.{can_give, no_spare}
+use Rattle.vault_draft.proofs.Taking.{can_give}
 use Rattle.vault_draft.proofs.draft.Draft.put.Goals as goal
 
 pub invariant_of-self-in-Ok-give_to : goal.invariant_of-self-in-Ok-give_to
@@ -17,11 +16,11 @@ invariant_of-self-in-Ok-give_to c =
     let target = rw (← c.self.view_is) at c.requires.target in
     let keep = rw (← c.self.view_is) at c.requires.hand in
     let can = can_give (lists_of c.self.inside.stores) c.args.to.now c.args.parcel target c.in-Ok-give_to.ensures.value in
-    put_keeps_so c.self.inside.stores c.give_to.new.self c.self.inside.steps.items _ c.self.inside.movements.items _ c.self.inside.keys c.self.inside.is_spoiled None c.args.to.now c.args.parcel c.in-Ok.movement sound c.self.invariant keep c.in-Ok-give_to.ensures.ok
-    (c.push_reserved-in-Ok-give_to.ensures.items ∙ ap (λ (l : List Step). l ++ Moves None ∷ []) c.in-Ok.ensures.steps)
+    put_keeps_so c.self.inside.stores c.give_to.new.self c.self.inside.steps.items _ c.self.inside.movements.items _ c.self.inside.keys c.self.inside.is_spoiled c.args.to.now c.args.parcel c.in-Ok.movement sound c.self.invariant keep c.in-Ok-give_to.ensures.ok
+    (c.push_reserved-in-Ok-give_to.ensures.items ∙ ap (λ (l : List Step). l ++ Moves ∷ []) c.in-Ok.ensures.steps)
     (c.push_reserved.ensures.items ∙ ap (λ (l : List Movement). l ++ c.in-Ok.movement ∷ []) c.in-Ok.ensures.movements)
     (c.in-Ok.ensures.movement ∙ (λ i. movement (c.brand.ensures i) Hand c.args.to.now (c.value.ensures i)))
-    can (no_spare (lists_of c.self.inside.stores) c.args.to.now c.args.parcel target)
+    can
 
 pub invariant_of-self-in-Err : goal.invariant_of-self-in-Err
 invariant_of-self-in-Err c = rw (c.in-Ok.ensures.steps, c.in-Ok.ensures.movements) (room_stays c.self.inside.stores c.give_to.new.self c.self.inside.steps.items c.self.inside.movements.items c.self.inside.keys c.self.inside.is_spoiled c.self.invariant c.in-Err.ensures.err)
@@ -44,8 +43,8 @@ returns-in-Ok-give_to-clause-ok c =
     let target = rw (← c.self.view_is) at c.requires.target in
     let keep = rw (← c.self.view_is) at c.requires.hand in
     let can = can_give (lists_of c.self.inside.stores) c.args.to.now c.args.parcel target c.in-Ok-give_to.ensures.value in
-    rw (← c.self.view_is) (put_after_so c.self.inside.stores c.give_to.new.self c.self.inside.steps.items _ c.self.inside.movements.items _ c.self.inside.keys c.self.inside.is_spoiled None c.args.to.now c.args.parcel c.in-Ok.movement sound c.self.invariant keep c.in-Ok-give_to.ensures.ok
-    (c.push_reserved-in-Ok-give_to.ensures.items ∙ ap (λ (l : List Step). l ++ Moves None ∷ []) c.in-Ok.ensures.steps)
+    rw (← c.self.view_is) (put_after_so c.self.inside.stores c.give_to.new.self c.self.inside.steps.items _ c.self.inside.movements.items _ c.self.inside.keys c.self.inside.is_spoiled c.args.to.now c.args.parcel c.in-Ok.movement sound c.self.invariant keep c.in-Ok-give_to.ensures.ok
+    (c.push_reserved-in-Ok-give_to.ensures.items ∙ ap (λ (l : List Step). l ++ Moves ∷ []) c.in-Ok.ensures.steps)
     (c.push_reserved.ensures.items ∙ ap (λ (l : List Movement). l ++ c.in-Ok.movement ∷ []) c.in-Ok.ensures.movements)
     (c.in-Ok.ensures.movement ∙ (λ i. movement (c.brand.ensures i) Hand c.args.to.now (c.value.ensures i)))
     can)

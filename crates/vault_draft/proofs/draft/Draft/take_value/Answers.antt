@@ -1,5 +1,4 @@
 use Rattle.std.proofs.Common.{◌∙◌, ap, subst, List, [], ◌∷◌, ◌++◌}
-use Rattle.std.specs.Prelude.{Some}
 use Rattle.right_steps.specs.declared.Step.{Step}
 use Rattle.right_steps.specs.declared.Step.TheVariants.{Moves}
 use Rattle.rights_model.specs.declared.Movement.{Movement}
@@ -23,10 +22,10 @@ invariant_of-self-2 c =
     let source = rw (← c.self.view_is) at c.requires.source in
     let has = rw (← c.self.view_is) at c.requires.has in
     let brand = rw (← c.self.view_is) at c.requires.brand in
-    taken_keeps_so c.self.inside.stores c.note_take.new.stores c.take_from-parcel.new.self c.self.inside.steps.items _ c.self.inside.movements.items _ c.self.inside.keys c.in-Ok.noted.keys c.self.inside.is_spoiled c.args.from.now (brand_of (lists_of c.self.inside.stores) c.args.from.now) c.brand-brand.result c.args.value c.in-Ok.noted.spare c.in-Ok.noted.movement sound c.self.invariant c.in-Ok.ensures.roomed
+    taken_keeps_so c.self.inside.stores c.note_take.new.stores c.take_from-parcel.new.self c.self.inside.steps.items _ c.self.inside.movements.items _ c.self.inside.keys c.in-Ok.noted.keys c.self.inside.is_spoiled c.args.from.now (brand_of (lists_of c.self.inside.stores) c.args.from.now) c.brand-brand.result c.args.value c.in-Ok.noted.movement sound c.self.invariant c.in-Ok.ensures.roomed
     (subst (λ (s : Lists). IsTaken c.note_take.new.stores c.take_from-parcel.new.self c.args.from.now (brand_of s c.args.from.now) c.args.value) c.in-Ok.ensures.roomed.lists c.take_from-parcel.ensures.taken)
-    (can_take (lists_of c.self.inside.stores) c.args.from.now c.args.value source has) c.brand-brand.ensures c.in-Ok.ensures.spare
-    (c.push_reserved-2.ensures.items ∙ ap (λ (l : List Step). l ++ Moves (Some c.in-Ok.noted.spare) ∷ []) c.in-Ok.ensures.steps)
+    (can_take (lists_of c.self.inside.stores) c.args.from.now c.args.value source has) c.brand-brand.ensures
+    (c.push_reserved-2.ensures.items ∙ ap (λ (l : List Step). l ++ Moves ∷ []) c.in-Ok.ensures.steps)
     (c.push_reserved.ensures.items ∙ ap (λ (l : List Movement). l ++ c.in-Ok.noted.movement ∷ []) c.in-Ok.ensures.movements)
     c.in-Ok.ensures.movement brand c.in-Ok.ensures.keys c.in-Ok.ensures.hand_room
 
@@ -36,9 +35,9 @@ returns-clause-ok c =
     let source = rw (← c.self.view_is) at c.requires.source in
     let has = rw (← c.self.view_is) at c.requires.has in
     let brand = rw (← c.self.view_is) at c.requires.brand in
-    rw (← c.self.view_is) (taken_after_so c.self.inside.stores c.note_take.new.stores c.take_from-parcel.new.self c.self.inside.steps.items _ c.self.inside.movements.items _ c.self.inside.keys c.in-Ok.noted.keys c.self.inside.is_spoiled c.args.from.now (brand_of (lists_of c.self.inside.stores) c.args.from.now) c.brand-brand.result c.args.value c.in-Ok.noted.spare c.in-Ok.noted.movement sound c.self.invariant c.in-Ok.ensures.roomed
+    rw (← c.self.view_is) (taken_after_so c.self.inside.stores c.note_take.new.stores c.take_from-parcel.new.self c.self.inside.steps.items _ c.self.inside.movements.items _ c.self.inside.keys c.in-Ok.noted.keys c.self.inside.is_spoiled c.args.from.now (brand_of (lists_of c.self.inside.stores) c.args.from.now) c.brand-brand.result c.args.value c.in-Ok.noted.movement sound c.self.invariant c.in-Ok.ensures.roomed
     (subst (λ (s : Lists). IsTaken c.note_take.new.stores c.take_from-parcel.new.self c.args.from.now (brand_of s c.args.from.now) c.args.value) c.in-Ok.ensures.roomed.lists c.take_from-parcel.ensures.taken)
-    (can_take (lists_of c.self.inside.stores) c.args.from.now c.args.value source has) c.brand-brand.ensures c.in-Ok.ensures.spare
-    (c.push_reserved-2.ensures.items ∙ ap (λ (l : List Step). l ++ Moves (Some c.in-Ok.noted.spare) ∷ []) c.in-Ok.ensures.steps)
+    (can_take (lists_of c.self.inside.stores) c.args.from.now c.args.value source has) c.brand-brand.ensures
+    (c.push_reserved-2.ensures.items ∙ ap (λ (l : List Step). l ++ Moves ∷ []) c.in-Ok.ensures.steps)
     (c.push_reserved.ensures.items ∙ ap (λ (l : List Movement). l ++ c.in-Ok.noted.movement ∷ []) c.in-Ok.ensures.movements)
     c.in-Ok.ensures.movement)

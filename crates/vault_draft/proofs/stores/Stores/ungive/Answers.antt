@@ -5,5 +5,5 @@ use Rattle.vault_draft.proofs.stores.Stores.ungive.Goals as goal
 pub returns-in-Purse-clause-half : goal.returns-in-Purse-clause-half
 returns-in-Purse-clause-half c = rw c.in-Purse.is (half_less c.args.self.now _ _ _ c.undo_put.ensures.taken)
 
-pub returns-in-Some-spare-clause-half : goal.returns-in-Some-spare-clause-half
-returns-in-Some-spare-clause-half c = rw c.in-Outside.is (undone_retire c.args.self.now _ c.args.brand c.args.value c.undo_retire.ensures.unretired)
+pub returns-in-Outside-clause-half : goal.returns-in-Outside-clause-half
+returns-in-Outside-clause-half c = rw c.in-Outside.is (undone_retire c.args.self.now _ c.args.brand c.args.value (rw c.in-Outside.is at c.requires).made c.undo_retire.ensures.unretired)
