@@ -1,0 +1,4 @@
+pub mod Parts
+pub mod Ordered
+pub mod Nested
+pub mod InForm
