@@ -1,0 +1,91 @@
+// Names: each is lent as the token that it is.
+ghost use Rattle.std.specs.Prelude.{[], ◌∷◌, ◌≡◌, length, None, Some};
+ghost use Rattle.jessie_language.specs.Parse.{Gives, one};
+ghost use Rattle.jessie_language.specs.StatementList.{names_after};
+ghost use Rattle.jessie_language.specs.Rules as rules;
+ghost use Rattle.jessie_language.specs.Words as words;
+
+use crate::kinds::{is_free_word, is_leading_word, is_word};
+use crate::symbols::{beyond, refused};
+use jessie_language::fault::{Limit, ParseError};
+use jessie_lexer::token::Token;
+
+/// How many bytes a name may have.
+const LONGEST_NAME: usize = 64;
+
+/// The limit that a name breaks.
+fn long(token: &Token) -> Option<Limit>
+    ensures { result ≡ words.long token.now }
+{
+    if token.text.len() <= LONGEST_NAME {
+        None
+    } else {
+        Some(Limit::TooLong)
+    }
+}
+
+/// The limit that a declared name breaks, where one more may be declared or not.
+fn declaring(token: &Token, more: bool) -> Option<Limit>
+    ensures { result ≡ words.declared more token.now }
+{
+    if LONGEST_NAME < token.text.len() {
+        return Some(Limit::TooLong);
+    }
+    if more { None } else { Some(Limit::TooMany) }
+}
+
+/// A name where only a name may stand.
+#[tactic(auto, unfolding(jessie_language::specs::Rules::name))]
+pub fn name(tokens: &[Token]) -> Result<(&Token, &[Token]), ParseError>
+    ensures { Gives (λ x. (words.spotted x.0.now, x.1.now)) result (rules.name tokens.now) }
+{
+    match tokens {
+        [token, rest @ ..] if is_word(token.kind) => match long(token) {
+            None => Ok((token, rest)),
+            Some(limit) => Err(beyond(tokens, limit)),
+        },
+        _ => Err(refused(tokens)),
+    }
+}
+
+/// A name where an expression may begin.
+pub fn free_name(tokens: &[Token]) -> Result<(&Token, &[Token]), ParseError>
+    ensures { Gives (λ x. (words.spotted x.0.now, x.1.now)) result
+        (one words.free_words words.spotted words.long tokens.now) }
+{
+    match tokens {
+        [token, rest @ ..] if is_free_word(token.kind) => match long(token) {
+            None => Ok((token, rest)),
+            Some(limit) => Err(beyond(tokens, limit)),
+        },
+        _ => Err(refused(tokens)),
+    }
+}
+
+/// A name where a statement begins, which may stand after an `if` that may go on.
+pub fn leading_name(tokens: &[Token], after_if: bool) -> Result<(&Token, &[Token]), ParseError>
+    ensures { Gives (λ x. (words.spotted x.0.now, x.1.now)) result
+        (one (names_after after_if) words.spotted words.long tokens.now) }
+{
+    match tokens {
+        [token, rest @ ..] if is_leading_word(token.kind, after_if) => match long(token) {
+            None => Ok((token, rest)),
+            Some(limit) => Err(beyond(tokens, limit)),
+        },
+        _ => Err(refused(tokens)),
+    }
+}
+
+/// A name that is declared where one more may be declared or not.
+pub fn declared(tokens: &[Token], more: bool) -> Result<(&Token, &[Token]), ParseError>
+    ensures { Gives (λ x. (words.spotted x.0.now, x.1.now)) result
+        (one words.words words.spotted (words.declared more) tokens.now) }
+{
+    match tokens {
+        [token, rest @ ..] if is_word(token.kind) => match declaring(token, more) {
+            None => Ok((token, rest)),
+            Some(limit) => Err(beyond(tokens, limit)),
+        },
+        _ => Err(refused(tokens)),
+    }
+}
