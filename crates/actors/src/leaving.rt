@@ -7,7 +7,7 @@ ghost use Rattle.jessie_tree.specs.View.{tree};
 use jessie_tree::data::Data;
 
 /// The data holds something that stays with its instance.
-#[derive(Clone, Copy, Debug, PartialEq, Eq)]
+#[derive(Clone, Copy, PartialEq, Eq)]
 pub struct LocalOnly;
 
 /// Lets data leave its instance, but where it holds zcf, a ZCF seat, a ZCF mint or a function, at any depth.

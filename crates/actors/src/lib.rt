@@ -20,7 +20,7 @@ use jessie_tree::data::{Data, Obj, ObjKind};
 use std::alloc::Global;
 
 /// Why no label is bound.
-#[derive(Clone, Copy, Debug, PartialEq, Eq)]
+#[derive(Clone, Copy, PartialEq, Eq)]
 pub enum BindFault {
     /// The label is bound already (our own).
     NameTaken,

@@ -18,7 +18,7 @@ use promise_store::{Promises, Settlement, State};
 use std::alloc::{AllocError, Global};
 
 /// Why nothing stands at a path.
-#[derive(Clone, Copy, Debug, PartialEq, Eq)]
+#[derive(Clone, Copy, PartialEq, Eq)]
 pub enum ResolveFault {
     /// The label isn't bound, or a step isn't there.
     UnknownName,

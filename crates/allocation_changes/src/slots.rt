@@ -13,7 +13,7 @@ use proposals::offers::{Proposal, in_byte_order};
 use std::alloc::{AllocError, Global};
 
 /// Why slots are no allocation: they are more than 64 (`MOST_ROWS`), or memory is wanted.
-#[derive(Clone, Copy, Debug, PartialEq, Eq)]
+#[derive(Clone, Copy, PartialEq, Eq)]
 pub enum SlotsFault {
     Limit,
     NoMemory,

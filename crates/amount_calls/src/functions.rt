@@ -18,7 +18,7 @@ use jessie_tree::data::{Data, ObjKind};
 use std::alloc::{AllocError, Global};
 
 /// A function of AmountMath.
-#[derive(Clone, Copy, Debug, PartialEq, Eq)]
+#[derive(Clone, Copy, PartialEq, Eq)]
 pub enum AmountFunction {
     Make,
     MakeEmpty,

@@ -18,7 +18,7 @@ use std::marker::Model;
 /// Keys with their counts, as entries in byte order of the keys. It is `None` where nothing was ever
 /// put in, so that an empty one wants no allocator. Contracts see the content, and for how many keys
 /// there is room.
-#[derive(Debug, Drop)]
+#[derive(Drop)]
 pub(crate) struct Keyed {
     entries: Option<Vec<Entry>>,
 }

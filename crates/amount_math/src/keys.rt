@@ -18,7 +18,7 @@ pub const COUNT_BOUND: u64 = (1 << 63) - 1;
 
 /// A text that may be a key of a set or a bag, as its bytes, by which keys are ordered. One of 1 to
 /// 64 bytes is a key.
-#[derive(Debug, Drop)]
+#[derive(Drop)]
 pub struct Key {
     text: String,
 }
@@ -84,7 +84,7 @@ impl Eq for Key {
 }
 
 /// A key with its count, of which a set has 1 each.
-#[derive(Debug, Drop)]
+#[derive(Drop)]
 pub struct Entry {
     key: Key,
     count: u64,

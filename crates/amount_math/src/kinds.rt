@@ -12,12 +12,12 @@ use crate::shape::Shape;
 use crate::{Key, Kind, PutFault, TooMuch, Value};
 
 /// The data isn't a value of the kind.
-#[derive(Clone, Copy, Debug, PartialEq, Eq)]
+#[derive(Clone, Copy, PartialEq, Eq)]
 pub struct BadValue;
 
 /// Why no value with keys is made: the data isn't a value of the kind (a key twice, a key of 0 or over
 /// 64 bytes, over 4,096 keys, a count of 0 or over the bound), or memory is wanted.
-#[derive(Clone, Copy, Debug, PartialEq, Eq)]
+#[derive(Clone, Copy, PartialEq, Eq)]
 pub enum MakeFault {
     BadValue,
     NoMemory,

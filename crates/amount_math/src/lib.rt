@@ -43,7 +43,7 @@ pub const NAT_BOUND: u128 = (1 << 63) - 1;
 pub const KEYS_BOUND: u128 = 4096;
 
 /// The kind of a brand's values.
-#[derive(Clone, Copy, Debug, PartialEq, Eq)]
+#[derive(Clone, Copy, PartialEq, Eq)]
 pub enum Kind {
     /// Whole numbers from 0 to the bound.
     Nat,
@@ -54,7 +54,7 @@ pub enum Kind {
 }
 
 /// A count, or a number of keys, that would pass its bound: what the sum would have, and the bound.
-#[derive(Clone, Copy, Debug, PartialEq, Eq)]
+#[derive(Clone, Copy, PartialEq, Eq)]
 pub struct TooMuch {
     pub sum: u128,
     pub bound: u128,
@@ -62,7 +62,7 @@ pub struct TooMuch {
 
 /// Why a value isn't added to another: the least key that two sets have in common, or the count or the
 /// number of keys that passes its bound (a count is tested first), or memory is wanted.
-#[derive(Debug, Drop, PartialEq, Eq)]
+#[derive(Drop, PartialEq, Eq)]
 pub enum PutFault {
     Overlap(Key),
     TooMuch(TooMuch),
@@ -70,14 +70,14 @@ pub enum PutFault {
 }
 
 /// Why a part isn't taken out of a value: the value has less, or memory is wanted for the part.
-#[derive(Clone, Copy, Debug, PartialEq, Eq)]
+#[derive(Clone, Copy, PartialEq, Eq)]
 pub enum TakeFault {
     NotEnough,
     NoMemory,
 }
 
 /// A value of a kind. Contracts see its kind and its content.
-#[derive(Debug, Drop)]
+#[derive(Drop)]
 pub struct Value {
     shape: Shape,
 }
@@ -96,7 +96,7 @@ impl Model for Value {
 }
 
 /// A value of a brand, which goes by its number.
-#[derive(Debug, Drop)]
+#[derive(Drop)]
 pub struct Amount {
     pub brand: u16,
     pub value: Value,

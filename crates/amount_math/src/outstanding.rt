@@ -13,7 +13,7 @@ use std::marker::Model;
 
 /// What is out of a brand. It is as a value of the kind, but of any number of keys, since each holder
 /// may have as many as a value may. Contracts see its kind and its content.
-#[derive(Debug, Drop)]
+#[derive(Drop)]
 pub struct Outstanding {
     shape: Shape,
 }

@@ -11,7 +11,7 @@ use crate::keyed::Keyed;
 use crate::{Kind, NAT_BOUND, PutFault, TooMuch};
 use std::alloc::{AllocError, Global};
 
-#[derive(Debug, Drop)]
+#[derive(Drop)]
 pub(crate) enum Shape {
     Nat(u128),
     Set(Keyed),

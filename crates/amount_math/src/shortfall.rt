@@ -8,14 +8,14 @@ ghost use Rattle.amount_math.specs.Worth.{IsValue};
 use crate::{Holding, Value};
 
 /// Less is held than is asked for: what is held, and what is asked for.
-#[derive(Debug, Drop)]
+#[derive(Drop)]
 pub struct Shortfall {
     pub held: Value,
     pub asked: Value,
 }
 
 /// Why a part isn't taken out of what is held.
-#[derive(Debug, Drop)]
+#[derive(Drop)]
 pub enum LossFault {
     NotEnough(Shortfall),
     /// Memory is wanted for the part's keys, or for those that a shortfall shows.

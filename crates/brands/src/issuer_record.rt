@@ -21,7 +21,7 @@ pub struct Issuer {
 }
 
 /// Why no issuer is added.
-#[derive(Clone, Copy, Debug, PartialEq, Eq)]
+#[derive(Clone, Copy, PartialEq, Eq)]
 pub enum IssuerFault {
     /// The keyword is there.
     KeywordTaken,

@@ -26,7 +26,7 @@ pub struct Brand {
 }
 
 /// Why no brand is added.
-#[derive(Clone, Copy, Debug, PartialEq, Eq)]
+#[derive(Clone, Copy, PartialEq, Eq)]
 pub enum BrandFault {
     /// 65,535 brands were made.
     Limit,

@@ -14,7 +14,6 @@ use amount_math::Value;
 use host_text::text::Text;
 use jessie_tree::data::Data;
 use std::alloc::{AllocError, AllocFailed, Global};
-use std::fmt;
 
 /// Why a line or a call is refused.
 #[derive(Drop)]
@@ -75,13 +74,6 @@ pub enum Refusal {
     TextRefused(u32, Text),
     /// The meter that was used up.
     Spent(u32),
-}
-
-/// The name of its kind.
-impl fmt::Debug for Refusal {
-    fn fmt<W: fmt::Write>(&self, f: &mut fmt::Formatter<W>) -> fmt::Result {
-        f.write_str(self.code())
-    }
 }
 
 impl Refusal {
@@ -213,7 +205,7 @@ fn copies(first: &Value, second: &Value) -> Result<(Value, Value), AllocError>
 }
 
 /// Why the work on a call ends before its answer.
-#[derive(Debug, Drop)]
+#[derive(Drop)]
 pub enum Stop {
     NoMemory,
     Refused(Refusal),

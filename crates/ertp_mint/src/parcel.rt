@@ -16,7 +16,7 @@ use std::marker::Model;
 /// `Balance::take`, `take_value`, `into_parcel`) alone make one, and so do the calls that work a put or a
 /// retirement backwards (`undo_put`, `undo_retire`). `retire`, `put`, `put_within`, `Balance::of`, `cut` and
 /// `merge` alone end one, and so do `undo_issue` and `undo_take`.
-#[derive(Debug)]
+
 pub struct Parcel {
     brand: u16,
     value: Value,
@@ -97,7 +97,7 @@ impl Parcel {
 }
 
 /// What one holder has of a brand. It may be dropped, when a run ends.
-#[derive(Debug, Drop)]
+#[derive(Drop)]
 pub struct Stock {
     brand: u16,
     value: Value,

@@ -12,7 +12,7 @@ use std::alloc::{AllocError, Global};
 use std::marker::Model;
 
 /// What is out of a brand, and the totals of counts minted and burned.
-#[derive(Debug, Drop)]
+#[derive(Drop)]
 struct Issue {
     outstanding: Outstanding,
     minted: u128,
@@ -82,7 +82,7 @@ impl Issue {
 }
 
 /// What is out of each brand, by its number.
-#[derive(Debug, Drop)]
+#[derive(Drop)]
 pub struct Supply {
     brands: Vec<Issue>,
 }

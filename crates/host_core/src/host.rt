@@ -13,7 +13,7 @@ use vault::parties::Parties;
 use vault::world::Resting;
 
 /// What a line was submitted as.
-#[derive(Clone, Copy, Debug, PartialEq, Eq)]
+#[derive(Clone, Copy, PartialEq, Eq)]
 pub enum Submitted {
     /// It has spaces, tabs and carriage returns alone.
     Blank,
@@ -39,7 +39,7 @@ pub const MOST_TURNS: u32 = 4_000_000_000;
 
 /// An escrow host. Contracts see it as what is kept between turns, the queue and the number of turns
 /// (specs/Hosts.antt).
-#[derive(Debug, Drop)]
+#[derive(Drop)]
 pub struct Host {
     /// What a contract's function may cost at most.
     meter: u32,

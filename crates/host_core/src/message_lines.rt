@@ -26,7 +26,7 @@ use std::cmp::Ordering;
 use vault::parts::{Part, is_path, member, read_arguments};
 
 /// A call that a party asks for.
-#[derive(Debug, Drop)]
+#[derive(Drop)]
 pub struct Call {
     /// The party, by its label.
     pub by: Text,
@@ -41,7 +41,7 @@ pub struct Call {
 }
 
 /// A name that a party gives to another.
-#[derive(Debug, Drop)]
+#[derive(Drop)]
 pub struct Give {
     /// The giver, by its label.
     pub by: Text,
@@ -54,7 +54,7 @@ pub struct Give {
 }
 
 /// What waits in the queue for its turn.
-#[derive(Debug, Drop)]
+#[derive(Drop)]
 pub enum Message {
     /// A well-formed call, which is worked in its turn.
     Call(Call),
@@ -65,7 +65,7 @@ pub enum Message {
 }
 
 /// What a line means.
-#[derive(Debug, Drop)]
+#[derive(Drop)]
 pub enum Line {
     /// Spaces, tabs and carriage returns alone.
     Blank,

@@ -11,7 +11,7 @@ use std::collections::VecDeque;
 use vault::instance_deliveries::InstanceDelivery;
 
 /// What waits for its turn.
-#[derive(Debug, Drop)]
+#[derive(Drop)]
 pub enum Queued {
     /// The message of a line.
     Line(Message),
@@ -21,7 +21,7 @@ pub enum Queued {
 
 /// The entries that wait for their turns. Contracts see their list, the front first, and how many more
 /// can be appended without memory (specs/Queues.antt).
-#[derive(Debug, Drop)]
+#[derive(Drop)]
 pub struct TurnQueue {
     entries: VecDeque<Queued>,
 }

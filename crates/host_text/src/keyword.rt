@@ -17,7 +17,7 @@ fn is_reserved(bytes: &[u8]) -> bool
 }
 
 /// Why no keyword was read.
-#[derive(Clone, Copy, Debug, PartialEq, Eq)]
+#[derive(Clone, Copy, PartialEq, Eq)]
 pub enum KeywordFault {
     /// The text has not the form of a keyword.
     BadKeyword,
@@ -26,7 +26,7 @@ pub enum KeywordFault {
 
 /// A keyword (Zoe): `[A-Z][A-Za-z0-9_]*` of 1 to 32 bytes, but not `NaN` or `Infinity`. Contracts see
 /// it as its bytes.
-#[derive(Debug, Drop)]
+#[derive(Drop)]
 pub struct Keyword {
     text: Text,
 }

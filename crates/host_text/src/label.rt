@@ -10,7 +10,7 @@ use std::marker::Model;
 use std::str;
 
 /// Why no label was read.
-#[derive(Clone, Copy, Debug, PartialEq, Eq)]
+#[derive(Clone, Copy, PartialEq, Eq)]
 pub enum LabelFault {
     /// The text has not the form of a label.
     BadLabel,
@@ -19,7 +19,7 @@ pub enum LabelFault {
 
 /// A label (a rule of this project): `[a-z][A-Za-z0-9_]*` of 1 to 32 bytes. Contracts see it as its
 /// bytes.
-#[derive(Debug, Drop)]
+#[derive(Drop)]
 pub struct Label {
     text: Text,
 }

@@ -19,7 +19,7 @@ pub(crate) struct Instance {
 }
 
 /// Whether an instance accepts offers, or has halted (Zoe).
-#[derive(Clone, Copy, Debug, PartialEq, Eq)]
+#[derive(Clone, Copy, PartialEq, Eq)]
 pub enum Standing {
     /// It accepts offers.
     Accepting,

@@ -28,7 +28,7 @@ use std::alloc::{AllocError, Global};
 use std::rc::Rc;
 
 /// Why nothing is added.
-#[derive(Clone, Copy, Debug, PartialEq, Eq)]
+#[derive(Clone, Copy, PartialEq, Eq)]
 pub enum AddFault {
     /// 4,294,967,295 of the kind were made.
     Limit,

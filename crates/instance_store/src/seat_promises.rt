@@ -7,7 +7,7 @@ use crate::AddFault;
 use std::alloc::Global;
 
 /// The promises of a seat, by their numbers.
-#[derive(Clone, Copy, Debug, PartialEq, Eq)]
+#[derive(Clone, Copy, PartialEq, Eq)]
 pub struct SeatPair {
     /// Of what the offer's handler answers.
     pub result: u32,

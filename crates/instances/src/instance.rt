@@ -10,7 +10,7 @@ use std::alloc::{AllocError, Global};
 use std::mem;
 
 /// An instance of an installation.
-#[derive(Debug, Drop)]
+#[derive(Drop)]
 pub(crate) struct Instance {
     pub(crate) installation: u32,
     pub(crate) issuers: IssuerRecord,

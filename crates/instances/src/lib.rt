@@ -22,7 +22,7 @@ use proposals::issuer_records::IssuerRecord;
 use std::alloc::{AllocError, Global};
 
 /// Why nothing is added.
-#[derive(Clone, Copy, Debug, PartialEq, Eq)]
+#[derive(Clone, Copy, PartialEq, Eq)]
 pub enum AddFault {
     /// 4,294,967,295 of the kind were made.
     Limit,
@@ -31,7 +31,7 @@ pub enum AddFault {
 
 /// All installations and instances. Contracts see those at the turn's start, and those of now
 /// (specs/Turns.antt).
-#[derive(Debug, Drop)]
+#[derive(Drop)]
 pub struct Instances {
     installations: Vec<Module>,
     instances: Vec<Instance>,

@@ -8,7 +8,7 @@ use crate::instance::{Instance, put_halted, put_state};
 use jessie_tree::data::Data;
 
 /// How an instance was before a change.
-#[derive(Debug, Drop)]
+#[derive(Drop)]
 pub(crate) enum Before {
     /// It had these state values.
     State(Vec<Data>),
@@ -17,7 +17,7 @@ pub(crate) enum Before {
 }
 
 /// A change of an instance, by what was before it.
-#[derive(Debug, Drop)]
+#[derive(Drop)]
 pub(crate) struct Note {
     pub(crate) instance: u32,
     pub(crate) before: Before,

@@ -7,7 +7,7 @@ use crate::AddFault;
 use std::alloc::Global;
 
 /// The promises of a seat, by their numbers.
-#[derive(Clone, Copy, Debug, PartialEq, Eq)]
+#[derive(Clone, Copy, PartialEq, Eq)]
 pub struct SeatPair {
     /// Of what the offer's handler answers.
     pub result: u32,
@@ -17,7 +17,7 @@ pub struct SeatPair {
 
 /// The promises of all seats. Contracts see those at the turn's start, and those of now
 /// (specs/SeatPromises.antt).
-#[derive(Debug, Drop)]
+#[derive(Drop)]
 pub struct SeatPromises {
     pairs: Vec<SeatPair>,
     /// How many were added at the turn's start.

@@ -13,7 +13,7 @@ use jessie_tree::data::Data;
 use std::alloc::{AllocError, Global};
 
 /// What is known of an invitation (Zoe's invitation details).
-#[derive(Debug, Drop)]
+#[derive(Drop)]
 pub struct Details {
     /// The instance that it was made by, by its number.
     pub instance: u32,
@@ -27,7 +27,7 @@ pub struct Details {
 }
 
 /// Why no invitation is added.
-#[derive(Clone, Copy, Debug, PartialEq, Eq)]
+#[derive(Clone, Copy, PartialEq, Eq)]
 pub enum AddFault {
     /// 4,294,967,295 invitations were made.
     Limit,
@@ -36,7 +36,7 @@ pub enum AddFault {
 
 /// All invitations. Contracts see the details of those at the turn's start, and of those of now
 /// (specs/Turns.antt).
-#[derive(Debug, Drop)]
+#[derive(Drop)]
 pub struct Invitations {
     details: Vec<Details>,
     /// How many were made at the turn's start.

@@ -2,7 +2,7 @@
 use host_text::text::Text;
 
 /// What a text does with names, in its order. A place is that of the name's first byte.
-#[derive(Debug, Drop)]
+#[derive(Drop)]
 pub enum Event {
     /// A block, a parameter list or a record begins.
     Opens,

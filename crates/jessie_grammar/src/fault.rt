@@ -31,14 +31,14 @@ pub enum Refusal {
 }
 
 /// The first fault, and how many tokens there are from it on.
-#[derive(Clone, Copy, Debug)]
+#[derive(Clone, Copy)]
 pub struct Fault {
     pub kind: Refusal,
     pub left: usize,
 }
 
 /// Why tokens are not read.
-#[derive(Debug, Drop)]
+#[derive(Drop)]
 pub enum ParseError {
     NoMemory,
     Fault(Fault),

@@ -11,7 +11,7 @@ use sqlite_items::Items;
 use std::alloc::{AllocError, Global};
 
 /// What stands in a block, a parameter list, a record or the module.
-#[derive(Debug, Drop)]
+#[derive(Drop)]
 pub enum Entry {
     /// A name that is declared there and can be read.
     Name(Text),
@@ -20,7 +20,7 @@ pub enum Entry {
 }
 
 /// What the innermost of them has so far, and those around it, the nearest last.
-#[derive(Debug, Drop)]
+#[derive(Drop)]
 struct Scopes {
     here: Items<Entry>,
     outer: Items<Items<Entry>>,

@@ -1,7 +1,7 @@
 // Bad steps.
 
 /// Why a step of an evaluation is bad.
-#[derive(Clone, Copy, Debug, PartialEq, Eq)]
+#[derive(Clone, Copy, PartialEq, Eq)]
 pub enum Reason {
     /// A part of the wrong kind, or a name that isn't there: `type`.
     WrongKind,

@@ -8,7 +8,7 @@ use host_text::text::Text;
 use std::alloc::{AllocError, Global};
 
 /// What an object is.
-#[derive(Clone, Copy, Debug, PartialEq, Eq)]
+#[derive(Clone, Copy, PartialEq, Eq)]
 pub enum ObjKind {
     /// The ERTP service, which makes issuer kits.
     Ertp,
@@ -61,14 +61,14 @@ impl ObjKind {
 }
 
 /// An object, by its kind and its number among those of the kind.
-#[derive(Clone, Copy, Debug, PartialEq, Eq)]
+#[derive(Clone, Copy, PartialEq, Eq)]
 pub struct Obj {
     pub kind: ObjKind,
     pub number: u32,
 }
 
 /// Data: a finished tree. A record keeps its fields in byte order of their names, each name once.
-#[derive(Debug, Drop)]
+#[derive(Drop)]
 pub enum Data {
     Number(i128),
     Text(Text),

@@ -10,7 +10,7 @@ use sqlite_items::{Boxed, Items};
 use std::alloc::{AllocError, Global};
 
 /// A literal. It holds no object and no function.
-#[derive(Debug, Drop)]
+#[derive(Drop)]
 pub enum Literal {
     Number(i128),
     Text(Text),
@@ -44,7 +44,7 @@ impl Literal {
 }
 
 /// What a state variable can hold at first. It holds no object and no function.
-#[derive(Debug, Drop)]
+#[derive(Drop)]
 pub enum Constant {
     Literal(Literal),
 }
@@ -69,7 +69,7 @@ impl Constant {
 }
 
 /// An expression.
-#[derive(Debug, Drop)]
+#[derive(Drop)]
 #[cycle(expression)]
 pub enum Expr {
     Literal(Literal),
@@ -83,7 +83,7 @@ pub enum Expr {
 }
 
 /// A step behind an expression.
-#[derive(Debug, Drop)]
+#[derive(Drop)]
 #[cycle(expression)]
 pub enum Step {
     /// A call of a method of an object: its name and its arguments.
@@ -91,7 +91,7 @@ pub enum Step {
 }
 
 /// A statement.
-#[derive(Debug, Drop)]
+#[derive(Drop)]
 pub enum Stmt {
     /// `const name = expression;`
     Const(Text, Expr),
@@ -102,7 +102,7 @@ pub enum Stmt {
 }
 
 /// A function of the module.
-#[derive(Debug, Drop)]
+#[derive(Drop)]
 pub struct Function {
     pub name: Text,
     pub params: Items<Text>,
@@ -110,14 +110,14 @@ pub struct Function {
 }
 
 /// A state variable, and what it holds before the module has run.
-#[derive(Debug, Drop)]
+#[derive(Drop)]
 pub struct Variable {
     pub name: Text,
     pub initial: Constant,
 }
 
 /// A module: its state variables and its functions, each in the text's order.
-#[derive(Debug, Drop)]
+#[derive(Drop)]
 pub struct Module {
     pub variables: Items<Variable>,
     pub functions: Items<Function>,

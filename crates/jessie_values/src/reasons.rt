@@ -11,7 +11,7 @@ use jessie_tree::data::Data;
 use std::alloc::{AllocError, AllocFailed, Global};
 
 /// Why a step of an evaluation is bad.
-#[derive(Clone, Copy, Debug, PartialEq, Eq)]
+#[derive(Clone, Copy, PartialEq, Eq)]
 pub enum Reason {
     /// A part of the wrong kind: `type`.
     WrongKind,
@@ -84,7 +84,7 @@ fn put(
 }
 
 /// Why a function that takes memory gives no value.
-#[derive(Clone, Copy, Debug, PartialEq, Eq)]
+#[derive(Clone, Copy, PartialEq, Eq)]
 pub enum ValueFault {
     NoMemory,
     BadStep(Reason),

@@ -19,14 +19,14 @@ use std::alloc::{AllocFailed, Global};
 use std::marker::Model;
 
 /// A payment's number, and where it stands. It is good until a turn goes back, which may move the payment.
-#[derive(Clone, Copy, Debug, PartialEq, Eq)]
+#[derive(Clone, Copy, PartialEq, Eq)]
 pub struct PaymentRef {
     pub number: u32,
     pub key: usize,
 }
 
 /// Why no payment is made.
-#[derive(Clone, Copy, Debug, PartialEq, Eq)]
+#[derive(Clone, Copy, PartialEq, Eq)]
 pub enum MakeFault {
     /// Payments and open slots are 4,294,967,295.
     Limit,
@@ -34,11 +34,11 @@ pub enum MakeFault {
 }
 
 /// Payments and open slots would be more than 4,294,967,295.
-#[derive(Clone, Copy, Debug, PartialEq, Eq)]
+#[derive(Clone, Copy, PartialEq, Eq)]
 pub struct Limit;
 
 /// The payment was spent.
-#[derive(Clone, Copy, Debug, PartialEq, Eq)]
+#[derive(Clone, Copy, PartialEq, Eq)]
 pub struct DeadPayment {
     pub payment: u32,
 }

@@ -7,7 +7,7 @@ use jessie_tree::data::{Data, ObjKind};
 
 /// What a promise is settled with (eventual send: it is fulfilled, or it is broken and the data is
 /// the reason).
-#[derive(Debug, Drop)]
+#[derive(Drop)]
 pub enum Settlement {
     /// The data is no promise: one that is resolved to another follows that one, and isn't settled.
     Ok(Data),

@@ -25,7 +25,7 @@ pub enum State<'a> {
 }
 
 /// Why no promise is made.
-#[derive(Clone, Copy, Debug, PartialEq, Eq)]
+#[derive(Clone, Copy, PartialEq, Eq)]
 pub enum MakeFault {
     /// 4,294,967,295 promises were made.
     Limit,
@@ -33,7 +33,7 @@ pub enum MakeFault {
 }
 
 /// Why a promise doesn't follow another.
-#[derive(Clone, Copy, Debug, PartialEq, Eq)]
+#[derive(Clone, Copy, PartialEq, Eq)]
 pub enum FollowFault {
     /// The promise of this number would follow itself.
     PromiseCycle(u32),

@@ -13,7 +13,7 @@ use jessie_tree::data::{Data, ObjKind};
 use std::alloc::{AllocError, Global};
 
 /// What a promise is settled with (eventual send: it is fulfilled, or it is broken and the data is the reason).
-#[derive(Debug, Drop)]
+#[derive(Drop)]
 pub enum Settlement {
     /// The data is no promise: one that is resolved to another waits for that one, and isn't settled.
     Ok(Data),
@@ -33,14 +33,14 @@ impl Settlement {
 }
 
 /// A promise, as it is.
-#[derive(Debug, Drop)]
+#[derive(Drop)]
 pub enum PromiseState {
     Pending,
     Settled(Settlement),
 }
 
 /// Why no promise is made.
-#[derive(Clone, Copy, Debug, PartialEq, Eq)]
+#[derive(Clone, Copy, PartialEq, Eq)]
 pub enum MakeFault {
     /// 4,294,967,295 promises were made.
     Limit,
@@ -48,7 +48,7 @@ pub enum MakeFault {
 }
 
 /// All promises. Contracts see the states at the turn's start, and those of now (specs/Turns.antt).
-#[derive(Debug, Drop)]
+#[derive(Drop)]
 pub struct Promises {
     states: Vec<PromiseState>,
     /// How many were made at the turn's start.

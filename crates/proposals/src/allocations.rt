@@ -15,7 +15,7 @@ use std::marker::Model;
 pub const MOST_ROWS: usize = 64;
 
 /// An amount under a keyword.
-#[derive(Debug, Drop)]
+#[derive(Drop)]
 pub struct Row {
     pub keyword: Keyword,
     pub amount: Amount,
@@ -38,7 +38,7 @@ impl Row {
 
 /// A record from keyword to amount (Zoe's AmountKeywordRecord). It keeps the order of adding (own).
 /// Contracts see it as its rows.
-#[derive(Debug, Drop)]
+#[derive(Drop)]
 pub struct Allocation {
     /// Each row by the text of its keyword.
     rows: IndexMap<String, Row>,

@@ -12,14 +12,14 @@ use std::marker::Model;
 pub const MOST_ISSUERS: usize = 64;
 
 /// A brand under a keyword. Its issuer goes by the brand's number.
-#[derive(Debug, Drop)]
+#[derive(Drop)]
 pub struct Issuer {
     pub keyword: Keyword,
     pub brand: u16,
 }
 
 /// Why no issuer is added.
-#[derive(Clone, Copy, Debug, PartialEq, Eq)]
+#[derive(Clone, Copy, PartialEq, Eq)]
 pub enum AddFault {
     /// The keyword is there.
     KeywordTaken,
@@ -30,7 +30,7 @@ pub enum AddFault {
 
 /// A record from keyword to issuer (Zoe's IssuerKeywordRecord), in the order of adding (own).
 /// Contracts see it as the list of its issuers.
-#[derive(Debug, Drop)]
+#[derive(Drop)]
 pub struct IssuerRecord {
     issuers: Vec<Issuer>,
 }

@@ -20,7 +20,7 @@ use std::alloc::{AllocError, Global};
 use std::marker::Model;
 
 /// Why no purse is opened.
-#[derive(Clone, Copy, Debug, PartialEq, Eq)]
+#[derive(Clone, Copy, PartialEq, Eq)]
 pub enum OpenFault {
     /// 4,294,967,295 purses were made.
     Limit,
@@ -28,7 +28,7 @@ pub enum OpenFault {
 }
 
 /// All purses. Contracts see the store of each, by number: its amount, and its room for keys.
-#[derive(Debug, Drop)]
+#[derive(Drop)]
 pub struct Purses {
     balances: Vec<Balance>,
 }

@@ -6,7 +6,7 @@
 pub mod laws;
 
 /// What is kept of a step of a turn, beside its movement, for working it backwards.
-#[derive(Clone, Copy, Debug)]
+#[derive(Clone, Copy)]
 pub enum Step {
     /// A movement.
     Moves,

@@ -14,7 +14,7 @@ use host_text::keyword::Keyword;
 use std::alloc::{AllocError, Global};
 
 /// Who holds a right. Purses, payments and seats go by their numbers.
-#[derive(Debug, Drop)]
+#[derive(Drop)]
 pub enum Holder {
     Purse(u32),
     Payment(u32),
@@ -27,7 +27,7 @@ pub enum Holder {
 }
 
 /// A value of a brand goes from one holder to another.
-#[derive(Debug, Drop)]
+#[derive(Drop)]
 pub struct Movement {
     pub brand: u16,
     pub from: Holder,
@@ -37,7 +37,7 @@ pub struct Movement {
 
 /// The totals of a brand: what was minted and burned since the start, and what purses, payments and
 /// slots have.
-#[derive(Clone, Copy, Debug, PartialEq, Eq)]
+#[derive(Clone, Copy, PartialEq, Eq)]
 pub struct Sum {
     pub brand: u16,
     pub minted: u128,

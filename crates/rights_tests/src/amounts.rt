@@ -248,7 +248,9 @@ fn nat(rt: &impl Abort, number: i128) -> Value
     ensures kind { result.kind ≡ Kind.Nat }
     ensures value { IsNat result.content }
 {
-    NatKind::make(number).expect(rt, "a number within the bound")
+    NatKind::make(number)
+        .ok()
+        .expect(rt, "a number within the bound")
 }
 
 /// How much two values have together.

@@ -43,7 +43,7 @@ pub fn set(rt: &impl Abort, alloc: Global, texts: &[&str]) -> Value
     ensures value { IsSet result.content }
 {
     let keys = keys(alloc, texts).expect(rt, "memory for keys");
-    SetKind::make(keys).expect(rt, "keys of a set")
+    SetKind::make(keys).ok().expect(rt, "keys of a set")
 }
 
 /// The set of so many keys.
@@ -51,7 +51,7 @@ pub fn set_of_many(rt: &impl Abort, alloc: Global, count: u32) -> Value
     ensures { result.kind ≡ Kind.Set }
 {
     let keys = many_keys(alloc, count).expect(rt, "memory for keys");
-    SetKind::make(keys).expect(rt, "keys of a set")
+    SetKind::make(keys).ok().expect(rt, "keys of a set")
 }
 
 /// The set of one key.
@@ -71,7 +71,7 @@ pub fn bag(rt: &impl Abort, alloc: Global, given: &[(&str, i128)]) -> Value
     ensures value { IsBag result.content }
 {
     let pairs = pairs(alloc, given).expect(rt, "memory for pairs");
-    BagKind::make(pairs).expect(rt, "pairs of a bag")
+    BagKind::make(pairs).ok().expect(rt, "pairs of a bag")
 }
 
 /// Whether the value has just these keys with their counts, in their order.

@@ -51,7 +51,7 @@ fn parcel(rt: &impl Abort, alloc: Global, number: u128) -> Parcel
     let value = Value::nat(number);
     assert!(rt; supply.minted(0) <= MOST);
     assert!(rt; value.total() <= MOST);
-    supply.issue(0, value).expect(rt, "within the bound")
+    supply.issue(0, value).ok().expect(rt, "within the bound")
 }
 
 /// How many units a parcel has, which is put in a stock.
@@ -182,9 +182,11 @@ fn two_seats(rt: &impl Abort, alloc: Global) -> Seats
     let mut seats = Seats::new(alloc);
     let first = seats
         .open(alloc, 7, bid(rt, alloc))
+        .ok()
         .expect(rt, "memory for a seat");
     let second = seats
         .open(alloc, 8, bid(rt, alloc))
+        .ok()
         .expect(rt, "memory for a seat");
     assert!(rt; first == 0 && second == 1 && seats.made() == 2);
     seats

@@ -101,9 +101,9 @@ fn a_parcel_is_cut_merged_stored_and_taken(rt: HostRuntime) {
         .expect(&rt, "memory for a brand");
     let issued = issue(&rt, &mut supply, 0, 10);
     assert!(rt; supply.outstanding(0).number() == Some(10));
-    let mut parcel = issued.expect(&rt, "ten units are within the bound");
+    let mut parcel = issued.ok().expect(&rt, "ten units are within the bound");
     let three = Value::nat(3);
-    let part = parcel.cut(&three).expect(&rt, "ten units have three");
+    let part = parcel.cut(&three).ok().expect(&rt, "ten units have three");
     drop(three);
     let mut stock = Stock::empty(0, Kind::Nat);
     put(&rt, &mut stock, part);
@@ -114,7 +114,7 @@ fn a_parcel_is_cut_merged_stored_and_taken(rt: HostRuntime) {
     }
     drop(four);
     let unit = Value::nat(1);
-    let one = stock.take(&unit).expect(&rt, "three units have one");
+    let one = stock.take(&unit).ok().expect(&rt, "three units have one");
     drop(unit);
     merge(&rt, &mut parcel, one);
     assert!(rt; parcel.brand() == 0 && parcel.value().number() == Some(8));
@@ -170,7 +170,7 @@ fn a_supply_counts_what_is_issued_and_retired(rt: HostRuntime) {
         .add_brand(Kind::Nat)
         .expect(&rt, "memory for a brand");
     let issued = issue(&rt, &mut supply, 1, 10);
-    let parcel = issued.expect(&rt, "ten units are within the bound");
+    let parcel = issued.ok().expect(&rt, "ten units are within the bound");
     let twin = supply.twin(rt.alloc());
     assert!(rt; supply.outstanding(1).is_gte(parcel.value()));
     supply.retire(parcel);
@@ -178,7 +178,7 @@ fn a_supply_counts_what_is_issued_and_retired(rt: HostRuntime) {
     let twin = twin.expect(&rt, "memory for a twin");
     assert!(rt; twin.minted(1) == 10 && twin.burned(1) == 0);
     let most = issue(&rt, &mut supply, 1, MOST);
-    let stock = stocked(&rt, most.expect(&rt, "the bound itself is within it"));
+    let stock = stocked(&rt, most.ok().expect(&rt, "the bound itself is within it"));
     assert!(rt; stock.value().number() == Some(MOST));
     let answer = issue(&rt, &mut supply, 1, 1);
     assert!(rt; too_much(&rt, answer) == Some((1, OVER)));
@@ -194,12 +194,12 @@ fn a_key_that_is_out_is_not_issued_again(rt: HostRuntime) {
         .add_brand(Kind::Set)
         .expect(&rt, "memory for a brand");
     let parcel = issue_key(&rt, rt.alloc(), &mut supply, "k");
-    let stock = stocked(&rt, parcel.expect(&rt, "k isn't out yet"));
+    let stock = stocked(&rt, parcel.ok().expect(&rt, "k isn't out yet"));
     assert!(rt; stock.counted(0) == 1 && stock.counted(1) == 0);
     let answer = issue_key(&rt, rt.alloc(), &mut supply, "k");
     assert!(rt; is_out(&rt, answer, "k"));
     let other = issue_key(&rt, rt.alloc(), &mut supply, "j");
-    let other = stocked(&rt, other.expect(&rt, "j isn't out yet"));
+    let other = stocked(&rt, other.ok().expect(&rt, "j isn't out yet"));
     assert!(rt; other.counted(0) == 1 && supply.outstanding(0).total() == 2);
     drop(other);
     drop(stock);

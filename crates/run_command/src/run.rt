@@ -22,7 +22,7 @@ use journal_text::turns::Turn;
 use std::alloc::{AllocError, Global};
 
 /// Why a run ends before its journal is whole.
-#[derive(Clone, Copy, Debug, PartialEq, Eq)]
+#[derive(Clone, Copy, PartialEq, Eq)]
 pub enum RunFault {
     /// The sink failed.
     Failed,

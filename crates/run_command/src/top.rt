@@ -15,7 +15,7 @@ use host_io::{ReadError, Sink, Source, read_all};
 use std::alloc::Global;
 
 /// How the program ended.
-#[derive(Clone, Copy, Debug, PartialEq, Eq)]
+#[derive(Clone, Copy, PartialEq, Eq)]
 pub enum Status {
     Done,
     Usage,

@@ -14,7 +14,7 @@ use clap::{Arg, ArgMatches, Command, value_parser};
 use std::alloc::{AllocError, Global};
 
 /// What `run` is asked for.
-#[derive(Clone, Copy, Debug, PartialEq, Eq)]
+#[derive(Clone, Copy, PartialEq, Eq)]
 pub struct Options {
     /// How many deliveries are run, at most, at the end of the input.
     pub turns: u32,
@@ -23,7 +23,7 @@ pub struct Options {
 }
 
 /// Why the words give no options.
-#[derive(Clone, Copy, Debug, PartialEq, Eq)]
+#[derive(Clone, Copy, PartialEq, Eq)]
 pub enum WordsFault {
     /// The command set doesn't take the words.
     Usage,

@@ -34,7 +34,7 @@ use std::alloc::{AllocError, Global};
 use std::marker::Model;
 
 /// Why no seat is opened.
-#[derive(Clone, Copy, Debug, PartialEq, Eq)]
+#[derive(Clone, Copy, PartialEq, Eq)]
 pub enum OpenFault {
     /// 4,294,967,295 seats were made.
     Limit,
@@ -42,7 +42,7 @@ pub enum OpenFault {
 }
 
 /// Why a parcel is not put in a slot.
-#[derive(Debug, PartialEq, Eq, Drop)]
+#[derive(PartialEq, Eq, Drop)]
 pub enum SlotFault {
     /// The seat was closed before (Zoe: what has exited takes nothing more).
     SeatExited,
@@ -51,11 +51,11 @@ pub enum SlotFault {
 }
 
 /// A seat was closed before (Zoe: what has exited is staged no more).
-#[derive(Clone, Copy, Debug, PartialEq, Eq)]
+#[derive(Clone, Copy, PartialEq, Eq)]
 pub struct SeatExited;
 
 /// Why nothing is staged.
-#[derive(Clone, Copy, Debug, PartialEq, Eq)]
+#[derive(Clone, Copy, PartialEq, Eq)]
 pub enum StageFault {
     /// The seat was closed before (Zoe: what has exited is staged no more).
     SeatExited,

@@ -18,7 +18,7 @@ use proposals::offers::Proposal;
 use std::alloc::{AllocError, Global};
 use std::marker::Model;
 
-#[derive(Debug, Drop)]
+#[derive(Drop)]
 pub(crate) struct Seat {
     instance: u32,
     proposal: Proposal,

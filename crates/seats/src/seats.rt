@@ -21,7 +21,7 @@ use std::alloc::{AllocError, Global};
 use std::marker::Model;
 
 /// Why no seat is opened.
-#[derive(Clone, Copy, Debug, PartialEq, Eq)]
+#[derive(Clone, Copy, PartialEq, Eq)]
 pub enum OpenFault {
     /// 4,294,967,295 seats were made.
     Limit,
@@ -29,7 +29,7 @@ pub enum OpenFault {
 }
 
 /// Why a seat is not closed.
-#[derive(Clone, Copy, Debug, PartialEq, Eq)]
+#[derive(Clone, Copy, PartialEq, Eq)]
 pub enum CloseFault {
     /// It was closed before (Zoe: a seat exits once).
     SeatExited,
@@ -37,7 +37,7 @@ pub enum CloseFault {
 }
 
 /// Why a parcel is not put in a slot.
-#[derive(Debug, PartialEq, Eq, Drop)]
+#[derive(PartialEq, Eq, Drop)]
 pub enum SlotFault {
     /// The seat was closed before (Zoe: what has exited takes nothing more).
     SeatExited,
@@ -47,7 +47,7 @@ pub enum SlotFault {
 
 /// All seats. Contracts see of each its instance, its proposal, its slots as rows and, once it is
 /// closed, the rows that it had then, by number.
-#[derive(Debug, Drop)]
+#[derive(Drop)]
 pub struct Seats {
     seats: Vec<Seat>,
 }

@@ -16,7 +16,7 @@ use proposals::allocations::{Allocation, Row};
 use std::alloc::{AllocError, Global};
 use std::marker::Model;
 
-#[derive(Debug, Drop)]
+#[derive(Drop)]
 struct Slot {
     keyword: Keyword,
     stock: Stock,
@@ -89,7 +89,7 @@ fn place_of(slots: &[Slot], keyword: &Keyword) -> usize
 }
 
 /// The slots of a seat. Contracts see them as rows.
-#[derive(Debug, Drop)]
+#[derive(Drop)]
 pub(crate) struct Slots {
     slots: Vec<Slot>,
 }

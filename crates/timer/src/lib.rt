@@ -34,7 +34,7 @@ struct Reading {
 }
 
 /// The timer was asked to be set to a time below its own.
-#[derive(Clone, Copy, Debug, PartialEq, Eq)]
+#[derive(Clone, Copy, PartialEq, Eq)]
 pub struct Backwards {
     pub now: u64,
     pub asked: u64,

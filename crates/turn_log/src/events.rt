@@ -12,7 +12,7 @@ use proposals::offers::Proposal;
 use rights_model::Movement;
 
 /// What the host answers to a contract's call.
-#[derive(Debug, Drop)]
+#[derive(Drop)]
 pub enum CallAnswer {
     Given(Data),
     /// The refusal, as the data that is thrown.
@@ -20,7 +20,7 @@ pub enum CallAnswer {
 }
 
 /// A call of the host by a contract.
-#[derive(Debug, Drop)]
+#[derive(Drop)]
 pub struct HostCall {
     pub on: Obj,
     pub method: Text,
@@ -29,7 +29,7 @@ pub struct HostCall {
 }
 
 /// A seat that was opened, by its number, for a proposal (Zoe).
-#[derive(Debug, Drop)]
+#[derive(Drop)]
 pub struct Opening {
     pub seat: u32,
     /// The instance that it is of, by its number.
@@ -38,7 +38,7 @@ pub struct Opening {
 }
 
 /// Why a seat is left (Zoe; `Halted` and `Spent` are our own).
-#[derive(Clone, Copy, Debug, PartialEq, Eq)]
+#[derive(Clone, Copy, PartialEq, Eq)]
 pub enum Cause {
     /// The one who made the offer asked for it.
     Asked,
@@ -51,14 +51,14 @@ pub enum Cause {
 }
 
 /// The payment that a slot is paid out with, by its number.
-#[derive(Debug, Drop)]
+#[derive(Drop)]
 pub struct Payout {
     pub keyword: Keyword,
     pub payment: u32,
 }
 
 /// A seat that was left, by its number.
-#[derive(Debug, Drop)]
+#[derive(Drop)]
 pub struct Leaving {
     pub seat: u32,
     pub cause: Cause,
@@ -67,7 +67,7 @@ pub struct Leaving {
 }
 
 /// An event of a turn. An opening and a leaving come before the movements that they bring.
-#[derive(Debug, Drop)]
+#[derive(Drop)]
 pub enum Event {
     Called(HostCall),
     Opened(Opening),

@@ -8,7 +8,7 @@ use std::alloc::{AllocError, Global};
 
 /// The events of the turn so far, in order (our own). The movements of rights are among them, and are
 /// kept nowhere else. Contracts see it as `log_of` (specs/Logs.antt).
-#[derive(Debug, Drop)]
+#[derive(Drop)]
 pub struct Log {
     events: Vec<Event>,
 }

@@ -13,7 +13,7 @@ use std::marker::Model;
 pub const MOST_BRANDS: usize = 65_535;
 
 /// A brand, as it was made.
-#[derive(Debug, Drop)]
+#[derive(Drop)]
 pub struct Brand {
     /// It is alleged, and needn't be its alone.
     pub name: Text,
@@ -21,7 +21,7 @@ pub struct Brand {
 }
 
 /// Why no brand is added.
-#[derive(Clone, Copy, Debug, PartialEq, Eq)]
+#[derive(Clone, Copy, PartialEq, Eq)]
 pub enum AddFault {
     /// 65,535 brands were made.
     Limit,
@@ -29,7 +29,7 @@ pub enum AddFault {
 }
 
 /// All brands. Contracts see those at the turn's start, and those of now.
-#[derive(Debug, Drop)]
+#[derive(Drop)]
 pub struct Brands {
     brands: Vec<Brand>,
     kept: usize,

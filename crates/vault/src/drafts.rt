@@ -33,7 +33,7 @@ use std::marker::Model;
 use turn_log::events::Payout;
 
 /// All rights between turns.
-#[derive(Debug, Drop)]
+#[derive(Drop)]
 pub struct Vault {
     alloc: Global,
     stores: Stores,

@@ -4,7 +4,7 @@ use host_text::text::Text;
 use jessie_tree::data::Data;
 
 /// The start of an instance, by its number.
-#[derive(Debug, Drop)]
+#[derive(Drop)]
 pub struct StartDelivery {
     pub instance: u32,
     pub private_arguments: Data,
@@ -13,7 +13,7 @@ pub struct StartDelivery {
 }
 
 /// An offer for a handler of an instance.
-#[derive(Debug, Drop)]
+#[derive(Drop)]
 pub struct OfferDelivery {
     pub instance: u32,
     pub seat: u32,
@@ -27,7 +27,7 @@ pub struct OfferDelivery {
 }
 
 /// What waits to be delivered to an instance.
-#[derive(Debug, Drop)]
+#[derive(Drop)]
 pub enum InstanceDelivery {
     Start(StartDelivery),
     Offer(OfferDelivery),

@@ -27,7 +27,7 @@ use promises::{PromiseState, Promises, Settlement};
 use std::alloc::{AllocError, Global};
 
 /// Why no label is bound.
-#[derive(Clone, Copy, Debug, PartialEq, Eq)]
+#[derive(Clone, Copy, PartialEq, Eq)]
 pub enum BindFault {
     /// The label is bound already (own).
     NameTaken,
@@ -36,7 +36,7 @@ pub enum BindFault {
 
 /// What the parties have under their labels. A party exists from its first mention and has from the
 /// start `ertp`, `zoe` and `timer`. Contracts see the labels that were bound since (specs/Parties.antt).
-#[derive(Debug, Drop)]
+#[derive(Drop)]
 pub struct Parties {
     /// By the party, a dot and the label.
     labels: IndexMap<String, Data>,

@@ -24,7 +24,7 @@ const MOST_DEEP: u32 = 32;
 
 /// An argument as a line writes it, or a part of one. A record has its fields in byte order of their
 /// names, each name once.
-#[derive(Debug, Drop)]
+#[derive(Drop)]
 pub enum Part {
     Null,
     Bool(bool),

@@ -11,7 +11,7 @@ use std::alloc::{AllocError, Global};
 use std::marker::Model;
 
 /// Why no payment is made.
-#[derive(Clone, Copy, Debug, PartialEq, Eq)]
+#[derive(Clone, Copy, PartialEq, Eq)]
 pub enum MakeFault {
     /// 4,294,967,295 payments were made.
     Limit,
@@ -19,11 +19,11 @@ pub enum MakeFault {
 }
 
 /// A payment that was spent.
-#[derive(Clone, Copy, Debug, PartialEq, Eq)]
+#[derive(Clone, Copy, PartialEq, Eq)]
 pub struct DeadPayment;
 
 /// A payment that was made. Contracts see its number.
-#[derive(Clone, Copy, Debug, PartialEq, Eq)]
+#[derive(Clone, Copy, PartialEq, Eq)]
 pub struct PaymentRef {
     number: u32,
 }
@@ -47,7 +47,7 @@ impl PaymentRef {
     }
 }
 
-#[derive(Debug, Drop)]
+#[derive(Drop)]
 struct Payment {
     stock: Stock,
     is_live: bool,
@@ -81,7 +81,7 @@ impl Payment {
 }
 
 /// All payments. Contracts see of each its amount and whether it is live, by number.
-#[derive(Debug, Drop)]
+#[derive(Drop)]
 pub struct Payments {
     payments: Vec<Payment>,
 }

@@ -13,7 +13,7 @@ use std::alloc::{AllocError, Global};
 use std::marker::Model;
 
 /// Why no purse is opened.
-#[derive(Clone, Copy, Debug, PartialEq, Eq)]
+#[derive(Clone, Copy, PartialEq, Eq)]
 pub enum OpenFault {
     /// 4,294,967,295 purses were made.
     Limit,
@@ -21,7 +21,7 @@ pub enum OpenFault {
 }
 
 /// All purses. Contracts see the amount of each, by number.
-#[derive(Debug, Drop)]
+#[derive(Drop)]
 pub struct Purses {
     stocks: Vec<Stock>,
 }

@@ -15,7 +15,7 @@ use rights_model::Holder;
 use seats::seats::{Seats, SlotFault};
 use std::alloc::{AllocError, Global};
 
-#[derive(Debug, Drop)]
+#[derive(Drop)]
 pub(crate) struct Stores {
     pub(crate) supply: Supply,
     pub(crate) purses: Purses,

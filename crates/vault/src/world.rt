@@ -35,7 +35,7 @@ use turn_log::events::{Cause, Event, HostCall, Leaving, Opening, Payout};
 use turn_log::log::Log;
 
 /// What lies between turns.
-#[derive(Debug, Drop)]
+#[derive(Drop)]
 pub struct Resting {
     pub vault: Vault,
     pub brands: Brands,

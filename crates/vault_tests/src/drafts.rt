@@ -20,6 +20,7 @@ fn first_turn(rt: &impl Abort, alloc: Global) -> Draft
     draft.add_brand(Kind::Nat).expect(rt, "memory for a brand");
     draft
         .open_purse(0, Kind::Nat)
+        .ok()
         .expect(rt, "memory for a purse");
     draft
 }

@@ -19,7 +19,7 @@ pub fn parcel(rt: &impl Abort, alloc: Global, number: u128) -> Parcel
     let value = Value::nat(number);
     assert!(rt; supply.minted(0) <= NAT_BOUND);
     assert!(rt; value.total() <= NAT_BOUND);
-    supply.issue(0, value).expect(rt, "within the bound")
+    supply.issue(0, value).ok().expect(rt, "within the bound")
 }
 
 /// How many units a parcel has, which is put in a stock.

@@ -38,8 +38,14 @@ fn take(rt: &impl Abort, purses: &mut Purses, purse: u32, number: u32) -> Option
 #[test]
 fn purses_are_put_to_and_added_up(rt: HostRuntime) {
     let mut purses = Purses::new(rt.alloc());
-    let first = purses.open(1, Kind::Nat).expect(&rt, "memory for a purse");
-    let second = purses.open(0, Kind::Nat).expect(&rt, "memory for a purse");
+    let first = purses
+        .open(1, Kind::Nat)
+        .ok()
+        .expect(&rt, "memory for a purse");
+    let second = purses
+        .open(0, Kind::Nat)
+        .ok()
+        .expect(&rt, "memory for a purse");
     assert!(rt; first == 0 && second == 1 && purses.made() == 2);
     let ten = parcel(&rt, rt.alloc(), 10);
     put(&rt, &mut purses, second, ten);
@@ -55,7 +61,10 @@ fn purses_are_put_to_and_added_up(rt: HostRuntime) {
 #[test]
 fn an_empty_purse_gives_nothing(rt: HostRuntime) {
     let mut purses = Purses::new(rt.alloc());
-    let purse = purses.open(0, Kind::Nat).expect(&rt, "memory for a purse");
+    let purse = purses
+        .open(0, Kind::Nat)
+        .ok()
+        .expect(&rt, "memory for a purse");
     assert!(rt; take(&rt, &mut purses, purse, 0) == Some(0));
     assert!(rt; purses.amount(purse).number() == Some(0));
     drop(purses);

@@ -8,7 +8,7 @@ use proposals::plans::{Plan, SeatState, Touched};
 use std::alloc::{AllocError, Global};
 
 /// Why a seat has no gains and no losses. Each shows the seat.
-#[derive(Clone, Copy, Debug, PartialEq, Eq)]
+#[derive(Clone, Copy, PartialEq, Eq)]
 pub enum SeatFault {
     /// It is a seat of another instance than the one that was called.
     WrongInstance(u32),
