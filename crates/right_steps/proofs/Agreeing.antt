@@ -1,12 +1,14 @@
 -- The table agrees with the lists: what a half of a movement makes of the lists, it makes of the table.
-use Rattle.std.specs.Prelude.{◌≡◌, ◌≢◌, ◌==◌, ◌+◌, ℕ, zero, suc, ◌⊎◌, Bool, true, false, cond, List, [], ◌∷◌, ◌++◌, length, map, slice_index_or, refl}
+use Rattle.std.specs.Prelude.{◌≡◌, ◌≢◌, ◌==◌, ◌+◌, ◌<◌, ℕ, zero, suc, ◌⊎◌, Bool, true, false, cond, List, [], ◌∷◌, ◌++◌, Some, length, map, slice_index_or, slice_set, unwrap_or, refl}
+use Rattle.std.specs.Str.{bytes_eq}
+use Rattle.std.proofs.lemmas.Slice.Eq.{bytes_eq-Decides}
 use Rattle.std.proofs.Common.{inl, inr, sym, ◌∙◌, ap, subst, arith}
 use Rattle.std.proofs.lemmas.Bool.{cases_eq, eq-eqb, ne_eqb}
 use Rattle.amount_math.specs.Content.{Content, Contains, Contains-refl, nothing, sum, difference, count-difference, count-nothing, nothing-sum, same_content}
 use Rattle.amount_math.specs.Worth.{Worth}
 use Rattle.amount_math.specs.declared.Amount.{Amount}
 use Rattle.amount_math.specs.declared.Kind.{Kind}
-use Rattle.ertp_mint.specs.Stocks.{no_amount}
+use Rattle.ertp_mint.specs.Stocks.{empty_amount, no_amount}
 use Rattle.payments.specs.Papers.{Paper, live_paper, paper_at, spent_paper}
 use Rattle.rights_model.specs.declared.Holder.{Holder}
 use Rattle.rights_model.specs.declared.Holder.TheVariants.{Purse, Payment, Slot, Hand, Outside}
@@ -15,9 +17,15 @@ use Rattle.rights_model.specs.Table as table
 use Rattle.rights_model.specs.Table.{Table, CanMove, holds, movement}
 use Rattle.rights_model.proofs.TableLaws.{holds-given, holds-given_other, holds-taken, holds-taken_other, same_place, same_table, given_outside, taken_outside}
 use Rattle.rights_model.specs.Tabulated.{IsCovered, at-tabulated}
-use Rattle.right_steps.specs.Lists.{Lists, CanGive, CanTake, amount_of, given, less, more, purse_at, taken, with_new_brand, with_new_purse}
-use Rattle.right_steps.specs.Tables.{Agrees, Right, content_in, hand_minus, hand_plus, in_brand, no_hand, numbered, right_in, right_on, table_of}
-use Rattle.list_edits.proofs.ListEdits.{read_before, read_map, read_other, read_past, read_pushed, read_set}
+use Rattle.right_steps.specs.Lists.{Lists, CanGive, CanTake, amount_of, given, less, more, purse_at, slot_of, taken, with_closed_seat, with_new_brand, with_new_purse, with_new_seat, with_new_slot}
+use Rattle.right_steps.specs.Seats.{HasSlotOf, KeptSeat, amount_at, kept_seat_at, new_kept_seat, no_kept_seat, slot_at, with_slot, with_slots}
+use Rattle.right_steps.proofs.SlotRows.{further, keyword_cases, none_of_emptied, seat_elsewhere, slot_elsewhere, slot_there}
+use Rattle.proposals.specs.Rows.{amount_under, row_of}
+use Rattle.proposals.specs.Slots.{emptied, slots_of}
+use Rattle.proposals.specs.declared.allocations.Row.{Row}
+use Rattle.proposals.specs.declared.offers.Proposal.{Proposal}
+use Rattle.right_steps.specs.Tables.{Agrees, Right, content_in, hand_minus, hand_plus, in_brand, no_hand, numbered, right_in, right_on, seats_from, slots_from, table_of}
+use Rattle.list_edits.proofs.ListEdits.{keeps, read_before, read_map, read_other, read_past, read_pushed, read_set}
 
 of_brand : (r : Right) (b : ℕ) → r.brand ≡ b → in_brand r b ≡ r.content
 of_brand r b e = ap (λ x. cond x r.content nothing) (eq-eqb r.brand b e)
@@ -44,6 +52,19 @@ module _ (s : Lists) (hand : ℕ → Content) (b : ℕ) (w : Worth) where
   abbrev purse_now : ℕ → Amount
   purse_now n = purse_at s.purses n
 
+  -- a slot of the brand written with an amount of it: of no other place anything changes
+  written_slot : (n : ℕ) (k : List ℕ) (x : Amount) → HasSlotOf s.seats n k → (slot_of s n k).brand ≡ b → x.brand ≡ b → (q : ℕ) (j : List ℕ) (e : ℕ) → place (Slot q j) e ≢ place (Slot n k) b
+      → in_brand (right_in (slot_at (with_slot s.seats n k x) q j)) e ≡ in_brand (right_in (slot_at s.seats q j)) e
+  written_slot n k x has brand also q j e apart = elim (cases_eq n q) [
+    | inl same ↦ subst (λ y. place (Slot y j) e ≢ place (Slot n k) b → in_brand (right_in (slot_at (with_slot s.seats n k x) y j)) e ≡ in_brand (right_in (slot_at s.seats y j)) e) same (of_seat (keyword_cases j k)) apart
+    | inr differs ↦ ap (λ (a : Amount). in_brand (right_in a) e) (seat_elsewhere s.seats n q k j x differs)
+  ]
+    where
+      of_seat : (j ≡ k) ⊎ (j ≢ k) → place (Slot n j) e ≢ place (Slot n k) b → in_brand (right_in (slot_at (with_slot s.seats n k x) n j)) e ≡ in_brand (right_in (slot_at s.seats n j)) e
+      of_seat (inl at) differs = subst (λ y. place (Slot n y) e ≢ place (Slot n k) b → in_brand (right_in (slot_at (with_slot s.seats n k x) n y)) e ≡ in_brand (right_in (slot_at s.seats n y)) e) (sym at)
+          (λ other. ap (λ (a : Amount). in_brand (right_in a) e) (slot_there s.seats n k has x) ∙ nothing_of_other (right_in (slot_of s n k)) (right_in x) b e brand also (other_brand (Slot n k) e b other)) differs
+      of_seat (inr elsewhere) differs = ap (λ (a : Amount). in_brand (right_in a) e) (slot_elsewhere s.seats n k has j x elsewhere)
+
   taken_here : (h : Holder) → CanTake s h b w → h ≢ Outside → content_in (taken s h b w) hand h b ≡ difference (content_in s hand h b) w.content
   taken_here (Purse n) can inside =
       ap (λ (a : Amount). in_brand (right_in a) b) (read_set s.purses n (less (purse_now n) w.content) no_amount can.made)
@@ -53,7 +74,10 @@ module _ (s : Lists) (hand : ℕ → Content) (b : ℕ) (w : Worth) where
       ap (λ (p : Paper). in_brand (right_on p) b) (read_set s.payments n (spent_paper b) (spent_paper 0) can.made)
       ∙ none_either (b == b)
       ∙ sym (ap (λ (p : Paper). difference (in_brand (right_on p) b) w.content) can.is ∙ ap (λ x. difference x w.content) (of_brand (right_on (live_paper (amount_of b w))) b refl) ∙ all_gone w.content)
-  taken_here (Slot seat keyword) can inside = absurd can
+  taken_here (Slot n k) can inside =
+      ap (λ (a : Amount). in_brand (right_in a) b) (slot_there s.seats n k can.slot (less (slot_of s n k) w.content))
+      ∙ of_brand (right_in (less (slot_of s n k) w.content)) b can.brand
+      ∙ sym (ap (λ x. difference x w.content) (of_brand (right_in (slot_of s n k)) b can.brand))
   taken_here Hand can inside = absurd can
   taken_here Outside can inside = absurd (inside refl)
 
@@ -82,7 +106,11 @@ module _ (s : Lists) (hand : ℕ → Content) (b : ℕ) (w : Worth) where
   taken_elsewhere (Payment n) (Slot v j) e can apart = refl
   taken_elsewhere (Payment n) Hand e can apart = refl
   taken_elsewhere (Payment n) Outside e can apart = refl
-  taken_elsewhere (Slot v j) g e can apart = absurd can
+  taken_elsewhere (Slot n k) (Purse q) e can apart = refl
+  taken_elsewhere (Slot n k) (Payment q) e can apart = refl
+  taken_elsewhere (Slot n k) (Slot q j) e can apart = written_slot n k (less (slot_of s n k) w.content) can.slot can.brand can.brand q j e apart
+  taken_elsewhere (Slot n k) Hand e can apart = refl
+  taken_elsewhere (Slot n k) Outside e can apart = refl
   taken_elsewhere Hand g e can apart = absurd can
   taken_elsewhere Outside g e can apart = unread g e
     where
@@ -102,7 +130,10 @@ module _ (s : Lists) (hand : ℕ → Content) (b : ℕ) (w : Worth) where
       ap (λ (p : Paper). in_brand (right_on p) b) (read_pushed s.payments (live_paper (amount_of b w)) (spent_paper 0) n can)
       ∙ of_brand (right_on (live_paper (amount_of b w))) b refl
       ∙ sym (ap (λ (p : Paper). sum (in_brand (right_on p) b) w.content) (read_past s.payments (spent_paper 0) n (omega (arith, can))) ∙ ap (λ x. sum x w.content) (none_either (0 == b)) ∙ nothing-sum w.content)
-  given_here (Slot seat keyword) can inside = absurd can
+  given_here (Slot n k) can inside =
+      ap (λ (a : Amount). in_brand (right_in a) b) (slot_there s.seats n k can.slot (more (slot_of s n k) w.content))
+      ∙ of_brand (right_in (more (slot_of s n k) w.content)) b can.meet.brand
+      ∙ sym (ap (λ x. sum x w.content) (of_brand (right_in (slot_of s n k)) b can.meet.brand))
   given_here Hand can inside = absurd can
   given_here Outside can inside = absurd (inside refl)
 
@@ -132,7 +163,11 @@ module _ (s : Lists) (hand : ℕ → Content) (b : ℕ) (w : Worth) where
   given_elsewhere (Payment n) (Slot v j) e can apart = refl
   given_elsewhere (Payment n) Hand e can apart = refl
   given_elsewhere (Payment n) Outside e can apart = refl
-  given_elsewhere (Slot v j) g e can apart = absurd can
+  given_elsewhere (Slot n k) (Purse q) e can apart = refl
+  given_elsewhere (Slot n k) (Payment q) e can apart = refl
+  given_elsewhere (Slot n k) (Slot q j) e can apart = written_slot n k (more (slot_of s n k) w.content) can.slot can.meet.brand can.meet.brand q j e apart
+  given_elsewhere (Slot n k) Hand e can apart = refl
+  given_elsewhere (Slot n k) Outside e can apart = refl
   given_elsewhere Hand g e can apart = absurd can
   given_elsewhere Outside g e can apart = unread g e
     where
@@ -234,7 +269,7 @@ module _ (s : Lists) (hand : ℕ → Content) (t : Table) (b : ℕ) (w : Worth) 
       there : (h : Holder) → CanTake s h b w → h ≢ Outside → Contains (content_in s hand h b) c
       there (Purse n) can inside = subst (λ (x : Content). Contains x c) (sym (of_brand (right_in (purse_at s.purses n)) b can.brand)) can.has
       there (Payment n) can inside = subst (λ (p : Paper). Contains (in_brand (right_on p) b) c) (sym can.is) (subst (λ (x : Content). Contains x c) (sym (of_brand (right_on (live_paper (amount_of b w))) b refl)) (Contains-refl c))
-      there (Slot v j) can inside = absurd can
+      there (Slot n k) can inside = subst (λ (x : Content). Contains x c) (sym (of_brand (right_in (slot_of s n k)) b can.brand)) can.has
       there Hand can inside = absurd can
       there Outside can inside = absurd (inside refl)
 
@@ -267,6 +302,54 @@ agrees_new_brand s hand t kind is = record { each = λ g e. is.each g e ∙ sym 
     same (Slot v j) e = refl
     same Hand e = refl
     same Outside e = refl
+
+-- other seats, whose slots show the same
+pub agrees_seated : (s : Lists) (hand : ℕ → Content) (t : Table) (l : List KeptSeat) (owed : ℕ) → ((q : ℕ) (j : List ℕ) (e : ℕ) → in_brand (right_in (slot_at l q j)) e ≡ in_brand (right_in (slot_at s.seats q j)) e) → Agrees s hand t → Agrees (record s { seats = l; owed = owed }) hand t
+agrees_seated s hand t l owed alike is = record { each = λ g e. is.each g e ∙ sym (same g e) }
+  where
+    same : (g : Holder) (e : ℕ) → content_in (record s { seats = l; owed = owed }) hand g e ≡ content_in s hand g e
+    same (Purse q) e = refl
+    same (Payment q) e = refl
+    same (Slot v j) e = alike v j e
+    same Hand e = refl
+    same Outside e = refl
+
+nothing_in : (a : Amount) (e : ℕ) → a.value.content ≡ nothing → in_brand (right_in a) e ≡ nothing
+nothing_in a e none = ap (λ x. cond (a.brand == e) x nothing) none ∙ none_either (a.brand == e)
+
+pub agrees_new_seat : (s : Lists) (hand : ℕ → Content) (t : Table) (instance : ℕ) (proposal : Proposal) → Agrees s hand t → Agrees (with_new_seat s instance proposal) hand t
+agrees_new_seat s hand t instance proposal is = agrees_seated s hand t (s.seats ++ new_kept_seat instance proposal ∷ []) _ alike is
+  where
+    alike : (q : ℕ) (j : List ℕ) (e : ℕ) → in_brand (right_in (slot_at (s.seats ++ new_kept_seat instance proposal ∷ []) q j)) e ≡ in_brand (right_in (slot_at s.seats q j)) e
+    alike q j e = elim (cases_eq (length s.seats) q) [
+      | inl at ↦
+          ap (λ (x : KeptSeat). in_brand (right_in (amount_at j x.slots)) e) (read_pushed s.seats (new_kept_seat instance proposal) no_kept_seat q (sym at)) ∙ nothing_in (amount_at j (map emptied (slots_of proposal))) e (none_of_emptied j (slots_of proposal))
+          ∙ sym (ap (λ (x : KeptSeat). in_brand (right_in (amount_at j x.slots)) e) (read_past s.seats no_kept_seat q (omega (arith, at))) ∙ none_either (0 == e))
+      | inr apart ↦ ap (λ (x : KeptSeat). in_brand (right_in (amount_at j x.slots)) e) (read_before s.seats (new_kept_seat instance proposal) no_kept_seat q apart)
+    ]
+
+module _ (s : Lists) (n : ℕ) (keyword : List ℕ) (b : ℕ) (kind : Kind) where
+  abbrev seat : KeptSeat
+  seat = kept_seat_at s.seats n
+
+  abbrev longer : KeptSeat
+  longer = with_slots seat (seat.slots ++ row_of keyword (empty_amount b kind) ∷ [])
+
+  of_seat : (j : List ℕ) (e : ℕ) → in_brand (right_in (amount_at j longer.slots)) e ≡ in_brand (right_in (amount_at j seat.slots)) e
+  of_seat j e = further (λ (a : Amount). in_brand (right_in a) e ≡ in_brand (right_in (amount_at j seat.slots)) e) j (row_of keyword (empty_amount b kind)) seat.slots (λ same. none_either (b == e) ∙ sym (none_either (0 == e)) ∙ same) refl
+
+  longer_alike : n < length s.seats → (q : ℕ) (j : List ℕ) (e : ℕ) → in_brand (right_in (slot_at (slice_set s.seats n longer) q j)) e ≡ in_brand (right_in (slot_at s.seats q j)) e
+  longer_alike made q j e = elim (cases_eq n q) [
+    | inl at ↦ subst (λ y. in_brand (right_in (slot_at (slice_set s.seats n longer) y j)) e ≡ in_brand (right_in (slot_at s.seats y j)) e) at (ap (λ (x : KeptSeat). in_brand (right_in (amount_at j x.slots)) e) (read_set s.seats n longer no_kept_seat made) ∙ of_seat j e)
+    | inr apart ↦ ap (λ (x : KeptSeat). in_brand (right_in (amount_at j x.slots)) e) (read_other s.seats n q longer no_kept_seat apart)
+  ]
+
+  pub agrees_new_slot : (hand : ℕ → Content) (t : Table) → n < length s.seats → Agrees s hand t → Agrees (with_new_slot s n keyword b kind) hand t
+  agrees_new_slot hand t made is = agrees_seated s hand t (slice_set s.seats n longer) _ (longer_alike made) is
+
+pub agrees_closed : (s : Lists) (hand : ℕ → Content) (t : Table) (n : ℕ) → Agrees s hand t → Agrees (with_closed_seat s n) hand t
+agrees_closed s hand t n is = agrees_seated s hand t (slice_set s.seats n (record (kept_seat_at s.seats n) { last = Some (kept_seat_at s.seats n).slots })) _
+    (λ q j e. ap (λ l. in_brand (right_in (amount_at j l)) e) (keeps (λ (x : KeptSeat). x.slots) s.seats n (record (kept_seat_at s.seats n) { last = Some (kept_seat_at s.seats n).slots }) no_kept_seat refl q)) is
 
 -- what the hand has is told by its contents
 pub agrees_alike : (s : Lists) (h g : ℕ → Content) (t : Table) → ((e : ℕ) → h e ≡ g e) → Agrees s h t → Agrees s g t
@@ -309,6 +392,23 @@ module _ (f : Place → Content) where
   ]
   covered_numbered who n (r ∷ rs) (suc q) j e d none at is = inr (covered_numbered who (suc n) rs q j e d none (omega arith) is)
 
+  covered_rows : (n : ℕ) (rows : List Row) (j : List ℕ) (e : ℕ) → f (place (Slot n j) e) ≡ in_brand (right_in (amount_at j rows)) e → IsCovered f (slots_from n rows) (place (Slot n j) e)
+  covered_rows n [] j e is = is ∙ none_either (0 == e)
+  covered_rows n (r ∷ rs) j e is = by (bytes_eq j r.keyword) refl (covered_rows n rs j e) is
+    where
+      by : (t : Bool) → bytes_eq j r.keyword ≡ t → (f (place (Slot n j) e) ≡ in_brand (right_in (amount_at j rs)) e → IsCovered f (slots_from n rs) (place (Slot n j) e))
+          → f (place (Slot n j) e) ≡ in_brand (right_in (unwrap_or (cond t (Some r.amount) (amount_under j rs)) no_amount)) e → IsCovered f ((Slot n r.keyword, r.amount.brand) ∷ slots_from n rs) (place (Slot n j) e)
+      by true same later here = elim (cases_eq r.amount.brand e) [
+        | inl at ↦ inl (ap (λ x. place (Slot n x) e) ((bytes_eq-Decides j r.keyword).0 same) ∙ ap (place (Slot n r.keyword)) (sym at))
+        | inr differs ↦ inr (none_covered (slots_from n rs) (place (Slot n j) e) (here ∙ of_other (right_in r.amount) e differs))
+      ]
+      by false same later here = inr (later here)
+
+  covered_seats : (m : ℕ) (l : List KeptSeat) (q v : ℕ) (j : List ℕ) (e : ℕ) → v ≡ m + q → f (place (Slot v j) e) ≡ in_brand (right_in (slot_at l q j)) e → IsCovered f (seats_from m l) (place (Slot v j) e)
+  covered_seats m [] q v j e at is = is ∙ none_either (0 == e)
+  covered_seats m (x ∷ xs) zero v j e at is = covered_left (slots_from m x.slots) (seats_from (suc m) xs) (place (Slot v j) e) (subst (λ y. IsCovered f (slots_from y x.slots) (place (Slot v j) e)) (at ∙ (omega arith)) (covered_rows v x.slots j e is))
+  covered_seats m (x ∷ xs) (suc q) v j e at is = covered_right (slots_from m x.slots) (seats_from (suc m) xs) (place (Slot v j) e) (covered_seats (suc m) xs q v j e (omega (arith, at)) is)
+
 module _ (s : Lists) where
   abbrev f : Place → Content
   f p = content_in s no_hand p.0 p.1
@@ -319,15 +419,21 @@ module _ (s : Lists) where
   abbrev second : List Place
   second = numbered Payment 0 (map right_on s.payments)
 
+  abbrev both : List Place
+  both = first ++ second
+
+  abbrev third : List Place
+  third = seats_from 0 s.seats
+
   pub table_agrees : Agrees s no_hand (table_of s)
   unfolding table_of
-  table_agrees = record { each = λ h e. at-tabulated f (first ++ second) (place h e) (covered h e) }
+  table_agrees = record { each = λ h e. at-tabulated f (both ++ third) (place h e) (covered h e) }
     where
-      covered : (h : Holder) (e : ℕ) → IsCovered f (first ++ second) (place h e)
-      covered (Purse q) e = covered_left f first second (place (Purse q) e)
-          (covered_numbered f Purse 0 (map right_in s.purses) q q e (right_in no_amount) refl (omega arith) (ap (λ (r : Right). in_brand r e) (sym (read_map right_in s.purses q no_amount))))
-      covered (Payment q) e = covered_right f first second (place (Payment q) e)
-          (covered_numbered f Payment 0 (map right_on s.payments) q q e (right_on (spent_paper 0)) refl (omega arith) (ap (λ (r : Right). in_brand r e) (sym (read_map right_on s.payments q (spent_paper 0)))))
-      covered (Slot v j) e = none_covered f (first ++ second) (place (Slot v j) e) refl
-      covered Hand e = none_covered f (first ++ second) (place Hand e) refl
-      covered Outside e = none_covered f (first ++ second) (place Outside e) refl
+      covered : (h : Holder) (e : ℕ) → IsCovered f (both ++ third) (place h e)
+      covered (Purse q) e = covered_left f both third (place (Purse q) e) (covered_left f first second (place (Purse q) e)
+          (covered_numbered f Purse 0 (map right_in s.purses) q q e (right_in no_amount) refl (omega arith) (ap (λ (r : Right). in_brand r e) (sym (read_map right_in s.purses q no_amount)))))
+      covered (Payment q) e = covered_left f both third (place (Payment q) e) (covered_right f first second (place (Payment q) e)
+          (covered_numbered f Payment 0 (map right_on s.payments) q q e (right_on (spent_paper 0)) refl (omega arith) (ap (λ (r : Right). in_brand r e) (sym (read_map right_on s.payments q (spent_paper 0))))))
+      covered (Slot v j) e = covered_right f both third (place (Slot v j) e) (covered_seats f 0 s.seats v v j e (omega arith) refl)
+      covered Hand e = none_covered f (both ++ third) (place Hand e) refl
+      covered Outside e = none_covered f (both ++ third) (place Outside e) refl

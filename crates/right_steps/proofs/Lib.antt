@@ -1,3 +1,4 @@
+pub mod SlotRows
 pub mod FlowLaws
 pub mod Undone
 pub mod Agreeing

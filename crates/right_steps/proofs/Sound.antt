@@ -1,6 +1,7 @@
 -- What all hold together stays what is out, whatever is taken or given.
-use Rattle.std.proofs.Common.{◌≡◌, ◌≢◌, ◌+◌, ◌<◌, ◌≤◌, ◌==◌, inl, inr, ℕ, zero, suc, Bool, true, false, cond, List, [], ◌∷◌, ◌++◌, length, map, refl, sym, ◌∙◌, ap, subst, arith}
-use Rattle.std.specs.Prelude.{slice_index_or, slice_set}
+use Rattle.std.proofs.Common.{◌≡◌, ◌≢◌, ◌+◌, ◌<◌, ◌≤◌, ◌==◌, inl, inr, ℕ, zero, suc, Bool, true, false, cond, List, [], ◌∷◌, ◌++◌, Option, None, Some, length, map, refl, sym, ◌∙◌, ap, subst, arith}
+use Rattle.std.specs.Prelude.{IsNone, IsSome, is_none, slice_index_or, slice_set, unwrap_or}
+use Rattle.std.specs.Str.{bytes_eq}
 use Rattle.std.proofs.lemmas.Bool.{cases_eq, eq-eqb, ne_eqb}
 use Rattle.amount_math.specs.Content.{Content, Contains, nothing, sum, difference, count, count-sum, count-difference, count-nothing, same_content}
 use Rattle.amount_math.specs.Worth.{Worth}
@@ -12,9 +13,15 @@ use Rattle.ertp_mint.specs.Stocks.{empty_amount, no_amount}
 use Rattle.payments.specs.Papers.{Paper, live_paper, paper_at, spent_paper}
 use Rattle.rights_model.specs.declared.Holder.{Holder}
 use Rattle.rights_model.specs.declared.Holder.TheVariants.{Purse, Payment, Slot, Hand, Outside}
-use Rattle.right_steps.specs.Lists.{Lists, CanGive, CanTake, amount_of, given, less, more, purse_at, taken, with_new_brand, with_new_purse}
-use Rattle.right_steps.specs.Tables.{IsSound, Right, all_in, hand_minus, hand_plus, in_brand, right_in, right_on}
-use Rattle.list_edits.proofs.ListEdits.{length_map, map_push, map_set, read_before, read_map, read_other, read_past, read_pushed, read_set}
+use Rattle.right_steps.specs.Lists.{Lists, CanGive, CanTake, amount_of, given, less, more, purse_at, slot_of, taken, with_closed_seat, with_new_brand, with_new_purse, with_new_seat, with_new_slot}
+use Rattle.right_steps.specs.Seats.{HasRow, HasSlotOf, IsOpenSeat, KeptSeat, amount_at, kept_seat_at, new_kept_seat, owed_by, owed_by_all, slot_at, with_amount, with_slot, with_slots}
+use Rattle.right_steps.proofs.SlotRows.{length_with}
+use Rattle.proposals.specs.Rows.{amount_under, row_of}
+use Rattle.proposals.specs.Slots.{emptied, slots_of}
+use Rattle.proposals.specs.declared.allocations.Row.{Row}
+use Rattle.proposals.specs.declared.offers.Proposal.{Proposal}
+use Rattle.right_steps.specs.Tables.{IsSound, Right, all_in, all_in_seats, hand_minus, hand_plus, in_brand, right_in, right_of_row, right_on}
+use Rattle.list_edits.proofs.ListEdits.{length_map, length_push, map_push, map_set, read_before, read_map, read_other, read_past, read_pushed, read_set}
 
 -- how many of a brand's element a content of another is
 abbrev pub part : ℕ → Content → ℕ → List ℕ → ℕ
@@ -95,6 +102,69 @@ papers-set l n x e k lt = omega (
   ap (λ r. count (in_brand r e) k) (read_map right_on l n (spent_paper 0)),
 )
 
+-- ---- seats
+
+rows-set : (rows : List Row) (j : List ℕ) (x : Amount) (e : ℕ) (k : List ℕ) → HasRow j rows → all_in (map right_of_row (with_amount j x rows)) e k + count (in_brand (right_in (amount_at j rows)) e) k ≡ all_in (map right_of_row rows) e k + count (in_brand (right_in x) e) k
+rows-set [] j x e k has = absurd cc
+rows-set (r ∷ rs) j x e k has = by (bytes_eq j r.keyword) (rows-set rs j x e k) has
+  where
+    by : (t : Bool) → (HasRow j rs → all_in (map right_of_row (with_amount j x rs)) e k + count (in_brand (right_in (amount_at j rs)) e) k ≡ all_in (map right_of_row rs) e k + count (in_brand (right_in x) e) k)
+        → IsSome (cond t (Some r.amount) (amount_under j rs))
+        → all_in (map right_of_row (cond t (row_of r.keyword x ∷ rs) (r ∷ with_amount j x rs))) e k + count (in_brand (right_in (unwrap_or (cond t (Some r.amount) (amount_under j rs)) no_amount)) e) k ≡ all_in (map right_of_row (r ∷ rs)) e k + count (in_brand (right_in x) e) k
+    by true later here = omega arith
+    by false later here = omega (arith, later here)
+
+seat-set : (l : List KeptSeat) (n : ℕ) (x : KeptSeat) (e : ℕ) (k : List ℕ) → n < length l → all_in_seats (slice_set l n x) e k + all_in (map right_of_row (kept_seat_at l n).slots) e k ≡ all_in_seats l e k + all_in (map right_of_row x.slots) e k
+seat-set [] n x e k lt = absurd (omega arith)
+seat-set (s ∷ ss) zero x e k lt = omega arith
+seat-set (s ∷ ss) (suc n) x e k lt = omega (arith, seat-set ss n x e k (omega arith))
+
+seat-push : (l : List KeptSeat) (x : KeptSeat) (e : ℕ) (k : List ℕ) → all_in_seats (l ++ x ∷ []) e k ≡ all_in_seats l e k + all_in (map right_of_row x.slots) e k
+seat-push [] x e k = omega arith
+seat-push (s ∷ ss) x e k = omega (arith, seat-push ss x e k)
+
+slots-set : (l : List KeptSeat) (n : ℕ) (j : List ℕ) (x : Amount) (e : ℕ) (k : List ℕ) → HasSlotOf l n j → all_in_seats (with_slot l n j x) e k + count (in_brand (right_in (slot_at l n j)) e) k ≡ all_in_seats l e k + count (in_brand (right_in x) e) k
+slots-set l n j x e k has =
+    let seat = kept_seat_at l n in
+    omega (arith, seat-set l n (with_slots seat (with_amount j x seat.slots)) e k has.made, rows-set seat.slots j x e k has.there)
+
+emptied_none : (rows : List Row) (e : ℕ) (k : List ℕ) → all_in (map right_of_row (map emptied rows)) e k ≡ 0
+emptied_none [] e k = refl
+emptied_none (r ∷ rs) e k = omega (arith, spent_count r.amount.brand e k, emptied_none rs e k)
+
+-- ---- what is owed
+
+owed-set : (l : List KeptSeat) (n : ℕ) (x : KeptSeat) → n < length l → owed_by_all (slice_set l n x) + owed_by (kept_seat_at l n) ≡ owed_by_all l + owed_by x
+owed-set [] n x lt = absurd (omega arith)
+owed-set (s ∷ ss) zero x lt = omega arith
+owed-set (s ∷ ss) (suc n) x lt = omega (arith, owed-set ss n x (omega arith))
+
+owed-push : (l : List KeptSeat) (x : KeptSeat) → owed_by_all (l ++ x ∷ []) ≡ owed_by_all l + owed_by x
+owed-push [] x = omega arith
+owed-push (s ∷ ss) x = omega (arith, owed-push ss x)
+
+pub owed_open : (seat : KeptSeat) → IsOpenSeat seat → owed_by seat ≡ length seat.slots
+owed_open seat is = by seat.last is
+  where
+    by : (o : Option (List Row)) → IsNone o → cond (is_none o) (length seat.slots) 0 ≡ length seat.slots
+    by None none = refl
+    by (Some x) none = absurd cc
+
+owed_within : (l : List KeptSeat) (n : ℕ) → n < length l → owed_by (kept_seat_at l n) ≤ owed_by_all l
+owed_within [] n lt = absurd (omega arith)
+owed_within (s ∷ ss) zero lt = omega arith
+owed_within (s ∷ ss) (suc n) lt = omega (arith, owed_within ss n (omega arith))
+
+-- the payments of an open seat are owed
+pub owes_its_slots : (s : Lists) (h : ℕ → Content) → IsSound s h → (n : ℕ) → n < length s.seats → IsOpenSeat (kept_seat_at s.seats n) → length (kept_seat_at s.seats n).slots ≤ s.owed
+owes_its_slots s h is n lt seat_open = omega (arith, is.owed, owed_within s.seats n lt, owed_open (kept_seat_at s.seats n) seat_open)
+
+-- a slot that is written leaves what is owed
+owed_slot : (l : List KeptSeat) (n : ℕ) (j : List ℕ) (x : Amount) → n < length l → owed_by_all (with_slot l n j x) ≡ owed_by_all l
+owed_slot l n j x lt =
+    let seat = kept_seat_at l n in
+    omega (arith, owed-set l n (with_slots seat (with_amount j x seat.slots)) lt, ap (λ m. cond (is_none seat.last) m 0) (length_with j x seat.slots))
+
 -- what is out of each brand
 abbrev out_count : List BrandSupply → ℕ → List ℕ → ℕ
 out_count l e k = count (supply_at l e).outstanding.content k
@@ -121,6 +191,7 @@ module _ (s : Lists) (h : ℕ → Content) (b : ℕ) (w : Worth) (is : IsSound s
       brand_less (right_in (purse_at s.purses n)) b w.content e k can.brand can.has,
       plus_count h b w.content e k,
     );
+    owed = is.owed;
   }
   sound_taken (Payment n) can = record {
     balanced = λ e k. omega (
@@ -132,10 +203,20 @@ module _ (s : Lists) (h : ℕ → Content) (b : ℕ) (w : Worth) (is : IsSound s
       spent_count b e k,
       plus_count h b w.content e k,
     );
+    owed = is.owed;
   }
-  sound_taken (Slot v j) can = absurd can
+  sound_taken (Slot n j) can = record {
+    balanced = λ e k. omega (
+      arith,
+      is.balanced e k,
+      slots-set s.seats n j (less (slot_of s n j) w.content) e k can.slot,
+      brand_less (right_in (slot_of s n j)) b w.content e k can.brand can.has,
+      plus_count h b w.content e k,
+    );
+    owed = is.owed ∙ sym (owed_slot s.seats n j (less (slot_of s n j) w.content) can.slot.made);
+  }
   sound_taken Hand can = absurd can
-  sound_taken Outside can = record { balanced = λ e k. omega (arith, is.balanced e k, out_more s.out b w.content e k can.made, plus_count h b w.content e k) }
+  sound_taken Outside can = record { balanced = λ e k. omega (arith, is.balanced e k, out_more s.out b w.content e k can.made, plus_count h b w.content e k); owed = is.owed }
 
   pub sound_given : (to : Holder) → CanGive s to b w → Contains (h b) w.content → IsSound (given s to b w) (hand_minus h b w.content)
   sound_given (Purse n) can has = record {
@@ -146,6 +227,7 @@ module _ (s : Lists) (h : ℕ → Content) (b : ℕ) (w : Worth) (is : IsSound s
       brand_more (right_in (purse_at s.purses n)) b w.content e k can.meet.brand,
       minus_count h b w.content e k has,
     );
+    owed = is.owed;
   }
   sound_given (Payment n) can has = record {
     balanced = λ e k. omega (
@@ -156,10 +238,20 @@ module _ (s : Lists) (h : ℕ → Content) (b : ℕ) (w : Worth) (is : IsSound s
       live_count b w e k,
       minus_count h b w.content e k has,
     );
+    owed = is.owed;
   }
-  sound_given (Slot v j) can has = absurd can
+  sound_given (Slot n j) can has = record {
+    balanced = λ e k. omega (
+      arith,
+      is.balanced e k,
+      slots-set s.seats n j (more (slot_of s n j) w.content) e k can.slot,
+      brand_more (right_in (slot_of s n j)) b w.content e k can.meet.brand,
+      minus_count h b w.content e k has,
+    );
+    owed = is.owed ∙ sym (owed_slot s.seats n j (more (slot_of s n j) w.content) can.slot.made);
+  }
   sound_given Hand can has = absurd can
-  sound_given Outside can has = record { balanced = λ e k. omega (arith, is.balanced e k, out_less s.out b w.content e k can.made can.has, minus_count h b w.content e k has) }
+  sound_given Outside can has = record { balanced = λ e k. omega (arith, is.balanced e k, out_less s.out b w.content e k can.made can.has, minus_count h b w.content e k has); owed = is.owed }
 
 -- what the hand has is out
 pub hand_is_out : (s : Lists) (h : ℕ → Content) → IsSound s h → (b : ℕ) → Contains (supply_at s.out b).outstanding.content (h b)
@@ -180,10 +272,43 @@ sound_new_purse s h b kind is = record {
     all_in-push (map right_in s.purses) (right_in (empty_amount b kind)) e k,
     spent_count b e k,
   );
+  owed = is.owed;
 }
 
+pub sound_new_seat : (s : Lists) (h : ℕ → Content) (instance : ℕ) (proposal : Proposal) → IsSound s h → IsSound (with_new_seat s instance proposal) h
+sound_new_seat s h instance proposal is = record {
+  balanced = λ e k. omega (arith, is.balanced e k, seat-push s.seats (new_kept_seat instance proposal) e k, emptied_none (slots_of proposal) e k);
+  owed = omega (arith, is.owed, owed-push s.seats (new_kept_seat instance proposal), length_map emptied (slots_of proposal));
+}
+
+pub sound_new_slot : (s : Lists) (h : ℕ → Content) (n : ℕ) (keyword : List ℕ) (b : ℕ) (kind : Kind) → n < length s.seats → IsOpenSeat (kept_seat_at s.seats n) → IsSound s h → IsSound (with_new_slot s n keyword b kind) h
+sound_new_slot s h n keyword b kind lt seat_open is =
+    let seat = kept_seat_at s.seats n in
+    let row = row_of keyword (empty_amount b kind) in
+    let longer = with_slots seat (seat.slots ++ row ∷ []) in
+    record {
+      balanced = λ e k. omega (
+        arith,
+        is.balanced e k,
+        seat-set s.seats n longer e k lt,
+        ap (λ m. all_in m e k) (map_push right_of_row seat.slots row),
+        all_in-push (map right_of_row seat.slots) (right_of_row row) e k,
+        spent_count b e k,
+      );
+      owed = omega (arith, is.owed, owed-set s.seats n longer lt, owed_open seat seat_open, owed_open longer seat_open, length_push seat.slots row);
+    }
+
+pub sound_closed : (s : Lists) (h : ℕ → Content) (n : ℕ) → n < length s.seats → IsOpenSeat (kept_seat_at s.seats n) → IsSound s h → IsSound (with_closed_seat s n) h
+sound_closed s h n lt seat_open is =
+    let seat = kept_seat_at s.seats n in
+    let closed : KeptSeat = record seat { last = Some seat.slots } in
+    record {
+      balanced = λ e k. omega (arith, is.balanced e k, seat-set s.seats n closed e k lt);
+      owed = omega (arith, is.owed, owed-set s.seats n closed lt, owed_open seat seat_open);
+    }
+
 pub sound_new_brand : (s : Lists) (h : ℕ → Content) (kind : Kind) → IsSound s h → IsSound (with_new_brand s kind) h
-sound_new_brand s h kind is = record { balanced = λ e k. is.balanced e k ∙ sym (same e k) }
+sound_new_brand s h kind is = record { balanced = λ e k. is.balanced e k ∙ sym (same e k); owed = is.owed }
   where
     same : (e : ℕ) (k : List ℕ) → out_count (s.out ++ new_supply kind ∷ []) e k ≡ out_count s.out e k
     same e k = elim (cases_eq (length s.out) e) [
@@ -192,7 +317,7 @@ sound_new_brand s h kind is = record { balanced = λ e k. is.balanced e k ∙ sy
     ]
 
 pub sound_alike : (s : Lists) (h g : ℕ → Content) → ((e : ℕ) → h e ≡ g e) → IsSound s h → IsSound s g
-sound_alike s h g alike is = record { balanced = λ e k. omega (arith, is.balanced e k, ap (λ x. count x k) (alike e)) }
+sound_alike s h g alike is = record { balanced = λ e k. omega (arith, is.balanced e k, ap (λ x. count x k) (alike e)); owed = is.owed }
 
 -- what came to the hand is there, and without it the hand is as before
 pub plus_has : (h : ℕ → Content) (b : ℕ) (c : Content) → Contains (hand_plus h b c b) c

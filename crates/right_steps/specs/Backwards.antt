@@ -1,5 +1,5 @@
 -- Steps worked backwards, the last first: what they give, and when they can be.
-use Rattle.std.specs.Prelude.{◌≡◌, ◌<◌, ◌≤◌, ◌+◌, ◌-◌, ◌==◌, if◌then◌else◌, ℕ, List, [], ◌∷◌, count_by, length}
+use Rattle.std.specs.Prelude.{◌≡◌, ◌<◌, ◌≤◌, ◌+◌, ◌-◌, ◌==◌, if◌then◌else◌, ℕ, List, [], ◌∷◌, IsSome, count_by, length}
 use Rattle.amount_math.specs.Content.{Content, Contains, nothing, sum, difference}
 use Rattle.amount_math.specs.Held.{HasRoom}
 use Rattle.amount_math.specs.Worth.{Fits, Worth, keys_of}
@@ -11,8 +11,11 @@ use Rattle.rights_model.specs.declared.Holder.{Holder}
 use Rattle.rights_model.specs.declared.Holder.TheVariants.{Purse, Payment, Slot, Hand, Outside}
 use Rattle.rights_model.specs.declared.Movement.{Movement}
 use Rattle.right_steps.specs.declared.Step.{Step}
-use Rattle.right_steps.specs.declared.Step.TheVariants.{Moves, OpensPurse, AddsBrand}
-use Rattle.right_steps.specs.Lists.{Lists, GivesUp, amount_of, back, kind_of, purse_at, ungiven, without_last_brand, without_last_purse}
+use Rattle.right_steps.specs.declared.Step.TheVariants.{Moves, OpensPurse, AddsBrand, OpensSeat, OpensSlot, ClosesSeat}
+use Rattle.right_steps.specs.Seats.{HasEmptyRow, HasSlotOf, KeptSeat, kept_seat_at, new_kept_seat}
+use Rattle.ertp_mint.specs.Stocks.{most_made}
+use Rattle.proposals.specs.declared.offers.Proposal.{Proposal}
+use Rattle.right_steps.specs.Lists.{Lists, GivesUp, amount_of, back, kind_of, purse_at, slot_of, SlotGivesUp, ungiven, with_reopened_seat, without_last_brand, without_last_purse, without_last_seat, without_last_slot_of}
 
 -- what they give. Each step that moves has the next of the movements
 abbrev pub all_back : Lists → List Step → List Movement → Lists
@@ -21,6 +24,9 @@ all_back s (Moves ∷ ks) [] = s
 all_back s (Moves ∷ ks) (m ∷ ms) = all_back (back s m) ks ms
 all_back s (OpensPurse ∷ ks) ms = all_back (without_last_purse s) ks ms
 all_back s (AddsBrand ∷ ks) ms = all_back (without_last_brand s) ks ms
+all_back s (OpensSeat ∷ ks) ms = all_back (without_last_seat s) ks ms
+all_back s (OpensSlot n ∷ ks) ms = all_back (without_last_slot_of n s) ks ms
+all_back s (ClosesSeat n ∷ ks) ms = all_back (with_reopened_seat n s) ks ms
 
 -- ---- the hand
 
@@ -69,14 +75,16 @@ retired_by (m ∷ ms) b = if m.brand == b then to_outside m.to (retired_by ms b)
 
 -- ---- rooms: apart from the lists, since they only grow
 
--- for how many keys there is room in each purse, and for how many live payments; and for how many keys of what the hand has of each brand
+-- for how many keys there is room in each purse and in each slot of a seat, and for how many live payments; and for how many keys of what the hand has of each brand
 pub record Rooms : Type 0 where
   pub purses : ℕ → ℕ
+  pub slots : ℕ → List ℕ → ℕ
   pub capacity : ℕ
   pub hand : ℕ → ℕ
 
 pub record HasGrown (R Q : Rooms) : Type 0 where
   pub purses : (n : ℕ) → R.purses n ≤ Q.purses n
+  pub slots : (n : ℕ) (keyword : List ℕ) → R.slots n keyword ≤ Q.slots n keyword
   pub capacity : R.capacity ≤ Q.capacity
   pub hand : (b : ℕ) → R.hand b ≤ Q.hand b
 
@@ -89,6 +97,11 @@ stored a room = record { amount = a; room = room }
 pub record TakesBack (R : Rooms) (s : Lists) (n b : ℕ) (w : Worth) : Type 0 where
   pub made : n < length s.purses
   pub goes : GoesIn (stored (purse_at s.purses n) (R.purses n)) (amount_of b w)
+
+-- a slot takes again what it gave
+pub record SlotTakesBack (R : Rooms) (s : Lists) (n : ℕ) (keyword : List ℕ) (b : ℕ) (w : Worth) : Type 0 where
+  pub slot : HasSlotOf s.seats n keyword
+  pub goes : GoesIn (stored (slot_of s n keyword) (R.slots n keyword)) (amount_of b w)
 
 -- a spent payment can be live again
 pub record CanRevive (R : Rooms) (s : Lists) (n b : ℕ) (w : Worth) : Type 0 where
@@ -109,14 +122,14 @@ pub record IsLast (s : Lists) (n b : ℕ) (w : Worth) : Type 0 where
 abbrev pub CanUntake : Rooms → Lists → Holder → ℕ → Worth → Type 0
 CanUntake R s (Purse n) b w = TakesBack R s n b w
 CanUntake R s (Payment n) b w = CanRevive R s n b w
-CanUntake R s (Slot seat keyword) b w = ⊥
+CanUntake R s (Slot n keyword) b w = SlotTakesBack R s n keyword b w
 CanUntake R s Hand b w = Unit {0}
 CanUntake R s Outside b w = Unit {0}
 
 abbrev pub CanUngive : Rooms → Lists → Holder → ℕ → Worth → Type 0
 CanUngive R s (Purse n) b w = GivesUp s n b w
 CanUngive R s (Payment n) b w = IsLast s n b w
-CanUngive R s (Slot seat keyword) b w = ⊥
+CanUngive R s (Slot n keyword) b w = SlotGivesUp s n keyword b w
 CanUngive R s Hand b w = Unit {0}
 CanUngive R s Outside b w = MayReturn s b w
 
@@ -140,9 +153,30 @@ pub record HasFreshLast (s : Lists) : Type 0 where
   pub some : 0 < length s.out
   pub fresh : (supply_at s.out (length s.out - 1)).minted ≡ 0
 
+-- the last seat is as it was opened, and its payments are owed
+pub record HasNewLast (s : Lists) : Type 0 where
+  pub some : 0 < length s.seats
+  pub new : (proposal : Proposal) × (instance : ℕ) × (kept_seat_at s.seats (length s.seats - 1) ≡ new_kept_seat instance proposal)
+  pub owed : length (kept_seat_at s.seats (length s.seats - 1)).slots ≤ s.owed
+
+-- the last slot of a seat has nothing, and its payment is owed
+pub record HasEmptySlot (n : ℕ) (s : Lists) : Type 0 where
+  pub made : n < length s.seats
+  pub empty : HasEmptyRow (kept_seat_at s.seats n).slots
+  pub owed : 0 < s.owed
+
+-- a closed seat, whose payments can be owed again
+pub record MayReopen (n : ℕ) (s : Lists) : Type 0 where
+  pub made : n < length s.seats
+  pub exited : IsSome (kept_seat_at s.seats n).last
+  pub left : length s.payments + s.owed + length (kept_seat_at s.seats n).slots ≤ most_made
+
 abbrev pub CanAllBack : Rooms → Lists → List Step → List Movement → Type 0
 CanAllBack R s [] ms = ms ≡ []
 CanAllBack R s (Moves ∷ ks) [] = ⊥
 CanAllBack R s (Moves ∷ ks) (m ∷ ms) = CanBack R s m ms × CanAllBack R (back s m) ks ms
 CanAllBack R s (OpensPurse ∷ ks) ms = HasEmptyLast s × CanAllBack R (without_last_purse s) ks ms
 CanAllBack R s (AddsBrand ∷ ks) ms = HasFreshLast s × CanAllBack R (without_last_brand s) ks ms
+CanAllBack R s (OpensSeat ∷ ks) ms = HasNewLast s × CanAllBack R (without_last_seat s) ks ms
+CanAllBack R s (OpensSlot n ∷ ks) ms = HasEmptySlot n s × CanAllBack R (without_last_slot_of n s) ks ms
+CanAllBack R s (ClosesSeat n ∷ ks) ms = MayReopen n s × CanAllBack R (with_reopened_seat n s) ks ms

@@ -1,4 +1,5 @@
 pub mod Flows
+pub mod Seats
 pub mod Lists
 pub mod Tables
 pub mod Backwards

@@ -1,5 +1,5 @@
 -- What a vault has, as lists, and what the halves of a movement make of them.
-use Rattle.std.specs.Prelude.{◌≡◌, ℕ, ◌-◌, ◌<◌, List, [], ◌∷◌, ◌++◌, length, slice_index_or, slice_set, take, refl}
+use Rattle.std.specs.Prelude.{◌≡◌, ℕ, ◌+◌, ◌-◌, ◌<◌, List, [], ◌∷◌, ◌++◌, None, Some, length, slice_index_or, slice_set, take, refl}
 use Rattle.std.specs.Coded.{Coded, code_by, coded×, coded_list, coded_ℕ}
 use Rattle.amount_math.specs.Amount.{Meet, coded_amount, holding}
 use Rattle.amount_math.specs.Content.{Content, Contains, sum, difference}
@@ -13,20 +13,27 @@ use Rattle.payments.specs.Papers.{Paper, coded_paper, live_paper, paper_at, spen
 use Rattle.rights_model.specs.declared.Holder.{Holder}
 use Rattle.rights_model.specs.declared.Holder.TheVariants.{Purse, Payment, Slot, Hand, Outside}
 use Rattle.rights_model.specs.declared.Movement.{Movement}
+use Rattle.proposals.specs.declared.offers.Proposal.{Proposal}
+use Rattle.proposals.specs.Rows.{row_of}
+use Rattle.proposals.specs.Slots.{slots_of}
+use Rattle.right_steps.specs.Seats.{HasSlotOf, KeptSeat, coded_kept_seat, kept_seat_at, new_kept_seat, slot_at, with_slot, with_slots}
 
--- purses and payments by number, how many open slots each will be a payment, and what is out of each brand
+-- purses, payments and seats by number, how many payments are owed (one for each slot of an open seat), and what is out of each brand
 pub record Lists : Type 0 where
   pub purses : List Amount
   pub payments : List Paper
+  pub seats : List KeptSeat
   pub owed : ℕ
   pub out : List BrandSupply
 
 -- the numbers that stand for them, which a model needs
 abbrev pub coded_lists : Coded Lists
-coded_lists = code_by (List Amount × (List Paper × (ℕ × List BrandSupply))) (coded× (coded_list coded_amount) (coded× (coded_list coded_paper) (coded× coded_ℕ (coded_list coded_supply)))) (λ s. (s.purses, (s.payments, (s.owed, s.out)))) (λ p. record { purses = p.0; payments = p.1.0; owed = p.1.1.0; out = p.1.1.1 }) (λ _. refl)
+coded_lists =
+    code_by (List Amount × (List Paper × (List KeptSeat × (ℕ × List BrandSupply)))) (coded× (coded_list coded_amount) (coded× (coded_list coded_paper) (coded× (coded_list coded_kept_seat) (coded× coded_ℕ (coded_list coded_supply)))))
+    (λ s. (s.purses, (s.payments, (s.seats, (s.owed, s.out))))) (λ p. record { purses = p.0; payments = p.1.0; seats = p.1.1.0; owed = p.1.1.1.0; out = p.1.1.1.1 }) (λ _. refl)
 
 abbrev pub no_lists : Lists
-no_lists = record { purses = []; payments = []; owed = 0; out = [] }
+no_lists = record { purses = []; payments = []; seats = []; owed = 0; out = [] }
 
 -- a value as an amount of a brand
 abbrev pub amount_of : ℕ → Worth → Amount
@@ -51,6 +58,9 @@ with_purses s l = record s { purses = l }
 abbrev pub with_payments : Lists → List Paper → Lists
 with_payments s l = record s { payments = l }
 
+abbrev pub with_seats : Lists → List KeptSeat → Lists
+with_seats s l = record s { seats = l }
+
 abbrev pub with_outs : Lists → List BrandSupply → Lists
 with_outs s l = record s { out = l }
 
@@ -60,6 +70,13 @@ with_purse s n a = with_purses s (slice_set s.purses n a)
 abbrev pub with_payment : Lists → ℕ → Paper → Lists
 with_payment s n p = with_payments s (slice_set s.payments n p)
 
+-- what a slot of a seat has, and with this amount there
+abbrev pub slot_of : Lists → ℕ → List ℕ → Amount
+slot_of s n keyword = slot_at s.seats n keyword
+
+abbrev pub with_slot_of : Lists → ℕ → List ℕ → Amount → Lists
+with_slot_of s n keyword a = with_seats s (with_slot s.seats n keyword a)
+
 abbrev pub with_out : Lists → ℕ → BrandSupply → Lists
 with_out s b x = with_outs s (slice_set s.out b x)
 
@@ -67,7 +84,7 @@ with_out s b x = with_outs s (slice_set s.out b x)
 abbrev pub taken : Lists → Holder → ℕ → Worth → Lists
 taken s (Purse n) b w = with_purse s n (less (purse_at s.purses n) w.content)
 taken s (Payment n) b w = with_payment s n (spent_paper b)
-taken s (Slot seat keyword) b w = s
+taken s (Slot n keyword) b w = with_slot_of s n keyword (less (slot_of s n keyword) w.content)
 taken s Hand b w = s
 taken s Outside b w = with_out s b (issued (supply_at s.out b) w.content)
 
@@ -75,7 +92,7 @@ taken s Outside b w = with_out s b (issued (supply_at s.out b) w.content)
 abbrev pub given : Lists → Holder → ℕ → Worth → Lists
 given s (Purse n) b w = with_purse s n (more (purse_at s.purses n) w.content)
 given s (Payment n) b w = with_payments s (s.payments ++ live_paper (amount_of b w) ∷ [])
-given s (Slot seat keyword) b w = s
+given s (Slot n keyword) b w = with_slot_of s n keyword (more (slot_of s n keyword) w.content)
 given s Hand b w = s
 given s Outside b w = with_out s b (retired (supply_at s.out b) w.content)
 
@@ -89,13 +106,25 @@ with_new_purse s b kind = with_purses s (s.purses ++ empty_amount b kind ∷ [])
 abbrev pub with_new_brand : Lists → Kind → Lists
 with_new_brand s kind = with_outs s (s.out ++ new_supply kind ∷ [])
 
+-- a seat more, of which a payment is owed for each of its slots
+abbrev pub with_new_seat : Lists → ℕ → Proposal → Lists
+with_new_seat s instance proposal = record s { seats = s.seats ++ new_kept_seat instance proposal ∷ []; owed = s.owed + length (slots_of proposal) }
+
+-- a seat with a further slot, last, with nothing of a brand, for which a payment is owed
+abbrev pub with_new_slot : Lists → ℕ → List ℕ → ℕ → Kind → Lists
+with_new_slot s n keyword b kind = record s { seats = slice_set s.seats n (with_slots (kept_seat_at s.seats n) ((kept_seat_at s.seats n).slots ++ row_of keyword (empty_amount b kind) ∷ [])); owed = s.owed + 1 }
+
+-- a seat closed, which keeps what its slots have. Its payments are owed no more: they are made next
+abbrev pub with_closed_seat : Lists → ℕ → Lists
+with_closed_seat s n = record s { seats = slice_set s.seats n (record (kept_seat_at s.seats n) { last = Some (kept_seat_at s.seats n).slots }); owed = s.owed - length (kept_seat_at s.seats n).slots }
+
 -- ---- the same turned round
 
 -- what was given is taken out again
 abbrev pub ungiven : Lists → Holder → ℕ → Worth → Lists
 ungiven s (Purse n) b w = with_purse s n (less (purse_at s.purses n) w.content)
 ungiven s (Payment n) b w = with_payments s (take n s.payments)
-ungiven s (Slot seat keyword) b w = s
+ungiven s (Slot n keyword) b w = with_slot_of s n keyword (less (slot_of s n keyword) w.content)
 ungiven s Hand b w = s
 ungiven s Outside b w = with_out s b (unretired (supply_at s.out b) w.content)
 
@@ -103,7 +132,7 @@ ungiven s Outside b w = with_out s b (unretired (supply_at s.out b) w.content)
 abbrev pub untaken : Lists → Holder → ℕ → Worth → Lists
 untaken s (Purse n) b w = with_purse s n (more (purse_at s.purses n) w.content)
 untaken s (Payment n) b w = with_payment s n (live_paper (amount_of b w))
-untaken s (Slot seat keyword) b w = s
+untaken s (Slot n keyword) b w = with_slot_of s n keyword (more (slot_of s n keyword) w.content)
 untaken s Hand b w = s
 untaken s Outside b w = with_out s b (unissued (supply_at s.out b) w.content)
 
@@ -115,6 +144,15 @@ without_last_purse s = with_purses s (take (length s.purses - 1) s.purses)
 
 abbrev pub without_last_brand : Lists → Lists
 without_last_brand s = with_outs s (take (length s.out - 1) s.out)
+
+abbrev pub without_last_seat : Lists → Lists
+without_last_seat s = record s { seats = take (length s.seats - 1) s.seats; owed = s.owed - length (kept_seat_at s.seats (length s.seats - 1)).slots }
+
+abbrev pub without_last_slot_of : ℕ → Lists → Lists
+without_last_slot_of n s = record s { seats = slice_set s.seats n (with_slots (kept_seat_at s.seats n) (take (length (kept_seat_at s.seats n).slots - 1) (kept_seat_at s.seats n).slots)); owed = s.owed - 1 }
+
+abbrev pub with_reopened_seat : ℕ → Lists → Lists
+with_reopened_seat n s = record s { seats = slice_set s.seats n (record (kept_seat_at s.seats n) { last = None }); owed = s.owed + length (kept_seat_at s.seats n).slots }
 
 -- ---- when a movement's halves can be made
 
@@ -130,6 +168,19 @@ pub record TakesUp (s : Lists) (n b : ℕ) (w : Worth) : Type 0 where
   pub made : n < length s.purses
   pub meet : Meet (purse_at s.purses n) (amount_of b w)
   pub value : IsValue (purse_at s.purses n).value.kind (sum (purse_at s.purses n).value.content w.content)
+
+-- a slot of the brand gives a value up, also that of a closed seat
+pub record SlotGivesUp (s : Lists) (n : ℕ) (keyword : List ℕ) (b : ℕ) (w : Worth) : Type 0 where
+  pub slot : HasSlotOf s.seats n keyword
+  pub brand : (slot_of s n keyword).brand ≡ b
+  pub kind : (slot_of s n keyword).value.kind ≡ w.kind
+  pub has : Contains (slot_of s n keyword).value.content w.content
+
+-- a slot of the brand takes a value
+pub record SlotTakesUp (s : Lists) (n : ℕ) (keyword : List ℕ) (b : ℕ) (w : Worth) : Type 0 where
+  pub slot : HasSlotOf s.seats n keyword
+  pub meet : Meet (slot_of s n keyword) (amount_of b w)
+  pub value : IsValue (slot_of s n keyword).value.kind (sum (slot_of s n keyword).value.content w.content)
 
 -- a payment is live, and has just this
 pub record IsWhole (s : Lists) (n b : ℕ) (w : Worth) : Type 0 where
@@ -150,13 +201,13 @@ pub record IsOutOf (s : Lists) (b : ℕ) (w : Worth) : Type 0 where
 abbrev pub CanTake : Lists → Holder → ℕ → Worth → Type 0
 CanTake s (Purse n) b w = GivesUp s n b w
 CanTake s (Payment n) b w = IsWhole s n b w
-CanTake s (Slot seat keyword) b w = ⊥
+CanTake s (Slot n keyword) b w = SlotGivesUp s n keyword b w
 CanTake s Hand b w = ⊥
 CanTake s Outside b w = MayCome s b w
 
 abbrev pub CanGive : Lists → Holder → ℕ → Worth → Type 0
 CanGive s (Purse n) b w = TakesUp s n b w
 CanGive s (Payment n) b w = n ≡ length s.payments
-CanGive s (Slot seat keyword) b w = ⊥
+CanGive s (Slot n keyword) b w = SlotTakesUp s n keyword b w
 CanGive s Hand b w = ⊥
 CanGive s Outside b w = IsOutOf s b w

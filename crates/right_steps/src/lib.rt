@@ -14,4 +14,10 @@ pub enum Step {
     OpensPurse,
     /// A brand was taken in.
     AddsBrand,
+    /// A seat was opened.
+    OpensSeat,
+    /// A further slot was opened in the seat of this number.
+    OpensSlot(u32),
+    /// The seat of this number was closed.
+    ClosesSeat(u32),
 }

@@ -37,11 +37,12 @@ same_parcel a c is = ap (λ (p : Paper). record { brand = p.brand; value = unwra
 -- ---- rooms
 
 pub no_growth : (R : Rooms) → HasGrown R R
-no_growth R = record { purses = λ n. omega arith; capacity = omega arith; hand = λ b. omega arith }
+no_growth R = record { purses = λ n. omega arith; slots = λ n k. omega arith; capacity = omega arith; hand = λ b. omega arith }
 
 pub grown_twice : (R Q S : Rooms) → HasGrown R Q → HasGrown Q S → HasGrown R S
 grown_twice R Q S first then = record {
   purses = λ n. omega (arith, first.purses n, then.purses n);
+  slots = λ n k. omega (arith, first.slots n k, then.slots n k);
   capacity = omega (arith, first.capacity, then.capacity);
   hand = λ b. omega (arith, first.hand b, then.hand b);
 }
@@ -68,15 +69,15 @@ module _ (p : Stores) where
     lists = ap (with_purses (lists_of p)) is;
     hand = λ b. refl;
     kept = λ b. refl;
-    rooms = record { purses = grown; capacity = omega arith; hand = λ b. omega arith };
+    rooms = record { purses = grown; slots = λ n k. omega arith; capacity = omega arith; hand = λ b. omega arith };
   }
 
   pub payments_half : (book : PaymentBook) (l : List Paper) → book.papers ≡ l → book.slots ≡ p.payments.slots → p.payments.capacity ≤ book.capacity → IsHalf p (record p { payments = book }) (with_payments (lists_of p) l) (store_of p) (kept_of p)
   payments_half book l is slots room = record {
-    lists = λ i. record { purses = map amount_in p.purses; payments = is i; owed = slots i; out = map supply_of p.transit.out };
+    lists = λ i. record { purses = map amount_in p.purses; payments = is i; seats = []; owed = slots i; out = map supply_of p.transit.out };
     hand = λ b. refl;
     kept = λ b. refl;
-    rooms = record { purses = λ n. omega arith; capacity = room; hand = λ b. omega arith };
+    rooms = record { purses = λ n. omega arith; slots = λ n k. omega arith; capacity = room; hand = λ b. omega arith };
   }
 
   -- what is out of one brand
@@ -87,6 +88,7 @@ module _ (p : Stores) where
     kept = λ e. ap (λ (u : TransitView). (circulation_at u.out e).kept) is ∙ keeps e;
     rooms = record {
       purses = λ n. omega arith;
+      slots = λ n k. omega arith;
       capacity = omega arith;
       hand = λ e. omega (arith, ap (λ (u : TransitView). (held_at u.hand e).room) is);
     };
@@ -100,6 +102,7 @@ module _ (p : Stores) where
     kept = λ e. ap (λ (u : TransitView). (circulation_at u.out e).kept) is;
     rooms = record {
       purses = λ n. omega arith;
+      slots = λ n k. omega arith;
       capacity = omega arith;
       hand = λ e. omega (arith, hand_room_grows p.transit.hand b x room e, ap (λ (u : TransitView). (held_at u.hand e).room) is);
     };

@@ -99,6 +99,10 @@ kind_stays s (Slot v j) b w lt = refl
 kind_stays s Hand b w lt = refl
 kind_stays s Outside b w lt = ap (λ (x : BrandSupply). x.outstanding.kind) (read_set s.out b (unretired (supply_at s.out b) w.content) (new_supply Nat) lt)
 
+-- there are no seats
+none_made : (n : ℕ) → n < 0 → ⊥
+none_made n lt = omega (arith, lt)
+
 -- ---- one movement
 
 module _ (R : Rooms) (kept : Lists) (p : Stores) (m : Movement) (ks : List Step) (ms : List Movement) (is : IsWorking R kept p (Moves ∷ ks) (m ∷ ms)) where
@@ -132,7 +136,7 @@ module _ (R : Rooms) (kept : Lists) (p : Stores) (m : Movement) (ks : List Step)
       at : (h : Holder) → store_of p b ≡ to_hand h (from_hand m.from (in_hand ms b) w.content) w.content → kept_of p b ≡ to_outside h (retired_by ms b) w.content → CanUngive R s h b w → CanUngiveHere p h b w
       at (Purse n) has keeps may = may
       at (Payment n) has keeps may = may
-      at (Slot v j) has keeps may = may
+      at (Slot v j) has keeps may = absurd (none_made v may.slot.made)
       at Hand has keeps may = record {
         made = brand_here;
         kind = kind_now;
@@ -190,7 +194,7 @@ module _ (R : Rooms) (kept : Lists) (p : Stores) (m : Movement) (ks : List Step)
               };
             }
         at (Payment n) has kept may = record { made = may.made; spent = may.spent; vacancy = omega (arith, may.vacancy, is.rooms.capacity, half.rooms.capacity) }
-        at (Slot v j) has kept may = may
+        at (Slot v j) has kept may = absurd (none_made v may.slot.made)
         at Hand has kept may = record {
           way = on_its_way;
           room = subst (λ x. HasRoom w.kind (keys_of x) (held_at q.transit.hand b).room) (sym (ap (λ x. sum x w.content) has ∙ sum-difference (in_hand ms b) w.content kept))

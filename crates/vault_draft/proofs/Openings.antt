@@ -53,7 +53,7 @@ module _ (p : Stores) (ks : List Step) (ms : List Movement) (keys : ℕ) (spoile
       along (x ∷ xs) (suc n) = along xs n
 
   grown : HasGrown (rooms_of p) (rooms_of q)
-  grown = record { purses = room_before; capacity = omega arith; hand = λ e. omega arith }
+  grown = record { purses = room_before; slots = λ n k. omega arith; capacity = omega arith; hand = λ e. omega arith }
 
   last_is_empty : (purse_at (lists_of q).purses (length (lists_of q).purses - 1)).value.content ≡ nothing
   last_is_empty =
@@ -118,7 +118,7 @@ module _ (p : Stores) (ks : List Step) (ms : List Movement) (keys : ℕ) (kind :
       along (x ∷ xs) (suc n) = along xs n
 
   grown_too : HasGrown (rooms_of p) (rooms_of r)
-  grown_too = record { purses = λ n. omega arith; capacity = omega arith; hand = hand_room }
+  grown_too = record { purses = λ n. omega arith; slots = λ n k. omega arith; capacity = omega arith; hand = hand_room }
 
   -- what the hand's store has at each brand, and the kinds
   store_same : (e : ℕ) → store_of r e ≡ store_of p e

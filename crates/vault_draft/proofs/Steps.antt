@@ -17,9 +17,9 @@ use Rattle.ertp_mint.specs.Circulating.{CirculationView, circulation_at}
 use Rattle.list_edits.proofs.ListEdits.{keeps, length_map, length_set, map_set, read_map}
 use Rattle.payments.specs.Papers.{Paper}
 use Rattle.right_steps.specs.declared.Step.{Step}
-use Rattle.right_steps.specs.declared.Step.TheVariants.{Moves, OpensPurse, AddsBrand}
+use Rattle.right_steps.specs.declared.Step.TheVariants.{Moves, OpensPurse, AddsBrand, OpensSeat, OpensSlot, ClosesSeat}
 use Rattle.right_steps.specs.Backwards.{CanAllBack, CanBack, HandHas, Rooms, all_back, from_hand, in_hand, retired_by, to_outside}
-use Rattle.right_steps.specs.Lists.{CanGive, CanTake, Lists, back, given, kind_of, moved, taken, ungiven, untaken, without_last_brand, without_last_purse}
+use Rattle.right_steps.specs.Lists.{CanGive, CanTake, Lists, back, given, kind_of, moved, taken, ungiven, untaken, with_reopened_seat, without_last_brand, without_last_purse, without_last_seat, without_last_slot_of}
 use Rattle.right_steps.specs.Tables.{Agrees, IsSound, all_in, hand_minus, hand_plus, no_hand, right_in, right_on, table_of}
 use Rattle.right_steps.proofs.Agreeing.{agrees_alike, agrees_from_hand, agrees_given, agrees_in_hand, agrees_taken, can_move_in, can_move_out, one_table, table_agrees}
 use Rattle.right_steps.proofs.Sound.{at_or_else, hand_is_out, sound_alike, sound_given, sound_taken}
@@ -159,6 +159,9 @@ brands_made R s (Moves ∷ ks) (m ∷ ms) n le can = (omega (arith, le, can.0.ma
     back_long : (x : Lists) (m : Movement) → length (back x m).out ≡ length x.out
     back_long x m = untaken_long (ungiven x m.to m.brand m.value) m.from m.brand m.value ∙ ungiven_long x m.to m.brand m.value
 brands_made R s (OpensPurse ∷ ks) ms n le can = brands_made R (without_last_purse s) ks ms n le can.1
+brands_made R s (OpensSeat ∷ ks) ms n le can = brands_made R (without_last_seat s) ks ms n le can.1
+brands_made R s (OpensSlot v ∷ ks) ms n le can = brands_made R (without_last_slot_of v s) ks ms n le can.1
+brands_made R s (ClosesSeat v ∷ ks) ms n le can = brands_made R (with_reopened_seat v s) ks ms n le can.1
 brands_made R s (AddsBrand ∷ ks) ms n le can = brands_made R (without_last_brand s) ks ms n (omega (arith, le, taken_short s.out (length s.out - 1))) can.1
   where
     taken_short : {X : Type 0} (xs : List X) (n : ℕ) → length (take n xs) ≤ length xs
@@ -305,7 +308,7 @@ kept_after_give b c Hand S X e is = is ∙ sym (either_way (b == e) (X e))
 in_hand_plus : (s : Lists) (h : Holder) (b : ℕ) (w : Worth) (ms : List Movement) → CanTake s h b w → in_hand (movement b h Hand w ∷ ms) ≡ hand_plus (in_hand ms) b w.content
 in_hand_plus s (Purse n) b w ms can = refl
 in_hand_plus s (Payment n) b w ms can = refl
-in_hand_plus s (Slot v j) b w ms can = absurd can
+in_hand_plus s (Slot v j) b w ms can = refl
 in_hand_plus s Hand b w ms can = absurd can
 in_hand_plus s Outside b w ms can = refl
 
@@ -389,7 +392,7 @@ module _ (p q : Stores) (ks : List Step) (ms : List Movement) (keys more : ℕ) 
 in_hand_minus : (s : Lists) (h : Holder) (b : ℕ) (w : Worth) (ms : List Movement) → CanGive s h b w → in_hand (movement b Hand h w ∷ ms) ≡ hand_minus (in_hand ms) b w.content
 in_hand_minus s (Purse n) b w ms can = refl
 in_hand_minus s (Payment n) b w ms can = refl
-in_hand_minus s (Slot v j) b w ms can = absurd can
+in_hand_minus s (Slot v j) b w ms can = refl
 in_hand_minus s Hand b w ms can = absurd can
 in_hand_minus s Outside b w ms can = refl
 
@@ -493,6 +496,7 @@ module _ (p : Stores) (ks : List Step) (ms : List Movement) (keys : ℕ) (spoile
     up_keeps = record {
       can = subst (λ (s : Lists). CanAllBack (rooms_of q) s (reverse ks) (reverse ms)) (sym lists_same) (all_grows (rooms_of p) (rooms_of q) (record {
         purses = λ n. omega arith;
+        slots = λ n k. omega arith;
         capacity = omega arith;
         hand = λ b. omega (arith, hand_rooms b);
       }) (lists_of p) (reverse ks) (reverse ms) is.can);
@@ -510,13 +514,13 @@ module _ (p : Stores) (ks : List Step) (ms : List Movement) (keys : ℕ) (spoile
 
 -- ---- a vault in which nothing was made
 
-pub nothing_made : (p : Stores) (ks : List Step) (ms : List Movement) → p.purses ≡ [] → p.payments.papers ≡ [] → p.transit.out ≡ [] → ks ≡ [] → ms ≡ [] → IsVault p ks ms
-nothing_made p ks ms purses payments out steps movements = record {
+pub nothing_made : (p : Stores) (ks : List Step) (ms : List Movement) → p.purses ≡ [] → p.payments.papers ≡ [] → p.payments.slots ≡ 0 → p.transit.out ≡ [] → ks ≡ [] → ms ≡ [] → IsVault p ks ms
+nothing_made p ks ms purses payments slots out steps movements = record {
   no_steps = steps;
   no_movements = movements;
   empty = λ b lt. absurd (none b lt);
   kept = λ b lt. absurd (none b lt);
-  sound = record { balanced = λ b k. omega (arith, no_purses b k, no_papers b k, ap (λ l. count (supply_at (map supply_of l) b).outstanding.content k) out) };
+  sound = record { balanced = λ b k. omega (arith, no_purses b k, no_papers b k, ap (λ l. count (supply_at (map supply_of l) b).outstanding.content k) out); owed = slots };
 }
   where
     none : (b : ℕ) → b < length p.transit.out → ⊥

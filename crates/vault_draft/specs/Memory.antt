@@ -1,5 +1,5 @@
 -- The stores in memory, as lists and as rooms, and what each half of a movement, worked forwards or back, leaves of them.
-use Rattle.std.specs.Prelude.{◌≡◌, ℕ, ◌<◌, List, length, map}
+use Rattle.std.specs.Prelude.{◌≡◌, ℕ, ◌<◌, List, [], length, map}
 use Rattle.amount_math.specs.Content.{Content, nothing}
 use Rattle.amount_math.specs.Held.{Held}
 use Rattle.amount_math.specs.Worth.{Worth}
@@ -22,11 +22,12 @@ amount_in s = s.amount
 abbrev pub supply_of : CirculationView → BrandSupply
 supply_of s = s.supply
 
+-- there are no seats in it yet
 abbrev pub lists_of : Stores → Lists
-lists_of p = record { purses = map amount_in p.purses; payments = p.payments.papers; owed = p.payments.slots; out = map supply_of p.transit.out }
+lists_of p = record { purses = map amount_in p.purses; payments = p.payments.papers; seats = []; owed = p.payments.slots; out = map supply_of p.transit.out }
 
 abbrev pub rooms_of : Stores → Rooms
-rooms_of p = record { purses = λ n. room_at p.purses n; capacity = p.payments.capacity; hand = λ b. (held_at p.transit.hand b).room }
+rooms_of p = record { purses = λ n. room_at p.purses n; slots = λ n k. 0; capacity = p.payments.capacity; hand = λ b. (held_at p.transit.hand b).room }
 
 -- what the hand's own store has
 abbrev pub store_of : Stores → ℕ → Content

@@ -135,6 +135,7 @@ fn work_back(stores: &mut Stores, movements: &mut Vec<Movement>, step: Step)
         }
         Step::OpensPurse => stores.purses.undo_open(),
         Step::AddsBrand => stores.transit.undo_add_brand(),
+        Step::OpensSeat | Step::OpensSlot(_) | Step::ClosesSeat(_) => unreachable!(),
     }
 }
 
