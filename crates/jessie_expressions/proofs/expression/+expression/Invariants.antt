@@ -1,0 +1,165 @@
+use Rattle.std.proofs.Common.{◌≡◌, ◌+◌, ◌-◌, ◌*◌, true, [], ◌∷◌, length}
+use Rattle.jessie_lexer.specs.declared.token.Kind.TheVariants as k
+use Rattle.jessie_syntax.specs.declared.syntax.Expr.{Expr}
+use Rattle.jessie_language.specs.Parse.{loop}
+use Rattle.jessie_language.specs.Words.{always, ongoing, step_begins}
+use Rattle.jessie_language.specs.Levels.{level_at, operands}
+use Rattle.jessie_language.specs.Rules as p
+use Rattle.jessie_expressions.proofs.expression.+expression.Given as goal
+
+-- each call goes down in room, or else in rank
+abbrev pub decreases-after : goal.decreases-after
+decreases-after l = 64 * l.room + 60
+
+abbrev pub decreases-amount : goal.decreases-amount
+decreases-amount l = 64 * l.room + 7
+
+abbrev pub decreases-amount_call : goal.decreases-amount_call
+decreases-amount_call l = 64 * l.room + 6
+
+abbrev pub decreases-arguments : goal.decreases-arguments
+decreases-arguments l = 64 * l.room + 4
+
+abbrev pub decreases-array : goal.decreases-array
+decreases-array l = 64 * l.room + 4
+
+abbrev pub decreases-bare : goal.decreases-bare
+decreases-bare l = 64 * l.room + 8
+
+abbrev pub decreases-branched : goal.decreases-branched
+decreases-branched l = 64 * l.room + 57
+
+abbrev pub decreases-branches : goal.decreases-branches
+decreases-branches l = 64 * l.room + 56
+
+abbrev pub decreases-call_tail : goal.decreases-call_tail
+decreases-call_tail l = 64 * l.room + 6
+
+abbrev pub decreases-called : goal.decreases-called
+decreases-called l = 64 * l.room + 5
+
+abbrev pub decreases-choice : goal.decreases-choice
+decreases-choice l = 64 * l.room + 59
+
+abbrev pub decreases-chosen : goal.decreases-chosen
+decreases-chosen l = 64 * l.room + 58
+
+abbrev pub decreases-dot_step : goal.decreases-dot_step
+decreases-dot_step l = 64 * l.room + 6
+
+abbrev pub decreases-enclosed : goal.decreases-enclosed
+decreases-enclosed l = 64 * l.room + 3
+
+abbrev pub decreases-enclosed_fields : goal.decreases-enclosed_fields
+decreases-enclosed_fields l = 64 * l.room + 6
+
+abbrev pub decreases-eventually : goal.decreases-eventually
+decreases-eventually l = 64 * l.room + 7
+
+abbrev pub decreases-expression : goal.decreases-expression
+decreases-expression l = 64 * l.room + 61
+
+abbrev pub decreases-field : goal.decreases-field
+decreases-field l = 64 * l.room + 1
+
+abbrev pub decreases-field_step : goal.decreases-field_step
+decreases-field_step l = 64 * l.room + 2
+
+abbrev pub decreases-fields : goal.decreases-fields
+decreases-fields l = 64 * l.room + 4
+
+abbrev pub decreases-grouped : goal.decreases-grouped
+decreases-grouped l = 64 * l.room + 0
+
+abbrev pub decreases-item_step : goal.decreases-item_step
+decreases-item_step l = 64 * l.room + 0
+
+abbrev pub decreases-items : goal.decreases-items
+decreases-items l = 64 * l.room + 2
+
+abbrev pub decreases-later_fields : goal.decreases-later_fields
+decreases-later_fields l = 64 * l.room + 3
+
+abbrev pub decreases-later_items : goal.decreases-later_items
+decreases-later_items l = 64 * l.room + 1
+
+abbrev pub decreases-method_call : goal.decreases-method_call
+decreases-method_call l = 64 * l.room + 5
+
+abbrev pub decreases-method_step : goal.decreases-method_step
+decreases-method_step l = 64 * l.room + 5
+
+abbrev pub decreases-named : goal.decreases-named
+decreases-named l = 64 * l.room + 7
+
+abbrev pub decreases-opened_fields : goal.decreases-opened_fields
+decreases-opened_fields l = 64 * l.room + 5
+
+abbrev pub decreases-own_value : goal.decreases-own_value
+decreases-own_value l = 64 * l.room + 0
+
+abbrev pub decreases-post_tail : goal.decreases-post_tail
+decreases-post_tail l = 64 * l.room + 9
+
+abbrev pub decreases-prim : goal.decreases-prim
+decreases-prim l = 64 * l.room + 9
+
+abbrev pub decreases-record_text : goal.decreases-record_text
+decreases-record_text l = 64 * l.room + 7
+
+abbrev pub decreases-second_branch : goal.decreases-second_branch
+decreases-second_branch l = 64 * l.room + 55
+
+abbrev pub decreases-send : goal.decreases-send
+decreases-send l = 64 * l.room + 6
+
+abbrev pub decreases-signed : goal.decreases-signed
+decreases-signed l = 64 * l.room + 10
+
+abbrev pub decreases-step : goal.decreases-step
+decreases-step l = 64 * l.room + 7
+
+abbrev pub decreases-steps : goal.decreases-steps
+decreases-steps l = 64 * l.room + 8
+
+abbrev pub decreases-unary : goal.decreases-unary
+decreases-unary l = 64 * l.room + 11
+
+abbrev pub decreases-chain : goal.decreases-chain
+decreases-chain l = 64 * l.room + 20 + 5 * (6 - l.level) + 2
+
+abbrev pub decreases-operand : goal.decreases-operand
+decreases-operand l = 64 * l.room + 20 + 5 * (6 - l.level) + 4
+
+abbrev pub decreases-operator_step : goal.decreases-operator_step
+decreases-operator_step l = 64 * l.room + 20 + 5 * (6 - l.level) + 0
+
+abbrev pub decreases-operators : goal.decreases-operators
+decreases-operators l = 64 * l.room + 20 + 5 * (6 - l.level) + 1
+
+abbrev pub decreases-tails : goal.decreases-tails
+decreases-tails l = 64 * l.room + 20 + 5 * (6 - l.level) + 3
+
+abbrev pub invariant-later_items-items : goal.invariant-later_items-items
+invariant-later_items-items l = loop ongoing (k.Comma ∷ []) (p.comma_step l.fn.close (p.inner l.fn.room)) ((l.fn.found, l.fn.events), true) l.fn.tokens ≡ loop ongoing (k.Comma ∷ []) (p.comma_step l.fn.close (p.inner l.fn.room)) ((l.found, l.events), l.more) l.rest
+
+abbrev pub decreases-later_items-items : goal.decreases-later_items-items
+decreases-later_items-items l = length l.rest
+
+abbrev pub invariant-later_fields-fields : goal.invariant-later_fields-fields
+invariant-later_fields-fields l = loop ongoing (k.Comma ∷ []) (p.comma_step k.RightBrace (p.field (p.inner l.fn.room))) ((l.fn.found, l.fn.events), true) l.fn.tokens ≡ loop ongoing (k.Comma ∷ []) (p.comma_step k.RightBrace (p.field (p.inner l.fn.room))) ((l.found, l.events), l.more) l.rest
+
+abbrev pub decreases-later_fields-fields : goal.decreases-later_fields-fields
+decreases-later_fields-fields l = length l.rest
+
+abbrev pub invariant-steps-steps : goal.invariant-steps-steps
+invariant-steps-steps l = (first : Expr) → loop always step_begins (p.step_on l.fn.room (p.inner l.fn.room)) ((first, l.fn.found), l.fn.events) l.fn.tokens ≡ loop always step_begins (p.step_on l.fn.room (p.inner l.fn.room)) ((first, l.found), l.events) l.rest
+
+abbrev pub decreases-steps-steps : goal.decreases-steps-steps
+decreases-steps-steps l = length l.rest
+
+abbrev pub invariant-operators-operators : goal.invariant-operators-operators
+invariant-operators-operators l = (first : Expr) → loop ongoing (level_at l.fn.level).0 (p.op_step (level_at l.fn.level) (operands l.fn.room (l.fn.level + 1))) (((first, l.fn.found), l.fn.events), true) l.fn.tokens ≡ loop ongoing (level_at l.fn.level).0 (p.op_step (level_at l.fn.level) (operands l.fn.room (l.fn.level + 1))) (((first, l.found), l.events), l.more) l.rest
+
+abbrev pub decreases-operators-operators : goal.decreases-operators-operators
+decreases-operators-operators l = length l.rest

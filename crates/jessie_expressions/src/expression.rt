@@ -1,0 +1,1048 @@
+// Expressions. Each function answers what it read, and the tokens after it; what the text does with
+// names goes behind the events. Each reads by the grammar's rule of its contract.
+ghost use Rattle.std.specs.Prelude.{List, [], ◌∷◌, ◌≡◌, ◌⊎◌, ◌<◌, ◌≤◌, ◌+◌, true, length};
+ghost use Rattle.jessie_language.specs.Parse.{Gives, and_then, bracketed, one, pure, symbol};
+ghost use Rattle.jessie_language.specs.Levels.{level_at, level_ops, level_rest, level_tails, operands, more_items};
+ghost use Rattle.jessie_language.specs.Rules as rules;
+ghost use Rattle.jessie_language.specs.Words as words;
+
+use host_text::text::Text;
+use jessie_builders::deeds::{calls, fills, shortens, uses};
+use jessie_builders::expressions::{
+    add_expression, add_field, add_field_step, add_index_step, add_method_step, add_operand,
+    amount_expression, array_expression, call_expression, choice_expression, literal_expression,
+    name_expression, record_expression, send_expression, unary_expression, with_operands,
+    with_steps,
+};
+use jessie_language::fault::ParseError;
+use jessie_lexer::token::{Kind, Token, peek};
+use jessie_scopes::event::Event;
+use jessie_syntax::syntax::{Expr, Operator, Step};
+use jessie_terminals::kinds::{
+    begins_bare, begins_step, is, is_free_word, is_literal, is_operator, is_sign, repeats,
+};
+use jessie_terminals::names::{free_name, name};
+use jessie_terminals::symbols::{expect, open, operator, sign};
+use jessie_terminals::values::literal;
+use sqlite_items::{Boxed, Items};
+use std::alloc::Global;
+
+/// A comma, and the expression behind it or none; and whether more may follow.
+#[cycle(expression)]
+#[tactic(auto, using(jessie_language::proofs::Reading::inner_is))]
+fn item_step<'a>(
+    alloc: Global,
+    tokens: &'a [Token],
+    room: u32,
+    close: Kind,
+    found: &mut Items<Expr>,
+    events: &mut Items<Event>,
+) -> Result<(bool, &'a [Token]), ParseError>
+    requires { 0 < room }
+    ensures { Gives (λ x. (((found.new, events.new), x.0), x.1.now)) result
+        (rules.comma_step close (rules.inner room) ((found.old, events.old), true) tokens.now) }
+{
+    let rest = expect(tokens, Kind::Comma)?;
+    if is(rest, Kind::Comma) || is(rest, close) {
+        return Ok((false, rest));
+    }
+    let (item, rest) = expression(alloc, rest, room - 1, events)?;
+    add_expression(item, found)?;
+    Ok((true, rest))
+}
+
+/// The expressions of a list after its first ones.
+#[cycle(expression)]
+fn later_items<'a>(
+    alloc: Global,
+    tokens: &'a [Token],
+    room: u32,
+    close: Kind,
+    found: &mut Items<Expr>,
+    events: &mut Items<Event>,
+) -> Result<&'a [Token], ParseError>
+    requires room { 0 < room }
+    requires close { (close ≡ Kind.RightParen) ⊎ (close ≡ Kind.RightBracket) }
+    ensures { Gives (λ rest. ((found.new, events.new), rest.now)) result
+        (more_items close (rules.inner room) (found.old, events.old) tokens.now) }
+{
+    let mut more = true;
+    let mut rest = tokens;
+    'items: while more && is(rest, Kind::Comma) {
+        let (again, after) = item_step(alloc, rest, room, close, found, events)?;
+        more = again;
+        rest = after;
+    }
+    Ok(rest)
+}
+
+/// The expressions of a list up to its closing bracket.
+#[cycle(expression)]
+#[tactic(auto, using(jessie_language::proofs::Reading::inner_is))]
+fn items<'a>(
+    alloc: Global,
+    tokens: &'a [Token],
+    room: u32,
+    close: Kind,
+    found: &mut Items<Expr>,
+    events: &mut Items<Event>,
+) -> Result<&'a [Token], ParseError>
+    requires room { 0 < room }
+    requires close { (close ≡ Kind.RightParen) ⊎ (close ≡ Kind.RightBracket) }
+    requires none { found.old ≡ [] }
+    ensures { Gives (λ rest. ((found.new, events.new), rest.now)) result
+        (rules.listed close (rules.inner room) events.old tokens.now) }
+{
+    if is(tokens, close) {
+        return Ok(tokens);
+    }
+    let (first, rest) = expression(alloc, tokens, room - 1, events)?;
+    add_expression(first, found)?;
+    later_items(alloc, rest, room, close, found, events)
+}
+
+/// The expressions of a list between two brackets.
+#[cycle(expression)]
+#[tactic(auto, unfolding(jessie_language::specs::Parse::bracketed))]
+fn enclosed<'a>(
+    alloc: Global,
+    tokens: &'a [Token],
+    room: u32,
+    from: Kind,
+    close: Kind,
+    found: &mut Items<Expr>,
+    events: &mut Items<Event>,
+) -> Result<&'a [Token], ParseError>
+    requires close { (close ≡ Kind.RightParen) ⊎ (close ≡ Kind.RightBracket) }
+    requires none { found.old ≡ [] }
+    ensures { Gives (λ rest. ((found.new, events.new), rest.now)) result
+        (bracketed room from close (rules.listed close (rules.inner room) events.old) tokens.now) }
+{
+    let rest = open(tokens, room, from)?;
+    let rest = items(alloc, rest, room, close, found, events)?;
+    let rest = expect(rest, close)?;
+    Ok(rest)
+}
+
+/// The arguments of a call, in parentheses.
+#[cycle(expression)]
+#[tactic(auto, unfolding(jessie_language::specs::Rules::args))]
+fn arguments<'a>(
+    alloc: Global,
+    tokens: &'a [Token],
+    room: u32,
+    found: &mut Items<Expr>,
+    events: &mut Items<Event>,
+) -> Result<&'a [Token], ParseError>
+    requires { found.old ≡ [] }
+    ensures { Gives (λ rest. ((found.new, events.new), rest.now)) result
+        (rules.args room (rules.inner room) events.old tokens.now) }
+{
+    enclosed(
+        alloc,
+        tokens,
+        room,
+        Kind::LeftParen,
+        Kind::RightParen,
+        found,
+        events,
+    )
+}
+
+#[cycle(expression)]
+fn array<'a>(
+    alloc: Global,
+    tokens: &'a [Token],
+    room: u32,
+    events: &mut Items<Event>,
+) -> Result<(Boxed<Expr>, &'a [Token]), ParseError>
+    ensures { Gives (λ x. ((x.0, events.new), x.1.now)) result
+        (rules.array room (rules.inner room) events.old tokens.now) }
+{
+    let mut found = Items::new(alloc);
+    let rest = enclosed(
+        alloc,
+        tokens,
+        room,
+        Kind::LeftBracket,
+        Kind::RightBracket,
+        &mut found,
+        events,
+    )?;
+    let Ok(tree) = array_expression(alloc, found) else {
+        return Err(ParseError::NoMemory);
+    };
+    Ok((tree, rest))
+}
+
+/// The value of a field behind its name.
+#[cycle(expression)]
+#[tactic(auto, using(jessie_language::proofs::Reading::inner_is))]
+fn own_value<'a>(
+    alloc: Global,
+    tokens: &'a [Token],
+    room: u32,
+    key: &Token,
+    events: &mut Items<Event>,
+) -> Result<(Boxed<Expr>, &'a [Token]), ParseError>
+    requires { 0 < room }
+    ensures { Gives (λ x. (((key.now.text, x.0), events.new), x.1.now)) result
+        (rules.own_value (rules.inner room) events.old (words.spotted key.now) tokens.now) }
+{
+    let rest = expect(tokens, Kind::Colon)?;
+    fills(alloc, key, events)?;
+    expression(alloc, rest, room - 1, events)
+}
+
+/// A field of a record: its name, and its value or what the name stands for.
+#[cycle(expression)]
+#[tactic(auto, unfolding(jessie_language::specs::Rules::field))]
+fn field<'a>(
+    alloc: Global,
+    tokens: &'a [Token],
+    room: u32,
+    events: &mut Items<Event>,
+) -> Result<((&'a Token, Boxed<Expr>), &'a [Token]), ParseError>
+    requires { 0 < room }
+    ensures { Gives (λ x. (((x.0.0.now.text, x.0.1), events.new), x.1.now)) result
+        (rules.field (rules.inner room) events.old tokens.now) }
+{
+    let (key, rest) = name(tokens)?;
+    if is(rest, Kind::Colon) {
+        let (value, rest) = own_value(alloc, rest, room, key, events)?;
+        return Ok(((key, value), rest));
+    }
+    shortens(alloc, key, events)?;
+    let value = name_expression(alloc, key)?;
+    Ok(((key, value), rest))
+}
+
+/// A comma, and the field behind it or none; and whether more may follow.
+#[cycle(expression)]
+fn field_step<'a>(
+    alloc: Global,
+    tokens: &'a [Token],
+    room: u32,
+    found: &mut Items<(Text, Expr)>,
+    events: &mut Items<Event>,
+) -> Result<(bool, &'a [Token]), ParseError>
+    requires { 0 < room }
+    ensures { Gives (λ x. (((found.new, events.new), x.0), x.1.now)) result
+        (rules.comma_step Kind.RightBrace (rules.field (rules.inner room))
+        ((found.old, events.old), true) tokens.now) }
+{
+    let rest = expect(tokens, Kind::Comma)?;
+    if is(rest, Kind::Comma) || is(rest, Kind::RightBrace) {
+        return Ok((false, rest));
+    }
+    let ((key, value), rest) = field(alloc, rest, room, events)?;
+    add_field(alloc, key, value, found)?;
+    Ok((true, rest))
+}
+
+/// The fields of a record after its first ones.
+#[cycle(expression)]
+fn later_fields<'a>(
+    alloc: Global,
+    tokens: &'a [Token],
+    room: u32,
+    found: &mut Items<(Text, Expr)>,
+    events: &mut Items<Event>,
+) -> Result<&'a [Token], ParseError>
+    requires { 0 < room }
+    ensures { Gives (λ rest. ((found.new, events.new), rest.now)) result
+        (more_items Kind.RightBrace (rules.field (rules.inner room)) (found.old, events.old)
+        tokens.now) }
+{
+    let mut more = true;
+    let mut rest = tokens;
+    'fields: while more && is(rest, Kind::Comma) {
+        let (again, after) = field_step(alloc, rest, room, found, events)?;
+        more = again;
+        rest = after;
+    }
+    Ok(rest)
+}
+
+/// The fields of a record up to its closing brace.
+#[cycle(expression)]
+fn fields<'a>(
+    alloc: Global,
+    tokens: &'a [Token],
+    room: u32,
+    found: &mut Items<(Text, Expr)>,
+    events: &mut Items<Event>,
+) -> Result<&'a [Token], ParseError>
+    requires room { 0 < room }
+    requires none { found.old ≡ [] }
+    ensures { Gives (λ rest. ((found.new, events.new), rest.now)) result
+        (rules.listed Kind.RightBrace (rules.field (rules.inner room)) events.old tokens.now) }
+{
+    if is(tokens, Kind::RightBrace) {
+        return Ok(tokens);
+    }
+    let ((key, value), rest) = field(alloc, tokens, room, events)?;
+    add_field(alloc, key, value, found)?;
+    later_fields(alloc, rest, room, found, events)
+}
+
+/// The fields of a record behind its opening brace.
+#[cycle(expression)]
+fn opened_fields<'a>(
+    alloc: Global,
+    tokens: &'a [Token],
+    room: u32,
+    found: &mut Items<(Text, Expr)>,
+    events: &mut Items<Event>,
+) -> Result<&'a [Token], ParseError>
+    requires room { 0 < room }
+    requires none { found.old ≡ [] }
+    ensures { Gives (λ rest. ((found.new, events.new), rest.now)) result
+        (rules.listed Kind.RightBrace (rules.field (rules.inner room))
+        (words.also events.old Event.Opens) tokens.now) }
+{
+    events.push(Event::Opens)?;
+    fields(alloc, tokens, room, found, events)
+}
+
+/// The fields of a record between its braces.
+#[cycle(expression)]
+#[tactic(auto, unfolding(jessie_language::specs::Parse::bracketed))]
+fn enclosed_fields<'a>(
+    alloc: Global,
+    tokens: &'a [Token],
+    room: u32,
+    found: &mut Items<(Text, Expr)>,
+    events: &mut Items<Event>,
+) -> Result<&'a [Token], ParseError>
+    requires { found.old ≡ [] }
+    ensures { Gives (λ rest. ((found.new, events.new), rest.now)) result
+        (bracketed room Kind.LeftBrace Kind.RightBrace
+        (rules.listed Kind.RightBrace (rules.field (rules.inner room))
+        (words.also events.old Event.Opens)) tokens.now) }
+{
+    let rest = open(tokens, room, Kind::LeftBrace)?;
+    let rest = opened_fields(alloc, rest, room, found, events)?;
+    let rest = expect(rest, Kind::RightBrace)?;
+    Ok(rest)
+}
+
+#[cycle(expression)]
+fn record_text<'a>(
+    alloc: Global,
+    tokens: &'a [Token],
+    room: u32,
+    events: &mut Items<Event>,
+) -> Result<(Boxed<Expr>, &'a [Token]), ParseError>
+    ensures { Gives (λ x. ((x.0, events.new), x.1.now)) result
+        (rules.record_text room (rules.inner room) events.old tokens.now) }
+{
+    let mut found = Items::new(alloc);
+    let rest = enclosed_fields(alloc, tokens, room, &mut found, events)?;
+    let Ok(()) = events.push(Event::Closes) else {
+        return Err(ParseError::NoMemory);
+    };
+    let Ok(tree) = record_expression(alloc, found) else {
+        return Err(ParseError::NoMemory);
+    };
+    Ok((tree, rest))
+}
+
+/// The expression, where its closing bracket stands behind it; whatever was done before.
+fn closed<'a>(
+    tree: Boxed<Expr>,
+    tokens: &'a [Token],
+    to: Kind,
+) -> Result<(Boxed<Expr>, &'a [Token]), ParseError>
+    ensures { (done : List Event) → Gives (λ x. ((x.0, done), x.1.now)) result
+        (and_then {B = words.Found Expr} (symbol to tokens.now) (λ _. pure (tree, done))) }
+{
+    let rest = expect(tokens, to)?;
+    Ok((tree, rest))
+}
+
+/// An expression between two brackets.
+#[cycle(expression)]
+#[tactic(auto, using(jessie_language::proofs::Reading::inner_is), unfolding(jessie_language::specs::Parse::bracketed))]
+pub fn grouped<'a>(
+    alloc: Global,
+    tokens: &'a [Token],
+    room: u32,
+    from: Kind,
+    to: Kind,
+    events: &mut Items<Event>,
+) -> Result<(Boxed<Expr>, &'a [Token]), ParseError>
+    ensures { Gives (λ x. ((x.0, events.new), x.1.now)) result
+        (bracketed room from to (rules.inner room events.old) tokens.now) }
+{
+    let rest = open(tokens, room, from)?;
+    let (tree, rest) = expression(alloc, rest, room - 1, events)?;
+    closed(tree, rest, to)
+}
+
+/// The call that begins with this name.
+#[cycle(expression)]
+fn called<'a>(
+    alloc: Global,
+    tokens: &'a [Token],
+    room: u32,
+    function: &Token,
+    events: &mut Items<Event>,
+) -> Result<(Boxed<Expr>, &'a [Token]), ParseError>
+    ensures { Gives (λ x. ((x.0, events.new), x.1.now)) result
+        (rules.called_with room (rules.inner room) events.old (words.spotted function.now)
+        tokens.now) }
+{
+    calls(alloc, function, events)?;
+    let mut given = Items::new(alloc);
+    let rest = arguments(alloc, tokens, room, &mut given, events)?;
+    let Ok(tree) = call_expression(alloc, function, given) else {
+        return Err(ParseError::NoMemory);
+    };
+    Ok((tree, rest))
+}
+
+/// What begins with this name: a call, or the name alone.
+#[cycle(expression)]
+#[tactic(auto, unfolding(jessie_language::specs::Rules::call_tail))]
+fn call_tail<'a>(
+    alloc: Global,
+    tokens: &'a [Token],
+    room: u32,
+    name: &Token,
+    events: &mut Items<Event>,
+) -> Result<(Boxed<Expr>, &'a [Token]), ParseError>
+    ensures { Gives (λ x. ((x.0, events.new), x.1.now)) result
+        (rules.call_tail room (rules.inner room) events.old (words.spotted name.now) tokens.now) }
+{
+    if is(tokens, Kind::LeftParen) {
+        return called(alloc, tokens, room, name, events);
+    }
+    uses(alloc, name, events)?;
+    let Ok(tree) = name_expression(alloc, name) else {
+        return Err(ParseError::NoMemory);
+    };
+    Ok((tree, tokens))
+}
+
+#[cycle(expression)]
+#[tactic(auto, unfolding(jessie_language::specs::Rules::named))]
+fn named<'a>(
+    alloc: Global,
+    tokens: &'a [Token],
+    room: u32,
+    events: &mut Items<Event>,
+) -> Result<(Boxed<Expr>, &'a [Token]), ParseError>
+    ensures { Gives (λ x. ((x.0, events.new), x.1.now)) result
+        (rules.named room (rules.inner room) events.old tokens.now) }
+{
+    let (name, rest) = free_name(tokens)?;
+    call_tail(alloc, rest, room, name, events)
+}
+
+/// A method's name behind a dot, and its arguments.
+#[cycle(expression)]
+#[tactic(auto, unfolding(jessie_language::specs::Rules::method_call))]
+fn method_call<'a>(
+    alloc: Global,
+    tokens: &'a [Token],
+    room: u32,
+    given: &mut Items<Expr>,
+    events: &mut Items<Event>,
+) -> Result<(&'a Token, &'a [Token]), ParseError>
+    requires { given.old ≡ [] }
+    ensures { Gives (λ x. (((x.0.now.text, given.new), events.new), x.1.now)) result
+        (rules.method_call room (rules.inner room) events.old tokens.now) }
+{
+    let rest = expect(tokens, Kind::Dot)?;
+    let (method, rest) = name(rest)?;
+    let rest = arguments(alloc, rest, room, given, events)?;
+    Ok((method, rest))
+}
+
+/// The send of the method's call to the target.
+#[cycle(expression)]
+fn send<'a>(
+    alloc: Global,
+    tokens: &'a [Token],
+    room: u32,
+    target: Boxed<Expr>,
+    events: &mut Items<Event>,
+) -> Result<(Boxed<Expr>, &'a [Token]), ParseError>
+    ensures { Gives (λ x. ((x.0, events.new), x.1.now)) result
+        (and_then (rules.method_call room (rules.inner room) events.old tokens.now)
+        (λ call. pure (words.send_of target call))) }
+{
+    let mut given = Items::new(alloc);
+    let (method, rest) = method_call(alloc, tokens, room, &mut given, events)?;
+    let Ok(tree) = send_expression(alloc, target, method, given) else {
+        return Err(ParseError::NoMemory);
+    };
+    Ok((tree, rest))
+}
+
+/// A send: `E(target).method(arguments)`.
+#[cycle(expression)]
+#[tactic(auto, unfolding(jessie_language::specs::Rules::eventually))]
+fn eventually<'a>(
+    alloc: Global,
+    tokens: &'a [Token],
+    room: u32,
+    events: &mut Items<Event>,
+) -> Result<(Boxed<Expr>, &'a [Token]), ParseError>
+    ensures { Gives (λ x. ((x.0, events.new), x.1.now)) result
+        (rules.eventually room (rules.inner room) events.old tokens.now) }
+{
+    let rest = expect(tokens, Kind::Eventually)?;
+    let (target, rest) = grouped(alloc, rest, room, Kind::LeftParen, Kind::RightParen, events)?;
+    send(alloc, rest, room, target, events)
+}
+
+/// The call of the method of `AmountMath`.
+#[cycle(expression)]
+fn amount_call<'a>(
+    alloc: Global,
+    tokens: &'a [Token],
+    room: u32,
+    events: &mut Items<Event>,
+) -> Result<(Boxed<Expr>, &'a [Token]), ParseError>
+    ensures { Gives (λ x. ((x.0, events.new), x.1.now)) result
+        (and_then (rules.method_call room (rules.inner room) events.old tokens.now)
+        (λ call. pure (words.amount_of call))) }
+{
+    let mut given = Items::new(alloc);
+    let (method, rest) = method_call(alloc, tokens, room, &mut given, events)?;
+    let Ok(tree) = amount_expression(alloc, method, given) else {
+        return Err(ParseError::NoMemory);
+    };
+    Ok((tree, rest))
+}
+
+/// `AmountMath.method(arguments)`
+#[cycle(expression)]
+#[tactic(auto, unfolding(jessie_language::specs::Rules::amount))]
+fn amount<'a>(
+    alloc: Global,
+    tokens: &'a [Token],
+    room: u32,
+    events: &mut Items<Event>,
+) -> Result<(Boxed<Expr>, &'a [Token]), ParseError>
+    ensures { Gives (λ x. ((x.0, events.new), x.1.now)) result
+        (rules.amount room (rules.inner room) events.old tokens.now) }
+{
+    let rest = expect(tokens, Kind::AmountMath)?;
+    amount_call(alloc, rest, room, events)
+}
+
+/// A literal, whatever was done before.
+fn literal_alone<'a>(
+    alloc: Global,
+    tokens: &'a [Token],
+) -> Result<(Boxed<Expr>, &'a [Token]), ParseError>
+    ensures { (done : List Event) → Gives (λ x. ((x.0, done), x.1.now)) result
+        (and_then (one words.literals words.literal_of words.wide tokens.now)
+        (λ value. pure (words.literal_expr done value))) }
+{
+    let (value, rest) = literal(alloc, tokens)?;
+    let Ok(tree) = literal_expression(alloc, value) else {
+        return Err(ParseError::NoMemory);
+    };
+    Ok((tree, rest))
+}
+
+/// What stands before the steps, where it is neither a name nor a record.
+#[cycle(expression)]
+#[tactic(auto, unfolding(jessie_language::specs::Rules::bare))]
+fn bare<'a>(
+    alloc: Global,
+    tokens: &'a [Token],
+    room: u32,
+    events: &mut Items<Event>,
+) -> Result<(Boxed<Expr>, &'a [Token]), ParseError>
+    ensures { Gives (λ x. ((x.0, events.new), x.1.now)) result
+        (rules.bare room (rules.inner room) events.old tokens.now) }
+{
+    if is_literal(peek(tokens)) {
+        return literal_alone(alloc, tokens);
+    }
+    if is(tokens, Kind::Eventually) {
+        return eventually(alloc, tokens, room, events);
+    }
+    if is(tokens, Kind::AmountMath) {
+        return amount(alloc, tokens, room, events);
+    }
+    if is(tokens, Kind::LeftParen) {
+        return grouped(
+            alloc,
+            tokens,
+            room,
+            Kind::LeftParen,
+            Kind::RightParen,
+            events,
+        );
+    }
+    array(alloc, tokens, room, events)
+}
+
+/// What stands before the steps.
+#[cycle(expression)]
+#[tactic(auto, unfolding(jessie_language::specs::Rules::prim))]
+fn prim<'a>(
+    alloc: Global,
+    tokens: &'a [Token],
+    room: u32,
+    events: &mut Items<Event>,
+) -> Result<(Boxed<Expr>, &'a [Token]), ParseError>
+    ensures { Gives (λ x. ((x.0, events.new), x.1.now)) result
+        (rules.prim room (rules.inner room) events.old tokens.now) }
+{
+    if is_free_word(peek(tokens)) {
+        return named(alloc, tokens, room, events);
+    }
+    if begins_bare(peek(tokens)) {
+        return bare(alloc, tokens, room, events);
+    }
+    record_text(alloc, tokens, room, events)
+}
+
+/// One step more: the call of the method with this name.
+#[cycle(expression)]
+fn method_step<'a>(
+    alloc: Global,
+    tokens: &'a [Token],
+    room: u32,
+    method: &Token,
+    found: &mut Items<Step>,
+    events: &mut Items<Event>,
+) -> Result<&'a [Token], ParseError>
+    ensures { Gives (λ rest. ((found.new, events.new), rest.now)) result
+        (and_then (and_then (rules.args room (rules.inner room) events.old tokens.now)
+        (λ given. pure (words.method_of (words.spotted method.now) given)))
+        (λ step. pure (words.more found.old step))) }
+{
+    let mut given = Items::new(alloc);
+    let rest = arguments(alloc, tokens, room, &mut given, events)?;
+    add_method_step(alloc, method, given, found)?;
+    Ok(rest)
+}
+
+/// One step more: a field, or a call of a method.
+#[cycle(expression)]
+fn dot_step<'a>(
+    alloc: Global,
+    tokens: &'a [Token],
+    room: u32,
+    found: &mut Items<Step>,
+    events: &mut Items<Event>,
+) -> Result<&'a [Token], ParseError>
+    ensures { Gives (λ rest. ((found.new, events.new), rest.now)) result
+        (and_then (rules.dot_step room (rules.inner room) events.old tokens.now)
+        (λ step. pure (words.more found.old step))) }
+{
+    let rest = expect(tokens, Kind::Dot)?;
+    let (name, rest) = name(rest)?;
+    if is(rest, Kind::LeftParen) {
+        return method_step(alloc, rest, room, name, found, events);
+    }
+    let Ok(()) = add_field_step(alloc, name, found) else {
+        return Err(ParseError::NoMemory);
+    };
+    Ok(rest)
+}
+
+/// One step more.
+#[cycle(expression)]
+#[tactic(auto, unfolding(jessie_language::specs::Rules::post_step))]
+fn step<'a>(
+    alloc: Global,
+    tokens: &'a [Token],
+    room: u32,
+    found: &mut Items<Step>,
+    events: &mut Items<Event>,
+) -> Result<&'a [Token], ParseError>
+    ensures { Gives (λ rest. ((found.new, events.new), rest.now)) result
+        (and_then (rules.post_step room (rules.inner room) events.old tokens.now)
+        (λ step. pure (words.more found.old step))) }
+{
+    if is(tokens, Kind::Dot) {
+        return dot_step(alloc, tokens, room, found, events);
+    }
+    let (index, rest) = grouped(
+        alloc,
+        tokens,
+        room,
+        Kind::LeftBracket,
+        Kind::RightBracket,
+        events,
+    )?;
+    add_index_step(index, found)?;
+    Ok(rest)
+}
+
+/// The steps behind an expression, whatever it is.
+#[cycle(expression)]
+fn steps<'a>(
+    alloc: Global,
+    tokens: &'a [Token],
+    room: u32,
+    found: &mut Items<Step>,
+    events: &mut Items<Event>,
+) -> Result<&'a [Token], ParseError>
+    ensures { (first : Expr) → Gives (λ rest. (((first, found.new), events.new), rest.now)) result
+        (rules.steps_from room (rules.inner room) ((first, found.old), events.old) tokens.now) }
+{
+    let mut rest = tokens;
+    'steps: while begins_step(peek(rest)) {
+        let after = step(alloc, rest, room, found, events)?;
+        rest = after;
+    }
+    Ok(rest)
+}
+
+/// The expression with the steps behind it.
+#[cycle(expression)]
+#[tactic(auto, unfolding(jessie_language::specs::Rules::post_tail))]
+fn post_tail<'a>(
+    alloc: Global,
+    tokens: &'a [Token],
+    room: u32,
+    first: Boxed<Expr>,
+    events: &mut Items<Event>,
+) -> Result<(Boxed<Expr>, &'a [Token]), ParseError>
+    ensures { Gives (λ x. ((x.0, events.new), x.1.now)) result
+        (rules.post_tail room (rules.inner room) (first, events.old) tokens.now) }
+{
+    let mut found = Items::new(alloc);
+    let rest = steps(alloc, tokens, room, &mut found, events)?;
+    let Ok(tree) = with_steps(alloc, first, found) else {
+        return Err(ParseError::NoMemory);
+    };
+    Ok((tree, rest))
+}
+
+/// An operator before an operand, and the operand.
+#[cycle(expression)]
+fn signed<'a>(
+    alloc: Global,
+    tokens: &'a [Token],
+    room: u32,
+    events: &mut Items<Event>,
+) -> Result<(Boxed<Expr>, &'a [Token]), ParseError>
+    ensures { Gives (λ x. ((x.0, events.new), x.1.now)) result
+        (rules.signed room (rules.inner room) events.old tokens.now) }
+{
+    let (operator, rest) = sign(tokens)?;
+    let (first, rest) = prim(alloc, rest, room, events)?;
+    let (operand, rest) = post_tail(alloc, rest, room, first, events)?;
+    let Ok(tree) = unary_expression(alloc, operator, operand) else {
+        return Err(ParseError::NoMemory);
+    };
+    Ok((tree, rest))
+}
+
+/// An operand of operators.
+#[cycle(expression)]
+#[tactic(auto, unfolding(jessie_language::specs::Rules::unary))]
+fn unary<'a>(
+    alloc: Global,
+    tokens: &'a [Token],
+    room: u32,
+    events: &mut Items<Event>,
+) -> Result<(Boxed<Expr>, &'a [Token]), ParseError>
+    ensures { Gives (λ x. ((x.0, events.new), x.1.now)) result
+        (rules.unary room (rules.inner room) (rules.prim room (rules.inner room)) events.old
+        tokens.now) }
+{
+    if is_sign(peek(tokens)) {
+        return signed(alloc, tokens, room, events);
+    }
+    let (first, rest) = prim(alloc, tokens, room, events)?;
+    post_tail(alloc, rest, room, first, events)
+}
+
+/// An operator of the level and the operand behind it, whatever stands before; and whether more may
+/// follow.
+#[cycle(expression)]
+#[tactic(auto, unfolding(jessie_language::specs::Rules::op_step))]
+fn operator_step<'a>(
+    alloc: Global,
+    tokens: &'a [Token],
+    room: u32,
+    level: u8,
+    found: &mut Items<(Operator, Expr)>,
+    events: &mut Items<Event>,
+) -> Result<(bool, &'a [Token]), ParseError>
+    requires { level < 6 }
+    ensures { (first : Expr)
+        → Gives (λ x. ((((first, found.new), events.new), x.0), x.1.now)) result
+        (rules.op_step (level_at level) (operands room (level + 1))
+        (((first, found.old), events.old), true) tokens.now) }
+{
+    let (mark, rest) = operator(tokens, level)?;
+    let (right, rest) = operand(alloc, rest, room, level + 1, events)?;
+    let Ok(()) = add_operand(mark, right, found) else {
+        return Err(ParseError::NoMemory);
+    };
+    Ok((repeats(level), rest))
+}
+
+/// The operators of the level with their operands, whatever stands before them.
+#[cycle(expression)]
+fn operators<'a>(
+    alloc: Global,
+    tokens: &'a [Token],
+    room: u32,
+    level: u8,
+    found: &mut Items<(Operator, Expr)>,
+    events: &mut Items<Event>,
+) -> Result<&'a [Token], ParseError>
+    requires { level < 6 }
+    ensures { (first : Expr) → Gives (λ rest. (((first, found.new), events.new), rest.now)) result
+        (level_ops room level ((first, found.old), events.old) tokens.now) }
+{
+    let mut more = true;
+    let mut rest = tokens;
+    'operators: while more && is_operator(peek(rest), level) {
+        let (again, after) = operator_step(alloc, rest, room, level, found, events)?;
+        more = again;
+        rest = after;
+    }
+    Ok(rest)
+}
+
+/// The operand with the operators of the level behind it.
+#[cycle(expression)]
+fn chain<'a>(
+    alloc: Global,
+    tokens: &'a [Token],
+    room: u32,
+    level: u8,
+    first: Boxed<Expr>,
+    events: &mut Items<Event>,
+) -> Result<(Boxed<Expr>, &'a [Token]), ParseError>
+    requires { level < 6 }
+    ensures { Gives (λ x. ((x.0, events.new), x.1.now)) result
+        (level_rest room level (first, events.old) tokens.now) }
+{
+    let mut found = Items::new(alloc);
+    let rest = operators(alloc, tokens, room, level, &mut found, events)?;
+    let Ok(tree) = with_operands(alloc, first, found) else {
+        return Err(ParseError::NoMemory);
+    };
+    Ok((tree, rest))
+}
+
+/// The operand with what stands behind it, from the level on.
+#[cycle(expression)]
+#[tactic(auto, using(jessie_language::proofs::Reading::tails_is, jessie_language::proofs::Reading::tails_end))]
+fn tails<'a>(
+    alloc: Global,
+    tokens: &'a [Token],
+    room: u32,
+    level: u8,
+    first: Boxed<Expr>,
+    events: &mut Items<Event>,
+) -> Result<(Boxed<Expr>, &'a [Token]), ParseError>
+    requires { level ≤ 6 }
+    ensures { Gives (λ x. ((x.0, events.new), x.1.now)) result
+        (level_tails room level (first, events.old) tokens.now) }
+{
+    if level == 6 {
+        return Ok((first, tokens));
+    }
+    let (tree, rest) = tails(alloc, tokens, room, level + 1, first, events)?;
+    chain(alloc, rest, room, level, tree, events)
+}
+
+/// An operand of operators that bind less than the level's.
+#[cycle(expression)]
+fn operand<'a>(
+    alloc: Global,
+    tokens: &'a [Token],
+    room: u32,
+    level: u8,
+    events: &mut Items<Event>,
+) -> Result<(Boxed<Expr>, &'a [Token]), ParseError>
+    requires { level ≤ 6 }
+    ensures { Gives (λ x. ((x.0, events.new), x.1.now)) result
+        (operands room level events.old tokens.now) }
+{
+    let (first, rest) = unary(alloc, tokens, room, events)?;
+    tails(alloc, rest, room, level, first, events)
+}
+
+/// The second branch of a choice, behind its colon, with the first.
+#[cycle(expression)]
+fn second_branch<'a>(
+    alloc: Global,
+    tokens: &'a [Token],
+    room: u32,
+    first: Boxed<Expr>,
+    events: &mut Items<Event>,
+) -> Result<((Boxed<Expr>, Boxed<Expr>), &'a [Token]), ParseError>
+    ensures { Gives (λ x. ((x.0, events.new), x.1.now)) result
+        (and_then {B = words.Found (Expr × Expr)} (symbol Kind.Colon tokens.now)
+        (λ _ rest. and_then {B = words.Found (Expr × Expr)} (operands room 0 events.old rest)
+        (λ second. pure ((first, second.0), second.1)))) }
+{
+    let rest = expect(tokens, Kind::Colon)?;
+    let (second, rest) = operand(alloc, rest, room, 0, events)?;
+    Ok(((first, second), rest))
+}
+
+/// The two branches of a choice.
+#[cycle(expression)]
+#[tactic(auto, unfolding(jessie_language::specs::Rules::branches))]
+fn branches<'a>(
+    alloc: Global,
+    tokens: &'a [Token],
+    room: u32,
+    events: &mut Items<Event>,
+) -> Result<((Boxed<Expr>, Boxed<Expr>), &'a [Token]), ParseError>
+    ensures { Gives (λ x. ((x.0, events.new), x.1.now)) result
+        (rules.branches (operands room 0) events.old tokens.now) }
+{
+    let (first, rest) = operand(alloc, tokens, room, 0, events)?;
+    second_branch(alloc, rest, room, first, events)
+}
+
+/// The choice by the condition between the branches.
+#[cycle(expression)]
+fn branched<'a>(
+    alloc: Global,
+    tokens: &'a [Token],
+    room: u32,
+    condition: Boxed<Expr>,
+    events: &mut Items<Event>,
+) -> Result<(Boxed<Expr>, &'a [Token]), ParseError>
+    ensures { Gives (λ x. ((x.0, events.new), x.1.now)) result
+        (and_then (rules.branches (operands room 0) events.old tokens.now)
+        (λ both. pure (words.choice_of condition both))) }
+{
+    let ((first, second), rest) = branches(alloc, tokens, room, events)?;
+    let Ok(tree) = choice_expression(alloc, condition, first, second) else {
+        return Err(ParseError::NoMemory);
+    };
+    Ok((tree, rest))
+}
+
+/// The condition with the choice behind it.
+#[cycle(expression)]
+fn chosen<'a>(
+    alloc: Global,
+    tokens: &'a [Token],
+    room: u32,
+    condition: Boxed<Expr>,
+    events: &mut Items<Event>,
+) -> Result<(Boxed<Expr>, &'a [Token]), ParseError>
+    ensures { Gives (λ x. ((x.0, events.new), x.1.now)) result
+        (rules.chosen (operands room 0) (condition, events.old) tokens.now) }
+{
+    let rest = expect(tokens, Kind::Question)?;
+    branched(alloc, rest, room, condition, events)
+}
+
+/// The condition with the choice behind it, if there is one.
+#[cycle(expression)]
+#[tactic(auto, unfolding(jessie_language::specs::Rules::choice))]
+fn choice<'a>(
+    alloc: Global,
+    tokens: &'a [Token],
+    room: u32,
+    condition: Boxed<Expr>,
+    events: &mut Items<Event>,
+) -> Result<(Boxed<Expr>, &'a [Token]), ParseError>
+    ensures { Gives (λ x. ((x.0, events.new), x.1.now)) result
+        (rules.choice (operands room 0) (condition, events.old) tokens.now) }
+{
+    if is(tokens, Kind::Question) {
+        return chosen(alloc, tokens, room, condition, events);
+    }
+    Ok((condition, tokens))
+}
+
+/// The expression that begins with this operand.
+#[cycle(expression)]
+#[tactic(auto, unfolding(jessie_language::specs::Rules::after))]
+fn after<'a>(
+    alloc: Global,
+    tokens: &'a [Token],
+    room: u32,
+    first: Boxed<Expr>,
+    events: &mut Items<Event>,
+) -> Result<(Boxed<Expr>, &'a [Token]), ParseError>
+    ensures { Gives (λ x. ((x.0, events.new), x.1.now)) result
+        (rules.after room (rules.inner room) (first, events.old) tokens.now) }
+{
+    let (tree, rest) = tails(alloc, tokens, room, 0, first, events)?;
+    choice(alloc, rest, room, tree, events)
+}
+
+/// An expression, where `room` more brackets may be open.
+#[cycle(expression)]
+#[tactic(auto, using(jessie_language::proofs::Reading::expr_is), unfolding(jessie_language::specs::Rules::full))]
+pub fn expression<'a>(
+    alloc: Global,
+    tokens: &'a [Token],
+    room: u32,
+    events: &mut Items<Event>,
+) -> Result<(Boxed<Expr>, &'a [Token]), ParseError>
+    ensures { Gives (λ x. ((x.0, events.new), x.1.now)) result
+        (rules.expr room events.old tokens.now) }
+{
+    let (first, rest) = unary(alloc, tokens, room, events)?;
+    after(alloc, rest, room, first, events)
+}
+
+/// The expression that begins with this name, which stands before the tokens.
+pub fn led_expression<'a>(
+    alloc: Global,
+    tokens: &'a [Token],
+    room: u32,
+    name: &Token,
+    events: &mut Items<Event>,
+) -> Result<(Boxed<Expr>, &'a [Token]), ParseError>
+    ensures { Gives (λ x. ((x.0, events.new), x.1.now)) result
+        (and_then (and_then
+        (rules.call_tail room (rules.inner room) events.old (words.spotted name.now) tokens.now)
+        (rules.post_tail room (rules.inner room))) (rules.after room (rules.inner room))) }
+{
+    let (first, rest) = call_tail(alloc, tokens, room, name, events)?;
+    let (operand, rest) = post_tail(alloc, rest, room, first, events)?;
+    after(alloc, rest, room, operand, events)
+}
+
+/// The first operand of an expression that begins with no name and is no record.
+#[tactic(auto, unfolding(jessie_language::specs::Rules::unary))]
+fn bare_operand<'a>(
+    alloc: Global,
+    tokens: &'a [Token],
+    room: u32,
+    events: &mut Items<Event>,
+) -> Result<(Boxed<Expr>, &'a [Token]), ParseError>
+    ensures { Gives (λ x. ((x.0, events.new), x.1.now)) result
+        (rules.unary room (rules.inner room) (rules.bare room (rules.inner room)) events.old
+        tokens.now) }
+{
+    if is_sign(peek(tokens)) {
+        return signed(alloc, tokens, room, events);
+    }
+    let (first, rest) = bare(alloc, tokens, room, events)?;
+    post_tail(alloc, rest, room, first, events)
+}
+
+/// An expression that begins with no name and is no record.
+pub fn bare_expression<'a>(
+    alloc: Global,
+    tokens: &'a [Token],
+    room: u32,
+    events: &mut Items<Event>,
+) -> Result<(Boxed<Expr>, &'a [Token]), ParseError>
+    ensures { Gives (λ x. ((x.0, events.new), x.1.now)) result
+        (and_then
+        (rules.unary room (rules.inner room) (rules.bare room (rules.inner room)) events.old
+        tokens.now) (rules.after room (rules.inner room))) }
+{
+    let (first, rest) = bare_operand(alloc, tokens, room, events)?;
+    after(alloc, rest, room, first, events)
+}
