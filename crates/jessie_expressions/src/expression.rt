@@ -1,6 +1,6 @@
 // Expressions. Each function answers what it read, and the tokens after it; what the text does with
 // names goes behind the events. Each reads by the grammar's rule of its contract.
-ghost use Rattle.std.specs.Prelude.{List, [], ◌∷◌, ◌≡◌, ◌⊎◌, ◌<◌, ◌≤◌, ◌+◌, true, length};
+ghost use Rattle.std.specs.Prelude.{List, [], ◌∷◌, ◌≡◌, ◌⊎◌, ◌<◌, ◌≤◌, ◌+◌, true, length, IfOk, OnOk};
 ghost use Rattle.jessie_language.specs.Parse.{Gives, and_then, bracketed, one, pure, symbol};
 ghost use Rattle.jessie_language.specs.Levels.{level_at, level_ops, level_rest, level_tails, operands, more_items};
 ghost use Rattle.jessie_language.specs.Rules as rules;
@@ -17,7 +17,7 @@ use jessie_builders::expressions::{
 use jessie_language::fault::ParseError;
 use jessie_lexer::token::{Kind, Token, peek};
 use jessie_scopes::event::Event;
-use jessie_syntax::syntax::{Expr, Operator, Step};
+use jessie_syntax::syntax::{Expr, Operator, Step, Unary};
 use jessie_terminals::kinds::{
     begins_bare, begins_step, is, is_free_word, is_literal, is_operator, is_sign, repeats,
 };
@@ -25,7 +25,7 @@ use jessie_terminals::names::{free_name, name};
 use jessie_terminals::symbols::{expect, open, operator, sign};
 use jessie_terminals::values::literal;
 use sqlite_items::{Boxed, Items};
-use std::alloc::Global;
+use std::alloc::{AllocError, Global};
 
 /// A comma, and the expression behind it or none; and whether more may follow.
 #[cycle(expression)]
@@ -47,7 +47,9 @@ fn item_step<'a>(
         return Ok((false, rest));
     }
     let (item, rest) = expression(alloc, rest, room - 1, events)?;
-    add_expression(item, found)?;
+    let Ok(()) = add_expression(item, found) else {
+        return Err(ParseError::NoMemory);
+    };
     Ok((true, rest))
 }
 
@@ -194,6 +196,20 @@ fn own_value<'a>(
     expression(alloc, rest, room - 1, events)
 }
 
+/// What the name of a field reads, where the field has no value of its own.
+fn shorthand(
+    alloc: Global,
+    key: &Token,
+    events: &mut Items<Event>,
+) -> Result<Boxed<Expr>, AllocError>
+    ensures tree { IfOk result (λ tree. tree ≡ Expr.Name key.now.text) }
+    ensures events { OnOk result
+        (events.new ≡ words.also events.old (Event.Shorthand key.now.at key.now.text)) }
+{
+    shortens(alloc, key, events)?;
+    name_expression(alloc, key)
+}
+
 /// A field of a record: its name, and its value or what the name stands for.
 #[cycle(expression)]
 #[tactic(auto, unfolding(jessie_language::specs::Rules::field))]
@@ -212,8 +228,9 @@ fn field<'a>(
         let (value, rest) = own_value(alloc, rest, room, key, events)?;
         return Ok(((key, value), rest));
     }
-    shortens(alloc, key, events)?;
-    let value = name_expression(alloc, key)?;
+    let Ok(value) = shorthand(alloc, key, events) else {
+        return Err(ParseError::NoMemory);
+    };
     Ok(((key, value), rest))
 }
 
@@ -236,7 +253,9 @@ fn field_step<'a>(
         return Ok((false, rest));
     }
     let ((key, value), rest) = field(alloc, rest, room, events)?;
-    add_field(alloc, key, value, found)?;
+    let Ok(()) = add_field(alloc, key, value, found) else {
+        return Err(ParseError::NoMemory);
+    };
     Ok((true, rest))
 }
 
@@ -720,6 +739,27 @@ fn post_tail<'a>(
     Ok((tree, rest))
 }
 
+/// The operand with the steps behind it, below the operator before it.
+#[cycle(expression)]
+fn below_sign<'a>(
+    alloc: Global,
+    tokens: &'a [Token],
+    room: u32,
+    operator: Unary,
+    first: Boxed<Expr>,
+    events: &mut Items<Event>,
+) -> Result<(Boxed<Expr>, &'a [Token]), ParseError>
+    ensures { Gives (λ x. ((x.0, events.new), x.1.now)) result
+        (and_then (rules.post_tail room (rules.inner room) (first, events.old) tokens.now)
+        (λ operand. pure (words.unary_of operator operand))) }
+{
+    let (operand, rest) = post_tail(alloc, tokens, room, first, events)?;
+    let Ok(tree) = unary_expression(alloc, operator, operand) else {
+        return Err(ParseError::NoMemory);
+    };
+    Ok((tree, rest))
+}
+
 /// An operator before an operand, and the operand.
 #[cycle(expression)]
 fn signed<'a>(
@@ -733,11 +773,7 @@ fn signed<'a>(
 {
     let (operator, rest) = sign(tokens)?;
     let (first, rest) = prim(alloc, rest, room, events)?;
-    let (operand, rest) = post_tail(alloc, rest, room, first, events)?;
-    let Ok(tree) = unary_expression(alloc, operator, operand) else {
-        return Err(ParseError::NoMemory);
-    };
-    Ok((tree, rest))
+    below_sign(alloc, rest, room, operator, first, events)
 }
 
 /// An operand of operators.

@@ -26,6 +26,9 @@ decreases-array l = 64 * l.room + 4
 abbrev pub decreases-bare : goal.decreases-bare
 decreases-bare l = 64 * l.room + 8
 
+abbrev pub decreases-below_sign : goal.decreases-below_sign
+decreases-below_sign l = 64 * l.room + 10
+
 abbrev pub decreases-branched : goal.decreases-branched
 decreases-branched l = 64 * l.room + 57
 
@@ -114,7 +117,7 @@ abbrev pub decreases-send : goal.decreases-send
 decreases-send l = 64 * l.room + 6
 
 abbrev pub decreases-signed : goal.decreases-signed
-decreases-signed l = 64 * l.room + 10
+decreases-signed l = 64 * l.room + 11
 
 abbrev pub decreases-step : goal.decreases-step
 decreases-step l = 64 * l.room + 7
@@ -123,7 +126,7 @@ abbrev pub decreases-steps : goal.decreases-steps
 decreases-steps l = 64 * l.room + 8
 
 abbrev pub decreases-unary : goal.decreases-unary
-decreases-unary l = 64 * l.room + 11
+decreases-unary l = 64 * l.room + 12
 
 abbrev pub decreases-chain : goal.decreases-chain
 decreases-chain l = 64 * l.room + 20 + 5 * (6 - l.level) + 2
