@@ -1,6 +1,6 @@
 // Expressions. Each function answers what it read, and the tokens after it; what the text does with
 // names goes behind the events. Each reads by the grammar's rule of its contract.
-ghost use Rattle.std.specs.Prelude.{List, [], ◌∷◌, ◌≡◌, ◌⊎◌, ◌<◌, ◌≤◌, ◌+◌, true, length, IfOk, OnOk};
+ghost use Rattle.std.specs.Prelude.{ℕ, Bool, List, [], ◌∷◌, ◌≡◌, ◌⊎◌, ◌<◌, ◌≤◌, ◌+◌, true, length, IfOk, OnOk};
 ghost use Rattle.jessie_language.specs.Parse.{Gives, and_then, bracketed, one, pure, symbol};
 ghost use Rattle.jessie_language.specs.Levels.{level_at, level_ops, level_rest, level_tails, operands, more_items};
 ghost use Rattle.jessie_language.specs.Rules as rules;
@@ -27,9 +27,30 @@ use jessie_terminals::values::literal;
 use sqlite_items::{Boxed, Items};
 use std::alloc::{AllocError, Global};
 
-/// A comma, and the expression behind it or none; and whether more may follow.
+/// One expression more of a list, behind which more may follow.
 #[cycle(expression)]
 #[tactic(auto, using(jessie_language::proofs::Reading::inner_is))]
+fn next_item<'a>(
+    alloc: Global,
+    tokens: &'a [Token],
+    room: u32,
+    found: &mut Items<Expr>,
+    events: &mut Items<Event>,
+) -> Result<&'a [Token], ParseError>
+    requires { 0 < room }
+    ensures { Gives (λ rest. (((found.new, events.new), true), rest.now)) result
+        (and_then {B = words.Found (List Expr) × Bool} (rules.inner room events.old tokens.now)
+        (λ item. pure (words.more found.old item, true))) }
+{
+    let (item, rest) = expression(alloc, tokens, room - 1, events)?;
+    let Ok(()) = add_expression(item, found) else {
+        return Err(ParseError::NoMemory);
+    };
+    Ok(rest)
+}
+
+/// A comma, and the expression behind it or none; and whether more may follow.
+#[cycle(expression)]
 fn item_step<'a>(
     alloc: Global,
     tokens: &'a [Token],
@@ -46,10 +67,7 @@ fn item_step<'a>(
     if is(rest, Kind::Comma) || is(rest, close) {
         return Ok((false, rest));
     }
-    let (item, rest) = expression(alloc, rest, room - 1, events)?;
-    let Ok(()) = add_expression(item, found) else {
-        return Err(ParseError::NoMemory);
-    };
+    let rest = next_item(alloc, rest, room, found, events)?;
     Ok((true, rest))
 }
 
@@ -234,6 +252,28 @@ fn field<'a>(
     Ok(((key, value), rest))
 }
 
+/// One field more of a record, behind which more may follow.
+#[cycle(expression)]
+fn next_field<'a>(
+    alloc: Global,
+    tokens: &'a [Token],
+    room: u32,
+    found: &mut Items<(Text, Expr)>,
+    events: &mut Items<Event>,
+) -> Result<&'a [Token], ParseError>
+    requires { 0 < room }
+    ensures { Gives (λ rest. (((found.new, events.new), true), rest.now)) result
+        (and_then {B = words.Found (List (List ℕ × Expr)) × Bool}
+        (rules.field (rules.inner room) events.old tokens.now)
+        (λ item. pure (words.more found.old item, true))) }
+{
+    let ((key, value), rest) = field(alloc, tokens, room, events)?;
+    let Ok(()) = add_field(alloc, key, value, found) else {
+        return Err(ParseError::NoMemory);
+    };
+    Ok(rest)
+}
+
 /// A comma, and the field behind it or none; and whether more may follow.
 #[cycle(expression)]
 fn field_step<'a>(
@@ -252,10 +292,7 @@ fn field_step<'a>(
     if is(rest, Kind::Comma) || is(rest, Kind::RightBrace) {
         return Ok((false, rest));
     }
-    let ((key, value), rest) = field(alloc, rest, room, events)?;
-    let Ok(()) = add_field(alloc, key, value, found) else {
-        return Err(ParseError::NoMemory);
-    };
+    let rest = next_field(alloc, rest, room, found, events)?;
     Ok((true, rest))
 }
 

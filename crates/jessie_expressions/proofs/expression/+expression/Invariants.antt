@@ -12,22 +12,22 @@ abbrev pub decreases-after : goal.decreases-after
 decreases-after l = 64 * l.room + 60
 
 abbrev pub decreases-amount : goal.decreases-amount
-decreases-amount l = 64 * l.room + 7
+decreases-amount l = 64 * l.room + 8
 
 abbrev pub decreases-amount_call : goal.decreases-amount_call
-decreases-amount_call l = 64 * l.room + 6
+decreases-amount_call l = 64 * l.room + 7
 
 abbrev pub decreases-arguments : goal.decreases-arguments
-decreases-arguments l = 64 * l.room + 4
+decreases-arguments l = 64 * l.room + 5
 
 abbrev pub decreases-array : goal.decreases-array
-decreases-array l = 64 * l.room + 4
+decreases-array l = 64 * l.room + 5
 
 abbrev pub decreases-bare : goal.decreases-bare
-decreases-bare l = 64 * l.room + 8
+decreases-bare l = 64 * l.room + 9
 
 abbrev pub decreases-below_sign : goal.decreases-below_sign
-decreases-below_sign l = 64 * l.room + 10
+decreases-below_sign l = 64 * l.room + 11
 
 abbrev pub decreases-branched : goal.decreases-branched
 decreases-branched l = 64 * l.room + 57
@@ -36,10 +36,10 @@ abbrev pub decreases-branches : goal.decreases-branches
 decreases-branches l = 64 * l.room + 56
 
 abbrev pub decreases-call_tail : goal.decreases-call_tail
-decreases-call_tail l = 64 * l.room + 6
+decreases-call_tail l = 64 * l.room + 7
 
 abbrev pub decreases-called : goal.decreases-called
-decreases-called l = 64 * l.room + 5
+decreases-called l = 64 * l.room + 6
 
 abbrev pub decreases-choice : goal.decreases-choice
 decreases-choice l = 64 * l.room + 59
@@ -48,16 +48,16 @@ abbrev pub decreases-chosen : goal.decreases-chosen
 decreases-chosen l = 64 * l.room + 58
 
 abbrev pub decreases-dot_step : goal.decreases-dot_step
-decreases-dot_step l = 64 * l.room + 6
+decreases-dot_step l = 64 * l.room + 7
 
 abbrev pub decreases-enclosed : goal.decreases-enclosed
-decreases-enclosed l = 64 * l.room + 3
+decreases-enclosed l = 64 * l.room + 4
 
 abbrev pub decreases-enclosed_fields : goal.decreases-enclosed_fields
-decreases-enclosed_fields l = 64 * l.room + 6
+decreases-enclosed_fields l = 64 * l.room + 7
 
 abbrev pub decreases-eventually : goal.decreases-eventually
-decreases-eventually l = 64 * l.room + 7
+decreases-eventually l = 64 * l.room + 8
 
 abbrev pub decreases-expression : goal.decreases-expression
 decreases-expression l = 64 * l.room + 61
@@ -66,67 +66,73 @@ abbrev pub decreases-field : goal.decreases-field
 decreases-field l = 64 * l.room + 1
 
 abbrev pub decreases-field_step : goal.decreases-field_step
-decreases-field_step l = 64 * l.room + 2
+decreases-field_step l = 64 * l.room + 3
 
 abbrev pub decreases-fields : goal.decreases-fields
-decreases-fields l = 64 * l.room + 4
+decreases-fields l = 64 * l.room + 5
 
 abbrev pub decreases-grouped : goal.decreases-grouped
 decreases-grouped l = 64 * l.room + 0
 
 abbrev pub decreases-item_step : goal.decreases-item_step
-decreases-item_step l = 64 * l.room + 0
+decreases-item_step l = 64 * l.room + 1
 
 abbrev pub decreases-items : goal.decreases-items
-decreases-items l = 64 * l.room + 2
+decreases-items l = 64 * l.room + 3
 
 abbrev pub decreases-later_fields : goal.decreases-later_fields
-decreases-later_fields l = 64 * l.room + 3
+decreases-later_fields l = 64 * l.room + 4
 
 abbrev pub decreases-later_items : goal.decreases-later_items
-decreases-later_items l = 64 * l.room + 1
+decreases-later_items l = 64 * l.room + 2
 
 abbrev pub decreases-method_call : goal.decreases-method_call
-decreases-method_call l = 64 * l.room + 5
+decreases-method_call l = 64 * l.room + 6
 
 abbrev pub decreases-method_step : goal.decreases-method_step
-decreases-method_step l = 64 * l.room + 5
+decreases-method_step l = 64 * l.room + 6
 
 abbrev pub decreases-named : goal.decreases-named
-decreases-named l = 64 * l.room + 7
+decreases-named l = 64 * l.room + 8
+
+abbrev pub decreases-next_field : goal.decreases-next_field
+decreases-next_field l = 64 * l.room + 2
+
+abbrev pub decreases-next_item : goal.decreases-next_item
+decreases-next_item l = 64 * l.room + 0
 
 abbrev pub decreases-opened_fields : goal.decreases-opened_fields
-decreases-opened_fields l = 64 * l.room + 5
+decreases-opened_fields l = 64 * l.room + 6
 
 abbrev pub decreases-own_value : goal.decreases-own_value
 decreases-own_value l = 64 * l.room + 0
 
 abbrev pub decreases-post_tail : goal.decreases-post_tail
-decreases-post_tail l = 64 * l.room + 9
+decreases-post_tail l = 64 * l.room + 10
 
 abbrev pub decreases-prim : goal.decreases-prim
-decreases-prim l = 64 * l.room + 9
+decreases-prim l = 64 * l.room + 10
 
 abbrev pub decreases-record_text : goal.decreases-record_text
-decreases-record_text l = 64 * l.room + 7
+decreases-record_text l = 64 * l.room + 8
 
 abbrev pub decreases-second_branch : goal.decreases-second_branch
 decreases-second_branch l = 64 * l.room + 55
 
 abbrev pub decreases-send : goal.decreases-send
-decreases-send l = 64 * l.room + 6
+decreases-send l = 64 * l.room + 7
 
 abbrev pub decreases-signed : goal.decreases-signed
-decreases-signed l = 64 * l.room + 11
+decreases-signed l = 64 * l.room + 12
 
 abbrev pub decreases-step : goal.decreases-step
-decreases-step l = 64 * l.room + 7
+decreases-step l = 64 * l.room + 8
 
 abbrev pub decreases-steps : goal.decreases-steps
-decreases-steps l = 64 * l.room + 8
+decreases-steps l = 64 * l.room + 9
 
 abbrev pub decreases-unary : goal.decreases-unary
-decreases-unary l = 64 * l.room + 12
+decreases-unary l = 64 * l.room + 13
 
 abbrev pub decreases-chain : goal.decreases-chain
 decreases-chain l = 64 * l.room + 20 + 5 * (6 - l.level) + 2
