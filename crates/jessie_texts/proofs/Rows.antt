@@ -1,5 +1,5 @@
 -- Rows: what single texts come to, from their bytes on.
-use Rattle.std.proofs.Common.{◌≡◌, ℕ, List, [], Result, Ok, Err, refl}
+use Rattle.std.proofs.Common.{◌≡◌, ℕ, [], Result, Ok, Err, refl}
 use Rattle.std.specs.Prelude.{codes}
 use Rattle.jessie_lexer.specs.Lex as lex
 use Rattle.jessie_scopes.specs.Scopes as scopes
