@@ -1,0 +1,476 @@
+-- What holds of the world between effects, part by part, each over the stores that it reads; and what each effect needs.
+use Rattle.std.specs.Prelude.{◌≡◌, ◌≢◌, ◌⊎◌, ℕ, ◌+◌, ◌<◌, ◌≤◌, ◌==◌, ◌&&◌, if◌then◌else◌, Bool, false, List, [], ◌∷◌, ◌++◌, length, Option, Some, None, IfSome, IsSome, is_none}
+use Rattle.std.specs.List.{AllByRecursion}
+use Rattle.amount_math.specs.Content.{count}
+use Rattle.amount_math.specs.Worth.{Fits, Worth}
+use Rattle.amount_math.specs.declared.Amount.{Amount}
+use Rattle.amount_math.specs.declared.Kind.TheVariants.{Set}
+use Rattle.actors.specs.Labels.{Bound, bound_to}
+use Rattle.brands.specs.Brands.{brand_at, most_brands}
+use Rattle.brands.specs.IssuerRecords.{brand_under, most_issuers}
+use Rattle.brands.specs.declared.Brand.{Brand}
+use Rattle.brands.specs.declared.issuer_record.Issuer.{Issuer}
+use Rattle.ertp_mint.specs.BrandSupply.{BrandSupply, supply_at}
+use Rattle.ertp_mint.specs.Stocks.{most_made}
+use Rattle.instance_store.specs.Facets.{FacetView}
+use Rattle.instance_store.specs.SeatPromises.{pair_at}
+use Rattle.instance_store.specs.Tables.{InstanceView, Tables, initial_state, instance_at, module_at}
+use Rattle.instance_store.specs.declared.seat_promises.SeatPair.{SeatPair}
+use Rattle.invitations.specs.Details.{DetailsView}
+use Rattle.invitations.specs.Elements.{element}
+use Rattle.jessie_tree.specs.Tree.{Tree, object}
+use Rattle.jessie_tree.specs.declared.data.Obj.{Obj}
+use Rattle.jessie_tree.specs.declared.syntax.Module.{Module}
+use Rattle.payments.specs.Papers.{Paper, paper_at}
+use Rattle.promise_store.specs.Linked.{LeadsTo}
+use Rattle.promise_store.specs.States.{SettlementView, broken, ok}
+use Rattle.proposals.specs.OfferSafety.{IsOfferSafe}
+use Rattle.proposals.specs.Rows.{AreRows, amount_under}
+use Rattle.proposals.specs.Slots.{FitsSeat, in_byte_order}
+use Rattle.proposals.specs.declared.allocations.Row.{Row}
+use Rattle.proposals.specs.declared.offers.Proposal.{Proposal}
+use Rattle.rights_model.specs.declared.Holder.{Holder}
+use Rattle.rights_model.specs.declared.Holder.TheVariants.{Purse, Payment, Slot, Hand, Outside}
+use Rattle.rights_model.specs.declared.Movement.{Movement}
+use Rattle.right_steps.specs.Tables.{no_hand}
+use Rattle.seat_store.specs.Staging.{staged_at}
+use Rattle.turn_records.specs.Deliveries.{Delivery, Notice, Offer, Send, Start, Wakeup, bad, call, deadline, give, notify, offer as offers, promise_of, send as sends, start as starts, tick, wake as wakes}
+use Rattle.world_state.specs.Known.{HasFunction, IsHanded, IsKnownTo, IsPlain, IsSeatOf}
+use Rattle.world_state.specs.Promises.{IsPending, PromiseBook, target_of}
+use Rattle.world_state.specs.Rights.{CanMoveAll, Rights, all_moved, held_of, kind_at, moved_together, slots_at, with_slots}
+use Rattle.world_state.specs.Worlds.{Effect, IsOpen, Maker, Offering, Seat, Starting, State, after, burn_and_escrows, empty_slots, new_seat, of_host, of_instance, of_kit, offered_by, seat_at, promises_made, add_issuer, arrive, bind_label, empty_payment, empty_seat, end_staging, exit, halt, install, invite, keep_state, make_facet, maker_at, moves, new_brand, new_promise, new_purse, note_call, offer, publish, resolve, send, set_time, stage, start, stop, unstage, wake, when}
+
+-- ---- rights
+
+-- all that is held is what is out
+pub record IsBalanced (r : Rights) : Type 0 where
+  pub each : (b : ℕ) (k : List ℕ) → held_of r b k ≡ count (supply_at r.out b).outstanding.content k
+
+-- an amount of a brand that was made, of its kind
+pub record IsOfKind (out : List BrandSupply) (a : Amount) : Type 0 where
+  pub made : a.brand < length out
+  pub kind : kind_at out a.brand ≡ a.value.kind
+
+-- a payment of a brand that was made; what it has is of its kind
+pub record IsPaper (out : List BrandSupply) (p : Paper) : Type 0 where
+  pub made : p.brand < length out
+  pub kind : IfSome p.held (λ w. kind_at out p.brand ≡ w.kind)
+
+abbrev pub AreRowsOf : List BrandSupply → List Row → Type 0
+AreRowsOf out rows = AllByRecursion (λ (r : Row). IsOfKind out r.amount) rows
+
+pub record AreOfKinds (r : Rights) : Type 0 where
+  pub purses : AllByRecursion (IsOfKind r.out) r.purses
+  pub payments : AllByRecursion (IsPaper r.out) r.payments
+  pub slots : AllByRecursion (AreRowsOf r.out) r.slots
+
+-- of no brand there is more out than its kind lets there be
+pub record IsBounded (r : Rights) : Type 0 where
+  pub each : (b : ℕ) → Fits (kind_at r.out b) (supply_at r.out b).outstanding.content
+
+-- brand 0 is that of invitations; each brand has a supply of its kind, and one that made it
+pub record AreBrands (bs : List Brand) (makers : List Maker) (r : Rights) : Type 0 where
+  pub some : 0 < length bs
+  pub few : length bs ≤ most_brands
+  pub supplies : length r.out ≡ length bs
+  pub made_by : length makers ≡ length bs
+  pub kinds : (b : ℕ) → kind_at r.out b ≡ (brand_at bs b).kind
+  pub first : (brand_at bs 0).kind ≡ Set
+  pub host : maker_at makers 0 ≡ of_host
+
+-- nothing is out of brand 0 but elements of invitations that were made, and no more were ever issued
+pub record AreInvitations (r : Rights) (ds : List DetailsView) : Type 0 where
+  pub once : (supply_at r.out 0).minted ≤ length ds
+  pub made : (k : List ℕ) → ((n : ℕ) → n < length ds → k ≢ element n) → count (supply_at r.out 0).outstanding.content k ≡ 0
+
+-- ---- seats
+
+-- how many slots there are in open seats, each of which will be a payment
+abbrev pub slots_in : Seat → List Row → ℕ
+slots_in seat rows = if is_none seat.last then length rows else 0
+
+abbrev pub open_slots : List Seat → List (List Row) → ℕ
+open_slots [] slots = 0
+open_slots (s ∷ ss) [] = 0
+open_slots (s ∷ ss) (rows ∷ rest) = slots_in s rows + open_slots ss rest
+
+pub record HasRoom (r : Rights) (seats : List Seat) : Type 0 where
+  pub left : length r.payments + open_slots seats r.slots ≤ most_made
+
+-- what an open seat has covers what it wants, or what it gave
+pub record AreCovered (r : Rights) (seats : List Seat) : Type 0 where
+  pub each : (s : ℕ) → IsOpen (seat_at seats s) → IsOfferSafe (seat_at seats s).proposal (slots_at r.slots s)
+
+-- each seat has its slots, under keywords of their own, and two promises that were made, and is of an instance that was made
+pub record AreSeats (seats : List Seat) (r : Rights) (pairs : List SeatPair) (t : Tables) : Type 0 where
+  pub slotted : length r.slots ≡ length seats
+  pub paired : length pairs ≡ length seats
+  pub rows : AllByRecursion AreRows r.slots
+  pub instances : AllByRecursion (λ (s : Seat). s.instance < length t.instances) seats
+
+-- what is staged of a seat is of the brands of its slots
+abbrev pub IsOfSlot : List Row → Row → Type 0
+IsOfSlot slots row = IfSome (amount_under row.keyword slots) (λ a. a.brand ≡ row.amount.brand)
+
+pub record IsStaged (seat : Seat) (slots rows : List Row) : Type 0 where
+  pub is_open : IsOpen seat
+  pub of_slots : AllByRecursion (IsOfSlot slots) rows
+
+pub record AreStaged (seats : List Seat) (r : Rights) (staging : List (ℕ × List Row)) : Type 0 where
+  pub each : (s : ℕ) (rows : List Row) → staged_at s staging ≡ Some rows → IsStaged (seat_at seats s) (slots_at r.slots s) rows
+
+-- ---- promises that are owed
+
+abbrev pub one_if : Bool → ℕ
+one_if b = if b then 1 else 0
+
+abbrev pub is_for : Option ℕ → ℕ → Bool
+is_for None p = false
+is_for (Some q) p = q == p
+
+-- to open seats for their payouts, by what waits to be delivered, and to those who are to be told
+abbrev pub owed_payouts : List Seat → List SeatPair → ℕ → ℕ
+owed_payouts [] pairs p = 0
+owed_payouts (s ∷ ss) [] p = 0
+owed_payouts (s ∷ ss) (q ∷ qs) p = one_if (is_none s.last && (q.payouts == p)) + owed_payouts ss qs p
+
+abbrev pub owed_answers : List Delivery → ℕ → ℕ
+owed_answers [] p = 0
+owed_answers (d ∷ ds) p = one_if (is_for (promise_of d) p) + owed_answers ds p
+
+abbrev pub owed_notices : List Notice → ℕ → ℕ
+owed_notices [] p = 0
+owed_notices (n ∷ ns) p = one_if (n.answer == p) + owed_notices ns p
+
+abbrev pub owes : List Seat → List SeatPair → List Delivery → PromiseBook → ℕ → ℕ
+owes seats pairs waiting book p = owed_payouts seats pairs p + owed_answers waiting p + owed_notices book.requests p
+
+-- what is owed is owed once, and is pending, and follows none
+pub record AreOwed (seats : List Seat) (pairs : List SeatPair) (waiting : List Delivery) (book : PromiseBook) : Type 0 where
+  pub once : (p : ℕ) → owes seats pairs waiting book p ≤ 1
+  pub pending : (p : ℕ) → 0 < owes seats pairs waiting book p → IsPending book p
+
+-- ---- data and functions that the world holds
+
+-- what a promise is settled with ends it, and can be handed out
+abbrev pub IsSettling : State → SettlementView → Type 0
+IsSettling w (ok t) = IsHanded w t
+IsSettling w (broken t) = IsHanded w t
+
+pub record IsFinal (w : State) (v : SettlementView) : Type 0 where
+  pub ends : target_of v ≡ None
+  pub handed : IsSettling w v
+
+abbrev pub IsSettled : State → Option SettlementView → Type 0
+IsSettled w s = IfSome s (IsFinal w)
+
+pub record IsInvitation (w : State) (d : DetailsView) : Type 0 where
+  pub handler : HasFunction w.tables d.instance d.handler
+  pub held : IsKnownTo w d.instance d.held
+
+abbrev pub IsBrandMade : State → Issuer → Type 0
+IsBrandMade w i = i.brand < length w.brands
+
+-- the n-th instance
+pub record IsInstance (w : State) (n : ℕ) (x : InstanceView) : Type 0 where
+  pub installed : x.installation < length w.tables.installations
+  pub issuers : AllByRecursion (IsBrandMade w) x.issuers
+  pub terms : IsHanded w x.terms
+  pub facet : IfSome x.public_facet (IsHanded w)
+  pub whole : length x.state ≡ length (module_at w.tables.installations x.installation).variables
+  pub state : AllByRecursion (IsKnownTo w n) x.state
+
+pub record AreInstances (w : State) (xs : List InstanceView) : Type 0 where
+  pub each : (n : ℕ) → n < length xs → IsInstance w n (instance_at xs n)
+
+-- what the state variables of a module begin with names nothing
+abbrev pub IsModule : Module → Type 0
+IsModule m = AllByRecursion IsPlain (initial_state m)
+
+pub record IsFacet (w : State) (f : FacetView) : Type 0 where
+  pub made : f.instance < length w.tables.instances
+  pub methods : AllByRecursion (λ (m : List ℕ × List ℕ). HasFunction w.tables f.instance m.1) f.methods
+  pub held : IsKnownTo w f.instance f.held
+
+abbrev pub IsLabel : State → Bound → Type 0
+IsLabel w b = IsHanded w b.value
+
+pub record IsWakeup (w : State) (d : Wakeup) : Type 0 where
+  pub function : HasFunction w.tables d.instance d.function
+  pub held : IsKnownTo w d.instance d.held
+
+pub record IsNotice (w : State) (n : Notice) : Type 0 where
+  pub promise : n.promise < length w.promises.settled
+  pub function : HasFunction w.tables n.instance n.function
+  pub held : IsKnownTo w n.instance n.held
+
+pub record IsStart (w : State) (s : Start) : Type 0 where
+  pub made : s.instance < length w.tables.instances
+  pub arguments : IsHanded w s.private_arguments
+
+-- its seat was opened for it, whose result it settles
+pub record IsOfferCall (w : State) (o : Offer) : Type 0 where
+  pub seat : IsSeatOf w.seats o.instance o.seat
+  pub paired : o.seat < length w.pairs
+  pub promise : o.promise ≡ (pair_at w.pairs o.seat).«result»
+  pub function : HasFunction w.tables o.instance o.function
+  pub arguments : IsHanded w o.offer_arguments
+  pub held : IsKnownTo w o.instance o.held
+
+pub record IsSend (w : State) (s : Send) : Type 0 where
+  pub made : s.instance < length w.tables.instances
+  pub target : IsHanded w (object s.target)
+  pub arguments : AllByRecursion (IsHanded w) s.arguments
+
+-- what waits is due
+abbrev pub IsDue : State → Delivery → Type 0
+IsDue w (call c) = Unit {0}
+IsDue w (give g) = Unit {0}
+IsDue w (tick t) = Unit {0}
+IsDue w (bad r) = Unit {0}
+IsDue w (sends s) = IsSend w s
+IsDue w (starts s) = IsStart w s
+IsDue w (offers o) = IsOfferCall w o
+IsDue w (wakes d) = IsWakeup w d
+IsDue w (notify n) = IsNotice w n
+IsDue w (deadline seat) = seat < length w.seats
+
+-- what waits for a time is due then: a wakeup, or a deadline
+abbrev pub IsTimed : State → Delivery → Type 0
+IsTimed w (wakes d) = IsWakeup w d
+IsTimed w (deadline seat) = seat < length w.seats
+IsTimed w _ = ⊥
+
+abbrev pub IsTimedEntry : State → ℕ × Delivery → Type 0
+IsTimedEntry w e = IsTimed w e.1
+
+-- ---- the world
+
+pub record IsGoodWorld (w : State) : Type 0 where
+  pub balanced : IsBalanced w.rights
+  pub kinds : AreOfKinds w.rights
+  pub bounded : IsBounded w.rights
+  pub brands : AreBrands w.brands w.makers w.rights
+  pub invited : AreInvitations w.rights w.invitations
+  pub seats : AreSeats w.seats w.rights w.pairs w.tables
+  pub covered : AreCovered w.rights w.seats
+  pub room : HasRoom w.rights w.seats
+  pub staged : AreStaged w.seats w.rights w.staging
+  pub owed : AreOwed w.seats w.pairs w.waiting w.promises
+  pub settled : AllByRecursion (IsSettled w) w.promises.settled
+  pub requests : AllByRecursion (IsNotice w) w.promises.requests
+  pub modules : AllByRecursion IsModule w.tables.installations
+  pub instances : AreInstances w w.tables.instances
+  pub invitations : AllByRecursion (IsInvitation w) w.invitations
+  pub facets : AllByRecursion (IsFacet w) w.facets
+  pub labels : AllByRecursion (IsLabel w) w.labels
+  pub timed : AllByRecursion (IsTimedEntry w) w.schedule.waiting
+  pub waiting : AllByRecursion (IsDue w) w.waiting
+
+-- ---- what each effect needs
+
+abbrev pub IsMaker : State → Maker → Type 0
+IsMaker w of_host = ⊥
+IsMaker w of_kit = Unit {0}
+IsMaker w (of_instance i) = i < length w.tables.instances
+
+pub record CanMakeBrand (w : State) (maker : Maker) : Type 0 where
+  pub few : length w.brands < most_brands
+  pub made : IsMaker w maker
+
+pub record CanOpenPurse (w : State) (b : ℕ) : Type 0 where
+  pub made : b < length w.brands
+  pub few : length w.rights.purses < most_made
+
+pub record CanMakeEmpty (w : State) (b : ℕ) : Type 0 where
+  pub made : b < length w.brands
+  pub room : length w.rights.payments + open_slots w.seats w.rights.slots < most_made
+
+-- a movement doesn't bring invitations; where it names a slot, its seat is open
+abbrev pub BringsNoInvitation : Movement → Type 0
+BringsNoInvitation m = m.from ≡ Outside → m.brand ≢ 0
+
+abbrev pub IsAtOpen : List Seat → Holder → Type 0
+IsAtOpen seats (Slot s k) = IsOpen (seat_at seats s)
+IsAtOpen seats (Purse n) = Unit {0}
+IsAtOpen seats (Payment n) = Unit {0}
+IsAtOpen seats Hand = Unit {0}
+IsAtOpen seats Outside = Unit {0}
+
+pub record IsGoodMove (seats : List Seat) (m : Movement) : Type 0 where
+  pub brings : BringsNoInvitation m
+  pub from : IsAtOpen seats m.from
+  pub to : IsAtOpen seats m.to
+
+-- a payment that was taken from has nothing left
+abbrev pub HasNothing : List Paper → Holder → Type 0
+HasNothing ps (Payment n) = IfSome (paper_at ps n).held (λ (w : Worth). (k : List ℕ) → count w.content k ≡ 0)
+HasNothing ps (Purse n) = Unit {0}
+HasNothing ps (Slot s k) = Unit {0}
+HasNothing ps Hand = Unit {0}
+HasNothing ps Outside = Unit {0}
+
+-- a payment that is given to is made by that
+abbrev pub IsFresh : ℕ → Holder → Type 0
+IsFresh made (Payment n) = made ≤ n
+IsFresh made (Purse n) = Unit {0}
+IsFresh made (Slot s k) = Unit {0}
+IsFresh made Hand = Unit {0}
+IsFresh made Outside = Unit {0}
+
+-- movements can be made together: each in order; nothing is left in the hand, or in a payment that was taken from; what is given to a payment makes it; the slots of a seat of which something is staged stay as they are; each open seat is covered, and can be paid out
+pub record CanMoveTogether (r : Rights) (seats : List Seat) (staging : List (ℕ × List Row)) (ms : List Movement) : Type 0 where
+  pub can : CanMoveAll r no_hand ms
+  pub good : AllByRecursion (IsGoodMove seats) ms
+  pub emptied : AllByRecursion (λ (m : Movement). HasNothing (all_moved r ms).payments m.from) ms
+  pub fresh : AllByRecursion (λ (m : Movement). IsFresh (length r.payments) m.to) ms
+  pub apart : (s : ℕ) → IsSome (staged_at s staging) → slots_at (moved_together r ms).slots s ≡ slots_at r.slots s
+  pub safe : (s : ℕ) → (slots_at (moved_together r ms).slots s ≡ slots_at r.slots s) ⊎ IsOfferSafe (seat_at seats s).proposal (slots_at (moved_together r ms).slots s)
+  pub room : HasRoom (moved_together r ms) seats
+
+-- what an offer proposes: keywords of their own, amounts of brands that were made
+pub record IsProposal (r : Rights) (p : Proposal) : Type 0 where
+  pub give : AreRows p.give
+  pub want : AreRows p.want
+  pub fits : FitsSeat p
+  pub gives : AreRowsOf r.out p.give
+  pub wants : AreRowsOf r.out p.want
+
+-- one payment of an invitation is burned
+pub record IsBurn (m : Movement) : Type 0 where
+  pub payment : ℕ
+  pub brand : m.brand ≡ 0
+  pub from : m.from ≡ Payment payment
+  pub to : m.to ≡ Outside
+
+pub record IsEscrow (seat : ℕ) (row : Row) (m : Movement) : Type 0 where
+  pub payment : ℕ
+  pub brand : m.brand ≡ row.amount.brand
+  pub from : m.from ≡ Payment payment
+  pub to : m.to ≡ Slot seat row.keyword
+  pub value : m.value ≡ row.amount.value
+
+-- each slot of give gets its amount, in order
+abbrev pub AreEscrows : ℕ → List Row → List Movement → Type 0
+AreEscrows seat [] [] = Unit {0}
+AreEscrows seat (r ∷ rs) (m ∷ ms) = IsEscrow seat r m × AreEscrows seat rs ms
+AreEscrows seat _ _ = ⊥
+
+abbrev pub with_next_seat : State → ℕ → Proposal → List Seat
+with_next_seat w instance p = w.seats ++ new_seat instance p ∷ []
+
+pub record CanOffer (w : State) (o : Offering) : Type 0 where
+  pub invited : o.invitation < length w.invitations
+  pub proposal : IsProposal w.rights o.proposal
+  pub burn : IsBurn o.burn
+  pub escrows : AreEscrows (length w.seats) (in_byte_order o.proposal.give) o.escrows
+  pub moves : CanMoveTogether (with_slots w.rights (empty_slots o.proposal)) (with_next_seat w (offered_by w o).instance o.proposal) w.staging (burn_and_escrows o)
+  pub safe : IsOfferSafe o.proposal (slots_at (after w (offer o)).rights.slots (length w.seats))
+  pub arguments : IsHanded w o.arguments
+  pub seats : length w.seats < most_made
+  pub promises : promises_made w + 2 ≤ most_made
+
+pub record CanOpenSeat (w : State) (i : ℕ) : Type 0 where
+  pub made : i < length w.tables.instances
+  pub seats : length w.seats < most_made
+  pub promises : promises_made w + 2 ≤ most_made
+
+pub record CanInvite (w : State) (d : DetailsView) : Type 0 where
+  pub details : IsInvitation w d
+  pub few : length w.invitations < most_made
+  pub room : length w.rights.payments + open_slots w.seats w.rights.slots < most_made
+
+-- a promise is pending, and owed to none; what it is resolved to can be handed out, and doesn't lead back to it
+pub record CanResolve (w : State) (p : ℕ) (v : SettlementView) : Type 0 where
+  pub pending : IsPending w.promises p
+  pub free : owes w.seats w.pairs w.waiting w.promises p ≡ 0
+  pub handed : IsSettling w v
+  pub straight : (q : ℕ) → target_of v ≡ Some q → LeadsTo w.promises.follows p q → ⊥
+
+pub record CanSend (w : State) (i : ℕ) (to : Obj) (args : List Tree) : Type 0 where
+  pub made : i < length w.tables.instances
+  pub target : IsHanded w (object to)
+  pub arguments : AllByRecursion (IsHanded w) args
+  pub room : promises_made w < most_made
+
+pub record CanAsk (w : State) (i p : ℕ) (f : List ℕ) (t : Tree) : Type 0 where
+  pub made : p < promises_made w
+  pub function : HasFunction w.tables i f
+  pub held : IsKnownTo w i t
+  pub room : promises_made w < most_made
+
+abbrev pub IsLine : Delivery → Type 0
+IsLine (call c) = Unit {0}
+IsLine (give g) = Unit {0}
+IsLine (tick t) = Unit {0}
+IsLine (bad r) = Unit {0}
+IsLine _ = ⊥
+
+pub record CanInstall (w : State) (m : Module) : Type 0 where
+  pub plain : IsModule m
+  pub room : length w.tables.installations < most_made
+
+pub record CanStart (w : State) (s : Starting) : Type 0 where
+  pub installed : s.installation < length w.tables.installations
+  pub issuers : AllByRecursion (IsBrandMade w) s.issuers
+  pub terms : IsHanded w s.terms
+  pub arguments : IsHanded w s.private_arguments
+  pub instances : length w.tables.instances < most_made
+  pub promises : promises_made w < most_made
+
+pub record CanAddIssuer (w : State) (i : ℕ) (issuer : Issuer) : Type 0 where
+  pub made : i < length w.tables.instances
+  pub brand : IsBrandMade w issuer
+  pub free : brand_under issuer.keyword (instance_at w.tables.instances i).issuers ≡ None
+  pub few : length (instance_at w.tables.instances i).issuers < most_issuers
+
+pub record CanPublish (w : State) (i : ℕ) (facet : Tree) : Type 0 where
+  pub made : i < length w.tables.instances
+  pub handed : IsHanded w facet
+
+pub record CanKeep (w : State) (i : ℕ) (values : List Tree) : Type 0 where
+  pub made : i < length w.tables.instances
+  pub as_many : length values ≡ length (instance_at w.tables.instances i).state
+  pub known : AllByRecursion (IsKnownTo w i) values
+
+pub record CanMakeFacet (w : State) (f : FacetView) : Type 0 where
+  pub facet : IsFacet w f
+  pub room : length w.facets < most_made
+
+pub record CanBind (w : State) (party label : List ℕ) (value : Tree) : Type 0 where
+  pub free : bound_to w.labels party label ≡ None
+  pub handed : IsHanded w value
+
+abbrev pub IsGoodEffect : State → Effect → Type 0
+IsGoodEffect w (new_brand b maker) = CanMakeBrand w maker
+IsGoodEffect w (new_purse b) = CanOpenPurse w b
+IsGoodEffect w (empty_payment b) = CanMakeEmpty w b
+IsGoodEffect w (moves ms) = CanMoveTogether w.rights w.seats w.staging ms
+IsGoodEffect w (stage s rows) = IsStaged (seat_at w.seats s) (slots_at w.rights.slots s) rows
+IsGoodEffect w (unstage s) = Unit {0}
+IsGoodEffect w end_staging = Unit {0}
+IsGoodEffect w (offer o) = CanOffer w o
+IsGoodEffect w (empty_seat i rule) = CanOpenSeat w i
+IsGoodEffect w (exit s cause) = IsOpen (seat_at w.seats s)
+IsGoodEffect w (invite d) = CanInvite w d
+IsGoodEffect w new_promise = promises_made w < most_made
+IsGoodEffect w (resolve p v) = CanResolve w p v
+IsGoodEffect w (send i target method arguments) = CanSend w i target arguments
+IsGoodEffect w (when i p function held) = CanAsk w i p function held
+IsGoodEffect w (wake t d) = IsWakeup w d
+IsGoodEffect w (set_time t) = w.schedule.time ≤ t
+IsGoodEffect w (arrive d) = IsLine d
+IsGoodEffect w (install m) = CanInstall w m
+IsGoodEffect w (start s) = CanStart w s
+IsGoodEffect w (add_issuer i issuer) = CanAddIssuer w i issuer
+IsGoodEffect w (publish i facet) = CanPublish w i facet
+IsGoodEffect w (keep_state i values) = CanKeep w i values
+IsGoodEffect w (stop i) = i < length w.tables.instances
+IsGoodEffect w (halt i) = i < length w.tables.instances
+IsGoodEffect w (make_facet f) = CanMakeFacet w f
+IsGoodEffect w (bind_label party label value) = CanBind w party label value
+IsGoodEffect w (note_call c) = Unit {0}
+
+abbrev pub AreGood : State → List Effect → Type 0
+AreGood w [] = Unit {0}
+AreGood w (e ∷ es) = IsGoodEffect w e × AreGood (after w e) es

@@ -1,0 +1,138 @@
+-- Which objects were made, which an instance may name, what data of theirs is formed, and what it is that all that was made stays what it is.
+use Rattle.std.specs.Prelude.{◌≡◌, ℕ, ◌<◌, ◌≤◌, ◌⊎◌, List, [], ◌∷◌, length, slice_index_or, Option, Some, None}
+use Rattle.amount_math.specs.declared.Kind.{Kind}
+use Rattle.brands.specs.Brands.{brand_at, no_brand}
+use Rattle.brands.specs.declared.Brand.{Brand}
+use Rattle.data_nodes.specs.Nodes.{EachNode, FunctionIs, HasFieldsInOrder, IsShallow, ObjectIs}
+use Rattle.instance_store.specs.Facets.{no_facet}
+use Rattle.instance_store.specs.SeatPromises.{no_pair}
+use Rattle.instance_store.specs.Tables.{InstanceView, Tables, instance_at, module_at, no_instance, no_module}
+use Rattle.invitations.specs.Details.{no_details}
+use Rattle.jessie_tree.specs.Syntax.{Routine, routines}
+use Rattle.jessie_tree.specs.Tree.{Tree}
+use Rattle.jessie_tree.specs.declared.data.Obj.{Obj}
+use Rattle.jessie_tree.specs.declared.data.ObjKind.{ObjKind}
+use Rattle.jessie_tree.specs.declared.data.ObjKind.TheVariants as kinds
+use Rattle.jessie_tree.specs.declared.syntax.Module.{Module}
+use Rattle.proposals.specs.declared.offers.Proposal.{Proposal}
+use Rattle.world_state.specs.Worlds.{Maker, Seat, State, maker_at, no_seat, of_host, of_instance, of_kit, seat_at}
+
+-- a brand of a kind was made
+pub record IsBrand (bs : List Brand) (kind : Kind) (b : ℕ) : Type 0 where
+  pub made : b < length bs
+  pub kind_is : (brand_at bs b).kind ≡ kind
+
+-- a brand was made by one that has its mint
+pub record IsMadeBy (ms : List Maker) (maker : Maker) (b : ℕ) : Type 0 where
+  pub made : b < length ms
+  pub is : maker_at ms b ≡ maker
+
+-- a seat was opened for an instance
+pub record IsSeatOf (seats : List Seat) (i n : ℕ) : Type 0 where
+  pub made : n < length seats
+  pub own : (seat_at seats n).instance ≡ i
+
+-- an object that can be named outside instances was made: the services are there once, brand and issuer go by one number, so do a purse and its deposit facet
+abbrev pub made_as : State → ObjKind → ℕ → Type 0
+made_as w kinds.Ertp n = n ≡ 0
+made_as w kinds.Zoe n = n ≡ 0
+made_as w kinds.Timer n = n ≡ 0
+made_as w (kinds.Brand kind) n = IsBrand w.brands kind n
+made_as w kinds.Issuer n = n < length w.brands
+made_as w kinds.Mint n = IsMadeBy w.makers of_kit n
+made_as w kinds.Purse n = n < length w.rights.purses
+made_as w kinds.Deposit n = n < length w.rights.purses
+made_as w kinds.Payment n = n < length w.rights.payments
+made_as w kinds.Installation n = n < length w.tables.installations
+made_as w kinds.Instance n = n < length w.tables.instances
+made_as w kinds.Zcf n = ⊥
+made_as w kinds.Seat n = n < length w.seats
+made_as w kinds.Zseat n = ⊥
+made_as w kinds.Zmint n = ⊥
+made_as w kinds.Facet n = n < length w.facets
+made_as w kinds.Promise n = n < length w.promises.settled
+
+abbrev pub IsMade : State → Obj → Type 0
+IsMade w o = made_as w o.kind o.number
+
+-- an instance may name its own zcf, its own ZCF seats and mints, and all that can be named outside
+abbrev pub known_as : ℕ → State → ObjKind → ℕ → Type 0
+known_as i w kinds.Zcf n = n ≡ i
+known_as i w kinds.Zseat n = IsSeatOf w.seats i n
+known_as i w kinds.Zmint n = IsMadeBy w.makers (of_instance i) n
+known_as i w kind n = made_as w kind n
+
+-- one of the functions has the name
+abbrev pub IsNamed : List ℕ → List Routine → Type 0
+IsNamed f [] = ⊥
+IsNamed f (r ∷ rs) = (r.name ≡ f) ⊎ IsNamed f rs
+
+abbrev pub module_of : Tables → ℕ → Module
+module_of t i = module_at t.installations (instance_at t.instances i).installation
+
+-- an instance that was made, whose installation was made, has a function of the name
+pub record HasFunction (t : Tables) (i : ℕ) (f : List ℕ) : Type 0 where
+  pub made : i < length t.instances
+  pub installed : (instance_at t.instances i).installation < length t.installations
+  pub named : IsNamed f (routines (module_of t i))
+
+-- who holds data: none in particular, so that it can be handed to anyone, or an instance
+abbrev pub ObjectKnown : Option ℕ → State → Obj → Type 0
+ObjectKnown None w o = made_as w o.kind o.number
+ObjectKnown (Some i) w o = known_as i w o.kind o.number
+
+abbrev pub FunctionKnown : Option ℕ → State → List ℕ → Type 0
+FunctionKnown None w f = ⊥
+FunctionKnown (Some i) w f = HasFunction w.tables i f
+
+-- all that the data names is known to its holder, the fields of its records stand in order, and it nests at most 32 deep
+pub record IsFormed (w : State) (holder : Option ℕ) (t : Tree) : Type 0 where
+  pub objects : EachNode (ObjectIs (ObjectKnown holder w)) 0 t
+  pub functions : EachNode (FunctionIs (FunctionKnown holder w)) 0 t
+  pub ordered : EachNode HasFieldsInOrder 0 t
+  pub shallow : EachNode (IsShallow 32) 0 t
+
+-- it can be handed to anyone
+abbrev pub IsHanded : State → Tree → Type 0
+IsHanded w t = IsFormed w None t
+
+-- an instance may hold it
+abbrev pub IsKnownTo : State → ℕ → Tree → Type 0
+IsKnownTo w i t = IsFormed w (Some i) t
+
+-- data that names nothing
+pub record IsPlain (t : Tree) : Type 0 where
+  pub objects : EachNode (ObjectIs (λ o. ⊥)) 0 t
+  pub functions : EachNode (FunctionIs (λ f. ⊥)) 0 t
+  pub ordered : EachNode HasFieldsInOrder 0 t
+  pub shallow : EachNode (IsShallow 32) 0 t
+
+-- ---- what was made stays what it is
+
+-- a list has all that the other has, in its place, as far as it is seen
+pub record Extends {A B : Type 0} (seen : A → B) (none : A) (xs ys : List A) : Type 0 where
+  pub more : length xs ≤ length ys
+  pub same : (n : ℕ) → n < length xs → seen (slice_index_or ys n none) ≡ seen (slice_index_or xs n none)
+
+abbrev pub whole : {A : Type 0} → A → A
+whole x = x
+
+-- whose a seat is and what it was opened for; the installation of an instance, and its terms
+abbrev pub seat_origin : Seat → ℕ × Proposal
+seat_origin s = (s.instance, s.proposal)
+
+abbrev pub instance_origin : InstanceView → ℕ × Tree
+instance_origin x = (x.installation, x.terms)
+
+pub record Grows (old new : State) : Type 0 where
+  pub brands : Extends whole no_brand old.brands new.brands
+  pub makers : Extends whole of_host old.makers new.makers
+  pub purses : length old.rights.purses ≤ length new.rights.purses
+  pub payments : length old.rights.payments ≤ length new.rights.payments
+  pub seats : Extends seat_origin no_seat old.seats new.seats
+  pub pairs : Extends whole no_pair old.pairs new.pairs
+  pub invitations : Extends whole no_details old.invitations new.invitations
+  pub installations : Extends whole no_module old.tables.installations new.tables.installations
+  pub instances : Extends instance_origin no_instance old.tables.instances new.tables.instances
+  pub facets : Extends whole no_facet old.facets new.facets
+  pub promises : length old.promises.settled ≤ length new.promises.settled

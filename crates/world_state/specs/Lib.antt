@@ -1,0 +1,5 @@
+pub mod Rights
+pub mod Promises
+pub mod Worlds
+pub mod Known
+pub mod Good

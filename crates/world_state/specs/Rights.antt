@@ -1,0 +1,238 @@
+-- What is held and what is out, as lists; what written movements make of them, one after another and together; and when they can be made.
+use Rattle.std.specs.Prelude.{◌≡◌, ℕ, ◌+◌, ◌<◌, ◌^◌, ◌==◌, if◌then◌else◌, Bool, true, false, List, [], ◌∷◌, ◌++◌, length, map, slice_index_or, slice_set, Option, Some, None, IsSomeAnd}
+use Rattle.std.specs.List.{flat_map}
+use Rattle.std.specs.Option.{option_map}
+use Rattle.std.specs.Str.{bytes_eq}
+use Rattle.amount_math.specs.Content.{Content, Contains, sum, difference, count}
+use Rattle.amount_math.specs.Counted.{counted}
+use Rattle.amount_math.specs.Worth.{Worth, Fits, IsValue, with_content}
+use Rattle.amount_math.specs.declared.Amount.{Amount}
+use Rattle.amount_math.specs.declared.Kind.{Kind}
+use Rattle.ertp_mint.specs.BrandSupply.{BrandSupply, issued, retired, supply_at}
+use Rattle.payments.specs.Papers.{Paper, live_paper, paper_at, spent_paper}
+use Rattle.proposals.specs.Rows.{amount_under, most_rows, row_of}
+use Rattle.proposals.specs.declared.allocations.Row.{Row}
+use Rattle.rights_model.specs.declared.Holder.{Holder}
+use Rattle.rights_model.specs.declared.Holder.TheVariants.{Purse, Payment, Slot, Hand, Outside}
+use Rattle.rights_model.specs.declared.Movement.{Movement}
+use Rattle.right_steps.specs.Lists.{amount_of, less, more, purse_at}
+use Rattle.right_steps.specs.Tables.{Right, all_in, hand_minus, hand_plus, right_in, right_on}
+
+-- purses and payments by number, the slots of each seat by the seat's number, and what is out of each brand
+pub record Rights : Type 0 where
+  pub purses : List Amount
+  pub payments : List Paper
+  pub slots : List (List Row)
+  pub out : List BrandSupply
+
+-- the slots of a seat
+abbrev pub slots_at : List (List Row) → ℕ → List Row
+slots_at slots n = slice_index_or slots n []
+
+abbrev pub kind_at : List BrandSupply → ℕ → Kind
+kind_at out b = (supply_at out b).outstanding.kind
+
+-- ---- what the halves of a written movement make of them
+
+-- a payment with a content less, and with a content more
+abbrev pub value_less : Content → Worth → Worth
+value_less c w = with_content w (difference w.content c)
+
+abbrev pub value_more : Content → Worth → Worth
+value_more c w = with_content w (sum w.content c)
+
+abbrev pub paper_less : Paper → Content → Paper
+paper_less p c = record { brand = p.brand; held = option_map (value_less c) p.held }
+
+abbrev pub paper_more : Paper → Content → Paper
+paper_more p c = record { brand = p.brand; held = option_map (value_more c) p.held }
+
+-- rows with a content less under a keyword
+abbrev pub rows_less : List ℕ → Content → List Row → List Row
+rows_less keyword c [] = []
+rows_less keyword c (r ∷ rs) = if bytes_eq keyword r.keyword then row_of r.keyword (less r.amount c) ∷ rs else r ∷ rows_less keyword c rs
+
+-- rows with an amount more under a keyword, which gets a row, last, where it has none
+abbrev pub rows_more : List ℕ → Amount → List Row → List Row
+rows_more keyword a [] = row_of keyword a ∷ []
+rows_more keyword a (r ∷ rs) = if bytes_eq keyword r.keyword then row_of r.keyword (more r.amount a.value.content) ∷ rs else r ∷ rows_more keyword a rs
+
+-- the next payment is made by what comes to it; one that was made by a movement before has that more
+abbrev pub paid : List Paper → ℕ → Amount → List Paper
+paid ps n a = if n == length ps then ps ++ live_paper a ∷ [] else slice_set ps n (paper_more (paper_at ps n) a.value.content)
+
+abbrev pub taken : Rights → Holder → ℕ → Worth → Rights
+taken r (Purse n) b w = record r { purses = slice_set r.purses n (less (purse_at r.purses n) w.content) }
+taken r (Payment n) b w = record r { payments = slice_set r.payments n (paper_less (paper_at r.payments n) w.content) }
+taken r (Slot s k) b w = record r { slots = slice_set r.slots s (rows_less k w.content (slots_at r.slots s)) }
+taken r Hand b w = r
+taken r Outside b w = record r { out = slice_set r.out b (issued (supply_at r.out b) w.content) }
+
+abbrev pub given : Rights → Holder → ℕ → Worth → Rights
+given r (Purse n) b w = record r { purses = slice_set r.purses n (more (purse_at r.purses n) w.content) }
+given r (Payment n) b w = record r { payments = paid r.payments n (amount_of b w) }
+given r (Slot s k) b w = record r { slots = slice_set r.slots s (rows_more k (amount_of b w) (slots_at r.slots s)) }
+given r Hand b w = r
+given r Outside b w = record r { out = slice_set r.out b (retired (supply_at r.out b) w.content) }
+
+abbrev pub moved : Rights → Movement → Rights
+moved r m = given (taken r m.from m.brand m.value) m.to m.brand m.value
+
+abbrev pub all_moved : Rights → List Movement → Rights
+all_moved r [] = r
+all_moved r (m ∷ ms) = all_moved (moved r m) ms
+
+-- the payments that movements took from are spent
+abbrev pub spent_from : Holder → List Paper → List Paper
+spent_from (Payment n) ps = slice_set ps n (spent_paper (paper_at ps n).brand)
+spent_from (Purse n) ps = ps
+spent_from (Slot s k) ps = ps
+spent_from Hand ps = ps
+spent_from Outside ps = ps
+
+abbrev pub all_spent : List Movement → List Paper → List Paper
+all_spent [] ps = ps
+all_spent (m ∷ ms) ps = all_spent ms (spent_from m.from ps)
+
+-- movements that are made together: what they took from is spent once all are made
+abbrev pub moved_together : Rights → List Movement → Rights
+moved_together r ms = record (all_moved r ms) { payments = all_spent ms (all_moved r ms).payments }
+
+-- ---- what else is made of them
+
+-- a purse with nothing, and a payment of nothing
+abbrev pub with_purse : Rights → Amount → Rights
+with_purse r a = record r { purses = r.purses ++ a ∷ [] }
+
+abbrev pub with_payment : Rights → Amount → Rights
+with_payment r a = record r { payments = r.payments ++ live_paper a ∷ [] }
+
+-- a brand of which nothing was issued
+abbrev pub with_supply : Rights → BrandSupply → Rights
+with_supply r s = record r { out = r.out ++ s ∷ [] }
+
+-- a seat more, with these slots
+abbrev pub with_slots : Rights → List Row → Rights
+with_slots r rows = record r { slots = r.slots ++ rows ∷ [] }
+
+-- ---- when a movement's halves can be made
+
+-- an amount of a brand has a content, and with a content more it is a value
+pub record Has (a : Amount) (b : ℕ) (w : Worth) : Type 0 where
+  pub brand : a.brand ≡ b
+  pub kind : a.value.kind ≡ w.kind
+  pub has : Contains a.value.content w.content
+
+pub record Takes (a : Amount) (b : ℕ) (w : Worth) : Type 0 where
+  pub brand : a.brand ≡ b
+  pub kind : a.value.kind ≡ w.kind
+  pub value : IsValue w.kind (sum a.value.content w.content)
+
+pub record PurseHas (r : Rights) (n b : ℕ) (w : Worth) : Type 0 where
+  pub made : n < length r.purses
+  pub has : Has (purse_at r.purses n) b w
+
+-- a payment is live
+pub record PaymentHas (r : Rights) (n b : ℕ) (w : Worth) : Type 0 where
+  pub made : n < length r.payments
+  pub has : IsSomeAnd (paper_at r.payments n).held (λ held. Has (amount_of (paper_at r.payments n).brand held) b w)
+
+pub record SlotHas (r : Rights) (s : ℕ) (k : List ℕ) (b : ℕ) (w : Worth) : Type 0 where
+  pub made : s < length r.slots
+  pub has : IsSomeAnd (amount_under k (slots_at r.slots s)) (λ a. Has a b w)
+
+pub record HandHas (hand : ℕ → Content) (b : ℕ) (w : Worth) : Type 0 where
+  pub has : Contains (hand b) w.content
+
+-- it may come out of its brand
+pub record MayCome (r : Rights) (b : ℕ) (w : Worth) : Type 0 where
+  pub fits : Fits w.kind (sum (supply_at r.out b).outstanding.content w.content)
+  pub room : (supply_at r.out b).minted + counted w.content < 2 ^ 128
+
+abbrev pub CanTake : Rights → (ℕ → Content) → Holder → ℕ → Worth → Type 0
+CanTake r hand (Purse n) b w = PurseHas r n b w
+CanTake r hand (Payment n) b w = PaymentHas r n b w
+CanTake r hand (Slot s k) b w = SlotHas r s k b w
+CanTake r hand Hand b w = HandHas hand b w
+CanTake r hand Outside b w = MayCome r b w
+
+pub record PurseTakes (r : Rights) (n b : ℕ) (w : Worth) : Type 0 where
+  pub made : n < length r.purses
+  pub takes : Takes (purse_at r.purses n) b w
+
+-- a payment that is live takes more
+pub record PaymentMore (r : Rights) (n b : ℕ) (w : Worth) : Type 0 where
+  pub made : n < length r.payments
+  pub takes : IsSomeAnd (paper_at r.payments n).held (λ held. Takes (amount_of (paper_at r.payments n).brand held) b w)
+
+abbrev pub IsNextOr : Bool → Rights → ℕ → ℕ → Worth → Type 0
+IsNextOr true r n b w = IsValue w.kind w.content
+IsNextOr false r n b w = PaymentMore r n b w
+
+-- the payment is the next, or one that is live
+abbrev pub PaymentTakes : Rights → ℕ → ℕ → Worth → Type 0
+PaymentTakes r n b w = IsNextOr (n == length r.payments) r n b w
+
+-- the slot is there, or can be opened
+abbrev pub TakesOrOpens : Option Amount → List Row → ℕ → Worth → Type 0
+TakesOrOpens (Some a) rows b w = Takes a b w
+TakesOrOpens None rows b w = IsValue w.kind w.content × (length rows < most_rows)
+
+pub record SlotTakes (r : Rights) (s : ℕ) (k : List ℕ) (b : ℕ) (w : Worth) : Type 0 where
+  pub made : s < length r.slots
+  pub takes : TakesOrOpens (amount_under k (slots_at r.slots s)) (slots_at r.slots s) b w
+
+pub record IsOut (r : Rights) (b : ℕ) (w : Worth) : Type 0 where
+  pub has : Contains (supply_at r.out b).outstanding.content w.content
+
+abbrev pub CanGive : Rights → Holder → ℕ → Worth → Type 0
+CanGive r (Purse n) b w = PurseTakes r n b w
+CanGive r (Payment n) b w = PaymentTakes r n b w
+CanGive r (Slot s k) b w = SlotTakes r s k b w
+CanGive r Hand b w = Unit {0}
+CanGive r Outside b w = IsOut r b w
+
+-- what the hand has after a movement
+abbrev pub hand_out : (ℕ → Content) → Holder → ℕ → Content → ℕ → Content
+hand_out hand Hand b c = hand_minus hand b c
+hand_out hand (Purse n) b c = hand
+hand_out hand (Payment n) b c = hand
+hand_out hand (Slot s k) b c = hand
+hand_out hand Outside b c = hand
+
+abbrev pub hand_in : (ℕ → Content) → Holder → ℕ → Content → ℕ → Content
+hand_in hand Hand b c = hand_plus hand b c
+hand_in hand (Purse n) b c = hand
+hand_in hand (Payment n) b c = hand
+hand_in hand (Slot s k) b c = hand
+hand_in hand Outside b c = hand
+
+abbrev pub hand_after : (ℕ → Content) → Movement → ℕ → Content
+hand_after hand m = hand_in (hand_out hand m.from m.brand m.value.content) m.to m.brand m.value.content
+
+-- a movement of a brand that was made, of its kind, can be made
+pub record CanMove (r : Rights) (hand : ℕ → Content) (m : Movement) : Type 0 where
+  pub brand : m.brand < length r.out
+  pub kind : kind_at r.out m.brand ≡ m.value.kind
+  pub from : CanTake r hand m.from m.brand m.value
+  pub to : CanGive (taken r m.from m.brand m.value) m.to m.brand m.value
+
+pub record IsEmptyHand (hand : ℕ → Content) : Type 0 where
+  pub each : (b : ℕ) (k : List ℕ) → count (hand b) k ≡ 0
+
+-- each can be made after those before it, and leave nothing in the hand
+abbrev pub CanMoveAll : Rights → (ℕ → Content) → List Movement → Type 0
+CanMoveAll r hand [] = IsEmptyHand hand
+CanMoveAll r hand (m ∷ ms) = CanMove r hand m × CanMoveAll (moved r m) (hand_after hand m) ms
+
+-- ---- all that is held
+
+abbrev pub right_of_row : Row → Right
+right_of_row r = right_in r.amount
+
+abbrev pub slot_rights : List (List Row) → List Right
+slot_rights slots = flat_map (λ rows. map right_of_row rows) slots
+
+-- how many of an element all purses, payments and slots have of a brand
+abbrev pub held_of : Rights → ℕ → List ℕ → ℕ
+held_of r b k = all_in (map right_in r.purses) b k + all_in (map right_on r.payments) b k + all_in (slot_rights r.slots) b k
