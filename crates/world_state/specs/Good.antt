@@ -59,29 +59,24 @@ pub record IsPaper (out : List BrandSupply) (p : Paper) : Type 0 where
 abbrev pub AreRowsOf : List BrandSupply → List Row → Type 0
 AreRowsOf out rows = AllByRecursion (λ (r : Row). IsOfKind out r.amount) rows
 
-pub record AreOfKinds (r : Rights) : Type 0 where
-  pub purses : AllByRecursion (IsOfKind r.out) r.purses
-  pub payments : AllByRecursion (IsPaper r.out) r.payments
-  pub slots : AllByRecursion (AreRowsOf r.out) r.slots
-
 -- of no brand there is more out than its kind lets there be
-pub record IsBounded (r : Rights) : Type 0 where
-  pub each : (b : ℕ) → Fits (kind_at r.out b) (supply_at r.out b).outstanding.content
+pub record IsBounded (out : List BrandSupply) : Type 0 where
+  pub each : (b : ℕ) → Fits (kind_at out b) (supply_at out b).outstanding.content
 
 -- brand 0 is that of invitations; each brand has a supply of its kind, and one that made it
-pub record AreBrands (bs : List Brand) (makers : List Maker) (r : Rights) : Type 0 where
+pub record AreBrands (bs : List Brand) (makers : List Maker) (out : List BrandSupply) : Type 0 where
   pub some : 0 < length bs
   pub few : length bs ≤ most_brands
-  pub supplies : length r.out ≡ length bs
+  pub supplies : length out ≡ length bs
   pub made_by : length makers ≡ length bs
-  pub kinds : (b : ℕ) → kind_at r.out b ≡ (brand_at bs b).kind
+  pub kinds : (b : ℕ) → kind_at out b ≡ (brand_at bs b).kind
   pub first : (brand_at bs 0).kind ≡ Set
   pub host : maker_at makers 0 ≡ of_host
 
 -- nothing is out of brand 0 but elements of invitations that were made, and no more were ever issued
-pub record AreInvitations (r : Rights) (ds : List DetailsView) : Type 0 where
-  pub once : (supply_at r.out 0).minted ≤ length ds
-  pub made : (k : List ℕ) → ((n : ℕ) → n < length ds → k ≢ element n) → count (supply_at r.out 0).outstanding.content k ≡ 0
+pub record AreInvitations (out : List BrandSupply) (ds : List DetailsView) : Type 0 where
+  pub once : (supply_at out 0).minted ≤ length ds
+  pub made : (k : List ℕ) → ((n : ℕ) → n < length ds → k ≢ element n) → count (supply_at out 0).outstanding.content k ≡ 0
 
 -- ---- seats
 
@@ -94,19 +89,22 @@ open_slots [] slots = 0
 open_slots (s ∷ ss) [] = 0
 open_slots (s ∷ ss) (rows ∷ rest) = slots_in s rows + open_slots ss rest
 
-pub record HasRoom (r : Rights) (seats : List Seat) : Type 0 where
-  pub left : length r.payments + open_slots seats r.slots ≤ most_made
+pub record HasRoom (payments : List Paper) (slots : List (List Row)) (seats : List Seat) : Type 0 where
+  pub left : length payments + open_slots seats slots ≤ most_made
 
 -- what an open seat has covers what it wants, or what it gave
-pub record AreCovered (r : Rights) (seats : List Seat) : Type 0 where
-  pub each : (s : ℕ) → IsOpen (seat_at seats s) → IsOfferSafe (seat_at seats s).proposal (slots_at r.slots s)
+pub record AreCovered (slots : List (List Row)) (seats : List Seat) : Type 0 where
+  pub each : (s : ℕ) → IsOpen (seat_at seats s) → IsOfferSafe (seat_at seats s).proposal (slots_at slots s)
 
--- each seat has its slots, under keywords of their own, and two promises that were made, and is of an instance that was made
-pub record AreSeats (seats : List Seat) (r : Rights) (pairs : List SeatPair) (t : Tables) : Type 0 where
-  pub slotted : length r.slots ≡ length seats
+-- each seat has its slots, under keywords of their own, and two promises
+pub record AreSeats (seats : List Seat) (slots : List (List Row)) (pairs : List SeatPair) : Type 0 where
+  pub slotted : length slots ≡ length seats
   pub paired : length pairs ≡ length seats
-  pub rows : AllByRecursion AreRows r.slots
-  pub instances : AllByRecursion (λ (s : Seat). s.instance < length t.instances) seats
+  pub rows : AllByRecursion AreRows slots
+
+-- and is of an instance that was made
+abbrev pub IsPlaced : State → Seat → Type 0
+IsPlaced w seat = seat.instance < length w.tables.instances
 
 -- what is staged of a seat is of the brands of its slots
 abbrev pub IsOfSlot : List Row → Row → Type 0
@@ -116,8 +114,8 @@ pub record IsStaged (seat : Seat) (slots rows : List Row) : Type 0 where
   pub is_open : IsOpen seat
   pub of_slots : AllByRecursion (IsOfSlot slots) rows
 
-pub record AreStaged (seats : List Seat) (r : Rights) (staging : List (ℕ × List Row)) : Type 0 where
-  pub each : (s : ℕ) (rows : List Row) → staged_at s staging ≡ Some rows → IsStaged (seat_at seats s) (slots_at r.slots s) rows
+pub record AreStaged (seats : List Seat) (slots : List (List Row)) (staging : List (ℕ × List Row)) : Type 0 where
+  pub each : (s : ℕ) (rows : List Row) → staged_at s staging ≡ Some rows → IsStaged (seat_at seats s) (slots_at slots s) rows
 
 -- ---- promises that are owed
 
@@ -248,14 +246,17 @@ IsTimedEntry w e = IsTimed w e.1
 
 pub record IsGoodWorld (w : State) : Type 0 where
   pub balanced : IsBalanced w.rights
-  pub kinds : AreOfKinds w.rights
-  pub bounded : IsBounded w.rights
-  pub brands : AreBrands w.brands w.makers w.rights
-  pub invited : AreInvitations w.rights w.invitations
-  pub seats : AreSeats w.seats w.rights w.pairs w.tables
-  pub covered : AreCovered w.rights w.seats
-  pub room : HasRoom w.rights w.seats
-  pub staged : AreStaged w.seats w.rights w.staging
+  pub purse_kinds : AllByRecursion (IsOfKind w.rights.out) w.rights.purses
+  pub payment_kinds : AllByRecursion (IsPaper w.rights.out) w.rights.payments
+  pub slot_kinds : AllByRecursion (AreRowsOf w.rights.out) w.rights.slots
+  pub bounded : IsBounded w.rights.out
+  pub brands : AreBrands w.brands w.makers w.rights.out
+  pub invited : AreInvitations w.rights.out w.invitations
+  pub seats : AreSeats w.seats w.rights.slots w.pairs
+  pub placed : AllByRecursion (IsPlaced w) w.seats
+  pub covered : AreCovered w.rights.slots w.seats
+  pub room : HasRoom w.rights.payments w.rights.slots w.seats
+  pub staged : AreStaged w.seats w.rights.slots w.staging
   pub owed : AreOwed w.seats w.pairs w.waiting w.promises
   pub settled : AllByRecursion (IsSettled w) w.promises.settled
   pub requests : AllByRecursion (IsNotice w) w.promises.requests
@@ -326,7 +327,7 @@ pub record CanMoveTogether (r : Rights) (seats : List Seat) (staging : List (ℕ
   pub fresh : AllByRecursion (λ (m : Movement). IsFresh (length r.payments) m.to) ms
   pub apart : (s : ℕ) → IsSome (staged_at s staging) → slots_at (moved_together r ms).slots s ≡ slots_at r.slots s
   pub safe : (s : ℕ) → (slots_at (moved_together r ms).slots s ≡ slots_at r.slots s) ⊎ IsOfferSafe (seat_at seats s).proposal (slots_at (moved_together r ms).slots s)
-  pub room : HasRoom (moved_together r ms) seats
+  pub room : HasRoom (moved_together r ms).payments (moved_together r ms).slots seats
 
 -- what an offer proposes: keywords of their own, amounts of brands that were made
 pub record IsProposal (r : Rights) (p : Proposal) : Type 0 where
