@@ -33,12 +33,11 @@ use Rattle.rights_model.specs.declared.Holder.{Holder}
 use Rattle.rights_model.specs.declared.Holder.TheVariants.{Purse, Payment, Slot, Hand, Outside}
 use Rattle.rights_model.specs.declared.Movement.{Movement}
 use Rattle.right_steps.specs.Tables.{no_hand}
-use Rattle.seat_store.specs.Staging.{staged_at}
 use Rattle.turn_records.specs.Deliveries.{Delivery, Notice, Offer, Send, Start, Wakeup, bad, call, deadline, give, notify, offer as offers, promise_of, send as sends, start as starts, tick, wake as wakes}
 use Rattle.world_state.specs.Known.{HasFunction, IsHanded, IsKnownTo, IsPlain, IsSeatOf}
 use Rattle.world_state.specs.Promises.{IsPending, PromiseBook, target_of}
 use Rattle.world_state.specs.Rights.{CanMoveAll, Rights, all_moved, held_of, kind_at, moved_together, slots_at, with_slots}
-use Rattle.world_state.specs.Worlds.{Effect, IsOpen, Maker, Offering, Seat, Starting, State, after, burn_and_escrows, empty_slots, new_seat, of_host, of_instance, of_kit, offered_by, seat_at, promises_made, add_issuer, arrive, bind_label, empty_payment, empty_seat, end_staging, exit, halt, install, invite, keep_state, make_facet, maker_at, moves, new_brand, new_promise, new_purse, note_call, offer, publish, resolve, send, set_time, stage, start, stop, unstage, wake, when}
+use Rattle.world_state.specs.Worlds.{Effect, IsOpen, Maker, Offering, Seat, Starting, State, after, burn_and_escrows, empty_slots, new_seat, of_host, of_instance, of_kit, offered_by, seat_at, staged_at, promises_made, add_issuer, arrive, bind_label, empty_payment, empty_seat, end_staging, exit, halt, install, invite, keep_state, make_facet, maker_at, moves, new_brand, new_promise, new_purse, note_call, offer, publish, resolve, send, set_time, stage, start, stop, unstage, wake, when}
 
 -- ---- rights
 
@@ -59,9 +58,9 @@ pub record IsPaper (out : List BrandSupply) (p : Paper) : Type 0 where
 abbrev pub AreRowsOf : List BrandSupply → List Row → Type 0
 AreRowsOf out rows = AllByRecursion (λ (r : Row). IsOfKind out r.amount) rows
 
--- of no brand there is more out than its kind lets there be
-pub record IsBounded (out : List BrandSupply) : Type 0 where
-  pub each : (b : ℕ) → Fits (kind_at out b) (supply_at out b).outstanding.content
+-- there is no more out of a brand than its kind lets there be
+abbrev pub IsInBounds : BrandSupply → Type 0
+IsInBounds s = Fits s.outstanding.kind s.outstanding.content
 
 -- brand 0 is that of invitations; each brand has a supply of its kind, and one that made it
 pub record AreBrands (bs : List Brand) (makers : List Maker) (out : List BrandSupply) : Type 0 where
@@ -97,7 +96,8 @@ pub record AreCovered (slots : List (List Row)) (seats : List Seat) : Type 0 whe
   pub each : (s : ℕ) → IsOpen (seat_at seats s) → IsOfferSafe (seat_at seats s).proposal (slots_at slots s)
 
 -- each seat has its slots, under keywords of their own, and two promises
-pub record AreSeats (seats : List Seat) (slots : List (List Row)) (pairs : List SeatPair) : Type 0 where
+pub record AreSeats (seats : List Seat) (slots : List (List Row)) (pairs : List SeatPair) (staging : List (Option (List Row))) : Type 0 where
+  pub staged : length staging ≡ length seats
   pub slotted : length slots ≡ length seats
   pub paired : length pairs ≡ length seats
   pub rows : AllByRecursion AreRows slots
@@ -114,8 +114,8 @@ pub record IsStaged (seat : Seat) (slots rows : List Row) : Type 0 where
   pub is_open : IsOpen seat
   pub of_slots : AllByRecursion (IsOfSlot slots) rows
 
-pub record AreStaged (seats : List Seat) (slots : List (List Row)) (staging : List (ℕ × List Row)) : Type 0 where
-  pub each : (s : ℕ) (rows : List Row) → staged_at s staging ≡ Some rows → IsStaged (seat_at seats s) (slots_at slots s) rows
+pub record AreStaged (seats : List Seat) (slots : List (List Row)) (staging : List (Option (List Row))) : Type 0 where
+  pub each : (s : ℕ) (rows : List Row) → staged_at staging s ≡ Some rows → IsStaged (seat_at seats s) (slots_at slots s) rows
 
 -- ---- promises that are owed
 
@@ -249,10 +249,10 @@ pub record IsGoodWorld (w : State) : Type 0 where
   pub purse_kinds : AllByRecursion (IsOfKind w.rights.out) w.rights.purses
   pub payment_kinds : AllByRecursion (IsPaper w.rights.out) w.rights.payments
   pub slot_kinds : AllByRecursion (AreRowsOf w.rights.out) w.rights.slots
-  pub bounded : IsBounded w.rights.out
+  pub bounded : AllByRecursion IsInBounds w.rights.out
   pub brands : AreBrands w.brands w.makers w.rights.out
   pub invited : AreInvitations w.rights.out w.invitations
-  pub seats : AreSeats w.seats w.rights.slots w.pairs
+  pub seats : AreSeats w.seats w.rights.slots w.pairs w.staging
   pub placed : AllByRecursion (IsPlaced w) w.seats
   pub covered : AreCovered w.rights.slots w.seats
   pub room : HasRoom w.rights.payments w.rights.slots w.seats
@@ -320,12 +320,12 @@ IsFresh made Hand = Unit {0}
 IsFresh made Outside = Unit {0}
 
 -- movements can be made together: each in order; nothing is left in the hand, or in a payment that was taken from; what is given to a payment makes it; the slots of a seat of which something is staged stay as they are; each open seat is covered, and can be paid out
-pub record CanMoveTogether (r : Rights) (seats : List Seat) (staging : List (ℕ × List Row)) (ms : List Movement) : Type 0 where
+pub record CanMoveTogether (r : Rights) (seats : List Seat) (staging : List (Option (List Row))) (ms : List Movement) : Type 0 where
   pub can : CanMoveAll r no_hand ms
   pub good : AllByRecursion (IsGoodMove seats) ms
   pub emptied : AllByRecursion (λ (m : Movement). HasNothing (all_moved r ms).payments m.from) ms
   pub fresh : AllByRecursion (λ (m : Movement). IsFresh (length r.payments) m.to) ms
-  pub apart : (s : ℕ) → IsSome (staged_at s staging) → slots_at (moved_together r ms).slots s ≡ slots_at r.slots s
+  pub apart : (s : ℕ) → IsSome (staged_at staging s) → slots_at (moved_together r ms).slots s ≡ slots_at r.slots s
   pub safe : (s : ℕ) → (slots_at (moved_together r ms).slots s ≡ slots_at r.slots s) ⊎ IsOfferSafe (seat_at seats s).proposal (slots_at (moved_together r ms).slots s)
   pub room : HasRoom (moved_together r ms).payments (moved_together r ms).slots seats
 
@@ -336,6 +336,9 @@ pub record IsProposal (r : Rights) (p : Proposal) : Type 0 where
   pub fits : FitsSeat p
   pub gives : AreRowsOf r.out p.give
   pub wants : AreRowsOf r.out p.want
+  -- so has each slot that it opens
+  pub slots : AreRows (empty_slots p)
+  pub of_kinds : AreRowsOf r.out (empty_slots p)
 
 -- one payment of an invitation is burned
 pub record IsBurn (m : Movement) : Type 0 where

@@ -30,7 +30,6 @@ use Rattle.proposals.specs.declared.offers.Proposal.{Proposal}
 use Rattle.rights_model.specs.Table.{movement}
 use Rattle.rights_model.specs.declared.Holder.TheVariants.{Outside, Payment, Slot}
 use Rattle.rights_model.specs.declared.Movement.{Movement}
-use Rattle.seat_store.specs.Staging.{with_staged, without_staged}
 use Rattle.timer.specs.Schedules.{Schedule, due_after, due_by, woken_at}
 use Rattle.turn_records.specs.Deliveries as deliveries
 use Rattle.turn_records.specs.Deliveries.{Delivery, Notice, Offer, Send, Start, Wakeup}
@@ -57,7 +56,7 @@ pub record State : Type 0 where
   pub rights : Rights
   pub seats : List Seat
   -- what is staged, by seat
-  pub staging : List (ℕ × List Row)
+  pub staging : List (Option (List Row))
   pub brands : List Brand
   -- by brand
   pub makers : List Maker
@@ -146,6 +145,13 @@ seat_at seats n = slice_index_or seats n no_seat
 
 abbrev pub IsOpen : Seat → Type 0
 IsOpen seat = seat.last ≡ None
+
+-- what is staged of a seat
+abbrev pub staged_at : List (Option (List Row)) → ℕ → Option (List Row)
+staged_at staging n = slice_index_or staging n None
+
+abbrev pub no_rows : Option (List Row) → Option (List Row)
+no_rows rows = None
 
 abbrev pub maker_at : List Maker → ℕ → Maker
 maker_at makers n = slice_index_or makers n of_host
@@ -292,12 +298,13 @@ after w (new_brand b maker) = record w { rights = with_supply w.rights (new_supp
 after w (new_purse b) = record w { rights = with_purse w.rights (empty_amount b (brands.brand_at w.brands b).kind) }
 after w (empty_payment b) = record w { rights = with_payment w.rights (empty_amount b (brands.brand_at w.brands b).kind) }
 after w (moves ms) = record w { rights = moved_together w.rights ms; log = w.log ++ map movement_made ms }
-after w (stage seat rows) = record w { staging = with_staged seat rows w.staging }
-after w (unstage seat) = record w { staging = without_staged seat w.staging }
-after w end_staging = record w { staging = [] }
+after w (stage seat rows) = record w { staging = slice_set w.staging seat (Some rows) }
+after w (unstage seat) = record w { staging = slice_set w.staging seat None }
+after w end_staging = record w { staging = map no_rows w.staging }
 after w (offer o) = record w {
   rights = moved_together (with_slots w.rights (empty_slots o.proposal)) (burn_and_escrows o);
   seats = w.seats ++ new_seat (offered_by w o).instance o.proposal ∷ [];
+  staging = w.staging ++ None ∷ [];
   pairs = w.pairs ++ next_pair w ∷ [];
   promises = with_promise None (with_promise None w.promises);
   schedule = with_deadline o.proposal.exit (length w.seats) w.schedule;
@@ -307,6 +314,7 @@ after w (offer o) = record w {
 after w (empty_seat i rule) = record w {
   rights = with_slots w.rights [];
   seats = w.seats ++ new_seat i (of_own rule) ∷ [];
+  staging = w.staging ++ None ∷ [];
   pairs = w.pairs ++ next_pair w ∷ [];
   promises = with_promise None (with_promise (Some (ok null)) w.promises);
   schedule = with_deadline rule (length w.seats) w.schedule;
@@ -316,7 +324,7 @@ after w (empty_seat i rule) = record w {
 after w (exit seat cause) = record w {
   rights = rights_left w.rights seat;
   seats = seats_left w.seats seat (slots_at w.rights.slots seat);
-  staging = without_staged seat w.staging;
+  staging = slice_set w.staging seat None;
   promises = (leaving w seat cause).promises;
   waiting = (leaving w seat cause).waiting;
   log = (leaving w seat cause).log;
