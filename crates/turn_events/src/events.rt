@@ -1,0 +1,148 @@
+//! What is answered, and what happens in a turn.
+
+ghost use Rattle.std.specs.Prelude.{◌≡◌};
+ghost use Rattle.std.specs.Option.{option_copied, option_to_list};
+ghost use Rattle.turn_records.specs.Events.{move_in};
+ghost use Rattle.turn_events.specs.Logs.{promise_settled, seat_left, seat_opened};
+ghost use Rattle.turn_events.specs.Views.{event_view};
+
+use call_data::refusals::Refusal;
+use host_text::keyword::Keyword;
+use host_text::text::Text;
+use jessie_tree::data::{Data, Obj};
+use promise_store::Settlement;
+use proposals::offers::Proposal;
+use rights_model::Movement;
+
+/// What a turn, or the host's part of a call, comes to.
+#[derive(Drop)]
+pub enum Answer {
+    Given(Data),
+    Refused(Refusal),
+    /// What a contract's function threw.
+    Threw(Data),
+    /// The meter that a contract's function spent.
+    Spent(u64),
+}
+
+/// How a contract calls.
+#[derive(Clone, Copy)]
+pub enum How {
+    /// A call of an object, at once.
+    Call,
+    /// A call that is sent (eventual send).
+    Send,
+    /// A function is to be called once a promise is settled.
+    When,
+    /// A facet is made (Endo's Far).
+    Far,
+}
+
+/// A contract's call of the host.
+#[derive(Drop)]
+pub struct Call {
+    pub how: How,
+    /// The target, or the promise; a facet is made on nothing.
+    pub on: Option<Obj>,
+    /// The method, or the function; of a facet the name.
+    pub method: Text,
+    pub arguments: Vec<Data>,
+    pub answer: Answer,
+}
+
+/// A seat that was opened, by its number, for a proposal (Zoe).
+#[derive(Drop)]
+pub struct Opening {
+    pub seat: u32,
+    /// The instance that it is of, by its number.
+    pub instance: u32,
+    pub proposal: Proposal,
+}
+
+/// Why a seat is left (Zoe; `Halted` and `Spent` are our own).
+#[derive(Clone, Copy)]
+pub enum Cause {
+    /// The one who made the offer asked for it.
+    Asked,
+    /// Its deadline has come.
+    Deadline,
+    /// Its contract let go.
+    Exit,
+    /// Its contract failed it.
+    Fail,
+    /// Its handler threw.
+    Threw,
+    /// Its contract halted.
+    Halted,
+    /// Its contract spent its meter.
+    Spent,
+}
+
+/// The payment that a slot is paid out with, by its number.
+#[derive(Drop)]
+pub struct Payout {
+    pub keyword: Keyword,
+    pub payment: u32,
+}
+
+/// A seat that was left, by its number.
+#[derive(Drop)]
+pub struct Leaving {
+    pub seat: u32,
+    pub cause: Cause,
+    /// One for each slot, in the order of slots.
+    pub payouts: Vec<Payout>,
+}
+
+/// What happens in a turn. A call, an opening and a leaving come before the movements that they bring.
+#[derive(Drop)]
+pub enum Event {
+    Called(Call),
+    Opened(Opening),
+    Moved(Movement),
+    Exited(Leaving),
+    /// A promise, by its number, and what it was settled with.
+    Settled(u32, Settlement),
+}
+
+impl Event {
+    /// The movement, where it is one.
+    pub fn movement(&self) -> Option<&Movement>
+        ensures { option_to_list (option_copied result) ≡ move_in (event_view self.now) }
+    {
+        match self {
+            Event::Moved(movement) => Some(movement),
+            _ => None,
+        }
+    }
+
+    /// The seat that is opened, where it opens one.
+    pub fn seat_opened(&self) -> Option<u32>
+        ensures { result ≡ seat_opened (event_view self.now) }
+    {
+        match self {
+            Event::Opened(opening) => Some(opening.seat),
+            _ => None,
+        }
+    }
+
+    /// The seat that is left, where it leaves one.
+    pub fn seat_left(&self) -> Option<u32>
+        ensures { result ≡ seat_left (event_view self.now) }
+    {
+        match self {
+            Event::Exited(leaving) => Some(leaving.seat),
+            _ => None,
+        }
+    }
+
+    /// The promise that is settled, where it settles one.
+    pub fn promise_settled(&self) -> Option<u32>
+        ensures { result ≡ promise_settled (event_view self.now) }
+    {
+        match self {
+            Event::Settled(promise, _) => Some(*promise),
+            _ => None,
+        }
+    }
+}

@@ -1,0 +1,46 @@
+//! What the lines of parties ask for, before the paths in them are resolved.
+
+use host_text::label::Label;
+use host_text::text::Text;
+
+/// An argument as a line writes it, or a part of one. A record has its fields in byte order of their
+/// names, each name once.
+#[derive(Drop)]
+pub enum Part {
+    Null,
+    Bool(bool),
+    Number(i128),
+    Text(Text),
+    Array(Vec<Part>),
+    Record(Vec<(Text, Part)>),
+    /// What stands at a path when the message is delivered.
+    Path(Text),
+}
+
+/// A call that a party asks for.
+#[derive(Drop)]
+pub struct LineCall {
+    /// The party, by its name.
+    pub by: Label,
+    /// The path of the target.
+    pub on: Text,
+    /// What is asked of the target, any text.
+    pub method: Text,
+    /// In their order.
+    pub arguments: Vec<Part>,
+    /// The label under which the party wants the answer.
+    pub label: Option<Label>,
+}
+
+/// What a party gives to another.
+#[derive(Drop)]
+pub struct LineGift {
+    /// The giver, by its name.
+    pub by: Label,
+    /// The path of what is given.
+    pub given: Text,
+    /// The receiver, by its name.
+    pub to: Label,
+    /// The receiver's label for it.
+    pub label: Label,
+}
