@@ -1,0 +1,2 @@
+pub mod JsonRows
+pub mod Notices

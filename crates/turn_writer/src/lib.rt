@@ -1,0 +1,125 @@
+//! The text of a turn's rows, and of the close row. It stands on the record of a turn (turn_events) and on what
+//! a journal prints of it (turn_records, turn_rows). Its one contract: what is written is just the text of the
+//! printed turn; for want of memory nothing is written.
+#![tactic(auto)]
+
+ghost use Rattle.std.specs.Prelude.{◌≡◌, ◌++◌, false, map, IfOk, OnOk, string_bytes};
+ghost use Rattle.std.specs.List.{flat_map};
+ghost use Rattle.serde_json.specs.View.{view};
+ghost use Rattle.serde_json.specs.Written.{has_float};
+ghost use Rattle.turn_rows.specs.Rows.{close_row, event_row, rows_of, sum_row, turn_row};
+ghost use Rattle.turn_rows.specs.Texts.{row_text};
+ghost use Rattle.turn_records.specs.Printed.{printed, printed_event};
+ghost use Rattle.turn_events.specs.Views.{event_view, event_views, turn_view};
+
+mod answers;
+mod event_rows;
+mod json_row;
+mod names;
+mod turn_row;
+
+use event_rows::event_value;
+use json_row::JsonRow;
+use names::{brand_text, decimal_text};
+use rights_model::Sum;
+use serde_json::Value;
+use std::alloc::{AllocError, Global};
+use turn_events::events::Event;
+use turn_events::turns::TurnRecord;
+use turn_row::turn_value;
+
+fn sum_value(alloc: Global, sum: &Sum) -> Result<Value, AllocError>
+    ensures { IfOk result (λ v. view v ≡ sum_row sum.now) }
+{
+    JsonRow::new(alloc)
+        .string("brand", brand_text(alloc, sum.brand))
+        .string("burned", decimal_text(alloc, sum.burned))
+        .string("minted", decimal_text(alloc, sum.minted))
+        .string("payments", decimal_text(alloc, sum.payments))
+        .string("purses", decimal_text(alloc, sum.purses))
+        .text("row", "sum")
+        .string("slots", decimal_text(alloc, sum.slots))
+        .finish()
+}
+
+/// Adds a row to the text.
+#[tactic(auto, unfolding(turn_rows::specs::Texts::row_text))]
+fn push_row(alloc: Global, text: &mut String, row: &Value) -> Result<(), AllocError>
+    requires { has_float (view row.now) ≡ false }
+    ensures { OnOk result (string_bytes text.new ≡ string_bytes text.old ++ row_text (view row.now)) }
+{
+    let line = row.to_string(alloc)?;
+    text.push_str(line.as_str())?;
+    text.push_str("\n")?;
+    Ok(())
+}
+
+fn push_event(alloc: Global, text: &mut String, event: &Event) -> Result<(), AllocError>
+    ensures { OnOk result (string_bytes text.new ≡ string_bytes text.old ++ row_text (event_row (printed_event (event_view event.now)))) }
+{
+    let row = event_value(alloc, event)?;
+    push_row(alloc, text, &row)
+}
+
+fn push_events(alloc: Global, text: &mut String, events: &[Event]) -> Result<(), AllocError>
+    ensures { OnOk result (string_bytes text.new ≡ string_bytes text.old ++ flat_map row_text (map event_row (map printed_event (event_views events.now)))) }
+{
+    for event in events {
+        push_event(alloc, text, event)?;
+    }
+    Ok(())
+}
+
+fn push_sum(alloc: Global, text: &mut String, sum: &Sum) -> Result<(), AllocError>
+    ensures { OnOk result (string_bytes text.new ≡ string_bytes text.old ++ row_text (sum_row sum.now)) }
+{
+    let row = sum_value(alloc, sum)?;
+    push_row(alloc, text, &row)
+}
+
+fn push_sums(alloc: Global, text: &mut String, sums: &[Sum]) -> Result<(), AllocError>
+    ensures { OnOk result (string_bytes text.new ≡ string_bytes text.old ++ flat_map row_text (map sum_row sums.now)) }
+{
+    for sum in sums {
+        push_sum(alloc, text, sum)?;
+    }
+    Ok(())
+}
+
+fn push_turn_row(alloc: Global, text: &mut String, turn: &TurnRecord) -> Result<(), AllocError>
+    ensures { OnOk result (string_bytes text.new ≡ string_bytes text.old ++ row_text (turn_row (printed (turn_view turn.now)))) }
+{
+    let row = turn_value(alloc, turn)?;
+    push_row(alloc, text, &row)
+}
+
+/// The rows of a turn: the turn row, the rows of what happened as it happened, and the sums.
+pub fn write_turn(alloc: Global, turn: &TurnRecord) -> Result<String, AllocError>
+    ensures { IfOk result (λ text. string_bytes text ≡ flat_map row_text (rows_of (printed (turn_view turn.now)))) }
+{
+    let mut text = String::new(alloc);
+    push_turn_row(alloc, &mut text, turn)?;
+    push_events(alloc, &mut text, turn.events.as_slice())?;
+    push_sums(alloc, &mut text, turn.sums.as_slice())?;
+    Ok(text)
+}
+
+fn close_value(alloc: Global, left: u64, turns: u32) -> Result<Value, AllocError>
+    ensures { IfOk result (λ v. view v ≡ close_row left turns) }
+{
+    JsonRow::new(alloc)
+        .value("left", Ok(Value::from(left)))
+        .text("row", "close")
+        .number("turns", turns)
+        .finish()
+}
+
+/// The close row: how many deliveries are left, and how many turns were run.
+pub fn write_close(alloc: Global, left: u64, turns: u32) -> Result<String, AllocError>
+    ensures { IfOk result (λ text. string_bytes text ≡ row_text (close_row left turns)) }
+{
+    let mut text = String::new(alloc);
+    let row = close_value(alloc, left, turns)?;
+    push_row(alloc, &mut text, &row)?;
+    Ok(text)
+}
