@@ -1,0 +1,4 @@
+pub mod Codes
+pub mod Outcomes
+pub mod Plain
+pub mod Told

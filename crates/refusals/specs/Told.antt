@@ -1,0 +1,30 @@
+-- Faults of sums and parts as the refusals that they are told by.
+use Rattle.std.specs.Prelude.{ℕ, ◌^◌, ◌<◌}
+use Rattle.amount_math.specs.declared.PutFault.{PutFault}
+use Rattle.amount_math.specs.declared.PutFault.TheVariants as put_fault
+use Rattle.amount_math.specs.declared.shortfall.LossFault.{LossFault}
+use Rattle.amount_math.specs.declared.shortfall.LossFault.TheVariants as loss_fault
+use Rattle.refusals.specs.Codes.{too_much}
+use Rattle.refusals.specs.declared.codes.Refusal.TheVariants.{NotEnough, Overlap}
+use Rattle.refusals.specs.declared.stops.Stop.{Stop}
+use Rattle.refusals.specs.declared.stops.Stop.TheVariants.{NoMemory, Refused}
+
+-- numbers that data can hold
+pub record CanShow (sum bound : ℕ) : Type 0 where
+  pub sum_fits : sum < 2 ^ 127
+  pub bound_fits : bound < 2 ^ 127
+
+-- why a value isn't added to another
+abbrev pub put_told : PutFault → Stop
+put_told (put_fault.Overlap key) = Refused (Overlap key)
+put_told (put_fault.TooMuch over) = Refused (too_much over.sum over.bound)
+put_told put_fault.NoMemory = NoMemory
+
+abbrev pub PutCanShow : PutFault → Type 0
+PutCanShow (put_fault.TooMuch over) = CanShow over.sum over.bound
+PutCanShow _ = Unit {0}
+
+-- why a part isn't taken out of a value
+abbrev pub loss_told : LossFault → Stop
+loss_told (loss_fault.NotEnough short) = Refused (NotEnough short)
+loss_told loss_fault.NoMemory = NoMemory

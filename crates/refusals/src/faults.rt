@@ -1,0 +1,42 @@
+//! Faults of sums and parts as the refusals that they are told by.
+
+ghost use Rattle.std.specs.Prelude.{◌≡◌};
+ghost use Rattle.refusals.specs.Codes.{too_much};
+ghost use Rattle.refusals.specs.Told.{CanShow, PutCanShow, loss_told, put_told};
+
+use crate::codes::Refusal;
+use crate::stops::Stop;
+use amount_math::shortfall::LossFault;
+use amount_math::{PutFault, TooMuch};
+
+/// A sum passes its bound.
+pub fn too_much(over: TooMuch) -> Refusal
+    requires { CanShow over.sum over.bound }
+    ensures { result ≡ too_much over.sum over.bound }
+{
+    Refusal::TooMuch(over.sum as i128, over.bound as i128)
+}
+
+impl Stop {
+    /// Why a value isn't added to another.
+    pub fn of_put(fault: PutFault) -> Stop
+        requires { PutCanShow fault }
+        ensures { result ≡ put_told fault }
+    {
+        match fault {
+            PutFault::Overlap(key) => Stop::Refused(Refusal::Overlap(key)),
+            PutFault::TooMuch(over) => Stop::Refused(too_much(over)),
+            PutFault::NoMemory => Stop::NoMemory,
+        }
+    }
+
+    /// Why a part isn't taken out of a value.
+    pub fn of_loss(fault: LossFault) -> Stop
+        ensures { result ≡ loss_told fault }
+    {
+        match fault {
+            LossFault::NotEnough(short) => Stop::Refused(Refusal::NotEnough(short)),
+            LossFault::NoMemory => Stop::NoMemory,
+        }
+    }
+}
