@@ -1,0 +1,4 @@
+pub mod Amounts
+pub mod Arguments
+pub mod Numbers
+pub mod Records
