@@ -145,14 +145,19 @@ fn times(alloc: Global, now: u64, given: u64) -> Result<Vec<Data>, AllocError>
     two_numbers(alloc, i128::from(now), i128::from(given))
 }
 
+/// Puts a number behind what is shown already.
+fn put_number(made: &mut Vec<Data>, shown: i128) -> Result<(), AllocError>
+    ensures { OnOk result (trees made.new.items ≡ trees made.old.items ++ shown_trees (number shown ∷ [])) }
+{
+    made.push(Data::Number(shown))?;
+    Ok(())
+}
+
 fn unkept_shown(alloc: Global, unkept: &Unkept) -> Result<Vec<Data>, AllocError>
     ensures { IfOk result (λ made. trees made.items ≡ shown_trees (shown_by (Refusal.NotConserved unkept.now))) }
 {
-    let element = text_data(alloc, unkept.element.as_str())?;
-    let mut made = Vec::with_capacity(alloc, 4)?;
-    made.push_reserved(Data::Number(i128::from(unkept.brand)));
-    made.push_reserved(element);
-    made.push_reserved(Data::Number(unkept.before));
-    made.push_reserved(Data::Number(unkept.after));
+    let mut made = number_and_text(alloc, u32::from(unkept.brand), unkept.element.as_str())?;
+    put_number(&mut made, unkept.before)?;
+    put_number(&mut made, unkept.after)?;
     Ok(made)
 }
