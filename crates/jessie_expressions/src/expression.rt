@@ -417,7 +417,8 @@ fn closed<'a>(
     Ok((tree, rest))
 }
 
-/// An expression between two brackets.
+/// An expression between these two brackets, the first of which must be among the `room` that may be
+/// open; else the first refusal.
 #[cycle(expression)]
 #[tactic(auto, using(jessie_language::proofs::Reading::inner_is), unfolding(jessie_language::specs::Parse::bracketed))]
 pub fn grouped<'a>(
@@ -1051,7 +1052,9 @@ fn after<'a>(
     choice(alloc, rest, room, tree, events)
 }
 
-/// An expression, where `room` more brackets may be open.
+/// An expression, where `room` more brackets may be open: its tree and the tokens after it; what the
+/// text does with names goes behind the events. Else the first refusal, with the limit that its
+/// token breaks and the count of tokens from it on, or want of memory. The rules are our own.
 #[cycle(expression)]
 #[tactic(auto, using(jessie_language::proofs::Reading::expr_is), unfolding(jessie_language::specs::Rules::full))]
 pub fn expression<'a>(
@@ -1067,7 +1070,8 @@ pub fn expression<'a>(
     after(alloc, rest, room, first, events)
 }
 
-/// The expression that begins with this name, which stands before the tokens.
+/// The expression that begins with this name, which stands before the tokens: a statement is read so
+/// from its name on. Else the first refusal behind the name.
 pub fn led_expression<'a>(
     alloc: Global,
     tokens: &'a [Token],
@@ -1104,7 +1108,8 @@ fn bare_operand<'a>(
     post_tail(alloc, rest, room, first, events)
 }
 
-/// An expression that begins with no name and is no record.
+/// An expression that begins with no name and is no record, as a statement may; else the first
+/// refusal.
 pub fn bare_expression<'a>(
     alloc: Global,
     tokens: &'a [Token],
