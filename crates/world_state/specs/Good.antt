@@ -14,7 +14,7 @@ use Rattle.ertp_mint.specs.BrandSupply.{BrandSupply, supply_at}
 use Rattle.ertp_mint.specs.Stocks.{most_made}
 use Rattle.instance_store.specs.Facets.{FacetView}
 use Rattle.instance_store.specs.SeatPromises.{pair_at}
-use Rattle.instance_store.specs.Tables.{InstanceView, Tables, initial_state, instance_at, module_at}
+use Rattle.instance_store.specs.Tables.{InstanceView, initial_state, instance_at, module_at}
 use Rattle.instance_store.specs.declared.seat_promises.SeatPair.{SeatPair}
 use Rattle.invitations.specs.Details.{DetailsView}
 use Rattle.invitations.specs.Elements.{element}
@@ -24,6 +24,7 @@ use Rattle.jessie_tree.specs.declared.syntax.Module.{Module}
 use Rattle.payments.specs.Papers.{Paper, paper_at}
 use Rattle.promise_store.specs.Linked.{LeadsTo}
 use Rattle.promise_store.specs.States.{SettlementView, broken, ok}
+use Rattle.promise_store.specs.declared.links.Following.{Following}
 use Rattle.proposals.specs.OfferSafety.{IsOfferSafe}
 use Rattle.proposals.specs.Rows.{AreRows, amount_under}
 use Rattle.proposals.specs.Slots.{FitsSeat, in_byte_order}
@@ -143,8 +144,9 @@ owed_notices (n ∷ ns) p = one_if (n.answer == p) + owed_notices ns p
 abbrev pub owes : List Seat → List SeatPair → List Delivery → PromiseBook → ℕ → ℕ
 owes seats pairs waiting book p = owed_payouts seats pairs p + owed_answers waiting p + owed_notices book.requests p
 
--- what is owed is owed once, and is pending, and follows none
+-- what is owed is owed once, and is pending, and follows none; what follows another was made
 pub record AreOwed (seats : List Seat) (pairs : List SeatPair) (waiting : List Delivery) (book : PromiseBook) : Type 0 where
+  pub made : AllByRecursion (λ (f : Following). f.promise < length book.settled) book.follows
   pub once : (p : ℕ) → owes seats pairs waiting book p ≤ 1
   pub pending : (p : ℕ) → 0 < owes seats pairs waiting book p → IsPending book p
 

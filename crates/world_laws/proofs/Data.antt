@@ -1,0 +1,240 @@
+-- What the world holds of data and of functions stays formed, and what waits stays due.
+use Rattle.std.specs.Prelude.{cond, nat_lt, not}
+use Rattle.std.specs.List.{AllByRecursion, filter}
+use Rattle.std.proofs.Common.{◌≡◌, ℕ, ◌+◌, ◌<◌, ◌≤◌, Bool, true, false, List, [], ◌∷◌, ◌++◌, Some, None, Option, length, map, refl, sym, ap, arith}
+use Rattle.list_edits.proofs.ListEdits.{length_push, read_pushed}
+use Rattle.actors.specs.Labels.{bound}
+use Rattle.instance_store.specs.SeatPromises.{no_pair, pair_at}
+use Rattle.instance_store.specs.Tables.{module_at, new_instance}
+use Rattle.instance_store.specs.declared.seat_promises.SeatPair.{SeatPair}
+use Rattle.invitations.specs.Details.{no_details}
+use Rattle.jessie_tree.specs.Tree.{null}
+use Rattle.promise_store.specs.States.{SettlementView, broken, ok}
+use Rattle.proposals.specs.Rows.{AreRows}
+use Rattle.proposals.specs.declared.offers.Exit.{Exit}
+use Rattle.proposals.specs.declared.offers.Exit.TheVariants.{AfterDeadline, OnDemand, Waived}
+use Rattle.timer.specs.Schedules.{Schedule, due_after, due_by}
+use Rattle.turn_records.specs.Deliveries as deliveries
+use Rattle.turn_records.specs.Deliveries.{Delivery, Notice, notify, call, give, tick, bad}
+use Rattle.turn_records.specs.Events.{Event}
+use Rattle.world_state.specs.Good.{IsDue, IsFacet, IsFinal, IsGoodEffect, IsGoodWorld, IsInvitation, IsLabel, IsLine, IsModule, IsNotice, IsSettled, IsSettling, IsTimed, IsTimedEntry}
+use Rattle.world_state.specs.Known.{IsHanded}
+use Rattle.world_state.specs.Promises.{CascadeStep, Flow, PromiseBook, Resolved, all_stepped, asking, asks, cascade, flowing, following, notifies, resolving, resolving_to, settlement_at, settles, settling, stepped, target_of, told_at_once, with_promise}
+use Rattle.world_state.specs.Rights.{slots_at}
+use Rattle.world_state.specs.Worlds.{Effect, Seat, State, after, deadline_now, due_at, due_now, leaving_events, new_seat, next_pair, no_seat, offered_by, paid_out, payouts_tree, request_of, scheduled, with_deadline, arrive, bind_label, empty_seat, exit, install, invite, make_facet, new_promise, offer, resolve, send, set_time, start, wake, when}
+use Rattle.world_laws.proofs.Lists.{all_append, all_filter, all_map, all_push, all_read, all_read_or, all_set, all_under, length_append, length_map}
+use Rattle.world_laws.proofs.Growing.{grows-after}
+use Rattle.world_laws.proofs.Forms.{due_grows, facet_grows, formed_grows, function_grows, handed_all_grow, invitation_grows, label_grows, notice_grows, settled_grows, settling_grows, timed_grows, wakeup_grows}
+use Rattle.world_laws.proofs.Payouts.{payouts_handed}
+
+-- promises, requests and what waits, as they are known to a world
+pub record AreKnown (w : State) (ss : List (Option SettlementView)) (ns : List Notice) (ds : List Delivery) : Type 0 where
+  pub settled : AllByRecursion (IsSettled w) ss
+  pub requests : AllByRecursion (IsNotice w) ns
+  pub waiting : AllByRecursion (IsDue w) ds
+
+null_handed : (w : State) → IsHanded w null
+null_handed w = record { objects = tt; functions = tt; ordered = tt; shallow = tt }
+
+module _ (w : State) where
+  step_known : (v : SettlementView) → IsFinal w v → (s : CascadeStep) (f : Flow) → AreKnown w f.settled f.requests f.waiting → AreKnown w (stepped v s f).settled (stepped v s f).requests (stepped v s f).waiting
+  step_known v final (settles p) f k = record { settled = all_set (IsSettled w) f.settled p (Some v) k.settled final; requests = k.requests; waiting = k.waiting }
+  step_known v final (notifies p) f k = record {
+    settled = k.settled;
+    requests = all_filter (IsNotice w) (λ n. not (asks p n)) f.requests k.requests;
+    waiting = all_append (IsDue w) f.waiting _ k.waiting (all_under notify (IsDue w) (filter (asks p) f.requests) (all_filter (IsNotice w) (asks p) f.requests k.requests));
+  }
+
+  steps_known : (v : SettlementView) → IsFinal w v → (ss : List CascadeStep) (f : Flow) → AreKnown w f.settled f.requests f.waiting → AreKnown w (all_stepped v ss f).settled (all_stepped v ss f).requests (all_stepped v ss f).waiting
+  steps_known v final [] f k = k
+  steps_known v final (s ∷ ss) f k = steps_known v final ss (stepped v s f) (step_known v final s f k)
+
+  module _ (p : ℕ) (b : PromiseBook) (ds : List Delivery) (log : List Event) (k : AreKnown w b.settled b.requests ds) where
+    abbrev IsKnown : Resolved → Type 0
+    IsKnown r = AreKnown w r.promises.settled r.promises.requests r.waiting
+
+    settling_known : (v : SettlementView) → IsFinal w v → IsKnown (settling p v b ds log)
+    settling_known v final = steps_known v final (cascade (length b.settled) b.follows p) (flowing b ds log) k
+
+    following_known : (s : Option SettlementView) (q : ℕ) → IsSettled w s → IsKnown (following s p q b ds log)
+    following_known (Some v) q final = settling_known v final
+    following_known None q final = record { settled = k.settled; requests = k.requests; waiting = k.waiting }
+
+    resolving_to_known : (v : SettlementView) → IsSettling w v → (t : Option ℕ) → target_of v ≡ t → IsKnown (resolving_to t p v b ds log)
+    resolving_to_known v handed None e = settling_known v (record { ends = e; handed = handed })
+    resolving_to_known v handed (Some q) e = following_known (settlement_at b.settled q) q (all_read_or (IsSettled w) b.settled q (Some (broken null)) k.settled (record { ends = refl; handed = null_handed w }))
+
+    pub resolving_known : (v : SettlementView) → IsSettling w v → IsKnown (resolving p v b ds log)
+    resolving_known v handed = resolving_to_known v handed (target_of v) refl
+
+  -- ---- what waits for a time
+
+  due_now_known : (t : ℕ) (d : Delivery) (s : Schedule Delivery) → IsDue w d → AllByRecursion (IsDue w) (due_now t d s)
+  due_now_known t d s is = by (nat_lt s.time t)
+    where
+      by : (b : Bool) → AllByRecursion (IsDue w) (cond b [] (d ∷ []))
+      by true = tt
+      by false = (is, tt)
+
+  deadline_now_known : (rule : Exit) (seat : ℕ) (s : Schedule Delivery) → seat < length w.seats → AllByRecursion (IsDue w) (deadline_now rule seat s)
+  deadline_now_known (AfterDeadline t) seat s made = due_now_known t (deliveries.deadline seat) s made
+  deadline_now_known OnDemand seat s made = tt
+  deadline_now_known Waived seat s made = tt
+
+  scheduled_known : (t : ℕ) (d : Delivery) (s : Schedule Delivery) → IsTimed w d → AllByRecursion (IsTimedEntry w) s.waiting → AllByRecursion (IsTimedEntry w) (scheduled t d s).waiting
+  scheduled_known t d s is all = by (nat_lt s.time t)
+    where
+      by : (b : Bool) → AllByRecursion (IsTimedEntry w) (cond b (record { time = s.time; made = s.made + 1; waiting = due_by t s.waiting ++ (t, d) ∷ due_after t s.waiting }) s).waiting
+      by true = all_append (IsTimedEntry w) (due_by t s.waiting) ((t, d) ∷ due_after t s.waiting) (all_filter (IsTimedEntry w) _ s.waiting all) (is, all_filter (IsTimedEntry w) _ s.waiting all)
+      by false = all
+
+  deadline_known : (rule : Exit) (seat : ℕ) (s : Schedule Delivery) → seat < length w.seats → AllByRecursion (IsTimedEntry w) s.waiting → AllByRecursion (IsTimedEntry w) (with_deadline rule seat s).waiting
+  deadline_known (AfterDeadline t) seat s made all = scheduled_known t (deliveries.deadline seat) s made all
+  deadline_known OnDemand seat s made all = all
+  deadline_known Waived seat s made all = all
+
+  timed_due : (e : ℕ × Delivery) → IsTimedEntry w e → IsDue w e.1
+  timed_due e is = by e.1 is
+    where
+      by : (d : Delivery) → IsTimed w d → IsDue w d
+      by (deliveries.wake d) is = is
+      by (deliveries.deadline s) is = is
+      by (deliveries.call c) is = absurd is
+      by (deliveries.give c) is = absurd is
+      by (deliveries.tick t) is = absurd is
+      by (deliveries.bad r) is = absurd is
+      by (deliveries.send s) is = absurd is
+      by (deliveries.start s) is = absurd is
+      by (deliveries.offer o) is = absurd is
+      by (deliveries.notify n) is = absurd is
+
+  asking_known : (s : Option SettlementView) (n : Notice) (b : PromiseBook) (ds : List Delivery) → IsNotice w n → AreKnown w b.settled b.requests ds → AreKnown w (asking s n b).settled (asking s n b).requests (ds ++ told_at_once s n)
+  asking_known (Some v) n b ds is k = record { settled = k.settled; requests = k.requests; waiting = all_append (IsDue w) ds (notify n ∷ []) k.waiting (is, tt) }
+  asking_known None n b ds is k = record { settled = k.settled; requests = all_push (IsNotice w) b.requests n k.requests is; waiting = all_append (IsDue w) ds [] k.waiting tt }
+
+  line_due : (d : Delivery) → IsLine d → IsDue w d
+  line_due (deliveries.call c) is = tt
+  line_due (deliveries.give c) is = tt
+  line_due (deliveries.tick t) is = tt
+  line_due (deliveries.bad r) is = tt
+  line_due (deliveries.send s) is = absurd is
+  line_due (deliveries.start s) is = absurd is
+  line_due (deliveries.offer o) is = absurd is
+  line_due (deliveries.wake d) is = absurd is
+  line_due (deliveries.notify n) is = absurd is
+  line_due (deliveries.deadline s) is = absurd is
+
+-- ---- by effect
+
+grown : (w : State) (e : Effect) → IsGoodWorld w → AreKnown (after w e) w.promises.settled w.promises.requests w.waiting
+grown w e good =
+    let g = grows-after w e in
+    record {
+      settled = all_map (IsSettled w) (IsSettled (after w e)) (settled_grows w (after w e) g) w.promises.settled good.settled;
+      requests = all_map (IsNotice w) (IsNotice (after w e)) (notice_grows w (after w e) g) w.promises.requests good.requests;
+      waiting = all_map (IsDue w) (IsDue (after w e)) (due_grows w (after w e) g) w.waiting good.waiting;
+    }
+
+-- one more promise
+more_settled : (w : State) (s : Option SettlementView) (ss : List (Option SettlementView)) (ns : List Notice) (ds : List Delivery) → IsSettled w s → AreKnown w ss ns ds → AreKnown w (ss ++ s ∷ []) ns ds
+more_settled w s ss ns ds is k = record { settled = all_push (IsSettled w) ss s k.settled is; requests = k.requests; waiting = k.waiting }
+
+more_waiting : (w : State) (ss : List (Option SettlementView)) (ns : List Notice) (ds es : List Delivery) → AllByRecursion (IsDue w) es → AreKnown w ss ns ds → AreKnown w ss ns (ds ++ es)
+more_waiting w ss ns ds es all k = record { settled = k.settled; requests = k.requests; waiting = all_append (IsDue w) ds es k.waiting all }
+
+next_seat_made : (w : State) (s : Seat) → length w.seats < length (w.seats ++ s ∷ [])
+next_seat_made w s = omega (arith, length_push w.seats s)
+
+pub known-after : (w : State) (e : Effect) → IsGoodEffect w e → IsGoodWorld w → AreKnown (after w e) (after w e).promises.settled (after w e).promises.requests (after w e).waiting
+known-after w (offer o) can good =
+    let v = after w (offer o) in
+    let g = grows-after w (offer o) in
+    let d = offered_by w o in
+    let is = all_read (IsInvitation w) w.invitations o.invitation no_details good.invitations can.invited in
+    let made = next_seat_made w (new_seat d.instance o.proposal) in
+    more_waiting v _ _ w.waiting _ (
+      record {
+        seat = record { made = made; own = ap (λ (s : Seat). s.instance) (read_pushed w.seats (new_seat d.instance o.proposal) no_seat (length w.seats) refl) };
+        paired = omega (arith, length_push w.pairs (next_pair w), good.seats.paired);
+        promise = sym (ap (λ (q : SeatPair). q.«result») (read_pushed w.pairs (next_pair w) no_pair (length w.seats) (sym good.seats.paired)));
+        function = function_grows w v g d.instance d.handler is.handler;
+        arguments = formed_grows w v g None o.arguments can.arguments;
+        held = formed_grows w v g (Some d.instance) d.held is.held;
+      },
+      deadline_now_known v o.proposal.exit (length w.seats) w.schedule made,
+    )
+    (more_settled v None _ _ _ tt (more_settled v None _ _ _ tt (grown w (offer o) good)))
+known-after w (empty_seat i rule) can good =
+    let v = after w (empty_seat i rule) in
+    more_waiting v _ _ w.waiting _ (deadline_now_known v rule (length w.seats) w.schedule (next_seat_made w _))
+    (more_settled v None _ _ _ tt (more_settled v (Some (ok null)) _ _ _ (record { ends = refl; handed = null_handed v }) (grown w (empty_seat i rule) good)))
+known-after w (exit s cause) can good =
+    let v = after w (exit s cause) in
+    let rows = slots_at w.rights.slots s in
+    let apart = all_read_or AreRows w.rights.slots s [] good.seats.rows (record { few = omega arith; apart = tt }) in
+    let made : length w.rights.payments + length rows ≤ length v.rights.payments = omega (arith, length_append w.rights.payments (map paid_out rows), length_map paid_out rows) in
+    resolving_known v (pair_at w.pairs s).payouts w.promises w.waiting (w.log ++ leaving_events w s cause) (grown w (exit s cause) good) (ok (payouts_tree w s)) (payouts_handed v (length w.rights.payments) rows apart.apart made)
+known-after w new_promise can good = more_settled (after w new_promise) None _ _ _ tt (grown w new_promise good)
+known-after w (resolve p v) can good =
+    resolving_known (after w (resolve p v)) p w.promises w.waiting w.log (grown w (resolve p v) good) v (settling_grows w (after w (resolve p v)) (grows-after w (resolve p v)) v can.handed)
+known-after w (send i target method arguments) can good =
+    let v = after w (send i target method arguments) in
+    let g = grows-after w (send i target method arguments) in
+    more_waiting v _ _ w.waiting _ (record { made = omega (arith, can.made, g.instances.more); target = formed_grows w v g None _ can.target; arguments = handed_all_grow w v g arguments can.arguments }, tt)
+    (more_settled v None _ _ _ tt (grown w (send i target method arguments) good))
+known-after w (when i p f held) can good =
+    let v = after w (when i p f held) in
+    let g = grows-after w (when i p f held) in
+    asking_known v (settlement_at w.promises.settled p) (request_of w i p f held) (with_promise None w.promises) w.waiting
+    (record { promise = omega (arith, can.made, g.promises); function = function_grows w v g i f can.function; held = formed_grows w v g (Some i) held can.held })
+    (more_settled v None _ _ _ tt (grown w (when i p f held) good))
+known-after w (wake t d) can good =
+    let v = after w (wake t d) in
+    more_waiting v _ _ w.waiting _ (due_now_known v t (deliveries.wake d) w.schedule (wakeup_grows w v (grows-after w (wake t d)) d can)) (grown w (wake t d) good)
+known-after w (set_time t) can good =
+    let v = after w (set_time t) in
+    more_waiting v _ _ w.waiting (due_at t w.schedule)
+    (all_under (λ (e : ℕ × Delivery). e.1) (IsDue v) (due_by t w.schedule.waiting) (all_map (IsTimedEntry w) (λ (e : ℕ × Delivery). IsDue v e.1) (λ e is. due_grows w v (grows-after w (set_time t)) e.1 (timed_due w e is)) _ (all_filter (IsTimedEntry w) _ w.schedule.waiting good.timed)))
+    (grown w (set_time t) good)
+known-after w (arrive d) can good = more_waiting (after w (arrive d)) _ _ w.waiting (d ∷ []) (line_due (after w (arrive d)) d can, tt) (grown w (arrive d) good)
+known-after w (start s) can good =
+    let v = after w (start s) in
+    let g = grows-after w (start s) in
+    more_waiting v _ _ w.waiting _ (record { made = omega (arith, length_push w.tables.instances (new_instance s.installation s.issuers s.terms (module_at w.tables.installations s.installation))); arguments = formed_grows w v g None s.private_arguments can.arguments }, tt)
+    (more_settled v None _ _ _ tt (grown w (start s) good))
+known-after w e can good = grown w e good
+
+timed_grown : (w : State) (e : Effect) → IsGoodWorld w → AllByRecursion (IsTimedEntry (after w e)) w.schedule.waiting
+timed_grown w e good = all_map (IsTimedEntry w) (IsTimedEntry (after w e)) (λ (x : ℕ × Delivery). timed_grows w (after w e) (grows-after w e) x.1) w.schedule.waiting good.timed
+
+pub timed-after : (w : State) (e : Effect) → IsGoodEffect w e → IsGoodWorld w → AllByRecursion (IsTimedEntry (after w e)) (after w e).schedule.waiting
+timed-after w (offer o) can good = deadline_known (after w (offer o)) o.proposal.exit (length w.seats) w.schedule (next_seat_made w _) (timed_grown w (offer o) good)
+timed-after w (empty_seat i rule) can good = deadline_known (after w (empty_seat i rule)) rule (length w.seats) w.schedule (next_seat_made w _) (timed_grown w (empty_seat i rule) good)
+timed-after w (wake t d) can good = scheduled_known (after w (wake t d)) t (deliveries.wake d) w.schedule (wakeup_grows w (after w (wake t d)) (grows-after w (wake t d)) d can) (timed_grown w (wake t d) good)
+timed-after w (set_time t) can good = all_filter (IsTimedEntry (after w (set_time t))) _ w.schedule.waiting (timed_grown w (set_time t) good)
+timed-after w e can good = timed_grown w e good
+
+pub modules-after : (w : State) (e : Effect) → IsGoodEffect w e → AllByRecursion IsModule w.tables.installations → AllByRecursion IsModule (after w e).tables.installations
+modules-after w (install m) can was = all_push IsModule w.tables.installations m was can.plain
+modules-after w _ can was = was
+
+pub invitations-after : (w : State) (e : Effect) → IsGoodEffect w e → AllByRecursion (IsInvitation w) w.invitations → AllByRecursion (IsInvitation (after w e)) (after w e).invitations
+invitations-after w (invite d) can was =
+    let v = after w (invite d) in
+    let g = grows-after w (invite d) in
+    all_push (IsInvitation v) w.invitations d (all_map (IsInvitation w) (IsInvitation v) (invitation_grows w v g) w.invitations was) (invitation_grows w v g d can.details)
+invitations-after w e can was = all_map (IsInvitation w) (IsInvitation (after w e)) (invitation_grows w (after w e) (grows-after w e)) w.invitations was
+
+pub facets-after : (w : State) (e : Effect) → IsGoodEffect w e → AllByRecursion (IsFacet w) w.facets → AllByRecursion (IsFacet (after w e)) (after w e).facets
+facets-after w (make_facet f) can was =
+    let v = after w (make_facet f) in
+    let g = grows-after w (make_facet f) in
+    all_push (IsFacet v) w.facets f (all_map (IsFacet w) (IsFacet v) (facet_grows w v g) w.facets was) (facet_grows w v g f can.facet)
+facets-after w e can was = all_map (IsFacet w) (IsFacet (after w e)) (facet_grows w (after w e) (grows-after w e)) w.facets was
+
+pub labels-after : (w : State) (e : Effect) → IsGoodEffect w e → AllByRecursion (IsLabel w) w.labels → AllByRecursion (IsLabel (after w e)) (after w e).labels
+labels-after w (bind_label party label value) can was =
+    let v = after w (bind_label party label value) in
+    let g = grows-after w (bind_label party label value) in
+    all_push (IsLabel v) w.labels (bound party label value) (all_map (IsLabel w) (IsLabel v) (label_grows w v g) w.labels was) (formed_grows w v g None value can.handed)
+labels-after w e can was = all_map (IsLabel w) (IsLabel (after w e)) (label_grows w (after w e) (grows-after w e)) w.labels was

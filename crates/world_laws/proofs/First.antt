@@ -1,0 +1,50 @@
+-- The world of a new host is good.
+use Rattle.std.proofs.Common.{◌≡◌, ℕ, zero, suc, List, [], ◌∷◌, Some, None, refl, arith}
+use Rattle.amount_math.specs.Content.{count, count-nothing}
+use Rattle.amount_math.specs.declared.Kind.TheVariants.{Set}
+use Rattle.brands.specs.Brands.{brand_at, started}
+use Rattle.ertp_mint.specs.BrandSupply.{new_supply, supply_at}
+use Rattle.proposals.specs.declared.allocations.Row.{Row}
+use Rattle.world_state.specs.Good.{IsGoodWorld}
+use Rattle.world_state.specs.Rights.{kind_at}
+use Rattle.world_laws.specs.First.{first_world}
+
+none_out : (b : ℕ) (k : List ℕ) → count (supply_at (new_supply Set ∷ []) b).outstanding.content k ≡ 0
+none_out zero k = count-nothing k
+none_out (suc b) k = count-nothing k
+
+same_kinds : (b : ℕ) → kind_at (new_supply Set ∷ []) b ≡ (brand_at started.now b).kind
+same_kinds zero = refl
+same_kinds (suc b) = refl
+
+nothing_is : (rows : List Row) → None ≡ Some rows → ⊥
+nothing_is rows e = cc
+
+closed : (rows : List Row) → Some rows ≡ None → ⊥
+closed rows e = cc
+
+pub first_is_good : IsGoodWorld first_world
+first_is_good = record {
+  balanced = record { each = λ b k. omega (arith, none_out b k) };
+  purse_kinds = tt;
+  payment_kinds = tt;
+  slot_kinds = tt;
+  bounded = (record { each = λ k. omega (arith, count-nothing k) }, tt);
+  brands = record { some = omega arith; few = omega arith; supplies = refl; made_by = refl; kinds = same_kinds; first = refl; host = refl };
+  invited = record { once = omega arith; made = λ k none. count-nothing k };
+  seats = record { staged = refl; slotted = refl; paired = refl; rows = tt };
+  placed = tt;
+  covered = record { each = λ s is. absurd (closed [] is) };
+  room = record { left = omega arith };
+  staged = record { each = λ s rows e. absurd (nothing_is rows e) };
+  owed = record { made = tt; once = λ p. omega arith; pending = λ p some. absurd (omega (arith, some)) };
+  settled = tt;
+  requests = tt;
+  modules = tt;
+  instances = record { each = λ n lt. absurd (omega (arith, lt)) };
+  invitations = tt;
+  facets = tt;
+  labels = tt;
+  timed = tt;
+  waiting = tt;
+}

@@ -1,0 +1,188 @@
+-- What was made stays what it is, whatever an effect does.
+use Rattle.std.specs.Prelude.{◌==◌, cond, slice_set}
+use Rattle.std.proofs.Common.{◌≡◌, ℕ, ◌≤◌, true, false, List, [], ◌∷◌, ◌++◌, Some, None, Option, length, map, refl, ◌∙◌, arith}
+use Rattle.list_edits.proofs.ListEdits.{length_push, length_set}
+use Rattle.brands.specs.Brands.{brand_at, no_brand}
+use Rattle.instance_store.specs.Facets.{no_facet}
+use Rattle.instance_store.specs.SeatPromises.{no_pair, pair_at}
+use Rattle.instance_store.specs.Tables.{no_instance, no_module}
+use Rattle.invitations.specs.Details.{no_details}
+use Rattle.payments.specs.Papers.{Paper, live_paper, paper_at}
+use Rattle.ertp_mint.specs.Stocks.{empty_amount}
+use Rattle.jessie_tree.specs.Tree.{null}
+use Rattle.promise_store.specs.States.{SettlementView, ok}
+use Rattle.rights_model.specs.declared.Holder.{Holder}
+use Rattle.rights_model.specs.declared.Holder.TheVariants.{Purse, Payment}
+use Rattle.rights_model.specs.declared.Movement.{Movement}
+use Rattle.amount_math.specs.Worth.{Worth}
+use Rattle.amount_math.specs.declared.Amount.{Amount}
+use Rattle.turn_records.specs.Deliveries.{Delivery, Notice}
+use Rattle.turn_records.specs.Events.{Event}
+use Rattle.world_state.specs.Known.{Extends, Grows, instance_origin, seat_origin, whole}
+use Rattle.world_state.specs.Promises.{CascadeStep, Flow, PromiseBook, all_stepped, asking, cascade, flowing, following, notifies, resolving, resolving_to, settlement_at, settles, settling, stepped, target_of, with_promise}
+use Rattle.world_state.specs.Rights.{Rights, all_moved, all_spent, given, moved, moved_together, paid, paper_more, slots_at, spent_from, taken, with_slots}
+use Rattle.world_state.specs.Worlds.{Effect, State, after, burn_and_escrows, empty_slots, invitation_move, leaving_events, left_seat, next_pair, no_seat, of_host, paid_out, payouts_tree, request_of, seat_at, add_issuer, empty_payment, empty_seat, exit, halt, install, invite, keep_state, make_facet, moves, new_brand, new_promise, new_purse, offer, publish, resolve, send, start, stop, when}
+use Rattle.world_laws.proofs.Lists.{extends_push, extends_refl, extends_set, length_append}
+
+-- ---- movements keep how many purses there are, and leave at least as many payments
+
+purses_taken : (r : Rights) (h : Holder) (b : ℕ) (w : Worth) → length (taken r h b w).purses ≡ length r.purses
+purses_taken r (Purse n) b w = length_set r.purses n _
+purses_taken r _ b w = refl
+
+purses_given : (r : Rights) (h : Holder) (b : ℕ) (w : Worth) → length (given r h b w).purses ≡ length r.purses
+purses_given r (Purse n) b w = length_set r.purses n _
+purses_given r _ b w = refl
+
+purses_moved : (r : Rights) (ms : List Movement) → length (all_moved r ms).purses ≡ length r.purses
+purses_moved r [] = refl
+purses_moved r (m ∷ ms) = purses_moved (moved r m) ms ∙ (purses_given (taken r m.from m.brand m.value) m.to m.brand m.value ∙ purses_taken r m.from m.brand m.value)
+
+payments_set : (ps : List Paper) (n : ℕ) (p : Paper) → length ps ≤ length (slice_set ps n p)
+payments_set ps n p = omega (arith, length_set ps n p)
+
+payments_paid : (ps : List Paper) (n : ℕ) (a : Amount) → length ps ≤ length (paid ps n a)
+payments_paid ps n a = elim (n == length ps) as (λ t. length ps ≤ length (cond t (ps ++ live_paper a ∷ []) (slice_set ps n (paper_more (paper_at ps n) a.value.content)))) [
+  | true ↦ omega (arith, length_push ps (live_paper a))
+  | false ↦ payments_set ps n _
+]
+
+payments_taken : (r : Rights) (h : Holder) (b : ℕ) (w : Worth) → length r.payments ≤ length (taken r h b w).payments
+payments_taken r (Payment n) b w = payments_set r.payments n _
+payments_taken r _ b w = omega arith
+
+payments_given : (r : Rights) (h : Holder) (b : ℕ) (w : Worth) → length r.payments ≤ length (given r h b w).payments
+payments_given r (Payment n) b w = payments_paid r.payments n _
+payments_given r _ b w = omega arith
+
+payments_moved : (r : Rights) (ms : List Movement) → length r.payments ≤ length (all_moved r ms).payments
+payments_moved r [] = omega arith
+payments_moved r (m ∷ ms) = omega (arith, payments_taken r m.from m.brand m.value, payments_given (taken r m.from m.brand m.value) m.to m.brand m.value, payments_moved (moved r m) ms)
+
+payments_spent_from : (h : Holder) (ps : List Paper) → length ps ≤ length (spent_from h ps)
+payments_spent_from (Payment n) ps = payments_set ps n _
+payments_spent_from _ ps = omega arith
+
+payments_spent : (ms : List Movement) (ps : List Paper) → length ps ≤ length (all_spent ms ps)
+payments_spent [] ps = omega arith
+payments_spent (m ∷ ms) ps = omega (arith, payments_spent_from m.from ps, payments_spent ms (spent_from m.from ps))
+
+pub payments_together : (r : Rights) (ms : List Movement) → length r.payments ≤ length (moved_together r ms).payments
+payments_together r ms = omega (arith, payments_moved r ms, payments_spent ms (all_moved r ms).payments)
+
+pub purses_together : (r : Rights) (ms : List Movement) → length r.purses ≤ length (moved_together r ms).purses
+purses_together r ms = omega (arith, purses_moved r ms)
+
+-- ---- settling keeps how many promises there are
+
+stepped_made : (v : SettlementView) (s : CascadeStep) (f : Flow) → length (stepped v s f).settled ≡ length f.settled
+stepped_made v (settles p) f = length_set f.settled p _
+stepped_made v (notifies p) f = refl
+
+all_stepped_made : (v : SettlementView) (ss : List CascadeStep) (f : Flow) → length (all_stepped v ss f).settled ≡ length f.settled
+all_stepped_made v [] f = refl
+all_stepped_made v (s ∷ ss) f = all_stepped_made v ss (stepped v s f) ∙ stepped_made v s f
+
+settling_made : (p : ℕ) (v : SettlementView) (b : PromiseBook) (ds : List Delivery) (log : List Event) → length (settling p v b ds log).promises.settled ≡ length b.settled
+settling_made p v b ds log = all_stepped_made v (cascade (length b.settled) b.follows p) (flowing b ds log)
+
+following_made : (s : Option SettlementView) (p q : ℕ) (b : PromiseBook) (ds : List Delivery) (log : List Event) → length (following s p q b ds log).promises.settled ≡ length b.settled
+following_made (Some v) p q b ds log = settling_made p v b ds log
+following_made None p q b ds log = refl
+
+resolving_to_made : (q : Option ℕ) (p : ℕ) (v : SettlementView) (b : PromiseBook) (ds : List Delivery) (log : List Event) → length (resolving_to q p v b ds log).promises.settled ≡ length b.settled
+resolving_to_made None p v b ds log = settling_made p v b ds log
+resolving_to_made (Some q) p v b ds log = following_made (settlement_at b.settled q) p q b ds log
+
+pub resolving_made : (p : ℕ) (v : SettlementView) (b : PromiseBook) (ds : List Delivery) (log : List Event) → length (resolving p v b ds log).promises.settled ≡ length b.settled
+resolving_made p v b ds log = resolving_to_made (target_of v) p v b ds log
+
+asking_made : (s : Option SettlementView) (n : Notice) (b : PromiseBook) → length (asking s n b).settled ≡ length b.settled
+asking_made (Some v) n b = refl
+asking_made None n b = refl
+
+-- ---- store by store
+
+purses_grow : (w : State) (e : Effect) → length w.rights.purses ≤ length (after w e).rights.purses
+purses_grow w (new_purse b) = omega (arith, length_push w.rights.purses (empty_amount b (brand_at w.brands b).kind))
+purses_grow w (moves ms) = purses_together w.rights ms
+purses_grow w (offer o) = purses_together (with_slots w.rights (empty_slots o.proposal)) (burn_and_escrows o)
+purses_grow w (invite d) = purses_together w.rights (invitation_move w ∷ [])
+purses_grow w _ = omega arith
+
+payments_grow : (w : State) (e : Effect) → length w.rights.payments ≤ length (after w e).rights.payments
+payments_grow w (empty_payment b) = omega (arith, length_push w.rights.payments (live_paper (empty_amount b (brand_at w.brands b).kind)))
+payments_grow w (moves ms) = payments_together w.rights ms
+payments_grow w (offer o) = payments_together (with_slots w.rights (empty_slots o.proposal)) (burn_and_escrows o)
+payments_grow w (invite d) = payments_together w.rights (invitation_move w ∷ [])
+payments_grow w (exit s cause) = omega (arith, length_append w.rights.payments (map paid_out (slots_at w.rights.slots s)))
+payments_grow w _ = omega arith
+
+brands_grow : (w : State) (e : Effect) → Extends whole no_brand w.brands (after w e).brands
+brands_grow w (new_brand b maker) = extends_push whole no_brand w.brands b
+brands_grow w _ = extends_refl whole no_brand w.brands
+
+makers_grow : (w : State) (e : Effect) → Extends whole of_host w.makers (after w e).makers
+makers_grow w (new_brand b maker) = extends_push whole of_host w.makers maker
+makers_grow w _ = extends_refl whole of_host w.makers
+
+seats_grow : (w : State) (e : Effect) → Extends seat_origin no_seat w.seats (after w e).seats
+seats_grow w (offer o) = extends_push seat_origin no_seat w.seats _
+seats_grow w (empty_seat i rule) = extends_push seat_origin no_seat w.seats _
+seats_grow w (exit s cause) = extends_set seat_origin no_seat w.seats s (left_seat (seat_at w.seats s) (slots_at w.rights.slots s)) refl
+seats_grow w _ = extends_refl seat_origin no_seat w.seats
+
+pairs_grow : (w : State) (e : Effect) → Extends whole no_pair w.pairs (after w e).pairs
+pairs_grow w (offer o) = extends_push whole no_pair w.pairs (next_pair w)
+pairs_grow w (empty_seat i rule) = extends_push whole no_pair w.pairs (next_pair w)
+pairs_grow w _ = extends_refl whole no_pair w.pairs
+
+invitations_grow : (w : State) (e : Effect) → Extends whole no_details w.invitations (after w e).invitations
+invitations_grow w (invite d) = extends_push whole no_details w.invitations d
+invitations_grow w _ = extends_refl whole no_details w.invitations
+
+installations_grow : (w : State) (e : Effect) → Extends whole no_module w.tables.installations (after w e).tables.installations
+installations_grow w (install m) = extends_push whole no_module w.tables.installations m
+installations_grow w _ = extends_refl whole no_module w.tables.installations
+
+instances_grow : (w : State) (e : Effect) → Extends instance_origin no_instance w.tables.instances (after w e).tables.instances
+instances_grow w (start s) = extends_push instance_origin no_instance w.tables.instances _
+instances_grow w (add_issuer i issuer) = extends_set instance_origin no_instance w.tables.instances i _ refl
+instances_grow w (publish i facet) = extends_set instance_origin no_instance w.tables.instances i _ refl
+instances_grow w (keep_state i values) = extends_set instance_origin no_instance w.tables.instances i _ refl
+instances_grow w (stop i) = extends_set instance_origin no_instance w.tables.instances i _ refl
+instances_grow w (halt i) = extends_set instance_origin no_instance w.tables.instances i _ refl
+instances_grow w _ = extends_refl instance_origin no_instance w.tables.instances
+
+facets_grow : (w : State) (e : Effect) → Extends whole no_facet w.facets (after w e).facets
+facets_grow w (make_facet f) = extends_push whole no_facet w.facets f
+facets_grow w _ = extends_refl whole no_facet w.facets
+
+one_more : (s : Option SettlementView) (ss : List (Option SettlementView)) → length ss ≤ length (ss ++ s ∷ [])
+one_more s ss = omega (arith, length_push ss s)
+
+promises_grow : (w : State) (e : Effect) → length w.promises.settled ≤ length (after w e).promises.settled
+promises_grow w (offer o) = omega (arith, one_more None w.promises.settled, one_more None (w.promises.settled ++ None ∷ []))
+promises_grow w (empty_seat i rule) = omega (arith, one_more (Some (ok null)) w.promises.settled, one_more None (w.promises.settled ++ Some (ok null) ∷ []))
+promises_grow w (exit s cause) = omega (arith, resolving_made (pair_at w.pairs s).payouts (ok (payouts_tree w s)) w.promises w.waiting (w.log ++ leaving_events w s cause))
+promises_grow w new_promise = one_more None w.promises.settled
+promises_grow w (resolve p v) = omega (arith, resolving_made p v w.promises w.waiting w.log)
+promises_grow w (send i target method arguments) = one_more None w.promises.settled
+promises_grow w (when i p function held) = omega (arith, one_more None w.promises.settled, asking_made (settlement_at w.promises.settled p) (request_of w i p function held) (with_promise None w.promises))
+promises_grow w (start s) = one_more None w.promises.settled
+promises_grow w _ = omega arith
+
+pub grows-after : (w : State) (e : Effect) → Grows w (after w e)
+grows-after w e = record {
+  brands = brands_grow w e;
+  makers = makers_grow w e;
+  purses = purses_grow w e;
+  payments = payments_grow w e;
+  seats = seats_grow w e;
+  pairs = pairs_grow w e;
+  invitations = invitations_grow w e;
+  installations = installations_grow w e;
+  instances = instances_grow w e;
+  facets = facets_grow w e;
+  promises = promises_grow w e;
+}

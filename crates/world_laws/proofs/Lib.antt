@@ -1,0 +1,17 @@
+pub mod Lists
+pub mod Growing
+pub mod Forms
+pub mod Payouts
+pub mod Data
+pub mod Instances
+pub mod OfKinds
+pub mod Elements
+pub mod Supplies
+pub mod HeldKinds
+pub mod Seated
+pub mod Balanced
+pub mod Rooms
+pub mod Owed
+pub mod Owing
+pub mod Kept
+pub mod First

@@ -1,0 +1,125 @@
+-- There stays room for the payments of open seats, and what is staged stays of the brands of open seats' slots.
+use Rattle.std.specs.Prelude.{IsSome, is_none, is_some, slice_set, unwrap_or}
+use Rattle.std.proofs.Common.{◌≡◌, inl, inr, ℕ, zero, suc, ◌+◌, ◌<◌, List, [], ◌∷◌, ◌++◌, Some, None, Option, length, map, refl, sym, ◌∙◌, ap, subst, arith, if◌then◌else◌}
+use Rattle.std.proofs.lemmas.Bool.{cases_eq, eq-eqb}
+use Rattle.list_edits.proofs.ListEdits.{length_push, read_before, read_other, read_pushed, read_set}
+use Rattle.amount_math.specs.declared.Amount.{Amount}
+use Rattle.brands.specs.Brands.{brand_at}
+use Rattle.ertp_mint.specs.Stocks.{empty_amount}
+use Rattle.payments.specs.Papers.{Paper, live_paper, paper_at}
+use Rattle.proposals.specs.Slots.{emptied}
+use Rattle.proposals.specs.declared.allocations.Row.{Row}
+use Rattle.right_steps.specs.Lists.{amount_of}
+use Rattle.world_state.specs.Good.{AreStaged, HasRoom, IsGoodEffect, IsGoodWorld, IsStaged, open_slots, slots_in}
+use Rattle.world_state.specs.Rights.{paid, paper_more, slots_at}
+use Rattle.world_state.specs.Worlds.{Effect, Seat, State, after, empty_slots, invitation_value, left_seat, new_seat, no_rows, no_seat, of_own, offered_by, paid_out, seat_at, staged_at, empty_payment, empty_seat, end_staging, exit, invite, moves, offer, stage, unstage}
+use Rattle.world_laws.proofs.Instances.{open_made}
+use Rattle.world_laws.proofs.Lists.{length_append, length_map}
+
+open-push : (seats : List Seat) (slots : List (List Row)) (s : Seat) (rows : List Row) → length slots ≡ length seats → open_slots (seats ++ s ∷ []) (slots ++ rows ∷ []) ≡ open_slots seats slots + slots_in s rows
+open-push [] [] s rows e = omega arith
+open-push [] (x ∷ xs) s rows e = absurd (omega (arith, e))
+open-push (q ∷ qs) [] s rows e = absurd (omega (arith, e))
+open-push (q ∷ qs) (x ∷ xs) s rows e = omega (arith, open-push qs xs s rows (omega (arith, e)))
+
+open-left : (seats : List Seat) (slots : List (List Row)) (n : ℕ) (rows : List Row) → length slots ≡ length seats → (seat_at seats n).last ≡ None → open_slots (slice_set seats n (left_seat (seat_at seats n) (slots_at slots n))) (slice_set slots n rows) + length (slots_at slots n) ≡ open_slots seats slots
+open-left [] slots n rows e is = cc
+open-left (q ∷ qs) [] n rows e is = absurd (omega (arith, e))
+open-left (q ∷ qs) (x ∷ xs) zero rows e is = omega (arith, ap (λ (o : Option (List Row)). if is_none o then length x else 0) is)
+open-left (q ∷ qs) (x ∷ xs) (suc n) rows e is = omega (arith, open-left qs xs n rows (omega (arith, e)) is)
+
+paid_next : (ps : List Paper) (a : Amount) → length (paid ps (length ps) a) ≡ length ps + 1
+paid_next ps a = subst (λ b. length (if b then ps ++ live_paper a ∷ [] else slice_set ps (length ps) (paper_more (paper_at ps (length ps)) a.value.content)) ≡ length ps + 1) (sym (eq-eqb (length ps) (length ps) refl)) (length_push ps (live_paper a))
+
+pub room-after : (w : State) (e : Effect) → IsGoodEffect w e → IsGoodWorld w → HasRoom (after w e).rights.payments (after w e).rights.slots (after w e).seats
+room-after w (empty_payment b) can good = record { left = omega (arith, can.room, length_push w.rights.payments (live_paper (empty_amount b (brand_at w.brands b).kind))) }
+room-after w (moves ms) can good = can.room
+room-after w (offer o) can good = can.moves.room
+room-after w (empty_seat i rule) can good = record { left = omega (arith, good.room.left, open-push w.seats w.rights.slots (new_seat i (of_own rule)) [] good.seats.slotted) }
+room-after w (exit s cause) can good =
+    let rows = slots_at w.rights.slots s in
+    record { left = omega (arith, good.room.left, open-left w.seats w.rights.slots s (map emptied rows) good.seats.slotted can, length_append w.rights.payments (map paid_out rows), length_map paid_out rows) }
+room-after w (invite d) can good = record { left = omega (arith, can.room, paid_next w.rights.payments (amount_of 0 (invitation_value (length w.invitations)))) }
+room-after w _ can good = good.room
+
+none_staged : (xs : List (Option (List Row))) (n : ℕ) → staged_at (map no_rows xs) n ≡ None
+none_staged [] n = refl
+none_staged (x ∷ xs) zero = refl
+none_staged (x ∷ xs) (suc n) = none_staged xs n
+
+is_staged : (o : Option (List Row)) (rows : List Row) → o ≡ Some rows → IsSome o
+is_staged o rows e = ap (λ (x : Option (List Row)). is_some x) e
+
+nothing_is : (rows : List Row) → None ≡ Some rows → ⊥
+nothing_is rows e = cc
+
+-- nothing is staged where it was dropped
+dropped : (xs : List (Option (List Row))) (n : ℕ) → staged_at (slice_set xs n None) n ≡ None
+dropped [] n = refl
+dropped (x ∷ xs) zero = refl
+dropped (x ∷ xs) (suc n) = dropped xs n
+
+cleared : (xs : List (Option (List Row))) (n s : ℕ) (rows : List Row) → n ≡ s → staged_at (slice_set xs n None) s ≡ Some rows → ⊥
+cleared xs n s rows same e = nothing_is rows (sym (subst (λ k. staged_at (slice_set xs n None) k ≡ None) same (dropped xs n)) ∙ e)
+
+staged_by : (seat new : Seat) (slots after_slots rows : List Row) → new ≡ seat → after_slots ≡ slots → IsStaged seat slots rows → IsStaged new after_slots rows
+staged_by seat new slots after_slots rows e f is = subst (λ (q : Seat). IsStaged q after_slots rows) (sym e) (subst (λ x. IsStaged seat x rows) (sym f) is)
+
+pub staged-after : (w : State) (e : Effect) → IsGoodEffect w e → IsGoodWorld w → AreStaged (after w e).seats (after w e).rights.slots (after w e).staging
+staged-after w (moves ms) can good = record { each = λ s rows e. subst (λ x. IsStaged (seat_at w.seats s) x rows) (sym (can.apart s (is_staged (staged_at w.staging s) rows e))) (good.staged.each s rows e) }
+staged-after w (stage n new) can good = record {
+  each = λ s rows e. elim (cases_eq n s) [
+    | inl same ↦
+        let lt : n < length w.staging = omega (arith, open_made w.seats n can.is_open, good.seats.staged) in
+        let at : staged_at (slice_set w.staging n (Some new)) s ≡ Some new = subst (λ k. staged_at (slice_set w.staging n (Some new)) k ≡ Some new) same (read_set w.staging n (Some new) None lt) in
+        let is : new ≡ rows = ap (λ (o : Option (List Row)). unwrap_or o []) (sym at ∙ e) in
+        subst (λ k. IsStaged (seat_at w.seats k) (slots_at w.rights.slots k) rows) same (subst (IsStaged (seat_at w.seats n) (slots_at w.rights.slots n)) is can)
+    | inr other ↦ good.staged.each s rows (sym (read_other w.staging n s (Some new) None other) ∙ e)
+  ];
+}
+staged-after w (unstage n) can good = record {
+  each = λ s rows e. elim (cases_eq n s) [
+    | inl same ↦ absurd (cleared w.staging n s rows same e)
+    | inr other ↦ good.staged.each s rows (sym (read_other w.staging n s None None other) ∙ e)
+  ];
+}
+staged-after w end_staging can good = record { each = λ s rows e. absurd (nothing_is rows (sym (none_staged w.staging s) ∙ e)) }
+staged-after w (offer o) can good =
+    let new = new_seat (offered_by w o).instance o.proposal in
+    record {
+      each = λ s rows e. elim (cases_eq (length w.staging) s) [
+        | inl here ↦ absurd (nothing_is rows (sym (read_pushed w.staging None None s (sym here)) ∙ e))
+        | inr other ↦
+            let was : staged_at w.staging s ≡ Some rows = sym (read_before w.staging None None s other) ∙ e in
+            staged_by (seat_at w.seats s) _ (slots_at w.rights.slots s) _ rows
+            (read_before w.seats new no_seat s (λ f. other (good.seats.staged ∙ f)))
+            (can.moves.apart s (is_staged (staged_at w.staging s) rows was) ∙ read_before w.rights.slots (empty_slots o.proposal) [] s (λ f. other (good.seats.staged ∙ (sym good.seats.slotted ∙ f))))
+            (good.staged.each s rows was)
+      ];
+    }
+staged-after w (empty_seat i rule) can good =
+    let new = new_seat i (of_own rule) in
+    record {
+      each = λ s rows e. elim (cases_eq (length w.staging) s) [
+        | inl here ↦ absurd (nothing_is rows (sym (read_pushed w.staging None None s (sym here)) ∙ e))
+        | inr other ↦
+            let was : staged_at w.staging s ≡ Some rows = sym (read_before w.staging None None s other) ∙ e in
+            staged_by (seat_at w.seats s) _ (slots_at w.rights.slots s) _ rows
+            (read_before w.seats new no_seat s (λ f. other (good.seats.staged ∙ f)))
+            (read_before w.rights.slots [] [] s (λ f. other (good.seats.staged ∙ (sym good.seats.slotted ∙ f))))
+            (good.staged.each s rows was)
+      ];
+    }
+staged-after w (exit n cause) can good =
+    let rows_of = slots_at w.rights.slots n in
+    record {
+      each = λ s rows e. elim (cases_eq n s) [
+        | inl same ↦ absurd (cleared w.staging n s rows same e)
+        | inr other ↦
+            staged_by (seat_at w.seats s) _ (slots_at w.rights.slots s) _ rows
+            (read_other w.seats n s (left_seat (seat_at w.seats n) rows_of) no_seat other)
+            (read_other w.rights.slots n s (map emptied rows_of) [] other)
+            (good.staged.each s rows (sym (read_other w.staging n s None None other) ∙ e))
+      ];
+    }
+staged-after w _ can good = good.staged
