@@ -1,10 +1,10 @@
 -- The rows of a seat's slots, of which the one under a keyword is written, and seats of which a slot is written.
-use Rattle.std.proofs.Common.{◌≡◌, ◌≢◌, ℕ, zero, suc, ◌+◌, ◌-◌, ◌<◌, ◌≤◌, ◌⊎◌, inl, inr, Bool, true, false, cond, List, [], ◌∷◌, ◌++◌, length, map, take, Some, None, Option, refl, sym, ◌∙◌, ap, subst, arith}
-use Rattle.std.specs.Prelude.{IsNone, IsSome, is_some, slice_index_or, slice_set, unwrap_or}
+use Rattle.std.proofs.Common.{◌≡◌, ◌≢◌, ℕ, ◌<◌, ◌⊎◌, inl, inr, Bool, true, false, cond, List, [], ◌∷◌, ◌++◌, length, map, Some, None, refl, sym, ◌∙◌, ap, subst, arith}
+use Rattle.std.specs.Prelude.{IsNone, IsSome, is_some, slice_set, unwrap_or}
 use Rattle.std.specs.Str.{bytes_eq}
 use Rattle.std.proofs.lemmas.Slice.Eq.{bytes_eq-Decides}
 use Rattle.std.proofs.lemmas.Bool.{cases_eq}
-use Rattle.amount_math.specs.Content.{Content, nothing}
+use Rattle.amount_math.specs.Content.{nothing}
 use Rattle.amount_math.specs.declared.Amount.{Amount}
 use Rattle.ertp_mint.specs.Stocks.{no_amount}
 use Rattle.list_edits.proofs.ListEdits.{length_set, read_other, read_set, set_same, written_back}

@@ -1,5 +1,5 @@
 -- A step worked backwards gives the lists as they were.
-use Rattle.std.proofs.Common.{◌≡◌, ℕ, ◌+◌, ◌-◌, ◌<◌, ◌≤◌, List, [], ◌∷◌, ◌++◌, Option, None, Some, length, map, take, refl, sym, ◌∙◌, ap, arith}
+use Rattle.std.proofs.Common.{◌≡◌, ℕ, ◌+◌, ◌-◌, ◌<◌, ◌≤◌, List, [], ◌∷◌, ◌++◌, Option, None, Some, length, take, refl, sym, ◌∙◌, ap, arith}
 use Rattle.std.specs.Prelude.{IsNone, slice_set}
 use Rattle.amount_math.specs.Amount.{holding}
 use Rattle.amount_math.specs.Content.{Content, Contains, difference-sum, sum-difference}

@@ -12,7 +12,7 @@ use Rattle.rights_model.specs.declared.Holder.TheVariants.{Purse, Payment, Slot,
 use Rattle.rights_model.specs.declared.Movement.{Movement}
 use Rattle.right_steps.specs.declared.Step.{Step}
 use Rattle.right_steps.specs.declared.Step.TheVariants.{Moves, OpensPurse, AddsBrand, OpensSeat, OpensSlot, ClosesSeat}
-use Rattle.right_steps.specs.Seats.{HasEmptyRow, HasSlotOf, KeptSeat, kept_seat_at, new_kept_seat}
+use Rattle.right_steps.specs.Seats.{HasEmptyRow, HasSlotOf, kept_seat_at, new_kept_seat}
 use Rattle.ertp_mint.specs.Stocks.{most_made}
 use Rattle.proposals.specs.declared.offers.Proposal.{Proposal}
 use Rattle.right_steps.specs.Lists.{Lists, GivesUp, amount_of, back, kind_of, purse_at, slot_of, SlotGivesUp, ungiven, with_reopened_seat, without_last_brand, without_last_purse, without_last_seat, without_last_slot_of}

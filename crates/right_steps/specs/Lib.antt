@@ -3,3 +3,4 @@ pub mod Seats
 pub mod Lists
 pub mod Tables
 pub mod Backwards
+pub mod Openings

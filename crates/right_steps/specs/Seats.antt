@@ -1,5 +1,5 @@
 -- A seat as a vault has it: what it was opened for, what its slots have, and what they had when it was closed (Zoe).
-use Rattle.std.specs.Prelude.{ℕ, ◌≡◌, ◌+◌, ◌-◌, ◌<◌, List, [], ◌∷◌, Option, None, Some, IsNone, IsSome, if◌then◌else◌, is_none, length, map, slice_index_or, slice_set, unwrap_or, refl}
+use Rattle.std.specs.Prelude.{ℕ, ◌≡◌, ◌+◌, ◌-◌, ◌<◌, List, [], ◌∷◌, Option, None, IsNone, IsSome, if◌then◌else◌, is_none, length, map, slice_index_or, slice_set, unwrap_or, refl}
 use Rattle.std.specs.Coded.{Coded, code_by, coded×, coded_list, coded_option, coded_ℕ}
 use Rattle.std.specs.Str.{bytes_eq}
 use Rattle.amount_math.specs.Content.{nothing}

@@ -1,13 +1,15 @@
 //! Laws of the lists and of movements made together. Their bodies are empty: what they state is proved of
 //! the definitions.
 
-ghost use Rattle.std.specs.Prelude.{◌≡◌, ℕ, List};
+ghost use Rattle.std.specs.Prelude.{◌≡◌, ◌<◌, ℕ, List, length};
 ghost use Rattle.amount_math.specs.Content.{Contains};
 ghost use Rattle.amount_math.specs.declared.Kind.{Kind as AmountKind};
 ghost use Rattle.rights_model.specs.Table as table;
 ghost use Rattle.rights_model.specs.Table.{CanMoveAll, Table, holds, table_after};
 ghost use Rattle.right_steps.specs.Flows.{AreInside, IsApart, Part, SameFlows, combined, content_of, gathered, split_up, spread};
-ghost use Rattle.right_steps.specs.Lists.{CanGive, CanTake, Lists, back, moved, taken};
+ghost use Rattle.right_steps.specs.Lists.{CanGive, CanTake, Lists, back, moved, taken, with_closed_seat, with_new_seat, with_new_slot, with_reopened_seat, without_last_seat, without_last_slot_of};
+ghost use Rattle.proposals.specs.declared.offers.Proposal.{Proposal};
+ghost use Rattle.right_steps.specs.Openings.{HasOpenSeat};
 ghost use Rattle.right_steps.specs.Tables.{IsSound, no_hand, table_of};
 
 use rights_model::{Holder, Movement};
@@ -45,6 +47,38 @@ pub fn balance_is_kept(step: &Movement)
     requires gives { CanGive (taken lists step.now.from step.now.brand step.now.value) step.now.to step.now.brand step.now.value }
     requires balanced { IsSound lists no_hand }
     ensures { IsSound (moved lists step.now) no_hand }
+{}
+
+/// A seat that is opened, a further slot of one, and a seat that is closed, worked backwards, leave the lists
+/// as they were. What a close owes no longer is owed again.
+pub fn openings_are_undone()
+    ensures seat { (lists : Lists) (instance : ℕ) (proposal : Proposal)
+        → without_last_seat (with_new_seat lists instance proposal) ≡ lists }
+    ensures slot { (lists : Lists) (n : ℕ) (keyword : List ℕ) (b : ℕ) (kind : AmountKind)
+        → n < length lists.seats
+        → without_last_slot_of n (with_new_slot lists n keyword b kind) ≡ lists }
+    ensures closed { (lists : Lists) (n : ℕ) → HasOpenSeat lists n
+        → with_reopened_seat n (with_closed_seat lists n) ≡ lists }
+{}
+
+/// They leave who holds what as it was.
+pub fn openings_move_nothing()
+    ensures seat { (lists : Lists) (instance : ℕ) (proposal : Proposal)
+        → table_of (with_new_seat lists instance proposal) ≡ table_of lists }
+    ensures slot { (lists : Lists) (n : ℕ) (keyword : List ℕ) (b : ℕ) (kind : AmountKind)
+        → n < length lists.seats
+        → table_of (with_new_slot lists n keyword b kind) ≡ table_of lists }
+    ensures closed { (lists : Lists) (n : ℕ) → table_of (with_closed_seat lists n) ≡ table_of lists }
+{}
+
+/// And all that is held stays what is out, and a payment is owed for each slot of an open seat.
+pub fn openings_keep_the_balance()
+    ensures seat { (lists : Lists) (instance : ℕ) (proposal : Proposal) → IsSound lists no_hand
+        → IsSound (with_new_seat lists instance proposal) no_hand }
+    ensures slot { (lists : Lists) (n : ℕ) (keyword : List ℕ) (b : ℕ) (kind : AmountKind)
+        → HasOpenSeat lists n → IsSound (with_new_slot lists n keyword b kind) no_hand }
+    ensures closed { (lists : Lists) (n : ℕ) → HasOpenSeat lists n
+        → IsSound (with_closed_seat lists n) no_hand }
 {}
 
 /// A combination that is written part by part makes the table that is made where its parts are gathered in
