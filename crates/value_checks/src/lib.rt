@@ -9,7 +9,7 @@ ghost use Rattle.amount_math.specs.Content.{Contains, sum};
 ghost use Rattle.amount_math.specs.Worth.{Fits, IsValue};
 ghost use Rattle.refusals.specs.Codes.{not_enough};
 ghost use Rattle.refusals.specs.Outcomes.{Gives, need};
-ghost use Rattle.value_tests.specs.Tests.{counts_fit, has, sum_fits};
+ghost use Rattle.value_checks.specs.Tests.{counts_fit, has, sum_fits};
 
 use amount_math::{Outstanding, Value};
 use refusals::stops::{Stop, not_enough};

@@ -5,7 +5,7 @@ use Rattle.amount_math.specs.Content.{Content, Contains, count, count_listed, co
 use Rattle.amount_math.specs.Entries.{Entries}
 use Rattle.amount_math.specs.Worth.{Worth}
 use Rattle.amount_math.proofs.Listed.{no_entries}
-use Rattle.value_tests.specs.Tests.{are_none, has, is_nothing}
+use Rattle.value_checks.specs.Tests.{are_none, has, is_nothing}
 
 none_listed : (es : Entries) → are_none (map (λ e. e.0) es) ≡ true → (k : List ℕ) → listed es k ≡ 0
 none_listed [] h k = refl

@@ -23,7 +23,7 @@ use Rattle.refusals.specs.Codes.{too_much}
 use Rattle.refusals.specs.Outcomes.{Fails, bind, need, none_such}
 use Rattle.refusals.specs.Told.{CanShow, PutCanShow, put_told}
 use Rattle.refusals.specs.declared.codes.Refusal.TheVariants.{Overlap}
-use Rattle.value_tests.specs.Tests.{counts_fit, counts_then_keys, elements, first_past, from_first, has_few, keys_fit, value_fits}
+use Rattle.value_checks.specs.Tests.{counts_fit, counts_then_keys, elements, first_past, from_first, has_few, keys_fit, value_fits}
 
 -- ---- the first element past a bound
 
