@@ -21,7 +21,7 @@ pub fn set(rt: &impl Abort, alloc: Global, texts: &[&str]) -> Value
     ensures { result.kind ≡ Kind.Set }
 {
     let keys = keys(alloc, texts).expect(rt, "memory for keys");
-    SetKind::make(keys).expect(rt, "keys of a set")
+    SetKind::make(keys).ok().expect(rt, "keys of a set")
 }
 
 /// Issues the set of these keys, of the first brand, of which not many were minted.
@@ -58,7 +58,9 @@ fn a_store_shows_the_least_common_key_and_takes_what_has_none(rt: HostRuntime) {
     supply
         .add_brand(Kind::Set)
         .expect(&rt, "memory for a brand");
-    let parcel = issue(&rt, rt.alloc(), &mut supply, &["d", "b"]).expect(&rt, "none is out");
+    let parcel = issue(&rt, rt.alloc(), &mut supply, &["d", "b"])
+        .ok()
+        .expect(&rt, "none is out");
     let mut balance = Balance::of(rt.alloc(), parcel);
     let common = set(&rt, rt.alloc(), &["d", "c", "b"]);
     let answer = balance.can_put(&common);
@@ -67,15 +69,19 @@ fn a_store_shows_the_least_common_key_and_takes_what_has_none(rt: HostRuntime) {
     drop(out);
     drop(answer);
     drop(common);
-    let parcel = issue(&rt, rt.alloc(), &mut supply, &["a", "c"]).expect(&rt, "none is out");
+    let parcel = issue(&rt, rt.alloc(), &mut supply, &["a", "c"])
+        .ok()
+        .expect(&rt, "none is out");
     balance.reserve(1).expect(&rt, "memory for a key");
     balance
         .make_room_for(parcel.value())
         .expect(&rt, "memory for keys");
-    balance.put(parcel).expect(&rt, "none is there");
+    if let Err((_parcel, _fault)) = balance.put(parcel) {
+        panic!(rt; "none is there");
+    }
     assert!(rt; balance.holding().total() == 4 && supply.minted(0) == 4);
     let part = set(&rt, rt.alloc(), &["b", "c"]);
-    let taken = balance.take(&part).expect(&rt, "both are there");
+    let taken = balance.take(&part).ok().expect(&rt, "both are there");
     drop(part);
     let other = Balance::of(rt.alloc(), taken);
     assert!(rt; balance.holding().total() == 2 && other.holding().total() == 2);

@@ -20,7 +20,7 @@ fn parcel(rt: &impl Abort, alloc: Global, value: Value) -> Parcel
         .expect(rt, "memory for a brand");
     assert!(rt; supply.minted(0) == 0);
     assert!(rt; value.total() <= 4096);
-    supply.issue(0, value).expect(rt, "within the bound")
+    supply.issue(0, value).ok().expect(rt, "within the bound")
 }
 
 /// How many units the first purse has.
@@ -45,11 +45,11 @@ fn a_deposit_and_a_withdrawal_are_worked_backwards(rt: HostRuntime) {
     let number = purses.open(0, Kind::Nat);
     assert!(rt; number == Ok(0));
     let parcel = parcel(&rt, rt.alloc(), Value::nat(100));
-    purses
-        .put(0, parcel)
-        .expect(&rt, "a hundred are within the bound");
+    if let Err((_parcel, _fault)) = purses.put(0, parcel) {
+        panic!(rt; "a hundred are within the bound");
+    }
     let thirty = Value::nat(30);
-    let taken = purses.take(0, &thirty).expect(&rt, "thirty are there");
+    let taken = purses.take(0, &thirty).ok().expect(&rt, "thirty are there");
     drop(thirty);
     assert!(rt; held(&purses) == Some(70) && taken.value().number() == Some(30));
     purses.undo_take(0, taken);
@@ -79,7 +79,7 @@ fn set_of_many(rt: &impl Abort, alloc: Global, count: u32) -> Value
     ensures { result.kind ≡ Kind.Set }
 {
     let keys = many_keys(alloc, count).expect(rt, "memory for keys");
-    SetKind::make(keys).expect(rt, "keys of a set")
+    SetKind::make(keys).ok().expect(rt, "keys of a set")
 }
 
 /// Why a value isn't put in, where it is too much.
@@ -102,7 +102,9 @@ fn a_set_has_at_most_4096_keys(rt: HostRuntime) {
         .expect(&rt, "memory for keys");
     purses.reserve(0, 1).expect(&rt, "memory for a key");
     let parcel = parcel(&rt, rt.alloc(), most);
-    purses.put(0, parcel).expect(&rt, "4,096 keys are a value");
+    if let Err((_parcel, _fault)) = purses.put(0, parcel) {
+        panic!(rt; "4,096 keys are a value");
+    }
     let further = set(&rt, rt.alloc(), &["x"]);
     let answer = purses.can_put(0, &further);
     assert!(rt;

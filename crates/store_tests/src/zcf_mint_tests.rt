@@ -33,7 +33,9 @@ fn add_coins(rt: &impl Abort, alloc: Global, made: &mut Allocation, text: &str, 
     requires { All (λ row. (row.amount.brand ≡ 0) × (row.amount.value.kind ≡ Kind.Nat)) made.old }
     ensures { All (λ row. (row.amount.brand ≡ 0) × (row.amount.value.kind ≡ Kind.Nat)) made.new }
 {
-    let keyword = Keyword::read(alloc, text.as_bytes()).expect(rt, "a keyword");
+    let keyword = Keyword::read(alloc, text.as_bytes())
+        .ok()
+        .expect(rt, "a keyword");
     assert!(rt; number <= NAT_BOUND);
     assert!(rt; made.len() < MOST_ROWS);
     assert!(rt; made.get(&keyword).is_none());
@@ -406,7 +408,7 @@ fn nft(rt: &impl Abort, alloc: Global) -> Allocation
     let Ok(value) = Value::set_of_one(alloc, key) else {
         panic!(rt; "memory for a set");
     };
-    let keyword = Keyword::read(alloc, b"Asset").expect(rt, "a keyword");
+    let keyword = Keyword::read(alloc, b"Asset").ok().expect(rt, "a keyword");
     let mut made = Allocation::new(alloc);
     made.push(alloc, keyword, Amount { brand: 0, value })
         .expect(rt, "memory for a row");
