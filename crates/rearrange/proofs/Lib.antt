@@ -8,3 +8,4 @@ pub mod Touching
 pub mod StagedRefusals
 pub mod Copies
 pub mod Worked
+pub mod Counts

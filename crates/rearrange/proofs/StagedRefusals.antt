@@ -15,4 +15,4 @@ staged_refused instance states seats none (TooMuch over) refused = (none, refuse
 staged_refused instance states seats none (NotConserved u) refused = (none, refused)
 staged_refused instance states seats none (NotOfferSafe seat) refused = (none, refused)
 staged_refused instance states seats none Limit refused = (none, refused)
-staged_refused instance states seats none NoMemory refused = (none, refused)
+staged_refused instance states seats none NoMemory refused = refused

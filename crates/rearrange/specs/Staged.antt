@@ -8,7 +8,7 @@ use Rattle.rearrange.specs.Plans.{IsPlanRefusal}
 use Rattle.rearrange.specs.Seats.{allocation_of, staged_refusal, state_of}
 use Rattle.rearrange.specs.Settled.{settled}
 use Rattle.rearrange.specs.declared.plans.PlanFault.{PlanFault}
-use Rattle.rearrange.specs.declared.plans.PlanFault.TheVariants.{Seats}
+use Rattle.rearrange.specs.declared.plans.PlanFault.TheVariants.{NoMemory, Seats}
 
 -- a seat that takes over rows
 abbrev pub touched_with : List SeatState → ℕ → List Row → Touched
@@ -24,6 +24,7 @@ staged_plan states seats = map (λ seat. touched_with states seat (rows_staged s
 -- the test over seats that fails, or none does, and the plan is refused
 abbrev pub IsStagedRefusal : ℕ → List SeatState → List ℕ → PlanFault → Type 0
 IsStagedRefusal instance states seats (Seats fault) = staged_refusal instance states seats ≡ Some fault
+IsStagedRefusal instance states seats NoMemory = Unit {0}
 IsStagedRefusal instance states seats fault = (staged_refusal instance states seats ≡ None) × IsPlanRefusal states (staged_plan states seats) fault
 
 -- rows of one keyword are of one brand and kind

@@ -1,10 +1,12 @@
 //! The tests over seats that come before any amount is looked at. Where several seats fail one, the least
 //! is shown.
 
-ghost use Rattle.std.specs.Prelude.{◌≡◌, Some, IfOk, option_copied};
+ghost use Rattle.std.specs.Prelude.{◌≡◌, Some, IfOk, IsPermutation, option_copied};
+ghost use Rattle.std.specs.List.Sorted.{IsNonDecreasing};
 ghost use Rattle.proposals.specs.Rows.{AreApart};
 ghost use Rattle.rearrange.specs.Seats as given;
 
+use crate::listed::{ascending, is_listed, is_repeated};
 use proposals::allocations::{Allocation, Row};
 use proposals::plans::SeatState;
 use std::alloc::{AllocError, Global};
@@ -68,19 +70,15 @@ fn has_exited(states: &[SeatState], seat: u32) -> bool
     state_of(states, seat).is_some_and(|state| !state.is_open)
 }
 
-fn is_repeated(seats: &[u32], seat: u32) -> bool
-    ensures { result ≡ given.is_repeated seats.now seat }
-{
-    seats.iter().filter(|other| **other == seat).count() > 1
-}
-
-fn is_left_out(instance: u32, seats: &[u32], state: &SeatState) -> bool
-    ensures { result ≡ given.is_left_out instance seats.now state.now }
+/// Whether an open seat of the instance with staging isn't among the seats, which ascend.
+fn is_left_out(instance: u32, sorted: &[u32], state: &SeatState) -> bool
+    requires { IsNonDecreasing sorted.now }
+    ensures { result ≡ given.is_left_out instance sorted.now state.now }
 {
     state.instance == instance
         && state.is_open
         && state.staged.is_some()
-        && !seats.contains(&state.seat)
+        && !is_listed(sorted, state.seat)
 }
 
 /// The lesser of what was the least so far and another seat.
@@ -119,37 +117,62 @@ fn least_exited(states: &[SeatState], seats: &[u32]) -> Option<u32>
     least
 }
 
+/// The least of the seats that stand more than once in the list that ascends.
 #[tactic(auto, using(proposals::proofs::Brands::least_of_three))]
-fn least_repeated(seats: &[u32]) -> Option<u32>
-    ensures { result ≡ given.least_such (given.is_repeated seats.now) seats.now }
+fn least_counted(seats: &[u32], sorted: &[u32]) -> Option<u32>
+    requires { IsNonDecreasing sorted.now }
+    ensures { result ≡ given.least_such (given.is_repeated sorted.now) seats.now }
 {
     let mut least = None;
     for seat in seats {
-        if is_repeated(seats, *seat) {
+        if is_repeated(sorted, *seat) {
             least = Some(lesser(least, *seat));
         }
     }
     least
 }
 
+fn least_repeated(seats: &[u32], sorted: &[u32]) -> Option<u32>
+    requires order { IsNonDecreasing sorted.now }
+    requires same { IsPermutation seats.now sorted.now }
+    ensures { result ≡ given.least_such (given.is_repeated seats.now) seats.now }
+{
+    least_counted(seats, sorted)
+}
+
+/// The least of the seats that are left out of a list that ascends.
 #[tactic(auto, using(proposals::proofs::Brands::least_of_three))]
-fn least_left_out(instance: u32, states: &[SeatState], seats: &[u32]) -> Option<u32>
-    ensures { result ≡ given.least (given.seats_such (given.is_left_out instance seats.now) states.now) }
+fn least_unlisted(instance: u32, states: &[SeatState], sorted: &[u32]) -> Option<u32>
+    requires { IsNonDecreasing sorted.now }
+    ensures { result ≡ given.least (given.seats_such (given.is_left_out instance sorted.now) states.now) }
 {
     let mut least = None;
     for state in states {
-        if is_left_out(instance, seats, state) {
+        if is_left_out(instance, sorted, state) {
             least = Some(lesser(least, state.seat));
         }
     }
     least
 }
 
-/// Why seats can't take over their staging, if they can't: a seat of another instance, fewer than two
-/// seats, one that is listed twice, one that has exited, an open one of the instance with staging that
-/// isn't listed; in this order, over all seats, each with the least that qualifies.
+fn least_left_out(instance: u32, states: &[SeatState], seats: &[u32], sorted: &[u32]) -> Option<u32>
+    requires order { IsNonDecreasing sorted.now }
+    requires same { IsPermutation seats.now sorted.now }
+    ensures { result ≡ given.least (given.seats_such (given.is_left_out instance seats.now) states.now) }
+{
+    least_unlisted(instance, states, sorted)
+}
+
+/// The tests over listed seats, where a copy of the list ascends.
 #[tactic(auto, unfolding(crate::specs::Seats::staged_refusal))]
-pub fn staged_refusal(instance: u32, states: &[SeatState], seats: &[u32]) -> Option<SeatsFault>
+fn first_fault(
+    instance: u32,
+    states: &[SeatState],
+    seats: &[u32],
+    sorted: &[u32],
+) -> Option<SeatsFault>
+    requires order { IsNonDecreasing sorted.now }
+    requires same { IsPermutation seats.now sorted.now }
     ensures { result ≡ given.staged_refusal instance states.now seats.now }
 {
     if let Some(seat) = least_foreign(instance, states, seats) {
@@ -158,13 +181,29 @@ pub fn staged_refusal(instance: u32, states: &[SeatState], seats: &[u32]) -> Opt
     if seats.len() < 2 {
         return Some(SeatsFault::OneSeat);
     }
-    if let Some(seat) = least_repeated(seats) {
+    if let Some(seat) = least_repeated(seats, sorted) {
         return Some(SeatsFault::RepeatedSeat(seat));
     }
     if let Some(seat) = least_exited(states, seats) {
         return Some(SeatsFault::SeatExited(seat));
     }
-    least_left_out(instance, states, seats).map(SeatsFault::StagedLeftOut)
+    least_left_out(instance, states, seats, sorted).map(SeatsFault::StagedLeftOut)
+}
+
+/// Why seats can't take over their staging, if they can't: a seat of another instance, fewer than two
+/// seats, one that is listed twice, one that has exited, an open one of the instance with staging that
+/// isn't listed; in this order, over all seats, each with the least that qualifies. The list is sorted
+/// for it, so that a long one costs little more than its length.
+pub fn staged_refusal(
+    alloc: Global,
+    instance: u32,
+    states: &[SeatState],
+    seats: &[u32],
+) -> Result<Option<SeatsFault>, AllocError>
+    ensures { IfOk result (λ refusal. refusal ≡ given.staged_refusal instance states.now seats.now) }
+{
+    let sorted = ascending(alloc, seats)?;
+    Ok(first_fault(instance, states, seats, sorted.as_slice()))
 }
 
 /// Why seats can't take part in transfers, if they can't: a seat of another instance, or one that has

@@ -1,6 +1,6 @@
 //! Reallocation: each listed seat takes over its staging, all together or none (Zoe's reallocate).
 
-ghost use Rattle.std.specs.Prelude.{◌≡◌, ◌≤◌, length, All, IfErr, IfOk, IfSome, IsOk, None};
+ghost use Rattle.std.specs.Prelude.{◌≡◌, ◌≤◌, length, All, IfErr, IfOk, IfSome, IsOk, None, OnOk};
 ghost use Rattle.proposals.specs.Rows.{AreApart, most_rows};
 ghost use Rattle.rearrange.specs.Safety.{AreSafe, MeetProposal};
 ghost use Rattle.rearrange.specs.Seats as given;
@@ -62,13 +62,28 @@ fn all_with_staging(
     Ok(list)
 }
 
+/// The tests over the listed seats.
+fn check_seats(
+    alloc: Global,
+    instance: u32,
+    states: &[SeatState],
+    seats: &[u32],
+) -> Result<(), PlanFault>
+    ensures ok { OnOk result (given.staged_refusal instance states.now seats.now ≡ None) }
+    ensures refused { IfErr result (IsStagedRefusal instance states.now seats.now) }
+{
+    match staged_refusal(alloc, instance, states, seats) {
+        Ok(None) => Ok(()),
+        Ok(Some(fault)) => Err(PlanFault::Seats(fault)),
+        Err(_) => Err(PlanFault::NoMemory),
+    }
+}
+
 /// The plan by which each listed seat takes over its staging (Zoe's reallocate; a seat that is listed
 /// without staging keeps what it has, own), or the first test that it fails: those over seats, then
 /// NotConserved, NotOfferSafe and Limit. The states are those of the listed seats and of every open seat
 /// of the instance with staging, for no other can be told as left out; a seat without state fails no test
 /// and has nothing. The plan has the seats in the order of the list; who carries it out writes by number.
-/// Whether a seat is listed twice takes the square of the number of seats, which a contract writes one by
-/// one in a text of at most 65,536 bytes.
 pub fn plan_staged(
     alloc: Global,
     instance: u32,
@@ -83,9 +98,7 @@ pub fn plan_staged(
     ensures few { IfOk result (All (λ t. length t.after ≤ most_rows)) }
     ensures refused { IfErr result (IsStagedRefusal instance states.now seats.now) }
 {
-    if let Some(fault) = staged_refusal(instance, states, seats) {
-        return Err(PlanFault::Seats(fault));
-    }
+    check_seats(alloc, instance, states, seats)?;
     let Ok(list) = all_with_staging(alloc, states, seats) else {
         return Err(PlanFault::NoMemory);
     };

@@ -9,6 +9,7 @@ ghost use Rattle.rearrange.specs.Sums.{AreConserved, all_touched, touched_of};
 ghost use Rattle.rearrange.specs.Transfers as lists;
 ghost use Rattle.rearrange.specs.Working.{CanSettle, rows_now};
 
+use crate::listed::once;
 use crate::plans::{PlanFault, plan_of};
 use crate::seats::{allocation_of, transfers_refusal};
 use crate::settled::settled;
@@ -38,29 +39,6 @@ fn seats_named(alloc: Global, list: &[Transfer]) -> Result<Vec<u32>, AllocError>
         add_seat(&mut seats, transfer.to)?;
     }
     Ok(seats)
-}
-
-/// Puts a seat behind the others, unless it is among them.
-fn add_once(seats: &mut Vec<u32>, seat: u32) -> Result<(), AllocError>
-    ensures { OnOk result (seats.new.items ≡ lists.with_seat seats.old.items seat) }
-{
-    if seats.contains(&seat) {
-        return Ok(());
-    }
-    seats.push(seat)?;
-    Ok(())
-}
-
-/// Seats in the order in which they first stand, each once. It takes the number of seats times that of
-/// different ones, which are open seats of one instance.
-fn once(alloc: Global, seats: &[u32]) -> Result<Vec<u32>, AllocError>
-    ensures { IfOk result (λ all. all.items ≡ lists.once seats.now) }
-{
-    let mut all = Vec::new(alloc);
-    for seat in seats {
-        add_once(&mut all, *seat)?;
-    }
-    Ok(all)
 }
 
 /// A seat that takes over rows.
