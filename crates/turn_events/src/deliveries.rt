@@ -5,11 +5,11 @@ ghost use Rattle.turn_records.specs.Deliveries.{promise_of};
 ghost use Rattle.turn_events.specs.Views.{delivery_view};
 
 use crate::messages::{LineCall, LineGift};
-use call_data::refusals::Refusal;
 use host_text::label::Label;
 use host_text::text::Text;
 use jessie_tree::data::{Data, Obj};
 use promise_store::Settlement;
+use refusals::codes::Refusal;
 
 /// Who calls.
 #[derive(Drop)]

@@ -6,12 +6,12 @@ ghost use Rattle.turn_records.specs.Events.{move_in};
 ghost use Rattle.turn_events.specs.Logs.{promise_settled, seat_left, seat_opened};
 ghost use Rattle.turn_events.specs.Views.{event_view};
 
-use call_data::refusals::Refusal;
 use host_text::keyword::Keyword;
 use host_text::text::Text;
 use jessie_tree::data::{Data, Obj};
 use promise_store::Settlement;
 use proposals::offers::Proposal;
+use refusals::codes::Refusal;
 use rights_model::Movement;
 
 /// What a turn, or the host's part of a call, comes to.
@@ -22,7 +22,7 @@ pub enum Answer {
     /// What a contract's function threw.
     Threw(Data),
     /// The meter that a contract's function spent.
-    Spent(u64),
+    Spent(u32),
 }
 
 /// How a contract calls.

@@ -1,13 +1,13 @@
 -- No row nests deep.
 use Rattle.std.proofs.Common.{◌≡◌, ◌≤◌, ◌^◌, ℕ, List, [], ◌∷◌, Bool, true, false, nat_lt, refl, arith}
 use Rattle.serde_json.specs.Data.{depth, items_depth, members_depth}
-use Rattle.call_data.specs.Refusals.{shown_by}
 use Rattle.data_rows.proofs.Depth.{data_depth}
 use Rattle.data_rows.specs.Printed as data_rows
 use Rattle.data_rows.specs.Printable.{IsPrintable}
 use Rattle.data_rows.specs.Values.{printed_value}
 use Rattle.jessie_tree.specs.Tree.{Tree}
 use Rattle.promise_store.specs.States.{SettlementView, broken, ok}
+use Rattle.refusals.specs.Codes.{shown_by, shown_trees}
 use Rattle.turn_rows.specs.Rows.{amounts_json, answer_json, element_json, elements_json, event_row, exit_rule_json, number_json, payouts_json, settlement_json, value_json}
 use Rattle.turn_rows.specs.Turns as rows
 use Rattle.turn_rows.specs.Turns.{Element, ExitRule, KeywordAmount, Payout, Value}
@@ -24,7 +24,7 @@ trees_depth (t ∷ ts) h = omega (arith, tree_depth t h.0, trees_depth ts h.1)
 
 pub answer_depth : (a : Answer) → IsTellableAnswer a → depth (answer_json (printed_answer a)) ≤ 40
 answer_depth (given t) h = omega (arith, tree_depth t h)
-answer_depth (refused r) h = omega (arith, trees_depth (shown_by r) h)
+answer_depth (refused r) h = omega (arith, trees_depth (shown_trees (shown_by r)) h)
 answer_depth (threw t) h = omega (arith, tree_depth t h)
 answer_depth (spent meter) h = omega arith
 

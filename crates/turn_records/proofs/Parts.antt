@@ -2,9 +2,6 @@
 use Rattle.std.proofs.Common.{◌≡◌, ◌<◌, ◌^◌, ℕ, pos, List, [], ◌∷◌, Bool, true, false, nat_lt, length, codes, Option, Some, None, inl, inr, refl, sym, subst, arith}
 use Rattle.std.specs.Str.{IsUtf8}
 use Rattle.serde_json.specs.Data as json
-use Rattle.call_data.specs.Refusals.{code_of, shown_by}
-use Rattle.call_data.specs.declared.refusals.Refusal.{Refusal}
-use Rattle.call_data.specs.declared.refusals.Refusal.TheVariants.{BadLine}
 use Rattle.data_rows.proofs.Form.{data_is}
 use Rattle.data_rows.specs.Names.{object_name}
 use Rattle.data_rows.specs.Printed.{printed_number}
@@ -15,6 +12,15 @@ use Rattle.jessie_tree.specs.declared.data.Obj.{Obj}
 use Rattle.jessie_tree.specs.declared.data.ObjKind.{ObjKind}
 use Rattle.jessie_tree.specs.declared.data.ObjKind.TheVariants.{Facet, Instance, Promise, Seat, Timer, Zseat}
 use Rattle.promise_store.specs.States.{SettlementView, broken, ok}
+use Rattle.refusals.specs.Codes.{bare_name, code_of, number_name, shown_by, shown_trees, text_name}
+use Rattle.refusals.specs.declared.codes.BareCode.{BareCode}
+use Rattle.refusals.specs.declared.codes.BareCode.TheVariants.{BadLine}
+use Rattle.refusals.specs.declared.codes.NumberCode.{NumberCode}
+use Rattle.refusals.specs.declared.codes.NumberCode.TheVariants.{BadArgs}
+use Rattle.refusals.specs.declared.codes.Refusal.{Refusal}
+use Rattle.refusals.specs.declared.codes.Refusal.TheVariants.{Bare, Numbered, Worded, Overlap, NotEnough, TooMuch, WrongAmount, NotConserved, Backwards, TextRefused}
+use Rattle.refusals.specs.declared.codes.TextCode.{TextCode}
+use Rattle.refusals.specs.declared.codes.TextCode.TheVariants.{BadField}
 use Rattle.turn_rows.specs.Form.{AreData, HasAnswerForm, HasCallForm, HasSettlementForm, IsAnyData, IsCalled, IsCaller, IsData, IsDelivered, IsNotice, IsNumbered, IsObjectName, IsOneItem, IsOneOf, IsTime, AreTwoItems, objects_end, refusal_codes, times_end}
 use Rattle.turn_rows.specs.Kinds as kinds
 use Rattle.turn_rows.specs.Kinds.{How}
@@ -70,13 +76,33 @@ pub data_are : (ts : List Tree) → ArePrintable ts → AreData (printed_trees t
 data_are [] h = tt
 data_are (t ∷ ts) h = (data_is 0 t h.0, data_are ts h.1)
 
+bare_is : (c : BareCode) → IsOneOf refusal_codes (bare_name c)
+bare_is BadLine = refl
+bare_is _ = refl
+
+number_is : (c : NumberCode) → IsOneOf refusal_codes (number_name c)
+number_is BadArgs = refl
+number_is _ = refl
+
+text_is : (c : TextCode) → IsOneOf refusal_codes (text_name c)
+text_is BadField = refl
+text_is _ = refl
+
 code_is : (r : Refusal) → IsOneOf refusal_codes (code_of r)
-code_is BadLine = refl
-code_is _ = refl
+code_is (Bare code) = bare_is code
+code_is (Numbered code n) = number_is code
+code_is (Worded code t) = text_is code
+code_is (Overlap key) = refl
+code_is (NotEnough short) = refl
+code_is (TooMuch sum bound) = refl
+code_is (WrongAmount values) = refl
+code_is (NotConserved unkept) = refl
+code_is (Backwards now earlier) = refl
+code_is (TextRefused place reason) = refl
 
 pub answer_is : (a : Answer) → IsTellableAnswer a → HasAnswerForm (printed_answer a)
 answer_is (given t) h = data_is 0 t h
-answer_is (refused r) h = (code_is r, data_are (shown_by r) h)
+answer_is (refused r) h = (code_is r, data_are (shown_trees (shown_by r)) h)
 answer_is (threw t) h = data_is 0 t h
 answer_is (spent meter) h = h
 

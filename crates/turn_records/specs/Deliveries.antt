@@ -1,9 +1,9 @@
 -- What is delivered: what waits in the queue, and what is read for it when its turn comes.
 use Rattle.std.specs.Prelude.{ℕ, List, Option, Some, None}
-use Rattle.call_data.specs.declared.refusals.Refusal.{Refusal}
 use Rattle.jessie_tree.specs.Tree.{Tree}
 use Rattle.jessie_tree.specs.declared.data.Obj.{Obj}
 use Rattle.promise_store.specs.States.{SettlementView}
+use Rattle.refusals.specs.declared.codes.Refusal.{Refusal}
 use Rattle.turn_records.specs.Messages.{LineGift, LineCall}
 
 -- who calls: a party by its name, or an instance by its number

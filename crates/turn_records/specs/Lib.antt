@@ -4,3 +4,4 @@ pub mod Events
 pub mod Turns
 pub mod Printed
 pub mod Tellable
+pub mod Endings

@@ -2,9 +2,7 @@
 use Rattle.std.specs.Prelude.{ℕ, List, [], ◌∷◌, map, Option, codes, true, false, nat_lt, if◌then◌else◌}
 use Rattle.std.specs.Option.{option_map_or}
 use Rattle.serde_json.specs.Data as json
-use Rattle.call_data.specs.Refusals.{code_of, shown_by}
 use Rattle.call_data.specs.Values.{number_tree}
-use Rattle.call_data.specs.declared.refusals.Refusal.{Refusal}
 use Rattle.data_rows.specs.Names.{object_name}
 use Rattle.data_rows.specs.Printable.{most_nested}
 use Rattle.data_rows.specs.Printed.{printed_items}
@@ -19,6 +17,8 @@ use Rattle.promise_store.specs.States.{SettlementView, broken, ok}
 use Rattle.proposals.specs.declared.allocations.Row.{Row}
 use Rattle.proposals.specs.declared.offers.Exit as offered
 use Rattle.proposals.specs.declared.offers.Exit.TheVariants.{AfterDeadline, OnDemand, Waived}
+use Rattle.refusals.specs.Codes.{code_of, shown_by, shown_trees}
+use Rattle.refusals.specs.declared.codes.Refusal.{Refusal}
 use Rattle.rights_model.specs.declared.Movement.{Movement}
 use Rattle.turn_rows.specs.Kinds as kinds
 use Rattle.turn_rows.specs.Kinds.{Kind}
@@ -47,7 +47,7 @@ abbrev pub printed_trees : List Tree → json.Items
 printed_trees ts = printed_items (items_of ts)
 
 abbrev pub printed_refusal : Refusal → rows.Answer
-printed_refusal r = rows.refused (code_of r) (printed_trees (shown_by r))
+printed_refusal r = rows.refused (code_of r) (printed_trees (shown_trees (shown_by r)))
 
 abbrev pub printed_answer : Answer → rows.Answer
 printed_answer (given t) = rows.ok (data_rows.printed t)

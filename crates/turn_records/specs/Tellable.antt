@@ -4,7 +4,6 @@ use Rattle.std.specs.List.{AllByRecursion}
 use Rattle.std.specs.Str.{IsUtf8}
 use Rattle.host_text.specs.Words.{is_field_name, is_keyword, is_label}
 use Rattle.amount_math.specs.Worth.{IsValue, Worth}
-use Rattle.call_data.specs.Refusals.{shown_by}
 use Rattle.data_rows.specs.Names.{numbers_end}
 use Rattle.data_rows.specs.Printable.{IsPrintable}
 use Rattle.data_rows.specs.Values.{HasTexts}
@@ -15,6 +14,7 @@ use Rattle.promise_store.specs.States.{SettlementView, broken, ok}
 use Rattle.proposals.specs.declared.allocations.Row.{Row}
 use Rattle.proposals.specs.declared.offers.Exit as offered
 use Rattle.proposals.specs.declared.offers.Exit.TheVariants.{AfterDeadline, OnDemand, Waived}
+use Rattle.refusals.specs.Codes.{shown_by, shown_trees}
 use Rattle.rights_model.specs.declared.Movement.{Movement}
 use Rattle.turn_rows.specs.Form.{HasHolderForm, HasSumForm, IsAnswerOf, IsCallAnswer, IsParty, MayStand, brands_end, most_keywords, objects_end, runs_function, times_end}
 use Rattle.turn_rows.specs.Kinds as kinds
@@ -38,7 +38,7 @@ IsFunctionText name = is_field_name name ≡ true
 
 abbrev pub IsTellableAnswer : Answer → Type 0
 IsTellableAnswer (given t) = IsPrintable t
-IsTellableAnswer (refused r) = ArePrintable (shown_by r)
+IsTellableAnswer (refused r) = ArePrintable (shown_trees (shown_by r))
 IsTellableAnswer (threw t) = IsPrintable t
 IsTellableAnswer (spent meter) = meter < 2 ^ 64
 
