@@ -1,2 +1,3 @@
 pub mod JsonRows
 pub mod Notices
+pub mod Texts

@@ -1,15 +1,16 @@
 //! The rows of what happens in a turn.
 
-ghost use Rattle.std.specs.Prelude.{◌≡◌, IfOk, codes, string_bytes};
+ghost use Rattle.std.specs.Prelude.{◌≡◌, codes};
 ghost use Rattle.serde_json.specs.Data.{object, string};
-ghost use Rattle.serde_json.specs.View.{view};
 ghost use Rattle.data_rows.specs.Values.{printed_value};
 ghost use Rattle.promise_store.specs.States.{settlement_view};
 ghost use Rattle.turn_rows.specs.Causes as causes;
 ghost use Rattle.turn_rows.specs.Kinds as kinds;
-ghost use Rattle.turn_rows.specs.Rows.{amount_json, amounts_json, brand_name, call_row, event_row, exit_row, exit_rule_json, move_row, only, open_row, payouts_json, settle_row, value_json};
-ghost use Rattle.turn_records.specs.Printed.{called_on, printed_call, printed_event, printed_exit, printed_move, printed_opening, printed_payouts, printed_rows, printed_rule, printed_settlement};
+ghost use Rattle.turn_rows.specs.Rows.{amount_json, amounts_json, brand_name, call_row, event_row, exit_row, exit_rule_json, move_row, only, open_row, payouts_json, value_json};
+ghost use Rattle.turn_records.specs.Printed.{called_on, printed_call, printed_event, printed_exit, printed_move, printed_opening, printed_payouts, printed_rows, printed_rule};
 ghost use Rattle.turn_events.specs.Views.{call_view, cause_view, event_view, how_view, leaving_view, opening_view, payout_views};
+ghost use Rattle.turn_writer.specs.JsonRows.{IsJson, IsText};
+ghost use Rattle.turn_writer.specs.Texts.{settled_row};
 
 use crate::answers::{answer_value, settlement_value};
 use crate::json_row::{JsonRow, only_field};
@@ -53,7 +54,7 @@ fn cause_word(cause: Cause) -> &'static str
 
 /// The name of what is called: none where a facet is made.
 fn called_text(alloc: Global, on: Option<Obj>) -> Result<String, AllocError>
-    ensures { IfOk result (λ name. string_bytes name ≡ called_on on) }
+    ensures { IsText result (called_on on) }
 {
     match on {
         Some(object) => object_name(alloc, object),
@@ -62,7 +63,7 @@ fn called_text(alloc: Global, on: Option<Obj>) -> Result<String, AllocError>
 }
 
 fn call_value(alloc: Global, call: &Call) -> Result<Value, AllocError>
-    ensures { IfOk result (λ v. view v ≡ call_row (printed_call (call_view call.now))) }
+    ensures { IsJson result (call_row (printed_call (call_view call.now))) }
 {
     JsonRow::new(alloc)
         .value("answer", answer_value(alloc, &call.answer))
@@ -75,7 +76,7 @@ fn call_value(alloc: Global, call: &Call) -> Result<Value, AllocError>
 }
 
 fn exit_rule_value(alloc: Global, exit: Exit) -> Result<Value, AllocError>
-    ensures { IfOk result (λ v. view v ≡ exit_rule_json (printed_rule exit)) }
+    ensures { IsJson result (exit_rule_json (printed_rule exit)) }
 {
     match exit {
         Exit::OnDemand => Value::try_from_str(alloc, "onDemand"),
@@ -89,7 +90,7 @@ fn exit_rule_value(alloc: Global, exit: Exit) -> Result<Value, AllocError>
 
 /// A value of a brand.
 fn held_value(alloc: Global, held: &Held) -> Result<Value, AllocError>
-    ensures { IfOk result (λ v. view v ≡ value_json (printed_value held.now)) }
+    ensures { IsJson result (value_json (printed_value held.now)) }
 {
     let held = value_data(alloc, held)?;
     data_value(alloc, &held)
@@ -97,7 +98,7 @@ fn held_value(alloc: Global, held: &Held) -> Result<Value, AllocError>
 
 /// `{"@":"brand1"}`
 fn brand_value(alloc: Global, brand: u16) -> Result<Value, AllocError>
-    ensures { IfOk result (λ v. view v ≡ only (codes "@") (string (brand_name brand))) }
+    ensures { IsJson result (only (codes "@") (string (brand_name brand))) }
 {
     let name = brand_text(alloc, brand)?;
     only_field(alloc, "@", Value::String(name))
@@ -105,7 +106,7 @@ fn brand_value(alloc: Global, brand: u16) -> Result<Value, AllocError>
 
 /// An amount: the brand's name and the value.
 fn amount_value(alloc: Global, amount: &Amount) -> Result<Value, AllocError>
-    ensures { IfOk result (λ v. view v ≡ amount_json amount.now.brand (printed_value amount.now.value)) }
+    ensures { IsJson result (amount_json amount.now.brand (printed_value amount.now.value)) }
 {
     JsonRow::new(alloc)
         .value("brand", brand_value(alloc, amount.brand))
@@ -115,7 +116,7 @@ fn amount_value(alloc: Global, amount: &Amount) -> Result<Value, AllocError>
 
 /// The amounts of rows, under their keywords.
 fn amounts_value(alloc: Global, rows: &[Row]) -> Result<Value, AllocError>
-    ensures { IfOk result (λ v. view v ≡ object (amounts_json (printed_rows rows.now))) }
+    ensures { IsJson result (object (amounts_json (printed_rows rows.now))) }
 {
     let mut values = Map::new(alloc);
     let mut left = rows.len();
@@ -129,7 +130,7 @@ fn amounts_value(alloc: Global, rows: &[Row]) -> Result<Value, AllocError>
 }
 
 fn open_value(alloc: Global, opening: &Opening) -> Result<Value, AllocError>
-    ensures { IfOk result (λ v. view v ≡ open_row (printed_opening (opening_view opening.now))) }
+    ensures { IsJson result (open_row (printed_opening (opening_view opening.now))) }
 {
     let proposal = &opening.proposal;
     JsonRow::new(alloc)
@@ -143,7 +144,7 @@ fn open_value(alloc: Global, opening: &Opening) -> Result<Value, AllocError>
 }
 
 fn move_value(alloc: Global, movement: &Movement) -> Result<Value, AllocError>
-    ensures { IfOk result (λ v. view v ≡ move_row (printed_move movement.now)) }
+    ensures { IsJson result (move_row (printed_move movement.now)) }
 {
     JsonRow::new(alloc)
         .string("brand", brand_text(alloc, movement.brand))
@@ -156,7 +157,7 @@ fn move_value(alloc: Global, movement: &Movement) -> Result<Value, AllocError>
 
 /// The names of payments, under their keywords.
 fn payouts_value(alloc: Global, payouts: &[Payout]) -> Result<Value, AllocError>
-    ensures { IfOk result (λ v. view v ≡ object (payouts_json (printed_payouts (payout_views payouts.now)))) }
+    ensures { IsJson result (object (payouts_json (printed_payouts (payout_views payouts.now)))) }
 {
     let mut values = Map::new(alloc);
     let mut left = payouts.len();
@@ -175,7 +176,7 @@ fn payouts_value(alloc: Global, payouts: &[Payout]) -> Result<Value, AllocError>
 }
 
 fn exit_value(alloc: Global, leaving: &Leaving) -> Result<Value, AllocError>
-    ensures { IfOk result (λ v. view v ≡ exit_row (printed_exit (leaving_view leaving.now))) }
+    ensures { IsJson result (exit_row (printed_exit (leaving_view leaving.now))) }
 {
     JsonRow::new(alloc)
         .text("cause", cause_word(leaving.cause))
@@ -186,7 +187,7 @@ fn exit_value(alloc: Global, leaving: &Leaving) -> Result<Value, AllocError>
 }
 
 fn settle_value(alloc: Global, promise: u32, settlement: &Settlement) -> Result<Value, AllocError>
-    ensures { IfOk result (λ v. view v ≡ settle_row promise (printed_settlement (settlement_view settlement.now))) }
+    ensures { IsJson result (settled_row promise (settlement_view settlement.now)) }
 {
     JsonRow::new(alloc)
         .number("promise", promise)
@@ -197,7 +198,7 @@ fn settle_value(alloc: Global, promise: u32, settlement: &Settlement) -> Result<
 
 /// The row of an event.
 pub fn event_value(alloc: Global, event: &Event) -> Result<Value, AllocError>
-    ensures { IfOk result (λ v. view v ≡ event_row (printed_event (event_view event.now))) }
+    ensures { IsJson result (event_row (printed_event (event_view event.now))) }
 {
     match event {
         Event::Called(call) => call_value(alloc, call),

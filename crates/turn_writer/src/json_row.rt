@@ -1,11 +1,11 @@
 //! An object of JSON that is made field by field, as each row is. Its one contract: the object has the
 //! fields that were put, each under its name; for want of memory there is no object.
 
-ghost use Rattle.std.specs.Prelude.{◌≡◌, ◌∷◌, [], List, ℕ, IfOk, string_bytes};
-ghost use Rattle.serde_json.specs.Data.{Data, Members, number as json_number, object, put as with_member, string as json_string, unsigned};
-ghost use Rattle.serde_json.specs.View.{members_view, view};
+ghost use Rattle.std.specs.Prelude.{◌≡◌, [], List, ℕ};
+ghost use Rattle.serde_json.specs.Data.{object, string as json_string};
+ghost use Rattle.serde_json.specs.View.{view};
 ghost use Rattle.turn_rows.specs.Rows.{only};
-ghost use Rattle.turn_writer.specs.JsonRows.{Field, HasFields, members_of};
+ghost use Rattle.turn_writer.specs.JsonRows.{Field, HasFields, IsJson, IsText, Puts, PutsMember, PutsNumber, PutsText, fields_json};
 
 use serde_json::{Map, Value, json, put};
 use std::alloc::{AllocError, Global};
@@ -30,7 +30,7 @@ impl JsonRow {
 
     /// Puts a field.
     pub fn value(self, name: &str, value: Result<Value, AllocError>) -> JsonRow
-        ensures { (fields : List Field) (d : Data) → HasFields self fields → IfOk value (λ v. view v ≡ d) → HasFields result ((name.now, d) ∷ fields) }
+        ensures { Puts self (IsJson value) result name.now }
     {
         let alloc = self.alloc;
         JsonRow {
@@ -41,7 +41,7 @@ impl JsonRow {
 
     /// Puts a field with a text.
     pub fn text(self, name: &str, text: &str) -> JsonRow
-        ensures { (fields : List Field) (s : List ℕ) → HasFields self fields → text.now ≡ s → HasFields result ((name.now, json_string s) ∷ fields) }
+        ensures { PutsText self (λ s. text.now ≡ s) result name.now }
     {
         let value = Value::try_from_str(self.alloc, text);
         self.value(name, value)
@@ -49,28 +49,28 @@ impl JsonRow {
 
     /// Puts a field with a text that was made for it.
     pub fn string(self, name: &str, text: Result<String, AllocError>) -> JsonRow
-        ensures { (fields : List Field) (s : List ℕ) → HasFields self fields → IfOk text (λ t. string_bytes t ≡ s) → HasFields result ((name.now, json_string s) ∷ fields) }
+        ensures { PutsText self (IsText text) result name.now }
     {
         self.value(name, string_value(text))
     }
 
     /// Puts a field with a number.
     pub fn number(self, name: &str, number: u32) -> JsonRow
-        ensures { (fields : List Field) → HasFields self fields → HasFields result ((name.now, json_number (unsigned number)) ∷ fields) }
+        ensures { PutsNumber self number result name.now }
     {
         self.value(name, Ok(Value::from(number)))
     }
 
     /// The object, once its fields were put.
     pub fn finish(self) -> Result<Value, AllocError>
-        ensures { (fields : List Field) → HasFields self fields → IfOk result (λ v. view v ≡ object (members_of fields)) }
+        ensures { (fields : List Field) → HasFields self fields → IsJson result (fields_json fields) }
     {
         Ok(Value::Object(self.made?))
     }
 }
 
 fn string_value(text: Result<String, AllocError>) -> Result<Value, AllocError>
-    ensures { (s : List ℕ) → IfOk text (λ t. string_bytes t ≡ s) → IfOk result (λ v. view v ≡ json_string s) }
+    ensures { (s : List ℕ) → IsText text s → IsJson result (json_string s) }
 {
     Ok(Value::String(text?))
 }
@@ -81,7 +81,7 @@ fn with_field(
     name: &str,
     value: Result<Value, AllocError>,
 ) -> Result<Map<String, Value>, AllocError>
-    ensures { (members : Members) (d : Data) → IfOk row (λ made. members_view made.entries ≡ members) → IfOk value (λ v. view v ≡ d) → IfOk result (λ made. members_view made.entries ≡ with_member name.now d members) }
+    ensures { PutsMember row value result name.now }
 {
     let mut row = row?;
     put(&mut row, alloc, name, value?)?;
@@ -90,7 +90,7 @@ fn with_field(
 
 /// An object of one field.
 pub fn only_field(alloc: Global, name: &str, value: Value) -> Result<Value, AllocError>
-    ensures { IfOk result (λ v. view v ≡ only name.now (view value)) }
+    ensures { IsJson result (only name.now (view value)) }
 {
     json!(in alloc; {name: value})
 }

@@ -3,14 +3,16 @@
 //! printed turn; for want of memory nothing is written.
 #![tactic(auto)]
 
-ghost use Rattle.std.specs.Prelude.{◌≡◌, ◌++◌, false, map, IfOk, OnOk, string_bytes};
+ghost use Rattle.std.specs.Prelude.{◌≡◌, false};
 ghost use Rattle.std.specs.List.{flat_map};
 ghost use Rattle.serde_json.specs.View.{view};
 ghost use Rattle.serde_json.specs.Written.{has_float};
-ghost use Rattle.turn_rows.specs.Rows.{close_row, event_row, rows_of, sum_row, turn_row};
+ghost use Rattle.turn_rows.specs.Rows.{close_row, rows_of, sum_row, turn_row};
 ghost use Rattle.turn_rows.specs.Texts.{row_text};
-ghost use Rattle.turn_records.specs.Printed.{printed, printed_event};
+ghost use Rattle.turn_records.specs.Printed.{printed};
 ghost use Rattle.turn_events.specs.Views.{event_view, event_views, turn_view};
+ghost use Rattle.turn_writer.specs.JsonRows.{Adds, IsJson, IsText};
+ghost use Rattle.turn_writer.specs.Texts.{event_text, events_text, sums_text};
 
 mod answers;
 mod event_rows;
@@ -29,7 +31,7 @@ use turn_events::turns::TurnRecord;
 use turn_row::turn_value;
 
 fn sum_value(alloc: Global, sum: &Sum) -> Result<Value, AllocError>
-    ensures { IfOk result (λ v. view v ≡ sum_row sum.now) }
+    ensures { IsJson result (sum_row sum.now) }
 {
     JsonRow::new(alloc)
         .string("brand", brand_text(alloc, sum.brand))
@@ -46,7 +48,7 @@ fn sum_value(alloc: Global, sum: &Sum) -> Result<Value, AllocError>
 #[tactic(auto, unfolding(turn_rows::specs::Texts::row_text))]
 fn push_row(alloc: Global, text: &mut String, row: &Value) -> Result<(), AllocError>
     requires { has_float (view row.now) ≡ false }
-    ensures { OnOk result (string_bytes text.new ≡ string_bytes text.old ++ row_text (view row.now)) }
+    ensures { Adds result text.old text.new (row_text (view row.now)) }
 {
     let line = row.to_string(alloc)?;
     text.push_str(line.as_str())?;
@@ -55,14 +57,14 @@ fn push_row(alloc: Global, text: &mut String, row: &Value) -> Result<(), AllocEr
 }
 
 fn push_event(alloc: Global, text: &mut String, event: &Event) -> Result<(), AllocError>
-    ensures { OnOk result (string_bytes text.new ≡ string_bytes text.old ++ row_text (event_row (printed_event (event_view event.now)))) }
+    ensures { Adds result text.old text.new (event_text (event_view event.now)) }
 {
     let row = event_value(alloc, event)?;
     push_row(alloc, text, &row)
 }
 
 fn push_events(alloc: Global, text: &mut String, events: &[Event]) -> Result<(), AllocError>
-    ensures { OnOk result (string_bytes text.new ≡ string_bytes text.old ++ flat_map row_text (map event_row (map printed_event (event_views events.now)))) }
+    ensures { Adds result text.old text.new (events_text (event_views events.now)) }
 {
     for event in events {
         push_event(alloc, text, event)?;
@@ -71,14 +73,14 @@ fn push_events(alloc: Global, text: &mut String, events: &[Event]) -> Result<(),
 }
 
 fn push_sum(alloc: Global, text: &mut String, sum: &Sum) -> Result<(), AllocError>
-    ensures { OnOk result (string_bytes text.new ≡ string_bytes text.old ++ row_text (sum_row sum.now)) }
+    ensures { Adds result text.old text.new (row_text (sum_row sum.now)) }
 {
     let row = sum_value(alloc, sum)?;
     push_row(alloc, text, &row)
 }
 
 fn push_sums(alloc: Global, text: &mut String, sums: &[Sum]) -> Result<(), AllocError>
-    ensures { OnOk result (string_bytes text.new ≡ string_bytes text.old ++ flat_map row_text (map sum_row sums.now)) }
+    ensures { Adds result text.old text.new (sums_text sums.now) }
 {
     for sum in sums {
         push_sum(alloc, text, sum)?;
@@ -87,7 +89,7 @@ fn push_sums(alloc: Global, text: &mut String, sums: &[Sum]) -> Result<(), Alloc
 }
 
 fn push_turn_row(alloc: Global, text: &mut String, turn: &TurnRecord) -> Result<(), AllocError>
-    ensures { OnOk result (string_bytes text.new ≡ string_bytes text.old ++ row_text (turn_row (printed (turn_view turn.now)))) }
+    ensures { Adds result text.old text.new (row_text (turn_row (printed (turn_view turn.now)))) }
 {
     let row = turn_value(alloc, turn)?;
     push_row(alloc, text, &row)
@@ -95,7 +97,7 @@ fn push_turn_row(alloc: Global, text: &mut String, turn: &TurnRecord) -> Result<
 
 /// The rows of a turn: the turn row, the rows of what happened as it happened, and the sums.
 pub fn write_turn(alloc: Global, turn: &TurnRecord) -> Result<String, AllocError>
-    ensures { IfOk result (λ text. string_bytes text ≡ flat_map row_text (rows_of (printed (turn_view turn.now)))) }
+    ensures { IsText result (flat_map row_text (rows_of (printed (turn_view turn.now)))) }
 {
     let mut text = String::new(alloc);
     push_turn_row(alloc, &mut text, turn)?;
@@ -105,7 +107,7 @@ pub fn write_turn(alloc: Global, turn: &TurnRecord) -> Result<String, AllocError
 }
 
 fn close_value(alloc: Global, left: u64, turns: u32) -> Result<Value, AllocError>
-    ensures { IfOk result (λ v. view v ≡ close_row left turns) }
+    ensures { IsJson result (close_row left turns) }
 {
     JsonRow::new(alloc)
         .value("left", Ok(Value::from(left)))
@@ -116,7 +118,7 @@ fn close_value(alloc: Global, left: u64, turns: u32) -> Result<Value, AllocError
 
 /// The close row: how many deliveries are left, and how many turns were run.
 pub fn write_close(alloc: Global, left: u64, turns: u32) -> Result<String, AllocError>
-    ensures { IfOk result (λ text. string_bytes text ≡ row_text (close_row left turns)) }
+    ensures { IsText result (row_text (close_row left turns)) }
 {
     let mut text = String::new(alloc);
     let row = close_value(alloc, left, turns)?;

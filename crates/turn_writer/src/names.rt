@@ -1,8 +1,9 @@
 //! The names that rows have.
 
-ghost use Rattle.std.specs.Prelude.{◌≡◌, IfOk, decimal, string_bytes};
+ghost use Rattle.std.specs.Prelude.{decimal};
 ghost use Rattle.turn_records.specs.Printed.{named};
 ghost use Rattle.turn_rows.specs.Rows.{brand_name, holder_name, instance_name, payment_name};
+ghost use Rattle.turn_writer.specs.JsonRows.{IsText};
 
 use data_rows::object_name;
 use jessie_tree::data::{Obj, ObjKind};
@@ -11,35 +12,35 @@ use std::alloc::{AllocError, Global};
 
 /// The name of the object of a kind and a number.
 pub fn numbered_name(alloc: Global, kind: ObjKind, number: u32) -> Result<String, AllocError>
-    ensures { IfOk result (λ name. string_bytes name ≡ named kind number) }
+    ensures { IsText result (named kind number) }
 {
     object_name(alloc, Obj { kind, number })
 }
 
 /// `brand1`
 pub fn brand_text(alloc: Global, brand: u16) -> Result<String, AllocError>
-    ensures { IfOk result (λ name. string_bytes name ≡ brand_name brand) }
+    ensures { IsText result (brand_name brand) }
 {
     format!(in alloc; "brand{}", brand)
 }
 
 /// `instance0`
 pub fn instance_text(alloc: Global, instance: u32) -> Result<String, AllocError>
-    ensures { IfOk result (λ name. string_bytes name ≡ instance_name instance) }
+    ensures { IsText result (instance_name instance) }
 {
     format!(in alloc; "instance{}", instance)
 }
 
 /// `payment3`
 pub fn payment_text(alloc: Global, payment: u32) -> Result<String, AllocError>
-    ensures { IfOk result (λ name. string_bytes name ≡ payment_name payment) }
+    ensures { IsText result (payment_name payment) }
 {
     format!(in alloc; "payment{}", payment)
 }
 
 /// `purse0`, `payment3`, `seat4.Price`, `hand`, `outside`
 pub fn holder_text(alloc: Global, holder: &Holder) -> Result<String, AllocError>
-    ensures { IfOk result (λ name. string_bytes name ≡ holder_name holder.now) }
+    ensures { IsText result (holder_name holder.now) }
 {
     match holder {
         Holder::Purse(number) => format!(in alloc; "purse{}", *number),
@@ -52,7 +53,7 @@ pub fn holder_text(alloc: Global, holder: &Holder) -> Result<String, AllocError>
 
 /// A total, as a text.
 pub fn decimal_text(alloc: Global, total: u128) -> Result<String, AllocError>
-    ensures { IfOk result (λ text. string_bytes text ≡ decimal total) }
+    ensures { IsText result (decimal total) }
 {
     format!(in alloc; "{}", total)
 }

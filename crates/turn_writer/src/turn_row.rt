@@ -1,6 +1,6 @@
 //! The turn row: what was delivered, and what it came to.
 
-ghost use Rattle.std.specs.Prelude.{◌≡◌, IfOk, codes, string_bytes};
+ghost use Rattle.std.specs.Prelude.{◌≡◌, ◌∷◌, []};
 ghost use Rattle.serde_json.specs.Data.{array, item as item_at, no_items};
 ghost use Rattle.serde_json.specs.View.{view};
 ghost use Rattle.call_data.specs.Values.{number_tree};
@@ -10,9 +10,11 @@ ghost use Rattle.promise_store.specs.States.{settlement_view};
 ghost use Rattle.turn_rows.specs.Kinds as kinds;
 ghost use Rattle.turn_rows.specs.Rows.{turn_row};
 ghost use Rattle.turn_records.specs.Printed as spec;
-ghost use Rattle.turn_records.specs.Printed.{by_of, kind_of, method_of, notice_tree, object, on_of, printed, printed_trees, read_trees, receiver, target_name, told_value, trees_of};
+ghost use Rattle.turn_records.specs.Printed.{by_of, method_of, notice_tree, object, on_of, printed, read_trees, receiver, target_name, told_value};
 ghost use Rattle.turn_events.specs.Views.{delivery_view, reading_view, turn_view};
 ghost use Rattle.turn_writer.specs.Notices.{notice_json};
+ghost use Rattle.turn_writer.specs.JsonRows.{IsJson, IsText};
+ghost use Rattle.turn_writer.specs.Texts.{arguments_json, kind_text, trees_json};
 
 use crate::answers::answer_value;
 use crate::json_row::JsonRow;
@@ -55,7 +57,7 @@ fn gift_kind(reading: &Reading) -> &'static str
 }
 
 fn kind_word(delivery: &Delivery, reading: &Reading) -> &'static str
-    ensures { result.now ≡ kinds.kind_word (kind_of (delivery_view delivery.now) (reading_view reading.now)) }
+    ensures { result.now ≡ kind_text (delivery_view delivery.now) (reading_view reading.now) }
 {
     match delivery {
         Delivery::Call(_) => call_kind(reading),
@@ -75,7 +77,7 @@ fn kind_word(delivery: &Delivery, reading: &Reading) -> &'static str
 
 /// Who calls, or whose instance it is.
 fn by_text(alloc: Global, delivery: &Delivery) -> Result<String, AllocError>
-    ensures { IfOk result (λ name. string_bytes name ≡ by_of (delivery_view delivery.now)) }
+    ensures { IsText result (by_of (delivery_view delivery.now)) }
 {
     match delivery {
         Delivery::Call(call) => String::from_str(alloc, call.by.as_str()),
@@ -90,7 +92,7 @@ fn by_text(alloc: Global, delivery: &Delivery) -> Result<String, AllocError>
 }
 
 fn target_text(alloc: Global, reading: &Reading) -> Result<String, AllocError>
-    ensures { IfOk result (λ name. string_bytes name ≡ target_name (reading_view reading.now)) }
+    ensures { IsText result (target_name (reading_view reading.now)) }
 {
     match reading {
         Reading::Target(object, _) => object_name(alloc, *object),
@@ -100,7 +102,7 @@ fn target_text(alloc: Global, reading: &Reading) -> Result<String, AllocError>
 
 /// The receiver of what is given.
 fn receiver_text(alloc: Global, to: &Label, reading: &Reading) -> Result<String, AllocError>
-    ensures { IfOk result (λ name. string_bytes name ≡ receiver to.now (reading_view reading.now)) }
+    ensures { IsText result (receiver to.now (reading_view reading.now)) }
 {
     match reading {
         Reading::Gift(_) => String::from_str(alloc, to.as_str()),
@@ -109,7 +111,7 @@ fn receiver_text(alloc: Global, to: &Label, reading: &Reading) -> Result<String,
 }
 
 fn on_text(alloc: Global, delivery: &Delivery, reading: &Reading) -> Result<String, AllocError>
-    ensures { IfOk result (λ name. string_bytes name ≡ on_of (delivery_view delivery.now) (reading_view reading.now)) }
+    ensures { IsText result (on_of (delivery_view delivery.now) (reading_view reading.now)) }
 {
     match delivery {
         Delivery::Call(_) => target_text(alloc, reading),
@@ -144,20 +146,20 @@ fn method_text(delivery: &Delivery) -> &str
 // ---- arguments
 
 fn one_argument(alloc: Global, argument: Value) -> Result<Value, AllocError>
-    ensures { IfOk result (λ v. view v ≡ array (item_at (view argument) no_items)) }
+    ensures { IsJson result (array (item_at (view argument) no_items)) }
 {
     json!(in alloc; [argument])
 }
 
 fn data_argument(alloc: Global, argument: &Data) -> Result<Value, AllocError>
-    ensures { IfOk result (λ v. view v ≡ array (item_at (data_printed (tree argument.now)) no_items)) }
+    ensures { IsJson result (trees_json (tree argument.now ∷ [])) }
 {
     let argument = data_value(alloc, argument)?;
     one_argument(alloc, argument)
 }
 
 fn time_argument(alloc: Global, time: u64) -> Result<Value, AllocError>
-    ensures { IfOk result (λ v. view v ≡ array (item_at (data_printed (number_tree time)) no_items)) }
+    ensures { IsJson result (trees_json (number_tree time ∷ [])) }
 {
     let time = number_value(alloc, i128::from(time))?;
     one_argument(alloc, time)
@@ -165,7 +167,7 @@ fn time_argument(alloc: Global, time: u64) -> Result<Value, AllocError>
 
 /// The value of a promise, or null where it nests so deep that the record around it would nest too deep.
 fn told_value(alloc: Global, value: &Data) -> Result<Value, AllocError>
-    ensures { IfOk result (λ v. view v ≡ data_printed (told_value (tree value.now))) }
+    ensures { IsJson result (data_printed (told_value (tree value.now))) }
 {
     if value.nests_within(MOST_INSIDE) {
         data_value(alloc, value)
@@ -175,7 +177,7 @@ fn told_value(alloc: Global, value: &Data) -> Result<Value, AllocError>
 }
 
 fn notice(alloc: Global, is_ok: bool, value: &Data) -> Result<Value, AllocError>
-    ensures { IfOk result (λ v. view v ≡ notice_json is_ok (tree value.now)) }
+    ensures { IsJson result (notice_json is_ok (tree value.now)) }
 {
     JsonRow::new(alloc)
         .value("ok", Ok(Value::Bool(is_ok)))
@@ -185,7 +187,7 @@ fn notice(alloc: Global, is_ok: bool, value: &Data) -> Result<Value, AllocError>
 
 /// `{ok, value}`: what a promise was settled with, as the function that is notified has it.
 fn notice_value(alloc: Global, settlement: &Settlement) -> Result<Value, AllocError>
-    ensures { IfOk result (λ v. view v ≡ data_printed (notice_tree (settlement_view settlement.now))) }
+    ensures { IsJson result (data_printed (notice_tree (settlement_view settlement.now))) }
 {
     match settlement {
         Settlement::Ok(value) => notice(alloc, true, value),
@@ -194,14 +196,14 @@ fn notice_value(alloc: Global, settlement: &Settlement) -> Result<Value, AllocEr
 }
 
 fn notice_argument(alloc: Global, settlement: &Settlement) -> Result<Value, AllocError>
-    ensures { IfOk result (λ v. view v ≡ array (item_at (data_printed (notice_tree (settlement_view settlement.now))) no_items)) }
+    ensures { IsJson result (trees_json (notice_tree (settlement_view settlement.now) ∷ [])) }
 {
     let notice = notice_value(alloc, settlement)?;
     one_argument(alloc, notice)
 }
 
 fn read_value(alloc: Global, reading: &Reading) -> Result<Value, AllocError>
-    ensures { IfOk result (λ v. view v ≡ array (printed_trees (read_trees (reading_view reading.now)))) }
+    ensures { IsJson result (trees_json (read_trees (reading_view reading.now))) }
 {
     match reading {
         Reading::Nothing => Ok(Value::Array(Vec::new(alloc))),
@@ -217,7 +219,7 @@ fn arguments_value(
     delivery: &Delivery,
     reading: &Reading,
 ) -> Result<Value, AllocError>
-    ensures { IfOk result (λ v. view v ≡ array (printed_trees (trees_of (delivery_view delivery.now) (reading_view reading.now)))) }
+    ensures { IsJson result (arguments_json (delivery_view delivery.now) (reading_view reading.now)) }
 {
     match delivery {
         Delivery::Offer(offer) => data_argument(alloc, &offer.offer_arguments),
@@ -230,7 +232,7 @@ fn arguments_value(
 
 /// The turn row.
 pub fn turn_value(alloc: Global, turn: &TurnRecord) -> Result<Value, AllocError>
-    ensures { IfOk result (λ v. view v ≡ turn_row (printed (turn_view turn.now))) }
+    ensures { IsJson result (turn_row (printed (turn_view turn.now))) }
 {
     let (delivery, reading) = (&turn.delivery, &turn.reading);
     JsonRow::new(alloc)

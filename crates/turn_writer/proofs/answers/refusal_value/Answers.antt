@@ -1,6 +1,6 @@
-use Rattle.call_data.specs.Refusals.{refusal_tree}
+use Rattle.refusals.specs.Codes.{refusal_tree}
 use Rattle.turn_writer.proofs.answers.refusal_value.Goals as goal
 
 pub returns : goal.returns
 unfolding refusal_tree
-returns c = rw c.in_ok-refusal.ensures at c.under.ensures
+returns c = rw c.in_ok-refusal.ensures.table at c.under.ensures

@@ -1,0 +1,43 @@
+-- What a journal prints of the parts of a turn: as JSON, and as the texts of rows.
+use Rattle.std.specs.Prelude.{ℕ, List, map}
+use Rattle.std.specs.List.{flat_map}
+use Rattle.serde_json.specs.Data.{Data, array}
+use Rattle.jessie_tree.specs.Tree.{Tree}
+use Rattle.promise_store.specs.States.{SettlementView}
+use Rattle.rights_model.specs.declared.Sum.{Sum}
+use Rattle.turn_rows.specs.Kinds.{kind_word}
+use Rattle.turn_rows.specs.Rows.{event_row, settle_row, settlement_json, sum_row}
+use Rattle.turn_rows.specs.Texts.{row_text}
+use Rattle.turn_records.specs.Deliveries.{Delivery, Reading}
+use Rattle.turn_records.specs.Events.{Event}
+use Rattle.turn_records.specs.Printed.{kind_of, printed_event, printed_settlement, printed_trees, trees_of}
+
+-- ---- JSON
+
+abbrev pub kind_text : Delivery → Reading → List ℕ
+kind_text d r = kind_word (kind_of d r)
+
+-- data in a row
+abbrev pub trees_json : List Tree → Data
+trees_json ts = array (printed_trees ts)
+
+abbrev pub arguments_json : Delivery → Reading → Data
+arguments_json d r = trees_json (trees_of d r)
+
+-- what a promise was settled with
+abbrev pub settled_json : SettlementView → Data
+settled_json s = settlement_json (printed_settlement s)
+
+abbrev pub settled_row : ℕ → SettlementView → Data
+settled_row promise s = settle_row promise (printed_settlement s)
+
+-- ---- texts
+
+abbrev pub event_text : Event → List ℕ
+event_text e = row_text (event_row (printed_event e))
+
+abbrev pub events_text : List Event → List ℕ
+events_text es = flat_map row_text (map event_row (map printed_event es))
+
+abbrev pub sums_text : List Sum → List ℕ
+sums_text sums = flat_map row_text (map sum_row sums)
