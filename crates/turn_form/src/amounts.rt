@@ -43,7 +43,7 @@ fn has_texts(value: &Value)
     }
 }
 
-fn value_has_types(value: &Value)
+pub fn value_has_types(value: &Value)
     ensures { IsTellableValue value.now }
 {
     let _kind = value.kind();

@@ -1,27 +1,16 @@
 //! What the types of deliveries and answers give.
 
-ghost use Rattle.std.specs.Prelude.{◌<◌};
 ghost use Rattle.std.specs.Str.{IsUtf8};
-ghost use Rattle.turn_rows.specs.Form.{objects_end};
-ghost use Rattle.turn_events.specs.Views.{answer_view, delivery_view};
-ghost use Rattle.turn_form.specs.Typed.{HasAnswerTypes, HasDeliveryTypes, IsLabel};
+ghost use Rattle.turn_events.specs.Views.{answer_view, delivery_view, reading_view};
+ghost use Rattle.turn_form.specs.Typed.{HasAnswerTypes, HasDeliveryTypes, HasReadingTypes, IsLabel};
 
+use crate::data::{
+    data_has_types, is_text, items_have_types, number_has_range, settlement_has_types,
+};
+use crate::shown::shown_is_printable;
 use host_text::label::Label;
-use host_text::text::Text;
-use turn_events::deliveries::Delivery;
+use turn_events::deliveries::{Delivery, Reading};
 use turn_events::events::Answer;
-
-pub fn number_has_range(number: &u32)
-    ensures { number.now < objects_end }
-{
-    let _number = *number;
-}
-
-pub fn is_text(text: &Text)
-    ensures { IsUtf8 text.now }
-{
-    let _text = text.as_str();
-}
 
 fn label_has_form(label: &Label)
     ensures form { IsLabel label.now }
@@ -52,6 +41,7 @@ pub fn delivery_has_types(delivery: &Delivery)
         Delivery::Start(start) => number_has_range(&start.instance),
         Delivery::Offer(offer) => {
             let (_instance, _seat) = (offer.instance, offer.seat);
+            data_has_types(&offer.offer_arguments);
         }
         Delivery::Wake(wakeup) => number_has_range(&wakeup.instance),
         Delivery::Notify(notice) => {
@@ -61,13 +51,29 @@ pub fn delivery_has_types(delivery: &Delivery)
     }
 }
 
+pub fn reading_has_types(reading: &Reading)
+    ensures { HasReadingTypes (reading_view reading.now) }
+{
+    match reading {
+        Reading::Target(object, arguments) => {
+            number_has_range(&object.number);
+            items_have_types(arguments.as_slice());
+        }
+        Reading::Gift(gift) => data_has_types(gift),
+        Reading::Settlement(settlement) => settlement_has_types(settlement),
+        _ => {}
+    }
+}
+
 pub fn answer_has_types(answer: &Answer)
     ensures { HasAnswerTypes (answer_view answer.now) }
 {
     match answer {
+        Answer::Given(given) => data_has_types(given),
+        Answer::Refused(refusal) => shown_is_printable(refusal),
+        Answer::Threw(thrown) => data_has_types(thrown),
         Answer::Spent(meter) => {
             let _meter = *meter;
         }
-        _ => {}
     }
 }

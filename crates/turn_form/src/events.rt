@@ -6,7 +6,8 @@ ghost use Rattle.turn_events.specs.Views.{call_view, event_view, event_views, le
 ghost use Rattle.turn_form.specs.Typed.{HasCallTypes, HasEventTypes, HasOpeningTypes, HasTargetType};
 
 use crate::amounts::{keyword_has_form, movement_has_types, rows_have_types};
-use crate::deliveries::{answer_has_types, is_text, number_has_range};
+use crate::data::{is_text, items_have_types, number_has_range, settlement_has_types};
+use crate::deliveries::answer_has_types;
 use jessie_tree::data::Obj;
 use turn_events::events::{Call, Event, Leaving, Opening, Payout};
 
@@ -23,6 +24,7 @@ fn call_has_types(call: &Call)
 {
     target_has_type(&call.on);
     is_text(&call.method);
+    items_have_types(call.arguments.as_slice());
     answer_has_types(&call.answer);
 }
 
@@ -64,8 +66,9 @@ fn event_has_types(event: &Event)
         Event::Opened(opening) => opening_has_types(opening),
         Event::Moved(movement) => movement_has_types(movement),
         Event::Exited(leaving) => leaving_has_types(leaving),
-        Event::Settled(promise, _) => {
-            let _promise = *promise;
+        Event::Settled(promise, settlement) => {
+            number_has_range(promise);
+            settlement_has_types(settlement);
         }
     }
 }

@@ -1,20 +1,23 @@
 //! Turns are printed in form. It stands on the record of a turn (turn_events) and on the law of printed turns
 //! (turn_records). Its one contract: what the types of a turn's record give, and what is said of its data and its
-//! kind (specs/Formed.antt), are all that is needed for its rows to have their form (`is_in_form`).
+//! kind (specs/Printing.antt), are all that is needed for its rows to have their form (`is_in_form`). Of what
+//! refusals show, of texts and of the widths of numbers nothing is left to be said.
 #![tactic(auto)]
 
 ghost use Rattle.turn_rows.specs.Form.{IsInForm};
 ghost use Rattle.turn_records.specs.Printed.{printed};
 ghost use Rattle.turn_events.specs.Views.{turn_view};
-ghost use Rattle.turn_form.specs.Formed.{IsFormed};
+ghost use Rattle.turn_form.specs.Printing.{CanPrint};
 ghost use Rattle.turn_form.specs.Typed.{HasTypes};
 
 mod amounts;
+mod data;
 mod deliveries;
 mod events;
+mod shown;
 
 use amounts::sums_have_types;
-use deliveries::{answer_has_types, delivery_has_types};
+use deliveries::{answer_has_types, delivery_has_types, reading_has_types};
 use events::events_have_types;
 use turn_events::turns::TurnRecord;
 
@@ -23,15 +26,17 @@ fn has_types(turn: &TurnRecord)
 {
     let _number = turn.number;
     delivery_has_types(&turn.delivery);
+    reading_has_types(&turn.reading);
     answer_has_types(&turn.answer);
     events_have_types(turn.events.as_slice());
     sums_have_types(turn.sums.as_slice());
 }
 
-/// A turn whose data has its form, and which has what its kind may have, is printed in form. Nothing is
-/// done: what it states is proved of the types.
+/// A turn whose data nests and is named as journals can print it, and which has what its kind may have, is
+/// printed in form. It changes nothing, and looks at each node of the data once: what it states is proved of
+/// the types.
 pub fn is_in_form(turn: &TurnRecord)
-    ensures { IsFormed (turn_view turn.now) → IsInForm (printed (turn_view turn.now)) }
+    ensures { CanPrint (turn_view turn.now) → IsInForm (printed (turn_view turn.now)) }
 {
     has_types(turn);
 }
