@@ -14,6 +14,7 @@ mod amounts;
 mod data;
 mod deliveries;
 mod events;
+pub mod laws;
 mod shown;
 
 use amounts::sums_have_types;
