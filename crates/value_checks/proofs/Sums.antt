@@ -1,70 +1,26 @@
 -- When a sum is a value, and what it is refused for else; and when a value may come out.
-use Rattle.std.proofs.Common.{◌≡◌, ◌≢◌, ℕ, ◌<◌, ◌≤◌, ◌^◌, List, [], ◌∷◌, true, false, cond, Some, None, Ok, Err, map, refl, sym, ap, subst, ◌∙◌, inl, inr, arith}
-use lib.Dec.{T}
-use Rattle.std.specs.Prelude.{nat_lt, unwrap_or}
-use Rattle.std.specs.FinMap as fin
-use Rattle.std.specs.FinMap.Entries.{below_all}
-use Rattle.std.specs.List.{find}
-use Rattle.std.specs.Ordering.{eq_by_cmp, is_lt}
-use Rattle.std.specs.declared.cmp.Ordering.TheVariants.{Less}
-use Rattle.std.proofs.lemmas.Bool.{cases_lt, le-leb, le-ltb, lt-leb, lt-ltb}
-use Rattle.amount_math.specs.Content.{Content, count, count-sum, count_listed, entries, key_cmp, listed, sum}
-use Rattle.amount_math.specs.Entries.{Entries, IsRising}
+use Rattle.std.proofs.Common.{◌≡◌, ◌≢◌, ℕ, ◌<◌, ◌≤◌, ◌^◌, List, true, false, Option, Ok, Err, refl, sym, ap, ◌∙◌, inl, inr, arith}
+use Rattle.std.proofs.lemmas.Bool.{le-leb, lt-leb}
+use Rattle.amount_math.specs.Content.{Content, count-sum, sum}
 use Rattle.amount_math.specs.Held.{keys_of-sum}
-use Rattle.amount_math.specs.Totals.{first, less, second}
 use Rattle.amount_math.specs.Worth.{Fits, IsFirstPast, IsIssueRefusal, IsPutRefusal, IsValue, PassesBound, PassesKeys, bag_bound, bound, fits_from_value, keys_of, most_keys, nat_bound}
 use Rattle.amount_math.specs.declared.Kind.{Kind}
 use Rattle.amount_math.specs.declared.Kind.TheVariants.{Nat, Set, Bag}
 use Rattle.amount_math.specs.declared.PutFault.{PutFault}
 use Rattle.amount_math.specs.declared.PutFault.TheVariants as put_fault
 use Rattle.amount_math.specs.declared.TooMuch.{TooMuch}
-use Rattle.amount_math.proofs.Listed.{below_rest, rising_rest, same_key}
 use Rattle.refusals.specs.Codes.{too_much}
 use Rattle.refusals.specs.Outcomes.{Fails, bind, need, none_such}
 use Rattle.refusals.specs.Told.{CanShow, PutCanShow, put_told}
 use Rattle.refusals.specs.declared.codes.Refusal.TheVariants.{Overlap}
-use Rattle.value_checks.specs.Tests.{counts_fit, counts_then_keys, elements, first_past, from_first, has_few, keys_fit, value_fits}
-
--- ---- the first element past a bound
-
-none_in : (most : ℕ) (c : Content) → ((k : List ℕ) → count c k ≤ most) → (ks : List (List ℕ)) → find (λ q. nat_lt most (count c q)) ks ≡ None
-none_in most c h [] = refl
-none_in most c h (k ∷ ks) = ap (λ b. cond b (Some k) (find (λ q. nat_lt most (count c q)) ks)) (le-ltb most (count c k) (h k)) ∙ none_in most c h ks
-
--- a key that stands further on is behind the first
-behind : (e : List ℕ × ℕ) (es : Entries) (k : List ℕ) → T (below_all key_cmp e.0 es) → listed es k ≢ 0 → key_cmp e.0 k ≡ Less
-behind e [] k h there = absurd (there refl)
-behind e (f ∷ fs) k h there = elim (eq_by_cmp key_cmp k f.0) as (λ b. eq_by_cmp key_cmp k f.0 ≡ b → unwrap_or (cond b (Some f.1) (fin.find key_cmp k fs)) 0 ≢ 0 → key_cmp e.0 k ≡ Less) [
-  | true ↦ λ p r. subst (λ q. key_cmp e.0 q ≡ Less) (sym (same_key k f.0 p)) (less _ (first _ _ h))
-  | false ↦ λ p r. behind e fs k (second (is_lt (key_cmp e.0 f.0)) _ h) r
-] refl there
-
-first_in : (most : ℕ) (c : Content) (k : List ℕ) (es : Entries) → IsRising es → most < count c k → listed es k ≢ 0 → ((q : List ℕ) → most < count c q → key_cmp q k ≢ Less) → find (λ q. nat_lt most (count c q)) (map (λ e. e.0) es) ≡ Some k
-first_in most c k [] h past there least = absurd (there refl)
-first_in most c k (e ∷ es) h past there least =
-    let rest = find (λ q. nat_lt most (count c q)) (map (λ (f : List ℕ × ℕ). f.0) es) in
-    elim (eq_by_cmp key_cmp k e.0) as (λ b. eq_by_cmp key_cmp k e.0 ≡ b → unwrap_or (cond b (Some e.1) (fin.find key_cmp k es)) 0 ≢ 0 → cond (nat_lt most (count c e.0)) (Some e.0) rest ≡ Some k) [
-      | true ↦ λ p r. let is = same_key k e.0 p in ap (λ b. cond b (Some e.0) rest) (lt-ltb most (count c e.0) (subst (λ q. most < count c q) is past)) ∙ ap Some (sym is)
-      | false ↦ λ p r. ap (λ b. cond b (Some e.0) rest) (le-ltb most (count c e.0) (within (behind e es k (below_rest e es h) r))) ∙ first_in most c k es (rising_rest e es h) past r least
-    ] refl there
-  where
-    within : key_cmp e.0 k ≡ Less → count c e.0 ≤ most
-    within before = elim (cases_lt most (count c e.0)) [
-      | inl over ↦ absurd (least e.0 over before)
-      | inr fine ↦ fine
-    ]
-
-find_first : (most : ℕ) (c : Content) (k : List ℕ) → IsFirstPast most c k → first_past most c ≡ Some k
-find_first most c k is = first_in most c k (entries c) (fin.entries_sorted c.held) is.passes there is.first
-  where
-    there : listed (entries c) k ≢ 0
-    there e = omega (arith, is.passes, count_listed c k, e)
+use Rattle.value_totals.proofs.Firsts.{find_first, none_past}
+use Rattle.value_checks.specs.Tests.{counts_fit, counts_then_keys, from_first, has_few, keys_fit, overlap_free, value_fits}
 
 -- ---- what passes
 
 pub counts_pass : (kind : Kind) (c : Content) → Fits kind c → counts_fit kind c ≡ Ok tt
 unfolding counts_fit none_such
-counts_pass kind c fits = ap (from_first kind c) (none_in (bound kind) c fits.each (elements c))
+counts_pass kind c fits = ap (from_first kind c) (none_past (bound kind) c fits.each)
 
 few : (kind : Kind) (c : Content) → IsValue kind c → has_few kind c ≡ true
 few Nat c v = refl
@@ -122,6 +78,29 @@ refused kind c (put_fault.TooMuch over) h = elim h as (λ _. value_fits kind c �
   | inr p ↦ passes_keys kind c over p.0 p.1
 ]
 refused kind c put_fault.NoMemory h = tt
+
+-- ---- that no key is in both
+
+pub overlap_none : (kind : Kind) (c : Content) → Fits kind c → overlap_free kind c ≡ Ok tt
+unfolding overlap_free none_such
+overlap_none Nat c fits = refl
+overlap_none Set c fits = ap (λ (o : Option (List ℕ)). none_such o Overlap) (none_past 1 c fits.each)
+overlap_none Bag c fits = refl
+
+pub overlap_there : (kind : Kind) (c : Content) (k : List ℕ) → IsPutRefusal kind c (put_fault.Overlap k) → overlap_free kind c ≡ Err (Overlap k)
+unfolding overlap_free none_such
+overlap_there Nat c k h = let e = h.0 in cc
+overlap_there Set c k h = ap (λ (o : Option (List ℕ)). none_such o Overlap) (find_first 1 c k h.1)
+overlap_there Bag c k h = let e = h.0 in cc
+
+pub overlap_else : (kind : Kind) (c : Content) (over : TooMuch) → IsPutRefusal kind c (put_fault.TooMuch over) → overlap_free kind c ≡ Ok tt
+unfolding overlap_free none_such
+overlap_else Nat c over h = refl
+overlap_else Set c over h = elim h as (λ _. overlap_free Set c ≡ Ok tt) [
+  | inl p ↦ absurd (p.0 refl)
+  | inr p ↦ overlap_none Set c p.1.fits
+]
+overlap_else Bag c over h = refl
 
 -- ---- what is shown has less than 128 bits
 

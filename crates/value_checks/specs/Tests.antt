@@ -1,18 +1,15 @@
 -- Tests of values, as functions that can be computed, each with what it shows where it fails.
-use Rattle.std.specs.Prelude.{ℕ, List, [], ◌∷◌, map, Bool, true, false, nat_lt, nat_le, Option, Result}
-use Rattle.std.specs.List.{find}
-use Rattle.amount_math.specs.Content.{Content, count, difference, entries, sum}
+use Rattle.std.specs.Prelude.{ℕ, List, [], ◌∷◌, Bool, true, false, nat_le, Option, Result, Ok}
+use Rattle.amount_math.specs.Content.{Content, count, difference, sum}
 use Rattle.amount_math.specs.Worth.{Worth, bag_bound, bound, keys_of, most_keys, nat_bound}
 use Rattle.amount_math.specs.declared.Kind.{Kind}
 use Rattle.amount_math.specs.declared.Kind.TheVariants.{Nat, Set, Bag}
+use Rattle.value_totals.specs.Firsts.{elements, first_past}
+use Rattle.value_totals.specs.Totals.{total_of}
 use Rattle.refusals.specs.Codes.{too_much}
 use Rattle.refusals.specs.Outcomes.{bind, need, none_such}
 use Rattle.refusals.specs.declared.codes.Refusal.{Refusal}
 use Rattle.refusals.specs.declared.codes.Refusal.TheVariants.{Overlap}
-
--- the elements of a content, in byte order
-abbrev pub elements : Content → List (List ℕ)
-elements c = map (λ e. e.0) (entries c)
 
 abbrev pub are_none : List (List ℕ) → Bool
 are_none [] = true
@@ -24,10 +21,6 @@ is_nothing c = are_none (elements c)
 -- nothing is left of the other that the one hasn't
 unfoldable pub has : Worth → Worth → Bool
 has a b = is_nothing (difference b.content a.content)
-
--- the first element, in byte order, of which there are more than the most
-abbrev pub first_past : ℕ → Content → Option (List ℕ)
-first_past most c = find (λ k. nat_lt most (count c k)) (elements c)
 
 -- that a value has too much of an element: a set shows the key, which two have in common
 abbrev pub past_refusal : Kind → Content → List ℕ → Refusal
@@ -61,3 +54,17 @@ value_fits kind c = counts_then_keys kind c (counts_fit kind c)
 -- the sum of two values of one kind
 abbrev pub sum_fits : Worth → Worth → Result (Unit {0}) Refusal
 sum_fits a b = value_fits a.kind (sum a.content b.content)
+
+-- of two sets no key is in both, or in what more of them have together in two
+unfoldable pub overlap_free : Kind → Content → Result (Unit {0}) Refusal
+overlap_free Nat c = Ok tt
+overlap_free Set c = none_such (first_past 1 c) Overlap
+overlap_free Bag c = Ok tt
+
+-- the whole sum of values of one kind
+abbrev pub total_fits : Kind → List Worth → Result (Unit {0}) Refusal
+total_fits kind ws = value_fits kind (total_of ws)
+
+-- values that come out together, beside what is out of their brand
+abbrev pub all_fit_out : Worth → List Worth → Result (Unit {0}) Refusal
+all_fit_out out ws = counts_fit out.kind (sum out.content (total_of ws))

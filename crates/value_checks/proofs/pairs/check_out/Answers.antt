@@ -3,7 +3,7 @@ use Rattle.amount_math.specs.Content.{sum}
 use Rattle.amount_math.specs.Worth.{Fits, fits_from_value}
 use Rattle.amount_math.specs.declared.Kind.{Kind}
 use Rattle.value_checks.proofs.Sums.{counts_pass, out_refused, out_small}
-use Rattle.value_checks.proofs.check_out.Goals as goal
+use Rattle.value_checks.proofs.pairs.check_out.Goals as goal
 
 pub of_put-requires : goal.of_put-requires
 of_put-requires c =

@@ -3,7 +3,7 @@ use Rattle.amount_math.specs.Content.{sum}
 use Rattle.amount_math.specs.Worth.{IsValue}
 use Rattle.amount_math.specs.declared.Kind.{Kind}
 use Rattle.value_checks.proofs.Sums.{refused, small, value_passes}
-use Rattle.value_checks.proofs.check_sum.Goals as goal
+use Rattle.value_checks.proofs.pairs.check_sum.Goals as goal
 
 pub of_put-requires : goal.of_put-requires
 of_put-requires c =

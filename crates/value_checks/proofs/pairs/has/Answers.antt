@@ -1,5 +1,5 @@
 use Rattle.value_checks.proofs.Contents.{has-true, same_test, true-has}
-use Rattle.value_checks.proofs.has.Goals as goal
+use Rattle.value_checks.proofs.pairs.has.Goals as goal
 
 pub returns-clause-test : goal.returns-clause-test
 returns-clause-test c =
