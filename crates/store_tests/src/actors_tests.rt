@@ -69,7 +69,7 @@ fn take(rt: &impl Abort, alloc: Global, parties: &mut Parties, step: Step) -> bo
 }
 
 /// Steps, whether each is taken, and whether `a` and `b` are bound after it.
-const STEPS: [(Step, bool, bool, bool); 9] = [
+const STEPS: &[(Step, bool, bool, bool)] = &[
     (Step::Bind("ertp", 1), false, false, false),
     (Step::Bind("a", 1), true, true, false),
     (Step::Bind("a", 2), false, true, false),
@@ -92,7 +92,7 @@ fn goes(rt: &impl Abort, alloc: Global, parties: &mut Parties, step: Step) -> (b
 #[test]
 fn labels_are_kept_or_undone(rt: HostRuntime) {
     let mut parties = Parties::new(rt.alloc());
-    for (step, taken, a, b) in &STEPS {
+    for (step, taken, a, b) in STEPS {
         let went = goes(&rt, rt.alloc(), &mut parties, *step);
         assert!(rt; went == (*taken, *a, *b));
     }
@@ -198,7 +198,7 @@ fn answer_of_copy(rt: &impl Abort, alloc: Global, there: Stands<'_>) -> Answer {
 }
 
 /// Paths of alice, and what stands there.
-const PATHS: [(&str, Answer); 11] = [
+const PATHS: &[(&str, Answer)] = &[
     ("ertp", Answer::Object),
     ("ertp.x", Answer::Fault(ResolveFault::UnknownName)),
     ("nobody", Answer::Fault(ResolveFault::UnknownName)),
@@ -231,7 +231,7 @@ fn resolved(
 fn paths_follow_promises(rt: HostRuntime) {
     let parties = alice(&rt, rt.alloc());
     let promises = three_promises(&rt, rt.alloc());
-    for (path, wanted) in &PATHS {
+    for (path, wanted) in PATHS {
         assert!(rt; resolved(&rt, rt.alloc(), &parties, &promises, path) == *wanted);
     }
 }

@@ -196,7 +196,7 @@ fn row(rt: &impl Abort, alloc: Global, instances: &Instances, instance: u32) -> 
 }
 
 /// Steps, and the first two instances after each.
-const STEPS: [(Step, Row, Row); 19] = [
+const STEPS: &[(Step, Row, Row)] = &[
     (Step::Install, NONE, NONE),
     (Step::Back, NONE, NONE),
     (Step::Start, NONE, NONE),
@@ -245,7 +245,7 @@ const STEPS: [(Step, Row, Row); 19] = [
 #[test]
 fn a_turns_changes_are_undone_or_kept(rt: HostRuntime) {
     let mut instances = Instances::new(rt.alloc());
-    for (step, first, second) in &STEPS {
+    for (step, first, second) in STEPS {
         take(&rt, rt.alloc(), &mut instances, *step);
         assert!(rt; row(&rt, rt.alloc(), &instances, 0) == *first);
         assert!(rt; row(&rt, rt.alloc(), &instances, 1) == *second);

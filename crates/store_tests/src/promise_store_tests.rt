@@ -1,3 +1,8 @@
+ghost use Rattle.std.specs.Prelude.{◌≡◌, ◌<◌, IsTrue};
+ghost use Rattle.promise_store.specs.States.{is_final, pending, settlement_view};
+ghost use Rattle.promise_store.specs.Turns.{state_at};
+ghost use Rattle.promise_store.specs.Views.{links_now, now_of};
+
 use jessie_tree::data::Data;
 use promise_store::{Event, FollowFault, Promises, Settlement, State};
 
@@ -23,7 +28,10 @@ enum Answer {
     Cycle(u32),
 }
 
-fn is_pending(promises: &Promises<u32>, promise: u32) -> bool {
+fn is_pending(promises: &Promises<u32>, promise: u32) -> bool
+    ensures made { IsTrue result → promise < (links_now promises.now).made }
+    ensures is_pending { IsTrue result → state_at (now_of promises.now) promise ≡ pending }
+{
     promise < promises.made() && matches!(promises.state(promise), State::Pending)
 }
 
@@ -32,31 +40,44 @@ fn are(events: &[Event], expected: &[Event]) -> bool {
     events.len() == expected.len() && events.iter().zip(expected).all(|(a, b)| *a == *b)
 }
 
-fn settles(
-    promises: &mut Promises<u32>,
-    promise: u32,
-    settlement: Settlement,
-    expected: &[Event],
-) -> bool {
-    if promise >= promises.made() || !settlement.is_final() {
+fn fulfilled_with(number: i128) -> Settlement
+    ensures { IsTrue (is_final (settlement_view result)) }
+{
+    Settlement::Ok(Data::Number(number))
+}
+
+fn broken_with(number: i128) -> Settlement
+    ensures { IsTrue (is_final (settlement_view result)) }
+{
+    Settlement::Broken(Data::Number(number))
+}
+
+/// Fulfils a promise with a number, and answers whether these are the events.
+fn fulfils(promises: &mut Promises<u32>, promise: u32, number: i128, expected: &[Event]) -> bool {
+    if !is_pending(promises, promise) {
         return false;
     }
-    let State::Pending = promises.state(promise) else {
+    match promises.settle(promise, fulfilled_with(number)) {
+        Ok(events) => are(events.as_slice(), expected),
+        Err(_) => false,
+    }
+}
+
+/// Breaks a promise with a number, and answers whether these are the events.
+fn breaks(promises: &mut Promises<u32>, promise: u32, number: i128, expected: &[Event]) -> bool {
+    if !is_pending(promises, promise) {
         return false;
-    };
-    match promises.settle(promise, settlement) {
+    }
+    match promises.settle(promise, broken_with(number)) {
         Ok(events) => are(events.as_slice(), expected),
         Err(_) => false,
     }
 }
 
 fn follows(promises: &mut Promises<u32>, promise: u32, target: u32, answer: Answer) -> bool {
-    if promise >= promises.made() || target >= promises.made() {
+    if !is_pending(promises, promise) || target >= promises.made() {
         return false;
     }
-    let State::Pending = promises.state(promise) else {
-        return false;
-    };
     match (promises.follow(promise, target), answer) {
         (Ok(events), Answer::Events(expected)) => are(events.as_slice(), expected),
         (Err(FollowFault::PromiseCycle(shown)), Answer::Cycle(number)) => shown == number,
@@ -83,20 +104,10 @@ fn says(promises: &mut Promises<u32>, step: Step, answer: Answer) -> bool {
         (Step::Follow(promise, target), _) => follows(promises, promise, target, answer),
         (Step::When(promise), Answer::Events(expected)) => asks(promises, promise, expected),
         (Step::Settle(promise, number), Answer::Events(expected)) => {
-            settles(
-                promises,
-                promise,
-                Settlement::Ok(Data::Number(number)),
-                expected,
-            )
+            fulfils(promises, promise, number, expected)
         }
         (Step::Break(promise, number), Answer::Events(expected)) => {
-            settles(
-                promises,
-                promise,
-                Settlement::Broken(Data::Number(number)),
-                expected,
-            )
+            breaks(promises, promise, number, expected)
         }
         (Step::Forget, _) => {
             promises.forget();
@@ -115,7 +126,7 @@ const NONE: Answer = Answer::Events(&[]);
 /// A chain of three, with requests for each; two that follow one, of which the first is followed too; a
 /// request for, and a following of, what is settled; one that would follow itself, at once and through
 /// another; and going back.
-const STEPS: [(Step, Answer); 37] = [
+const STEPS: &[(Step, Answer)] = &[
     (Step::Make, Answer::Made(0)),
     (Step::Make, Answer::Made(1)),
     (Step::Make, Answer::Made(2)),
@@ -237,12 +248,21 @@ const STEPS: [(Step, Answer); 37] = [
     (Step::Forget, NONE),
 ];
 
+fn say(promises: &mut Promises<u32>, steps: &[(Step, Answer)]) -> bool {
+    for (step, answer) in steps {
+        if !says(promises, *step, *answer) {
+            return false;
+        }
+    }
+    true
+}
+
 #[test]
 fn promises_settle_in_order(rt: HostRuntime) {
     let mut promises = Promises::new(rt.alloc());
-    for (step, answer) in &STEPS {
-        assert!(rt; says(&mut promises, *step, *answer));
-    }
+    let said = say(&mut promises, STEPS);
+    drop(promises);
+    assert!(rt; said);
 }
 
 /// The number that a promise was fulfilled with.
@@ -256,14 +276,21 @@ fn fulfilled(promises: &Promises<u32>, promise: u32) -> Option<i128> {
     }
 }
 
+fn are_fulfilled(promises: &Promises<u32>, many: u32, number: i128) -> bool {
+    for promise in 0..many {
+        if fulfilled(promises, promise) != Some(number) {
+            return false;
+        }
+    }
+    true
+}
+
 #[test]
 fn followers_share_what_their_leader_was_settled_with(rt: HostRuntime) {
     let mut promises = Promises::new(rt.alloc());
-    for (step, answer) in &STEPS[..18] {
-        assert!(rt; says(&mut promises, *step, *answer));
-    }
-    for promise in 0..5 {
-        assert!(rt; fulfilled(&promises, promise) == Some(8));
-    }
-    assert!(rt; !is_pending(&promises, 5));
+    let said = say(&mut promises, &STEPS[..18]);
+    let fulfilled = are_fulfilled(&promises, 5, 8);
+    let is_pending = is_pending(&promises, 5);
+    drop(promises);
+    assert!(rt; said && fulfilled && !is_pending);
 }

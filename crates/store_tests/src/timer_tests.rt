@@ -30,7 +30,7 @@ fn due(timer: &Timer<u32>) -> u32 {
 }
 
 /// Steps, whether each is taken, what the timer is set to after it, and what is due.
-const STEPS: [(Step, bool, u64, u32); 20] = [
+const STEPS: &[(Step, bool, u64, u32)] = &[
     (Step::TakeDue, false, 0, 0),
     (Step::WakeAt(5, 1), true, 0, 0),
     (Step::WakeAt(3, 2), true, 0, 0),
@@ -57,7 +57,7 @@ const STEPS: [(Step, bool, u64, u32); 20] = [
 #[test]
 fn entries_are_due_by_time_and_then_by_order(rt: HostRuntime) {
     let mut timer = Timer::new(rt.alloc());
-    for (step, taken, time, first) in &STEPS {
+    for (step, taken, time, first) in STEPS {
         let was_taken = take(&mut timer, *step);
         let holds = timer.now() == *time && due(&timer) == *first;
         assert!(rt; was_taken == *taken && holds);

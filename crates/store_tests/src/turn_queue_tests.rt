@@ -31,7 +31,7 @@ fn front(queue: &TurnQueue<u32>) -> u32 {
 }
 
 /// Steps, whether each is taken, what is in front after it, and how many wait.
-const STEPS: [(Step, bool, u32, usize); 12] = [
+const STEPS: &[(Step, bool, u32, usize)] = &[
     (Step::Back, true, 0, 0),
     (Step::Pop, false, 0, 0),
     (Step::Push(1), true, 1, 1),
@@ -49,7 +49,7 @@ const STEPS: [(Step, bool, u32, usize); 12] = [
 #[test]
 fn first_in_is_first_out_and_appends_are_cut_off(rt: HostRuntime) {
     let mut queue = TurnQueue::new(rt.alloc());
-    for (step, taken, in_front, waiting) in &STEPS {
+    for (step, taken, in_front, waiting) in STEPS {
         let was_taken = take(&mut queue, *step);
         let holds = front(&queue) == *in_front && queue.len() == *waiting;
         assert!(rt; was_taken == *taken && holds);

@@ -28,7 +28,7 @@ fn at(map: &UndoMap<u32, u32>, key: u32) -> u32 {
 }
 
 /// Steps, whether each is taken, and the values of the keys 1, 2 and 3 after it.
-const STEPS: [(Step, bool, u32, u32, u32); 16] = [
+const STEPS: &[(Step, bool, u32, u32, u32)] = &[
     (Step::Back, true, 0, 0, 0),
     (Step::Put(1, 10), true, 10, 0, 0),
     (Step::Put(3, 30), true, 10, 0, 30),
@@ -50,7 +50,7 @@ const STEPS: [(Step, bool, u32, u32, u32); 16] = [
 #[test]
 fn a_turns_changes_are_undone_or_kept(rt: HostRuntime) {
     let mut map = UndoMap::new(rt.alloc());
-    for (step, taken, one, two, three) in &STEPS {
+    for (step, taken, one, two, three) in STEPS {
         let was_taken = take(&mut map, *step);
         let holds = at(&map, 1) == *one && at(&map, 2) == *two && at(&map, 3) == *three;
         assert!(rt; was_taken == *taken && holds);
