@@ -1,0 +1,5 @@
+pub mod Rows
+pub mod Traces
+pub mod Licence
+pub mod Obligations
+pub mod Words

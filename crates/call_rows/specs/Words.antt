@@ -1,0 +1,55 @@
+-- Tests that rows of both kinds make, and numbers of what is made next.
+use Rattle.std.specs.Prelude.{ℕ, ◌+◌, nat_lt, not, Bool, true, false, List, [], ◌∷◌, length, Result, Ok, Err}
+use Rattle.amount_math.specs.Worth.{Worth}
+use Rattle.ertp_mint.specs.Stocks.{most_made}
+use Rattle.instance_store.specs.Tables.{instance_at}
+use Rattle.instance_store.specs.declared.instance.Standing.{Standing}
+use Rattle.instance_store.specs.declared.instance.Standing.TheVariants.{Accepting, Halted, Stopped}
+use Rattle.refusals.specs.Codes.{closed, limit, no_method}
+use Rattle.refusals.specs.Outcomes.{◌>>◌, need}
+use Rattle.refusals.specs.declared.codes.Refusal.{Refusal}
+use Rattle.world_state.specs.Good.{open_slots}
+use Rattle.rights_model.specs.Table.{movement}
+use Rattle.rights_model.specs.declared.Holder.{Holder}
+use Rattle.world_state.specs.Worlds.{Effect, State, moves}
+use Rattle.call_rows.specs.Rows.{Outcome}
+
+-- the target has no such method
+abbrev pub without_method : List ℕ → Outcome
+without_method m = Err (no_method m)
+
+-- the number of the next object, of which so many were made and so many at most can be
+unfoldable pub next_of : ℕ → ℕ → Result ℕ Refusal
+next_of made most = do
+  need (nat_lt made most) (limit most)
+  Ok made
+
+-- the number of the next payment; one is left for each slot of an open seat
+unfoldable pub next_payment : State → Result ℕ Refusal
+next_payment w = do
+  need (nat_lt (length w.rights.payments + open_slots w.seats w.rights.slots) most_made) (limit most_made)
+  Ok (length w.rights.payments)
+
+-- one movement is made: of a brand, from one holder to another
+abbrev pub one_move : ℕ → Holder → Holder → Worth → List Effect
+one_move brand from to value = moves (movement brand from to value ∷ []) ∷ []
+
+abbrev pub has_halted : Standing → Bool
+has_halted Halted = true
+has_halted Accepting = false
+has_halted Stopped = false
+
+abbrev pub takes_offers : Standing → Bool
+takes_offers Accepting = true
+takes_offers Halted = false
+takes_offers Stopped = false
+
+abbrev pub standing_of : State → ℕ → Standing
+standing_of w i = (instance_at w.tables.instances i).standing
+
+-- an instance hasn't halted; it takes offers still
+unfoldable pub runs : State → ℕ → Result (Unit {0}) Refusal
+runs w i = need (not (has_halted (standing_of w i))) (closed i)
+
+unfoldable pub is_offered_to : State → ℕ → Result (Unit {0}) Refusal
+is_offered_to w i = need (takes_offers (standing_of w i)) (closed i)
