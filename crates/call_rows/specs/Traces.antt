@@ -97,7 +97,7 @@ coming_from (Slot s k) n = 0
 coming_from Hand n = 0
 
 abbrev pub minted_by : ℕ → Movement → ℕ
-minted_by b m = if m.brand == b then coming_from m.from (counted m.value.content) else 0
+minted_by b m = coming_from m.from (if m.brand == b then counted m.value.content else 0)
 
 abbrev pub minted_in : ℕ → List Movement → ℕ
 minted_in b [] = 0

@@ -1,0 +1,5 @@
+pub mod Reading
+pub mod Forms
+pub mod Sums
+pub mod Given
+pub mod Moving

@@ -1,0 +1,26 @@
+//! The laws. The bodies are empty: what they state is proved of the definitions.
+
+ghost use Rattle.std.specs.Prelude.{◌≡◌, ℕ, List, [], Option, Result, IfOk};
+ghost use Rattle.call_rows.specs.Obligations.{IsGoodOutcome, IsRow};
+ghost use Rattle.call_rows.specs.Traces.{departures_by, openings_by};
+ghost use Rattle.jessie_tree.specs.Tree.{Tree};
+ghost use Rattle.jessie_tree.specs.declared.data.Obj.{Obj};
+ghost use Rattle.refusals.specs.Outcomes.{reading};
+ghost use Rattle.refusals.specs.declared.codes.Refusal.{Refusal};
+ghost use Rattle.world_state.specs.Good.{IsGoodWorld};
+ghost use Rattle.world_state.specs.Known.{IsFormed};
+ghost use Rattle.world_state.specs.Worlds.{Effect, State, after_all};
+
+/// What a row has its effects do keeps the world good.
+pub fn rows_keep_the_world_good()
+    ensures kept { (w : State) (caller : Option ℕ) (o : Obj) (m : List ℕ) (args : List Tree)
+        (answer : Tree) (effects : List Effect) →
+        IsRow w caller o m args answer effects → IsGoodWorld w → IsGoodWorld (after_all w effects) }
+{}
+
+/// A row that only reads owes an answer that its caller may hold, and nothing else.
+pub fn rows_that_read_owe_their_answer()
+    ensures reads { (w : State) (caller : Option ℕ) (o : Obj) (m : List ℕ) (args : List Tree)
+        (r : Result Tree Refusal) → departures_by w o m ≡ [] → openings_by o m ≡ 0 →
+        IfOk r (IsFormed w caller) → IsGoodOutcome w caller o m args (reading r) }
+{}
