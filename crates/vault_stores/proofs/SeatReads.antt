@@ -1,6 +1,6 @@
 -- What a seat's slots are as rows, how a write of one shows there, and what room is left for each.
 use Rattle.std.proofs.Common.{◌≡◌, inl, inr, ℕ, zero, suc, ◌<◌, ◌≤◌, Bool, true, false, cond, List, [], ◌∷◌, ◌++◌, length, take, map, Some, refl, sym, ◌∙◌, ap, subst, arith}
-use Rattle.std.specs.Prelude.{IsNone, IsSome, slice_set, unwrap_or}
+use Rattle.std.specs.Prelude.{IsNone, IsSome, is_some, slice_set, unwrap_or}
 use Rattle.std.specs.Str.{bytes_eq}
 use Rattle.std.proofs.lemmas.Bool.{cases_eq}
 use Rattle.std.proofs.lemmas.Slice.Eq.{bytes_eq-Decides}
@@ -199,3 +199,12 @@ left_after n f all lt there q j has = elim (cases_eq n q) [
     at here =
         let had = there j (subst (λ (s : SeatView). HasSlot j s.slots) (changed_read n f all lt) here) in
         (slot_listed all n j lt had.0, ap (stored_in j) (changed_read n f all lt) ∙ had.1)
+
+-- whether a keyword has a slot, told by the list
+pub slot_told : (all : List SeatView) (n : ℕ) (k : List ℕ) (t : Bool) → n < length all → (t ≡ true → HasSlot k (seat_at all n).slots) → (HasSlot k (seat_at all n).slots → t ≡ true) → t ≡ is_some (amount_under k (kept_seat_at (map kept_seat all) n).slots)
+slot_told all n k true lt there back = sym (slot_listed all n k lt (there refl)).there
+slot_told all n k false lt there back = by (is_some (amount_under k (kept_seat_at (map kept_seat all) n).slots)) refl
+  where
+    by : (u : Bool) → is_some (amount_under k (kept_seat_at (map kept_seat all) n).slots) ≡ u → false ≡ u
+    by false is = refl
+    by true is = back (slot_there all n k (record { made = made_there all n lt; there = is }))

@@ -1,6 +1,6 @@
 //! The stores of a vault, and the halves of a movement on them.
 
-ghost use Rattle.std.specs.Prelude.{◌≡◌, ◌<◌, ◌+◌, ◌^◌, ◌∷◌, [], List, length, IfErr, IsTrue, IfOk, OnErr, OnOk, ◌↔◌};
+ghost use Rattle.std.specs.Prelude.{◌≡◌, ◌<◌, ◌+◌, ◌^◌, ◌∷◌, [], List, is_some, length, IfErr, IsTrue, IfOk, OnErr, OnOk, ◌↔◌};
 ghost use Rattle.amount_math.specs.Content.{Contains, nothing, sum};
 ghost use Rattle.amount_math.specs.Counted.{counted};
 ghost use Rattle.amount_math.specs.Worth.{Fits, IsIssueRefusal, IsValue, Worth};
@@ -8,7 +8,8 @@ ghost use Rattle.ertp_mint.specs.Balances.{HasRoomFor};
 ghost use Rattle.ertp_mint.specs.Stocks.{most_made};
 ghost use Rattle.payments.specs.Papers.{IsKept};
 ghost use Rattle.right_steps.specs.Lists.{no_lists, slot_of, ungiven, untaken};
-ghost use Rattle.right_steps.specs.Seats.{HasSlotOf};
+ghost use Rattle.proposals.specs.Rows.{amount_under};
+ghost use Rattle.right_steps.specs.Seats.{HasSlotOf, kept_seat_at};
 ghost use Rattle.seat_store.specs.Store.{slot_store};
 ghost use Rattle.transit.specs.Transit.{IsOnItsWay, in_store, kind_in, supply_in};
 ghost use Rattle.vault_stores.specs.Asked.{IsPutFault, IsSlotFor, IsSource, IsTarget, MayOpenSlot, TakesIn, brand_of, held_by};
@@ -104,6 +105,14 @@ impl Stores {
             Holder::Slot(seat, keyword) => self.seats.holding(*seat, keyword).is_gte(part),
             _ => true,
         }
+    }
+
+    /// Whether a seat has a slot of a keyword.
+    pub fn has_slot(&self, seat: u32, keyword: &Keyword) -> bool
+        requires { seat < length (lists_of self.now).seats }
+        ensures { result ≡ is_some (amount_under keyword.now (kept_seat_at (lists_of self.now).seats seat).slots) }
+    {
+        self.seats.has_slot(seat, keyword)
     }
 
     /// Takes a value of a purse or a slot, or a payment whole, so that it can be put back without memory. It
