@@ -24,7 +24,7 @@ use Rattle.right_steps.specs.Tables.{Right, all_in, hand_minus, hand_plus, in_br
 use Rattle.right_steps.proofs.Sound.{at_or_else, minus_count, part, plus_count}
 use Rattle.list_edits.proofs.ListEdits.{length_map, length_set, map_set, read_map, read_other, read_set}
 use Rattle.world_state.specs.Good.{HasNothing, IsBalanced, IsGoodEffect, IsGoodWorld}
-use Rattle.world_state.specs.Rights.{CanGive, CanMoveAll, CanTake, Has, IsNextOr, Rights, TakesOrOpens, Takes, all_moved, all_spent, given, hand_after, hand_in, hand_out, held_of, moved, moved_together, paid, paper_less, paper_more, right_of_row, rows_less, rows_more, slot_rights, slots_at, spent_from, taken, value_less, value_more, with_slots}
+use Rattle.world_state.specs.Rights.{CanGive, CanMoveAll, CanTake, Has, HasOrOpens, IsNextOr, IsNothing, Rights, TakesOrOpens, Takes, all_moved, all_spent, given, hand_after, hand_in, hand_out, held_of, moved, moved_together, paid, paper_less, paper_more, right_of_row, rows_less, rows_more, slot_rights, slots_at, spent_from, taken, value_less, value_more, with_slots}
 use Rattle.world_state.specs.Worlds.{Effect, State, after, burn_and_escrows, empty_slots, invitation_move, paid_out, empty_payment, empty_seat, exit, invite, moves, new_brand, new_purse, offer}
 use Rattle.world_laws.proofs.Supplies.{can_invite}
 use Rattle.world_laws.proofs.Instances.{open_made}
@@ -120,12 +120,26 @@ slots-push : (l : List (List Row)) (rs : List Row) (e : ℕ) (k : List ℕ) → 
 slots-push [] rs e k = omega (arith, all_in-append (map right_of_row rs) [] e k)
 slots-push (x ∷ xs) rs e k = omega (arith, slots-push xs rs e k, all_in-append (map right_of_row x) (slot_rights xs) e k, all_in-append (map right_of_row x) (slot_rights (xs ++ rs ∷ [])) e k)
 
-rows_less-in : (q : List ℕ) (b : ℕ) (w : Worth) (rs : List Row) (e : ℕ) (k : List ℕ) → IsSomeAnd (amount_under q rs) (λ a. Has a b w) → in_rows (rows_less q w.content rs) e k + part b w.content e k ≡ in_rows rs e k
-rows_less-in q b w [] e k has = absurd has
+abbrev HasUnder : Option Amount → ℕ → Worth → Type 0
+HasUnder None b w = IsNothing w.content
+HasUnder (Some a) b w = Has a b w
+
+has_under : (o : Option Amount) (rs : List Row) (b : ℕ) (w : Worth) → HasOrOpens o rs b w → HasUnder o b w
+has_under None rs b w h = h.0
+has_under (Some a) rs b w h = h
+
+none_in : (b : ℕ) (w : Worth) (e : ℕ) (k : List ℕ) → IsNothing w.content → part b w.content e k ≡ 0
+none_in b w e k none = elim (b == e) as (λ t. cond t (count w.content k) 0 ≡ 0) [ true ↦ none.each k | false ↦ refl ]
+
+opened_in : (b e : ℕ) (k : List ℕ) → count (in_brand (record { brand = b; content = nothing }) e) k ≡ 0
+opened_in b e k = elim (b == e) as (λ t. count (cond t nothing nothing) k ≡ 0) [ true ↦ count-nothing k | false ↦ count-nothing k ]
+
+rows_less-in : (q : List ℕ) (b : ℕ) (w : Worth) (rs : List Row) (e : ℕ) (k : List ℕ) → HasUnder (amount_under q rs) b w → in_rows (rows_less q (amount_of b w) rs) e k + part b w.content e k ≡ in_rows rs e k
+rows_less-in q b w [] e k has = omega (arith, none_in b w e k has, opened_in b e k)
 rows_less-in q b w (r ∷ rs) e k has = by (bytes_eq q r.keyword) (rows_less-in q b w rs e k) has
   where
-    by : (t : Bool) → (IsSomeAnd (amount_under q rs) (λ a. Has a b w) → in_rows (rows_less q w.content rs) e k + part b w.content e k ≡ in_rows rs e k) → IsSomeAnd (cond t (Some r.amount) (amount_under q rs)) (λ a. Has a b w)
-        → in_rows (if t then row_of r.keyword (less r.amount w.content) ∷ rs else r ∷ rows_less q w.content rs) e k + part b w.content e k ≡ count (in_brand (right_of_row r) e) k + in_rows rs e k
+    by : (t : Bool) → (HasUnder (amount_under q rs) b w → in_rows (rows_less q (amount_of b w) rs) e k + part b w.content e k ≡ in_rows rs e k) → HasUnder (cond t (Some r.amount) (amount_under q rs)) b w
+        → in_rows (if t then row_of r.keyword (less r.amount w.content) ∷ rs else r ∷ rows_less q (amount_of b w) rs) e k + part b w.content e k ≡ count (in_brand (right_of_row r) e) k + in_rows rs e k
     by true to h = omega (arith, brand_less (right_of_row r) b w.content e k h.brand h.has)
     by false to h = omega (arith, to h)
 
@@ -187,7 +201,7 @@ module _ (r : Rights) (h : ℕ → Content) (b : ℕ) (w : Worth) (is : WithHand
   taken_with : (from : Holder) → b < length r.out → CanTake r h from b w → WithHand (taken r from b w) (hand_plus (hand_out h from b w.content) b w.content)
   taken_with (Purse n) lt can = record { each = λ e k. omega (arith, is.each e k, plus_count h b w.content e k, purses-set r.purses n (less (purse_at r.purses n) w.content) e k can.made, brand_less (right_in (purse_at r.purses n)) b w.content e k can.has.brand can.has.has) }
   taken_with (Payment n) lt can = record { each = λ e k. omega (arith, is.each e k, plus_count h b w.content e k, papers-set r.payments n (paper_less (paper_at r.payments n) w.content) e k can.made, less_paper (paper_at r.payments n) b w e k can.has) }
-  taken_with (Slot s q) lt can = record { each = λ e k. omega (arith, is.each e k, plus_count h b w.content e k, slots-set r.slots s (rows_less q w.content (slots_at r.slots s)) e k can.made, rows_less-in q b w (slots_at r.slots s) e k can.has) }
+  taken_with (Slot s q) lt can = record { each = λ e k. omega (arith, is.each e k, plus_count h b w.content e k, slots-set r.slots s (rows_less q (amount_of b w) (slots_at r.slots s)) e k can.made, rows_less-in q b w (slots_at r.slots s) e k (has_under (amount_under q (slots_at r.slots s)) (slots_at r.slots s) b w can.has)) }
   taken_with Hand lt can = record { each = λ e k. omega (arith, is.each e k, plus_count (hand_minus h b w.content) b w.content e k, minus_count h b w.content e k can.has) }
   taken_with Outside lt can = record { each = λ e k. omega (arith, is.each e k, plus_count h b w.content e k, out_more r.out b w.content e k lt) }
 

@@ -32,12 +32,16 @@ first_is_good = record {
   bounded = (record { each = λ k. omega (arith, count-nothing k) }, tt);
   brands = record { some = omega arith; few = omega arith; supplies = refl; made_by = refl; kinds = same_kinds; first = refl; host = refl };
   invited = record { once = omega arith; made = λ k none. count-nothing k };
-  seats = record { staged = refl; slotted = refl; paired = refl; rows = tt };
+  seats = record { staged = refl; slotted = refl; paired = refl; rows = tt; named = tt };
+  paired = tt;
   placed = tt;
+  at_work = record { each = λ s is. absurd (closed [] is) };
+  proposed = record { each = λ s lt. absurd (omega (arith, lt)) };
   covered = record { each = λ s is. absurd (closed [] is) };
   room = record { left = omega arith };
   staged = record { each = λ s rows e. absurd (nothing_is rows e) };
   owed = record { made = tt; once = λ p. omega arith; pending = λ p some. absurd (omega (arith, some)) };
+  asked = tt;
   settled = tt;
   requests = tt;
   modules = tt;
@@ -46,5 +50,6 @@ first_is_good = record {
   facets = tt;
   labels = tt;
   timed = tt;
+  timely = record { time = omega arith; waiting = tt };
   waiting = tt;
 }

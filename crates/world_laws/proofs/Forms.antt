@@ -20,7 +20,7 @@ use Rattle.jessie_tree.specs.declared.syntax.Module.{Module}
 use Rattle.promise_store.specs.States.{SettlementView, broken, ok}
 use Rattle.proposals.specs.declared.offers.Proposal.{Proposal}
 use Rattle.turn_records.specs.Deliveries.{Delivery, Notice, Offer, Send, Start, Wakeup, bad, call, deadline, give, notify, offer, send, start, tick, wake}
-use Rattle.world_state.specs.Good.{IsBrandMade, IsDue, IsFacet, IsFinal, IsInstance, IsInvitation, IsLabel, IsNotice, IsOfferCall, IsSend, IsSettled, IsSettling, IsStart, IsTimed, IsWakeup}
+use Rattle.world_state.specs.Good.{IsDue, IsFacet, IsFinal, IsInstance, IsInvitation, IsIssuer, IsLabel, IsMethod, IsNews, IsNotice, IsOfferCall, IsSend, IsSettled, IsSettling, IsStart, IsTimed, IsWakeup}
 use Rattle.world_state.specs.Known.{FunctionKnown, Grows, HasFunction, IsFormed, IsHanded, IsKnownTo, IsNamed, IsPlain, IsSeatOf, ObjectKnown, known_as, made_as, module_of}
 use Rattle.world_state.specs.Worlds.{State}
 use Rattle.world_laws.proofs.Lists.{all_map}
@@ -39,6 +39,7 @@ module _ (w : State) (h : Option ℕ) where
   plain_formed t plain = record {
     objects = weaker (ObjectIs (λ o. ⊥)) (ObjectIs (ObjectKnown h w)) no_object 0 t plain.objects;
     functions = weaker (FunctionIs (λ f. ⊥)) (FunctionIs (FunctionKnown h w)) no_function 0 t plain.functions;
+    named = plain.named;
     ordered = plain.ordered;
     shallow = plain.shallow;
   }
@@ -108,6 +109,7 @@ module _ (v w : State) (g : Grows v w) where
   formed_grows h t is = record {
     objects = weaker (ObjectIs (ObjectKnown h v)) (ObjectIs (ObjectKnown h w)) (object_fact h) 0 t is.objects;
     functions = weaker (FunctionIs (FunctionKnown h v)) (FunctionIs (FunctionKnown h w)) (function_fact h) 0 t is.functions;
+    named = is.named;
     ordered = is.ordered;
     shallow = is.shallow;
   }
@@ -127,12 +129,16 @@ module _ (v w : State) (g : Grows v w) where
   settled_grows (Some s) is = final_grows s is
 
   pub invitation_grows : (d : DetailsView) → IsInvitation v d → IsInvitation w d
-  invitation_grows d is = record { handler = function_grows d.instance d.handler is.handler; held = formed_grows (Some d.instance) d.held is.held }
+  invitation_grows d is = record {
+    handler = function_grows d.instance d.handler is.handler;
+    installation = is.installation ∙ sym (instance_stays d.instance is.handler.made);
+    held = formed_grows (Some d.instance) d.held is.held;
+  }
 
   pub facet_grows : (f : FacetView) → IsFacet v f → IsFacet w f
   facet_grows f is = record {
     made = omega (arith, is.made, g.instances.more);
-    methods = all_map (λ (m : List ℕ × List ℕ). HasFunction v.tables f.instance m.1) (λ (m : List ℕ × List ℕ). HasFunction w.tables f.instance m.1) (λ (m : List ℕ × List ℕ). function_grows f.instance m.1) f.methods is.methods;
+    methods = all_map (IsMethod v f.instance) (IsMethod w f.instance) (λ (m : List ℕ × List ℕ). function_grows f.instance m.1) f.methods is.methods;
     held = formed_grows (Some f.instance) f.held is.held;
   }
 
@@ -144,6 +150,9 @@ module _ (v w : State) (g : Grows v w) where
 
   pub notice_grows : (n : Notice) → IsNotice v n → IsNotice w n
   notice_grows n is = record { promise = omega (arith, is.promise, g.promises); function = function_grows n.instance n.function is.function; held = formed_grows (Some n.instance) n.held is.held }
+
+  news_grows : (n : Notice) → IsNews v n → IsNews w n
+  news_grows n is = record { notice = notice_grows n is.notice; settled = g.settled.each n.promise is.notice.promise is.settled }
 
   start_grows : (s : Start) → IsStart v s → IsStart w s
   start_grows s is = record { made = omega (arith, is.made, g.instances.more); arguments = formed_grows None s.private_arguments is.arguments }
@@ -162,15 +171,15 @@ module _ (v w : State) (g : Grows v w) where
   send_grows s is = record { made = omega (arith, is.made, g.instances.more); target = formed_grows None (object s.target) is.target; arguments = handed_all_grow s.arguments is.arguments }
 
   pub due_grows : (d : Delivery) → IsDue v d → IsDue w d
-  due_grows (call c) is = tt
-  due_grows (give c) is = tt
-  due_grows (tick t) is = tt
+  due_grows (call c) is = is
+  due_grows (give c) is = is
+  due_grows (tick t) is = is
   due_grows (bad r) is = tt
   due_grows (send s) is = send_grows s is
   due_grows (start s) is = start_grows s is
   due_grows (offer o) is = offer_grows o is
   due_grows (wake d) is = wakeup_grows d is
-  due_grows (notify n) is = notice_grows n is
+  due_grows (notify n) is = news_grows n is
   due_grows (deadline s) is = omega (arith, is, g.seats.more)
 
   pub timed_grows : (d : Delivery) → IsTimed v d → IsTimed w d
@@ -178,11 +187,11 @@ module _ (v w : State) (g : Grows v w) where
   timed_grows (deadline s) is = omega (arith, is, g.seats.more)
   timed_grows _ is = is
 
-  brand_grows : (i : Issuer) → IsBrandMade v i → IsBrandMade w i
-  brand_grows i is = omega (arith, is, g.brands.more)
+  pub issuer_grows : (i : Issuer) → IsIssuer v i → IsIssuer w i
+  issuer_grows i is = record { made = omega (arith, is.made, g.brands.more); named = is.named }
 
-  pub brands_all_grow : (is : List Issuer) → AllByRecursion (IsBrandMade v) is → AllByRecursion (IsBrandMade w) is
-  brands_all_grow is all = all_map (IsBrandMade v) (IsBrandMade w) brand_grows is all
+  pub issuers_all_grow : (is : List Issuer) → AllByRecursion (IsIssuer v) is → AllByRecursion (IsIssuer w) is
+  issuers_all_grow is all = all_map (IsIssuer v) (IsIssuer w) issuer_grows is all
 
   pub facet_given_grows : (t : Option Tree) → IfSome t (IsHanded v) → IfSome t (IsHanded w)
   facet_given_grows None is = tt
@@ -194,8 +203,10 @@ module _ (v w : State) (g : Grows v w) where
   pub instance_grows : (n : ℕ) (x : InstanceView) → IsInstance v n x → IsInstance w n x
   instance_grows n x is = record {
     installed = omega (arith, is.installed, g.installations.more);
-    issuers = brands_all_grow x.issuers is.issuers;
+    issuers = issuers_all_grow x.issuers is.issuers;
+    apart = is.apart;
     terms = formed_grows None x.terms is.terms;
+    bare = is.bare;
     facet = facet_given_grows x.public_facet is.facet;
     whole = is.whole ∙ sym (ap (λ (m : Module). length m.variables) (g.installations.same x.installation is.installed));
     state = known_all_grow n x.state is.state;

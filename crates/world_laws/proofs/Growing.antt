@@ -1,28 +1,30 @@
 -- What was made stays what it is, whatever an effect does.
 use Rattle.std.specs.Prelude.{◌==◌, cond, slice_set}
-use Rattle.std.proofs.Common.{◌≡◌, ℕ, ◌≤◌, true, false, List, [], ◌∷◌, ◌++◌, Some, None, Option, length, map, refl, ◌∙◌, arith}
+use Rattle.std.specs.Option.{option_map}
+use Rattle.std.proofs.Common.{◌≡◌, ℕ, ◌≤◌, true, false, List, [], ◌∷◌, ◌++◌, Some, None, Option, length, map, refl, ◌∙◌, ap, arith}
 use Rattle.list_edits.proofs.ListEdits.{length_push, length_set}
 use Rattle.brands.specs.Brands.{brand_at, no_brand}
 use Rattle.instance_store.specs.Facets.{no_facet}
 use Rattle.instance_store.specs.SeatPromises.{no_pair, pair_at}
 use Rattle.instance_store.specs.Tables.{no_instance, no_module}
 use Rattle.invitations.specs.Details.{no_details}
-use Rattle.payments.specs.Papers.{Paper, live_paper, paper_at}
+use Rattle.payments.specs.Papers.{Paper, live_paper, paper_at, spent_paper}
 use Rattle.ertp_mint.specs.Stocks.{empty_amount}
 use Rattle.jessie_tree.specs.Tree.{null}
 use Rattle.promise_store.specs.States.{SettlementView, ok}
 use Rattle.rights_model.specs.declared.Holder.{Holder}
 use Rattle.rights_model.specs.declared.Holder.TheVariants.{Purse, Payment}
 use Rattle.rights_model.specs.declared.Movement.{Movement}
+use Rattle.amount_math.specs.Content.{Content}
 use Rattle.amount_math.specs.Worth.{Worth}
 use Rattle.amount_math.specs.declared.Amount.{Amount}
 use Rattle.turn_records.specs.Deliveries.{Delivery, Notice}
 use Rattle.turn_records.specs.Events.{Event}
-use Rattle.world_state.specs.Known.{Extends, Grows, instance_origin, seat_origin, whole}
-use Rattle.world_state.specs.Promises.{CascadeStep, Flow, PromiseBook, all_stepped, asking, cascade, flowing, following, notifies, resolving, resolving_to, settlement_at, settles, settling, stepped, target_of, with_promise}
-use Rattle.world_state.specs.Rights.{Rights, all_moved, all_spent, given, moved, moved_together, paid, paper_more, slots_at, spent_from, taken, with_slots}
+use Rattle.world_state.specs.Known.{Extends, Grows, Keeps, WasLeft, WasSpent, instance_origin, seat_origin, whole}
+use Rattle.world_state.specs.Promises.{CascadeStep, Flow, PromiseBook, all_stepped, asking, cascade, flowing, following, no_promise, notifies, WasSettled, resolving, resolving_to, settlement_at, settles, settling, stepped, target_of, with_promise}
+use Rattle.world_state.specs.Rights.{Rights, all_moved, all_spent, given, moved, moved_together, paid, paper_less, paper_more, slots_at, spent_from, taken, value_less, value_more, with_slots}
 use Rattle.world_state.specs.Worlds.{Effect, State, after, burn_and_escrows, empty_slots, invitation_move, leaving_events, left_seat, next_pair, no_seat, of_host, paid_out, payouts_tree, request_of, seat_at, add_issuer, empty_payment, empty_seat, exit, halt, install, invite, keep_state, make_facet, moves, new_brand, new_promise, new_purse, offer, publish, resolve, send, start, stop, when}
-use Rattle.world_laws.proofs.Lists.{extends_push, extends_refl, extends_set, length_append}
+use Rattle.world_laws.proofs.Lists.{extends_push, extends_refl, extends_set, keeps_append, keeps_push, keeps_refl, keeps_set, keeps_trans, length_append}
 
 -- ---- movements keep how many purses there are, and leave at least as many payments
 
@@ -73,13 +75,57 @@ payments_together r ms = omega (arith, payments_moved r ms, payments_spent ms (a
 pub purses_together : (r : Rights) (ms : List Movement) → length r.purses ≤ length (moved_together r ms).purses
 purses_together r ms = omega (arith, purses_moved r ms)
 
+-- ---- what was spent stays spent
+
+abbrev StillSpent : List Paper → List Paper → Type 0
+StillSpent ps qs = Keeps WasSpent (spent_paper 0) ps qs
+
+spent_less : (p : Paper) (c : Content) → WasSpent p → WasSpent (paper_less p c)
+spent_less p c is = ap (λ h. option_map (value_less c) h) is
+
+spent_more : (p : Paper) (c : Content) → WasSpent p → WasSpent (paper_more p c)
+spent_more p c is = ap (λ h. option_map (value_more c) h) is
+
+spent_paid : (ps : List Paper) (n : ℕ) (a : Amount) → StillSpent ps (paid ps n a)
+spent_paid ps n a = elim (n == length ps) as (λ t. StillSpent ps (cond t (ps ++ live_paper a ∷ []) (slice_set ps n (paper_more (paper_at ps n) a.value.content)))) [
+  | true ↦ keeps_push WasSpent (spent_paper 0) ps (live_paper a)
+  | false ↦ keeps_set WasSpent (spent_paper 0) ps n _ (spent_more (paper_at ps n) a.value.content)
+]
+
+spent_taken : (r : Rights) (h : Holder) (b : ℕ) (w : Worth) → StillSpent r.payments (taken r h b w).payments
+spent_taken r (Payment n) b w = keeps_set WasSpent (spent_paper 0) r.payments n _ (spent_less (paper_at r.payments n) w.content)
+spent_taken r _ b w = keeps_refl WasSpent (spent_paper 0) r.payments
+
+spent_given : (r : Rights) (h : Holder) (b : ℕ) (w : Worth) → StillSpent r.payments (given r h b w).payments
+spent_given r (Payment n) b w = spent_paid r.payments n _
+spent_given r _ b w = keeps_refl WasSpent (spent_paper 0) r.payments
+
+spent_moved : (r : Rights) (ms : List Movement) → StillSpent r.payments (all_moved r ms).payments
+spent_moved r [] = keeps_refl WasSpent (spent_paper 0) r.payments
+spent_moved r (m ∷ ms) =
+    let t = taken r m.from m.brand m.value in
+    let first = keeps_trans WasSpent (spent_paper 0) r.payments t.payments (moved r m).payments (payments_taken r m.from m.brand m.value) (spent_taken r m.from m.brand m.value) (spent_given t m.to m.brand m.value) in
+    keeps_trans WasSpent (spent_paper 0) r.payments (moved r m).payments (all_moved r (m ∷ ms)).payments
+    (omega (arith, payments_taken r m.from m.brand m.value, payments_given t m.to m.brand m.value)) first (spent_moved (moved r m) ms)
+
+spent_still : (h : Holder) (ps : List Paper) → StillSpent ps (spent_from h ps)
+spent_still (Payment n) ps = keeps_set WasSpent (spent_paper 0) ps n _ (λ is. refl)
+spent_still _ ps = keeps_refl WasSpent (spent_paper 0) ps
+
+spent_all : (ms : List Movement) (ps : List Paper) → StillSpent ps (all_spent ms ps)
+spent_all [] ps = keeps_refl WasSpent (spent_paper 0) ps
+spent_all (m ∷ ms) ps = keeps_trans WasSpent (spent_paper 0) ps (spent_from m.from ps) (all_spent (m ∷ ms) ps) (payments_spent_from m.from ps) (spent_still m.from ps) (spent_all ms (spent_from m.from ps))
+
+spent_together : (r : Rights) (ms : List Movement) → StillSpent r.payments (moved_together r ms).payments
+spent_together r ms = keeps_trans WasSpent (spent_paper 0) r.payments (all_moved r ms).payments _ (payments_moved r ms) (spent_moved r ms) (spent_all ms (all_moved r ms).payments)
+
 -- ---- settling keeps how many promises there are
 
 stepped_made : (v : SettlementView) (s : CascadeStep) (f : Flow) → length (stepped v s f).settled ≡ length f.settled
 stepped_made v (settles p) f = length_set f.settled p _
 stepped_made v (notifies p) f = refl
 
-all_stepped_made : (v : SettlementView) (ss : List CascadeStep) (f : Flow) → length (all_stepped v ss f).settled ≡ length f.settled
+pub all_stepped_made : (v : SettlementView) (ss : List CascadeStep) (f : Flow) → length (all_stepped v ss f).settled ≡ length f.settled
 all_stepped_made v [] f = refl
 all_stepped_made v (s ∷ ss) f = all_stepped_made v ss (stepped v s f) ∙ stepped_made v s f
 
@@ -96,6 +142,43 @@ resolving_to_made (Some q) p v b ds log = following_made (settlement_at b.settle
 
 pub resolving_made : (p : ℕ) (v : SettlementView) (b : PromiseBook) (ds : List Delivery) (log : List Event) → length (resolving p v b ds log).promises.settled ≡ length b.settled
 resolving_made p v b ds log = resolving_to_made (target_of v) p v b ds log
+
+-- and keeps what is settled
+
+abbrev pub StillSettled : List (Option SettlementView) → List (Option SettlementView) → Type 0
+StillSettled ss ts = Keeps WasSettled no_promise ss ts
+
+pub stepped_still : (v : SettlementView) (s : CascadeStep) (f : Flow) → StillSettled f.settled (stepped v s f).settled
+stepped_still v (settles p) f = keeps_set WasSettled no_promise f.settled p (Some v) (λ is. refl)
+stepped_still v (notifies p) f = keeps_refl WasSettled no_promise f.settled
+
+pub all_stepped_still : (v : SettlementView) (ss : List CascadeStep) (f : Flow) → StillSettled f.settled (all_stepped v ss f).settled
+all_stepped_still v [] f = keeps_refl WasSettled no_promise f.settled
+all_stepped_still v (s ∷ ss) f = keeps_trans WasSettled no_promise f.settled (stepped v s f).settled (all_stepped v (s ∷ ss) f).settled (omega (arith, stepped_made v s f)) (stepped_still v s f) (all_stepped_still v ss (stepped v s f))
+
+settling_still : (p : ℕ) (v : SettlementView) (b : PromiseBook) (ds : List Delivery) (log : List Event) → StillSettled b.settled (settling p v b ds log).promises.settled
+settling_still p v b ds log = all_stepped_still v (cascade (length b.settled) b.follows p) (flowing b ds log)
+
+following_still : (s : Option SettlementView) (p q : ℕ) (b : PromiseBook) (ds : List Delivery) (log : List Event) → StillSettled b.settled (following s p q b ds log).promises.settled
+following_still (Some v) p q b ds log = settling_still p v b ds log
+following_still None p q b ds log = keeps_refl WasSettled no_promise b.settled
+
+resolving_to_still : (q : Option ℕ) (p : ℕ) (v : SettlementView) (b : PromiseBook) (ds : List Delivery) (log : List Event) → StillSettled b.settled (resolving_to q p v b ds log).promises.settled
+resolving_to_still None p v b ds log = settling_still p v b ds log
+resolving_to_still (Some q) p v b ds log = following_still (settlement_at b.settled q) p q b ds log
+
+resolving_still : (p : ℕ) (v : SettlementView) (b : PromiseBook) (ds : List Delivery) (log : List Event) → StillSettled b.settled (resolving p v b ds log).promises.settled
+resolving_still p v b ds log = resolving_to_still (target_of v) p v b ds log
+
+asking_still : (s : Option SettlementView) (n : Notice) (b : PromiseBook) → StillSettled b.settled (asking s n b).settled
+asking_still (Some v) n b = keeps_refl WasSettled no_promise b.settled
+asking_still None n b = keeps_refl WasSettled no_promise b.settled
+
+one_more_still : (s : Option SettlementView) (ss : List (Option SettlementView)) → StillSettled ss (ss ++ s ∷ [])
+one_more_still s ss = keeps_push WasSettled no_promise ss s
+
+two_more_still : (s t : Option SettlementView) (ss : List (Option SettlementView)) → StillSettled ss ((ss ++ s ∷ []) ++ t ∷ [])
+two_more_still s t ss = keeps_trans WasSettled no_promise ss (ss ++ s ∷ []) _ (omega (arith, length_push ss s)) (one_more_still s ss) (one_more_still t (ss ++ s ∷ []))
 
 asking_made : (s : Option SettlementView) (n : Notice) (b : PromiseBook) → length (asking s n b).settled ≡ length b.settled
 asking_made (Some v) n b = refl
@@ -172,6 +255,33 @@ promises_grow w (when i p function held) = omega (arith, one_more None w.promise
 promises_grow w (start s) = one_more None w.promises.settled
 promises_grow w _ = omega arith
 
+settled_still : (w : State) (e : Effect) → StillSettled w.promises.settled (after w e).promises.settled
+settled_still w (offer o) = two_more_still None None w.promises.settled
+settled_still w (empty_seat i rule) = two_more_still (Some (ok null)) None w.promises.settled
+settled_still w (exit s cause) = resolving_still (pair_at w.pairs s).payouts (ok (payouts_tree w s)) w.promises w.waiting (w.log ++ leaving_events w s cause)
+settled_still w new_promise = one_more_still None w.promises.settled
+settled_still w (resolve p v) = resolving_still p v w.promises w.waiting w.log
+settled_still w (send i target method arguments) = one_more_still None w.promises.settled
+settled_still w (when i p function held) =
+    keeps_trans WasSettled no_promise w.promises.settled (w.promises.settled ++ None ∷ []) _ (one_more None w.promises.settled) (one_more_still None w.promises.settled)
+    (asking_still (settlement_at w.promises.settled p) (request_of w i p function held) (with_promise None w.promises))
+settled_still w (start s) = one_more_still None w.promises.settled
+settled_still w _ = keeps_refl WasSettled no_promise w.promises.settled
+
+left_still : (w : State) (e : Effect) → Keeps WasLeft no_seat w.seats (after w e).seats
+left_still w (offer o) = keeps_push WasLeft no_seat w.seats _
+left_still w (empty_seat i rule) = keeps_push WasLeft no_seat w.seats _
+left_still w (exit s cause) = keeps_set WasLeft no_seat w.seats s (left_seat (seat_at w.seats s) (slots_at w.rights.slots s)) (λ is. refl)
+left_still w _ = keeps_refl WasLeft no_seat w.seats
+
+spent_after : (w : State) (e : Effect) → StillSpent w.rights.payments (after w e).rights.payments
+spent_after w (empty_payment b) = keeps_push WasSpent (spent_paper 0) w.rights.payments _
+spent_after w (moves ms) = spent_together w.rights ms
+spent_after w (offer o) = spent_together (with_slots w.rights (empty_slots o.proposal)) (burn_and_escrows o)
+spent_after w (invite d) = spent_together w.rights (invitation_move w ∷ [])
+spent_after w (exit s cause) = keeps_append WasSpent (spent_paper 0) w.rights.payments (map paid_out (slots_at w.rights.slots s))
+spent_after w _ = keeps_refl WasSpent (spent_paper 0) w.rights.payments
+
 pub grows-after : (w : State) (e : Effect) → Grows w (after w e)
 grows-after w e = record {
   brands = brands_grow w e;
@@ -185,4 +295,7 @@ grows-after w e = record {
   instances = instances_grow w e;
   facets = facets_grow w e;
   promises = promises_grow w e;
+  settled = settled_still w e;
+  left = left_still w e;
+  spent = spent_after w e;
 }

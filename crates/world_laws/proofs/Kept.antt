@@ -3,9 +3,11 @@ use Rattle.std.proofs.Common.{List, [], ◌∷◌}
 use Rattle.world_state.specs.Good.{AreGood, IsGoodEffect, IsGoodWorld}
 use Rattle.world_state.specs.Worlds.{Effect, State, after, after_all}
 use Rattle.world_laws.proofs.Balanced.{balanced-after}
-use Rattle.world_laws.proofs.Data.{facets-after, invitations-after, known-after, labels-after, modules-after, timed-after}
+use Rattle.world_laws.proofs.Data.{facets-after, invitations-after, known-after, labels-after, modules-after, timed-after, timely-after}
+use Rattle.world_laws.proofs.Cascades.{asked-after}
+use Rattle.world_laws.proofs.Proposed.{paired-after, proposed-after}
 use Rattle.world_laws.proofs.HeldKinds.{kinds-after}
-use Rattle.world_laws.proofs.Instances.{instances-after, placed-after}
+use Rattle.world_laws.proofs.Instances.{at_work-after, instances-after, placed-after}
 use Rattle.world_laws.proofs.Owing.{owed-after}
 use Rattle.world_laws.proofs.Rooms.{room-after, staged-after}
 use Rattle.world_laws.proofs.Seated.{covered-after, seats-after}
@@ -24,11 +26,15 @@ good-after w e can good =
       brands = brands-after w e can good;
       invited = invited-after w e can good;
       seats = seats-after w e can good;
+      paired = paired-after w e good;
       placed = placed-after w e can good;
+      at_work = at_work-after w e can good;
+      proposed = proposed-after w e can good;
       covered = covered-after w e can good;
       room = room-after w e can good;
       staged = staged-after w e can good;
       owed = owed-after w e can good;
+      asked = asked-after w e good;
       settled = known.settled;
       requests = known.requests;
       modules = modules-after w e can good.modules;
@@ -37,6 +43,7 @@ good-after w e can good =
       facets = facets-after w e can good.facets;
       labels = labels-after w e can good.labels;
       timed = timed-after w e can good;
+      timely = timely-after w e can good;
       waiting = known.waiting;
     }
 

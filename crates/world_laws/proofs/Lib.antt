@@ -1,6 +1,8 @@
 pub mod Lists
 pub mod Growing
 pub mod Forms
+pub mod Cascades
+pub mod SlotRows
 pub mod Payouts
 pub mod Data
 pub mod Instances
@@ -9,6 +11,7 @@ pub mod Elements
 pub mod Supplies
 pub mod HeldKinds
 pub mod Seated
+pub mod Proposed
 pub mod Balanced
 pub mod Rooms
 pub mod Owed

@@ -1,9 +1,9 @@
 -- Facts of each element of a list, and lists of which one element is written or to which some are added.
 use Rattle.std.specs.Prelude.{cond, slice_index_or, slice_set}
 use Rattle.std.specs.List.{AllByRecursion, filter}
-use Rattle.std.proofs.Common.{◌≡◌, inl, inr, ℕ, zero, suc, ◌+◌, ◌<◌, Bool, true, false, List, [], ◌∷◌, ◌++◌, length, map, refl, ◌∙◌, ap, subst, arith}
+use Rattle.std.proofs.Common.{◌≡◌, inl, inr, ℕ, zero, suc, ◌+◌, ◌<◌, ◌≤◌, Bool, true, false, List, [], ◌∷◌, ◌++◌, length, map, refl, ◌∙◌, sym, ap, subst, arith}
 use Rattle.std.proofs.lemmas.Bool.{cases_eq}
-use Rattle.world_state.specs.Known.{Extends}
+use Rattle.world_state.specs.Known.{Extends, Keeps}
 use Rattle.list_edits.proofs.ListEdits.{length_push, length_set, read_before, read_other, read_set}
 
 module _ {A : Type 0} (P Q : A → Type 0) (to : (x : A) → P x → Q x) where
@@ -82,3 +82,35 @@ pub all_read_or : {A : Type 0} (P : A → Type 0) (xs : List A) (n : ℕ) (d : A
 all_read_or P [] n d all other = other
 all_read_or P (y ∷ ys) zero d all other = all.0
 all_read_or P (y ∷ ys) (suc n) d all other = all_read_or P ys n d all.1 other
+
+-- ---- lists in which what has a property keeps it
+
+module _ {A : Type 0} (P : A → Type 0) (none : A) where
+  pub keeps_refl : (xs : List A) → Keeps P none xs xs
+  keeps_refl xs = record { each = λ n lt p. p }
+
+  pub keeps_push : (xs : List A) (x : A) → Keeps P none xs (xs ++ x ∷ [])
+  keeps_push xs x = record {
+    each = λ n lt p. subst P (sym (read_before xs x none n (λ (e : length xs ≡ n). absurd (omega (arith, e, lt))))) p;
+  }
+
+  pub keeps_set : (xs : List A) (n : ℕ) (x : A) → (P (slice_index_or xs n none) → P x) → Keeps P none xs (slice_set xs n x)
+  keeps_set xs n x to = record {
+    each = λ q lt p. elim (cases_eq n q) [
+      | inl is ↦
+          let here : P (slice_index_or xs n none) → P (slice_index_or (slice_set xs n x) n none) = λ h. subst P (sym (read_set xs n x none (omega (arith, lt, is)))) (to h) in
+          subst (λ k. P (slice_index_or xs k none) → P (slice_index_or (slice_set xs n x) k none)) is here p
+      | inr other ↦ subst P (sym (read_other xs n q x none other)) p
+    ];
+  }
+
+pub keeps_trans : {A : Type 0} (P : A → Type 0) (none : A) (xs ys zs : List A) → length xs ≤ length ys → Keeps P none xs ys → Keeps P none ys zs → Keeps P none xs zs
+keeps_trans P none xs ys zs le f g = record { each = λ n lt p. g.each n (omega (arith, lt, le)) (f.each n lt p) }
+
+pub keeps_append : {A : Type 0} (P : A → Type 0) (none : A) (xs ys : List A) → Keeps P none xs (xs ++ ys)
+keeps_append {A} P none xs ys = record { each = by xs }
+  where
+    by : (xs : List A) (n : ℕ) → n < length xs → P (slice_index_or xs n none) → P (slice_index_or (xs ++ ys) n none)
+    by [] n lt p = absurd (omega (arith, lt))
+    by (x ∷ xs) zero lt p = p
+    by (x ∷ xs) (suc n) lt p = by xs n (omega (arith, lt)) p

@@ -3,22 +3,23 @@ use Rattle.std.specs.Prelude.{◌==◌, IfSome, slice_set}
 use Rattle.std.specs.List.{AllByRecursion}
 use Rattle.std.specs.Option.{option_map}
 use Rattle.std.specs.Str.{bytes_eq}
-use Rattle.std.proofs.Common.{◌≡◌, ℕ, zero, suc, ◌<◌, Bool, true, false, List, [], ◌∷◌, ◌++◌, Some, None, Option, length, refl, sym, ◌∙◌, arith, if◌then◌else◌}
-use Rattle.list_edits.proofs.ListEdits.{length_set}
-use Rattle.amount_math.specs.Content.{Content}
+use Rattle.std.proofs.Common.{◌≡◌, ℕ, zero, suc, ◌<◌, ◌≤◌, Bool, true, false, List, [], ◌∷◌, ◌++◌, Some, None, Option, length, refl, sym, ◌∙◌, ap, arith, if◌then◌else◌}
+use Rattle.list_edits.proofs.ListEdits.{length_push, length_set, read_before}
+use Rattle.amount_math.specs.Amount.{holding}
+use Rattle.amount_math.specs.Content.{Content, nothing}
 use Rattle.amount_math.specs.Worth.{Worth}
 use Rattle.amount_math.specs.declared.Amount.{Amount}
-use Rattle.ertp_mint.specs.BrandSupply.{BrandSupply, issued, retired, supply_at}
+use Rattle.ertp_mint.specs.BrandSupply.{BrandSupply, issued, new_supply, retired, supply_at}
+use Rattle.amount_math.specs.declared.Kind.TheVariants.{Nat}
 use Rattle.ertp_mint.specs.Stocks.{no_amount}
 use Rattle.payments.specs.Papers.{Paper, live_paper, paper_at, spent_paper}
-use Rattle.proposals.specs.Rows.{row_of}
 use Rattle.proposals.specs.declared.allocations.Row.{Row}
 use Rattle.rights_model.specs.declared.Holder.{Holder}
 use Rattle.rights_model.specs.declared.Holder.TheVariants.{Purse, Payment, Slot, Hand, Outside}
 use Rattle.rights_model.specs.declared.Movement.{Movement}
 use Rattle.right_steps.specs.Lists.{amount_of, less, more}
 use Rattle.world_state.specs.Good.{AreRowsOf, IsOfKind, IsPaper}
-use Rattle.world_state.specs.Rights.{CanGive, CanMove, CanMoveAll, CanTake, Rights, all_moved, all_spent, given, hand_after, kind_at, moved, moved_together, paper_less, paper_more, rows_less, rows_more, slots_at, spent_from, taken, value_less, value_more}
+use Rattle.world_state.specs.Rights.{CanGive, CanMove, CanMoveAll, CanTake, Rights, all_moved, all_spent, given, hand_after, kind_at, moved, moved_together, paper_less, paper_more, changed_row, rows_with, slots_at, spent_from, taken, value_less, value_more}
 use Rattle.world_laws.proofs.Lists.{all_map, all_push, all_read, all_read_or, all_set}
 
 -- as many brands, of the same kinds
@@ -31,6 +32,34 @@ same_refl out = record { as_many = refl; kind = λ b. refl }
 
 pub same_trans : (a b c : List BrandSupply) → SameKinds a b → SameKinds b c → SameKinds a c
 same_trans a b c f g = record { as_many = g.as_many ∙ f.as_many; kind = λ n. g.kind n ∙ f.kind n }
+
+-- brands stay, of the same kinds
+pub record KindsStay (out new : List BrandSupply) : Type 0 where
+  pub more : length out ≤ length new
+  pub kind : (b : ℕ) → b < length out → kind_at new b ≡ kind_at out b
+
+pub stay_same : (out new : List BrandSupply) → SameKinds out new → KindsStay out new
+stay_same out new same = record { more = omega (arith, same.as_many); kind = λ b lt. same.kind b }
+
+pub stay_push : (out : List BrandSupply) (s : BrandSupply) → KindsStay out (out ++ s ∷ [])
+stay_push out s = record {
+  more = omega (arith, length_push out s);
+  kind = λ b lt. ap (λ (x : BrandSupply). x.outstanding.kind) (read_before out s (new_supply Nat) b (λ (e : length out ≡ b). absurd (omega (arith, e, lt))));
+}
+
+module _ (out new : List BrandSupply) (stay : KindsStay out new) where
+  pub amount_stays : (a : Amount) → IsOfKind out a → IsOfKind new a
+  amount_stays a is = record { made = omega (arith, is.made, stay.more); kind = stay.kind a.brand is.made ∙ is.kind }
+
+  pub rows_stay : (rs : List Row) → AreRowsOf out rs → AreRowsOf new rs
+  rows_stay rs all = all_map (λ (x : Row). IsOfKind out x.amount) (λ (x : Row). IsOfKind new x.amount) (λ (x : Row). amount_stays x.amount) rs all
+
+  pub paper_stays : (p : Paper) → IsPaper out p → IsPaper new p
+  paper_stays p is = record { made = omega (arith, is.made, stay.more); kind = by p.held is.kind }
+    where
+      by : (h : Option Worth) → IfSome h (λ (w : Worth). kind_at out p.brand ≡ w.kind) → IfSome h (λ (w : Worth). kind_at new p.brand ≡ w.kind)
+      by None k = tt
+      by (Some w) k = stay.kind p.brand is.made ∙ k
 
 kind_set : (out : List BrandSupply) (b : ℕ) (x : BrandSupply) → x.outstanding.kind ≡ kind_at out b → (n : ℕ) → kind_at (slice_set out b x) n ≡ kind_at out n
 kind_set [] b x same n = refl
@@ -80,30 +109,23 @@ module _ (out : List BrandSupply) where
       by None k = tt
       by (Some w) k = k
 
-  rows_less_kind : (k : List ℕ) (c : Content) (rs : List Row) → AreRowsOf out rs → AreRowsOf out (rows_less k c rs)
-  rows_less_kind k c [] all = tt
-  rows_less_kind k c (r ∷ rs) all = by (bytes_eq k r.keyword) (rows_less_kind k c rs all.1)
-    where
-      by : (b : Bool) → AreRowsOf out (rows_less k c rs) → AreRowsOf out (if b then row_of r.keyword (less r.amount c) ∷ rs else r ∷ rows_less k c rs)
-      by true rest = (record { made = all.0.made; kind = all.0.kind }, all.1)
-      by false rest = (all.0, rest)
+  module _ (k : List ℕ) (change : Amount → Amount) (new : Amount) (is : IsOfKind out new) (stays : (x : Amount) → IsOfKind out x → IsOfKind out (change x)) where
+    rows_with_kind : (rs : List Row) → AreRowsOf out rs → AreRowsOf out (rows_with k change new rs)
+    rows_with_kind [] all = (is, tt)
+    rows_with_kind (r ∷ rs) all = by (bytes_eq k r.keyword) (rows_with_kind rs all.1)
+      where
+        by : (b : Bool) → AreRowsOf out (rows_with k change new rs) → AreRowsOf out (if b then changed_row change r ∷ rs else r ∷ rows_with k change new rs)
+        by true rest = (stays r.amount all.0, all.1)
+        by false rest = (all.0, rest)
 
-  rows_more_kind : (k : List ℕ) (a : Amount) (rs : List Row) → IsOfKind out a → AreRowsOf out rs → AreRowsOf out (rows_more k a rs)
-  rows_more_kind k a [] is all = (is, tt)
-  rows_more_kind k a (r ∷ rs) is all = by (bytes_eq k r.keyword) (rows_more_kind k a rs is all.1)
-    where
-      by : (b : Bool) → AreRowsOf out (rows_more k a rs) → AreRowsOf out (if b then row_of r.keyword (more r.amount a.value.content) ∷ rs else r ∷ rows_more k a rs)
-      by true rest = (record { made = all.0.made; kind = all.0.kind }, all.1)
-      by false rest = (all.0, rest)
-
-  taken_kinds : (r : Rights) (hand : ℕ → Content) (h : Holder) (b : ℕ) (w : Worth) → CanTake r hand h b w → AreKinds out r → AreKinds out (taken r h b w)
-  taken_kinds r hand (Purse n) b w can k =
+  taken_kinds : (r : Rights) (hand : ℕ → Content) (h : Holder) (b : ℕ) (w : Worth) → IsOfKind out (amount_of b w) → CanTake r hand h b w → AreKinds out r → AreKinds out (taken r h b w)
+  taken_kinds r hand (Purse n) b w of can k =
       let is = all_read (IsOfKind out) r.purses n no_amount k.purses can.made in
       record { purses = all_set (IsOfKind out) r.purses n _ k.purses (record { made = is.made; kind = is.kind }); payments = k.payments; slots = k.slots }
-  taken_kinds r hand (Payment n) b w can k = record { purses = k.purses; payments = all_set (IsPaper out) r.payments n _ k.payments (less_kind (paper_at r.payments n) w.content (all_read (IsPaper out) r.payments n (spent_paper 0) k.payments can.made)); slots = k.slots }
-  taken_kinds r hand (Slot s q) b w can k = record { purses = k.purses; payments = k.payments; slots = all_set (AreRowsOf out) r.slots s _ k.slots (rows_less_kind q w.content (slots_at r.slots s) (all_read_or (AreRowsOf out) r.slots s [] k.slots tt)) }
-  taken_kinds r hand Hand b w can k = k
-  taken_kinds r hand Outside b w can k = record { purses = k.purses; payments = k.payments; slots = k.slots }
+  taken_kinds r hand (Payment n) b w of can k = record { purses = k.purses; payments = all_set (IsPaper out) r.payments n _ k.payments (less_kind (paper_at r.payments n) w.content (all_read (IsPaper out) r.payments n (spent_paper 0) k.payments can.made)); slots = k.slots }
+  taken_kinds r hand (Slot s q) b w of can k = record { purses = k.purses; payments = k.payments; slots = all_set (AreRowsOf out) r.slots s _ k.slots (rows_with_kind q (λ x. less x w.content) (holding (amount_of b w) nothing) (record { made = of.made; kind = of.kind }) (λ x x_is. record { made = x_is.made; kind = x_is.kind }) (slots_at r.slots s) (all_read_or (AreRowsOf out) r.slots s [] k.slots tt)) }
+  taken_kinds r hand Hand b w of can k = k
+  taken_kinds r hand Outside b w of can k = record { purses = k.purses; payments = k.payments; slots = k.slots }
 
   given_kinds : (r : Rights) (h : Holder) (b : ℕ) (w : Worth) → IsOfKind out (amount_of b w) → CanGive r h b w → AreKinds out r → AreKinds out (given r h b w)
   given_kinds r (Purse n) b w is can k =
@@ -117,11 +139,12 @@ module _ (out : List BrandSupply) where
       by : (t : Bool) → AllByRecursion (IsPaper out) (if t then r.payments ++ live_paper (amount_of b w) ∷ [] else slice_set r.payments n (paper_more (paper_at r.payments n) w.content))
       by true = all_push (IsPaper out) r.payments (live_paper (amount_of b w)) k.payments (record { made = is.made; kind = is.kind })
       by false = all_set (IsPaper out) r.payments n _ k.payments (more_kind (paper_at r.payments n) w.content (all_read_or (IsPaper out) r.payments n (spent_paper 0) k.payments none))
-  given_kinds r (Slot s q) b w is can k = record { purses = k.purses; payments = k.payments; slots = all_set (AreRowsOf out) r.slots s _ k.slots (rows_more_kind q (amount_of b w) (slots_at r.slots s) is (all_read_or (AreRowsOf out) r.slots s [] k.slots tt)) }
+  given_kinds r (Slot s q) b w is can k = record { purses = k.purses; payments = k.payments; slots = all_set (AreRowsOf out) r.slots s _ k.slots (rows_with_kind q (λ x. more x w.content) (amount_of b w) is (λ x x_is. record { made = x_is.made; kind = x_is.kind }) (slots_at r.slots s) (all_read_or (AreRowsOf out) r.slots s [] k.slots tt)) }
   given_kinds r Hand b w is can k = k
   given_kinds r Outside b w is can k = record { purses = k.purses; payments = k.payments; slots = k.slots }
 
-  of_movement : (r : Rights) (hand : ℕ → Content) (m : Movement) → SameKinds out r.out → CanMove r hand m → IsOfKind out (amount_of m.brand m.value)
+  -- what a movement moves is of the kind of its brand
+  pub of_movement : (r : Rights) (hand : ℕ → Content) (m : Movement) → SameKinds out r.out → CanMove r hand m → IsOfKind out (amount_of m.brand m.value)
   of_movement r hand m same can = record { made = omega (arith, can.brand, same.as_many); kind = sym (same.kind m.brand) ∙ can.kind }
 
   all_moved_kinds : (r : Rights) (hand : ℕ → Content) (ms : List Movement) → SameKinds out r.out → CanMoveAll r hand ms → AreKinds out r → AreKinds out (all_moved r ms)
@@ -129,7 +152,7 @@ module _ (out : List BrandSupply) where
   all_moved_kinds r hand (m ∷ ms) same can k =
       all_moved_kinds (moved r m) (hand_after hand m) ms (same_trans out r.out (moved r m).out same (same_moved r m)) can.1
       (given_kinds (taken r m.from m.brand m.value) m.to m.brand m.value (of_movement r hand m same can.0) can.0.to
-      (taken_kinds r hand m.from m.brand m.value can.0.from k))
+      (taken_kinds r hand m.from m.brand m.value (of_movement r hand m same can.0) can.0.from k))
 
   spent_from_kinds : (h : Holder) (ps : List Paper) → 0 < length out → AllByRecursion (IsPaper out) ps → AllByRecursion (IsPaper out) (spent_from h ps)
   spent_from_kinds (Payment n) ps some all =
@@ -143,24 +166,14 @@ module _ (out : List BrandSupply) where
 
 -- ---- other brands' supplies
 
-pub of_kind_by : (out new : List BrandSupply) → SameKinds out new → (a : Amount) → IsOfKind out a → IsOfKind new a
-of_kind_by out new same a is = record { made = omega (arith, is.made, same.as_many); kind = same.kind a.brand ∙ is.kind }
-
-paper_by : (out new : List BrandSupply) → SameKinds out new → (p : Paper) → IsPaper out p → IsPaper new p
-paper_by out new same p is = record { made = omega (arith, is.made, same.as_many); kind = by p.held is.kind }
-  where
-    by : (h : Option Worth) → IfSome h (λ (w : Worth). kind_at out p.brand ≡ w.kind) → IfSome h (λ (w : Worth). kind_at new p.brand ≡ w.kind)
-    by None k = tt
-    by (Some w) k = same.kind p.brand ∙ k
-
-kinds_by : (out new : List BrandSupply) → SameKinds out new → (r : Rights) → AreKinds out r → AreKinds new r
-kinds_by out new same r k = record {
-  purses = all_map (IsOfKind out) (IsOfKind new) (of_kind_by out new same) r.purses k.purses;
-  payments = all_map (IsPaper out) (IsPaper new) (paper_by out new same) r.payments k.payments;
-  slots = all_map (AreRowsOf out) (AreRowsOf new) (λ (rs : List Row). all_map (λ (x : Row). IsOfKind out x.amount) (λ (x : Row). IsOfKind new x.amount) (λ (x : Row). of_kind_by out new same x.amount) rs) r.slots k.slots;
+kinds_by : (out new : List BrandSupply) → KindsStay out new → (r : Rights) → AreKinds out r → AreKinds new r
+kinds_by out new stay r k = record {
+  purses = all_map (IsOfKind out) (IsOfKind new) (amount_stays out new stay) r.purses k.purses;
+  payments = all_map (IsPaper out) (IsPaper new) (paper_stays out new stay) r.payments k.payments;
+  slots = all_map (AreRowsOf out) (AreRowsOf new) (rows_stay out new stay) r.slots k.slots;
 }
 
 pub together_kinds : (r : Rights) (hand : ℕ → Content) (ms : List Movement) → 0 < length r.out → CanMoveAll r hand ms → AreKinds r.out r → AreKinds (all_moved r ms).out (moved_together r ms)
 together_kinds r hand ms some can k =
     let end = all_moved_kinds r.out r hand ms (same_refl r.out) can k in
-    kinds_by r.out (all_moved r ms).out (same_together r ms) (moved_together r ms) (record { purses = end.purses; payments = spent_kinds r.out ms (all_moved r ms).payments some end.payments; slots = end.slots })
+    kinds_by r.out (all_moved r ms).out (stay_same r.out (all_moved r ms).out (same_together r ms)) (moved_together r ms) (record { purses = end.purses; payments = spent_kinds r.out ms (all_moved r ms).payments some end.payments; slots = end.slots })

@@ -14,7 +14,10 @@ use Rattle.jessie_tree.specs.declared.data.ObjKind.TheVariants as kinds
 use Rattle.proposals.specs.Rows.{AreApart, amount_under}
 use Rattle.proposals.specs.Slots.{is_upto}
 use Rattle.proposals.specs.declared.allocations.Row.{Row}
-use Rattle.world_state.specs.Known.{FunctionKnown, IsHanded, ObjectKnown}
+use Rattle.data_rows.specs.Printable.{HaveFieldNames}
+use Rattle.host_text.specs.Words.{is_field_name, is_keyword}
+use Rattle.world_state.specs.Good.{AreNamed}
+use Rattle.world_state.specs.Known.{FunctionKnown, HasNames, IsHanded, ObjectKnown}
 use Rattle.world_state.specs.Worlds.{State, object_tree, payout_fields, payouts_from, placed_field}
 
 placed_each : (F : NodeFact) (n : ℕ) (name : List ℕ) (t : Tree) (fs : Fields) → EachNode F n t → EachField F n fs → EachField F n (placed_field name t fs)
@@ -78,10 +81,27 @@ paid_in_order : (p : ℕ) (rs : List Row) → AreApart rs → AreInOrder (payout
 paid_in_order p [] apart = tt
 paid_in_order p (r ∷ rs) apart = placed_in_order r.keyword (object_tree kinds.Payment p) (payout_fields (payouts_from (suc p) rs)) (paid_none r.keyword (suc p) rs apart.0) (paid_in_order (suc p) rs apart.1)
 
-pub payouts_handed : (w : State) (p : ℕ) (rs : List Row) → AreApart rs → p + length rs ≤ length w.rights.payments → IsHanded w (fields (payout_fields (payouts_from p rs)))
-payouts_handed w p rs apart made = record {
+keyword_named : (k : List ℕ) → is_keyword k ≡ true → is_field_name k ≡ true
+keyword_named [] is = absurd (cc)
+keyword_named (b ∷ bs) is = grind arith
+
+placed_named : (name : List ℕ) (t : Tree) (fs : Fields) → is_field_name name ≡ true → HaveFieldNames fs → HaveFieldNames (placed_field name t fs)
+placed_named name t no_fields one all = (one, tt)
+placed_named name t (field next u fs) one all = by (is_upto name next) (placed_named name t fs one all.1)
+  where
+    by : (b : Bool) → HaveFieldNames (placed_field name t fs) → HaveFieldNames (if b then field name t (field next u fs) else field next u (placed_field name t fs))
+    by true rest = (one, all)
+    by false rest = (all.0, rest)
+
+paid_named : (p : ℕ) (rs : List Row) → AreNamed rs → HaveFieldNames (payout_fields (payouts_from p rs))
+paid_named p [] named = tt
+paid_named p (r ∷ rs) named = placed_named r.keyword (object_tree kinds.Payment p) (payout_fields (payouts_from (suc p) rs)) (keyword_named r.keyword named.0) (paid_named (suc p) rs named.1)
+
+pub payouts_handed : (w : State) (p : ℕ) (rs : List Row) → AreApart rs → AreNamed rs → p + length rs ≤ length w.rights.payments → IsHanded w (fields (payout_fields (payouts_from p rs)))
+payouts_handed w p rs apart named made = record {
   objects = (tt, paid_each (ObjectIs (ObjectKnown None w)) (0 + 1) p rs (λ k lt. omega (arith, lt, made)));
   functions = (tt, paid_each (FunctionIs (FunctionKnown None w)) (0 + 1) p rs (λ k lt. tt));
+  named = (paid_named p rs named, paid_each HasNames (0 + 1) p rs (λ k lt. tt));
   ordered = (paid_in_order p rs apart, paid_each HasFieldsInOrder (0 + 1) p rs (λ k lt. tt));
   shallow = (omega arith, paid_each (IsShallow 32) (0 + 1) p rs (λ k lt. tt));
 }

@@ -5,15 +5,17 @@ use Rattle.std.proofs.lemmas.Bool.{cases_eq, eq-eqb}
 use Rattle.list_edits.proofs.ListEdits.{length_push, read_before, read_other, read_pushed, read_set}
 use Rattle.amount_math.specs.declared.Amount.{Amount}
 use Rattle.brands.specs.Brands.{brand_at}
+use Rattle.ertp_mint.specs.BrandSupply.{BrandSupply, new_supply}
 use Rattle.ertp_mint.specs.Stocks.{empty_amount}
 use Rattle.payments.specs.Papers.{Paper, live_paper, paper_at}
 use Rattle.proposals.specs.Slots.{emptied}
 use Rattle.proposals.specs.declared.allocations.Row.{Row}
 use Rattle.right_steps.specs.Lists.{amount_of}
 use Rattle.world_state.specs.Good.{AreStaged, HasRoom, IsGoodEffect, IsGoodWorld, IsStaged, open_slots, slots_in}
-use Rattle.world_state.specs.Rights.{paid, paper_more, slots_at}
-use Rattle.world_state.specs.Worlds.{Effect, Seat, State, after, empty_slots, invitation_value, left_seat, new_seat, no_rows, no_seat, of_own, offered_by, paid_out, seat_at, staged_at, empty_payment, empty_seat, end_staging, exit, invite, moves, offer, stage, unstage}
+use Rattle.world_state.specs.Rights.{all_moved, paid, paper_more, slots_at, with_slots}
+use Rattle.world_state.specs.Worlds.{Effect, Seat, State, after, empty_slots, burn_and_escrows, invitation_move, invitation_value, left_seat, new_seat, no_rows, no_seat, of_own, offered_by, paid_out, seat_at, staged_at, empty_payment, empty_seat, end_staging, exit, invite, moves, new_brand, offer, stage, unstage}
 use Rattle.world_laws.proofs.Instances.{open_made}
+use Rattle.world_laws.proofs.OfKinds.{KindsStay, rows_stay, same_together, stay_push, stay_same}
 use Rattle.world_laws.proofs.Lists.{length_append, length_map}
 
 open-push : (seats : List Seat) (slots : List (List Row)) (s : Seat) (rows : List Row) → length slots ≡ length seats → open_slots (seats ++ s ∷ []) (slots ++ rows ∷ []) ≡ open_slots seats slots + slots_in s rows
@@ -62,18 +64,30 @@ dropped (x ∷ xs) (suc n) = dropped xs n
 cleared : (xs : List (Option (List Row))) (n s : ℕ) (rows : List Row) → n ≡ s → staged_at (slice_set xs n None) s ≡ Some rows → ⊥
 cleared xs n s rows same e = nothing_is rows (sym (subst (λ k. staged_at (slice_set xs n None) k ≡ None) same (dropped xs n)) ∙ e)
 
-staged_by : (seat new : Seat) (slots after_slots rows : List Row) → new ≡ seat → after_slots ≡ slots → IsStaged seat slots rows → IsStaged new after_slots rows
-staged_by seat new slots after_slots rows e f is = subst (λ (q : Seat). IsStaged q after_slots rows) (sym e) (subst (λ x. IsStaged seat x rows) (sym f) is)
+module _ (out : List BrandSupply) where
+  staged_by : (seat new : Seat) (slots after_slots rows : List Row) → new ≡ seat → after_slots ≡ slots → IsStaged out seat slots rows → IsStaged out new after_slots rows
+  staged_by seat new slots after_slots rows e f is = subst (λ (q : Seat). IsStaged out q after_slots rows) (sym e) (subst (λ x. IsStaged out seat x rows) (sym f) is)
 
-pub staged-after : (w : State) (e : Effect) → IsGoodEffect w e → IsGoodWorld w → AreStaged (after w e).seats (after w e).rights.slots (after w e).staging
-staged-after w (moves ms) can good = record { each = λ s rows e. subst (λ x. IsStaged (seat_at w.seats s) x rows) (sym (can.apart s (is_staged (staged_at w.staging s) rows e))) (good.staged.each s rows e) }
+staged_stays : (out new : List BrandSupply) → KindsStay out new → (seat : Seat) (slots rows : List Row) → IsStaged out seat slots rows → IsStaged new seat slots rows
+staged_stays out new stay seat slots rows is = record { is_open = is.is_open; apart = is.apart; named = is.named; of_kinds = rows_stay out new stay rows is.of_kinds; of_slots = is.of_slots }
+
+all_stay : (out new : List BrandSupply) → KindsStay out new → (seats : List Seat) (slots : List (List Row)) (staging : List (Option (List Row))) → AreStaged out seats slots staging → AreStaged new seats slots staging
+all_stay out new stay seats slots staging are = record { each = λ s rows e. staged_stays out new stay (seat_at seats s) (slots_at slots s) rows (are.each s rows e) }
+
+pub staged-after : (w : State) (e : Effect) → IsGoodEffect w e → IsGoodWorld w → AreStaged (after w e).rights.out (after w e).seats (after w e).rights.slots (after w e).staging
+staged-after w (new_brand b maker) can good = all_stay w.rights.out _ (stay_push w.rights.out (new_supply b.kind)) w.seats w.rights.slots w.staging good.staged
+staged-after w (invite d) can good = all_stay w.rights.out _ (stay_same w.rights.out _ (same_together w.rights (invitation_move w ∷ []))) w.seats w.rights.slots w.staging good.staged
+staged-after w (moves ms) can good =
+    let out = (all_moved w.rights ms).out in
+    let was = all_stay w.rights.out out (stay_same w.rights.out out (same_together w.rights ms)) w.seats w.rights.slots w.staging good.staged in
+    record { each = λ s rows e. subst (λ x. IsStaged out (seat_at w.seats s) x rows) (sym (can.apart s (is_staged (staged_at w.staging s) rows e))) (was.each s rows e) }
 staged-after w (stage n new) can good = record {
   each = λ s rows e. elim (cases_eq n s) [
     | inl same ↦
         let lt : n < length w.staging = omega (arith, open_made w.seats n can.is_open, good.seats.staged) in
         let at : staged_at (slice_set w.staging n (Some new)) s ≡ Some new = subst (λ k. staged_at (slice_set w.staging n (Some new)) k ≡ Some new) same (read_set w.staging n (Some new) None lt) in
         let is : new ≡ rows = ap (λ (o : Option (List Row)). unwrap_or o []) (sym at ∙ e) in
-        subst (λ k. IsStaged (seat_at w.seats k) (slots_at w.rights.slots k) rows) same (subst (IsStaged (seat_at w.seats n) (slots_at w.rights.slots n)) is can)
+        subst (λ k. IsStaged w.rights.out (seat_at w.seats k) (slots_at w.rights.slots k) rows) same (subst (IsStaged w.rights.out (seat_at w.seats n) (slots_at w.rights.slots n)) is can)
     | inr other ↦ good.staged.each s rows (sym (read_other w.staging n s (Some new) None other) ∙ e)
   ];
 }
@@ -86,15 +100,18 @@ staged-after w (unstage n) can good = record {
 staged-after w end_staging can good = record { each = λ s rows e. absurd (nothing_is rows (sym (none_staged w.staging s) ∙ e)) }
 staged-after w (offer o) can good =
     let new = new_seat (offered_by w o).instance o.proposal in
+    let opened = with_slots w.rights (empty_slots o.proposal) in
+    let out = (all_moved opened (burn_and_escrows o)).out in
+    let stay = stay_same w.rights.out out (same_together opened (burn_and_escrows o)) in
     record {
       each = λ s rows e. elim (cases_eq (length w.staging) s) [
         | inl here ↦ absurd (nothing_is rows (sym (read_pushed w.staging None None s (sym here)) ∙ e))
         | inr other ↦
             let was : staged_at w.staging s ≡ Some rows = sym (read_before w.staging None None s other) ∙ e in
-            staged_by (seat_at w.seats s) _ (slots_at w.rights.slots s) _ rows
+            staged_by out (seat_at w.seats s) _ (slots_at w.rights.slots s) _ rows
             (read_before w.seats new no_seat s (λ f. other (good.seats.staged ∙ f)))
             (can.moves.apart s (is_staged (staged_at w.staging s) rows was) ∙ read_before w.rights.slots (empty_slots o.proposal) [] s (λ f. other (good.seats.staged ∙ (sym good.seats.slotted ∙ f))))
-            (good.staged.each s rows was)
+            (staged_stays w.rights.out out stay (seat_at w.seats s) (slots_at w.rights.slots s) rows (good.staged.each s rows was))
       ];
     }
 staged-after w (empty_seat i rule) can good =
@@ -104,7 +121,7 @@ staged-after w (empty_seat i rule) can good =
         | inl here ↦ absurd (nothing_is rows (sym (read_pushed w.staging None None s (sym here)) ∙ e))
         | inr other ↦
             let was : staged_at w.staging s ≡ Some rows = sym (read_before w.staging None None s other) ∙ e in
-            staged_by (seat_at w.seats s) _ (slots_at w.rights.slots s) _ rows
+            staged_by w.rights.out (seat_at w.seats s) _ (slots_at w.rights.slots s) _ rows
             (read_before w.seats new no_seat s (λ f. other (good.seats.staged ∙ f)))
             (read_before w.rights.slots [] [] s (λ f. other (good.seats.staged ∙ (sym good.seats.slotted ∙ f))))
             (good.staged.each s rows was)
@@ -116,7 +133,7 @@ staged-after w (exit n cause) can good =
       each = λ s rows e. elim (cases_eq n s) [
         | inl same ↦ absurd (cleared w.staging n s rows same e)
         | inr other ↦
-            staged_by (seat_at w.seats s) _ (slots_at w.rights.slots s) _ rows
+            staged_by w.rights.out (seat_at w.seats s) _ (slots_at w.rights.slots s) _ rows
             (read_other w.seats n s (left_seat (seat_at w.seats n) rows_of) no_seat other)
             (read_other w.rights.slots n s (map emptied rows_of) [] other)
             (good.staged.each s rows (sym (read_other w.staging n s None None other) ∙ e))

@@ -2,109 +2,33 @@
 use Rattle.std.specs.Prelude.{slice_set}
 use Rattle.std.specs.List.{AllByRecursion}
 use Rattle.std.specs.Str.{bytes_eq}
-use Rattle.std.proofs.Common.{◌≡◌, ◌≢◌, inl, inr, ℕ, suc, ◌+◌, ◌<◌, ◌≤◌, Bool, true, false, cond, List, [], ◌∷◌, ◌++◌, Some, None, Option, length, map, refl, sym, ◌∙◌, ap, subst, arith, if◌then◌else◌}
+use Rattle.std.proofs.Common.{◌≡◌, ◌≢◌, inl, inr, ℕ, ◌<◌, List, [], ◌∷◌, ◌++◌, Some, None, Option, length, map, refl, sym, ◌∙◌, ap, subst, arith}
 use Rattle.std.proofs.lemmas.Bool.{cases_eq}
-use Rattle.std.proofs.lemmas.Slice.Eq.{bytes_eq-Decides}
 use Rattle.list_edits.proofs.ListEdits.{length_push, length_set, read_before, read_other, read_pushed, read_set}
-use Rattle.amount_math.specs.Content.{Content}
+use Rattle.amount_math.specs.Amount.{holding}
+use Rattle.amount_math.specs.Content.{Content, nothing}
 use Rattle.amount_math.specs.Worth.{Worth}
 use Rattle.amount_math.specs.declared.Amount.{Amount}
 use Rattle.proposals.specs.OfferSafety.{IsOfferSafe}
-use Rattle.proposals.specs.Rows.{AreApart, AreRows, amount_under, most_rows, row_of}
-use Rattle.proposals.specs.Slots.{emptied}
+use Rattle.proposals.specs.Rows.{AreApart, AreRows, amount_under, most_rows}
+use Rattle.proposals.proofs.SlotLists.{AreRows-slots_of}
+use Rattle.proposals.specs.Slots.{FitsSeat, emptied, slots_of}
+use Rattle.proposals.specs.declared.offers.Proposal.{Proposal}
 use Rattle.proposals.specs.declared.allocations.Row.{Row}
 use Rattle.rights_model.specs.declared.Holder.{Holder}
 use Rattle.rights_model.specs.declared.Holder.TheVariants.{Purse, Payment, Slot, Hand, Outside}
 use Rattle.rights_model.specs.declared.Movement.{Movement}
 use Rattle.right_steps.specs.Lists.{amount_of, less, more}
 use Rattle.right_steps.specs.Tables.{no_hand}
-use Rattle.world_state.specs.Good.{AreCovered, AreSeats, IsGoodEffect, IsGoodWorld}
-use Rattle.world_state.specs.Rights.{CanGive, CanMoveAll, Rights, TakesOrOpens, all_moved, given, hand_after, moved, rows_less, rows_more, slots_at, taken, with_slots}
+use Rattle.world_state.specs.Good.{AreCovered, AreNamed, AreSeats, IsGoodEffect, IsGoodMove, IsGoodWorld, IsKeyword, IsNamedHolder}
+use Rattle.world_state.specs.Rights.{CanGive, CanMoveAll, CanTake, HasOrOpens, Rights, TakesOrOpens, all_moved, given, hand_after, moved, slots_at, taken, with_slots}
 use Rattle.world_state.specs.Worlds.{Effect, IsOpen, Seat, State, after, burn_and_escrows, empty_slots, left_seat, new_seat, next_pair, no_rows, no_seat, of_own, offered_by, seat_at, empty_seat, end_staging, exit, invite, moves, offer, stage, unstage}
 use Rattle.world_laws.proofs.Instances.{open_made}
 use Rattle.world_laws.proofs.Lists.{all_push, all_read_or, all_set, length_map}
+use Rattle.world_laws.proofs.HeldKinds.{emptied_all, empty_slots_all}
+use Rattle.world_laws.proofs.SlotRows.{rows_with_are, rows_with_named, skip}
 
--- ---- rows under keywords of their own
-
-skip : {X : Type 0} (b : Bool) (x y : X) (o p : Option X) → (o ≡ None → p ≡ None) → cond b (Some x) o ≡ None → cond b (Some y) p ≡ None
-skip true x y o p to h = absurd (cc)
-skip false x y o p to h = to h
-
-none_less : (q k : List ℕ) (c : Content) (rs : List Row) → amount_under q rs ≡ None → amount_under q (rows_less k c rs) ≡ None
-none_less q k c [] none = none
-none_less q k c (r ∷ rs) none = by (bytes_eq k r.keyword) (none_less q k c rs)
-  where
-    by : (b : Bool) → (amount_under q rs ≡ None → amount_under q (rows_less k c rs) ≡ None) → amount_under q (if b then row_of r.keyword (less r.amount c) ∷ rs else r ∷ rows_less k c rs) ≡ None
-    by true to = skip (bytes_eq q r.keyword) r.amount (less r.amount c) (amount_under q rs) (amount_under q rs) (λ e. e) none
-    by false to = skip (bytes_eq q r.keyword) r.amount r.amount (amount_under q rs) (amount_under q (rows_less k c rs)) to none
-
-apart_less : (k : List ℕ) (c : Content) (rs : List Row) → AreApart rs → AreApart (rows_less k c rs)
-apart_less k c [] apart = tt
-apart_less k c (r ∷ rs) apart = by (bytes_eq k r.keyword) (apart_less k c rs apart.1)
-  where
-    by : (b : Bool) → AreApart (rows_less k c rs) → AreApart (if b then row_of r.keyword (less r.amount c) ∷ rs else r ∷ rows_less k c rs)
-    by true rest = apart
-    by false rest = (none_less r.keyword k c rs apart.0, rest)
-
-length_less : (k : List ℕ) (c : Content) (rs : List Row) → length (rows_less k c rs) ≡ length rs
-length_less k c [] = refl
-length_less k c (r ∷ rs) = by (bytes_eq k r.keyword) (length_less k c rs)
-  where
-    by : (b : Bool) → length (rows_less k c rs) ≡ length rs → length (if b then row_of r.keyword (less r.amount c) ∷ rs else r ∷ rows_less k c rs) ≡ suc (length rs)
-    by true rest = refl
-    by false rest = ap suc rest
-
-none_one : (q k : List ℕ) (a : Amount) → bytes_eq q k ≡ false → amount_under q (row_of k a ∷ []) ≡ None
-none_one q k a e = ap (λ b. cond b (Some a) None) e
-
-none_more : (q k : List ℕ) (a : Amount) (rs : List Row) → bytes_eq q k ≡ false → amount_under q rs ≡ None → amount_under q (rows_more k a rs) ≡ None
-none_more q k a [] apart none = none_one q k a apart
-none_more q k a (r ∷ rs) apart none = by (bytes_eq k r.keyword) (none_more q k a rs apart)
-  where
-    by : (b : Bool) → (amount_under q rs ≡ None → amount_under q (rows_more k a rs) ≡ None) → amount_under q (if b then row_of r.keyword (more r.amount a.value.content) ∷ rs else r ∷ rows_more k a rs) ≡ None
-    by true to = skip (bytes_eq q r.keyword) r.amount (more r.amount a.value.content) (amount_under q rs) (amount_under q rs) (λ e. e) none
-    by false to = skip (bytes_eq q r.keyword) r.amount r.amount (amount_under q rs) (amount_under q (rows_more k a rs)) to none
-
-other_way : (k q : List ℕ) → bytes_eq k q ≡ false → bytes_eq q k ≡ false
-other_way k q e = by (bytes_eq q k) refl
-  where
-    by : (b : Bool) → bytes_eq q k ≡ b → b ≡ false
-    by false is = refl
-    by true is = let clash : true ≡ false = sym ((bytes_eq-Decides k q).1 (sym ((bytes_eq-Decides q k).0 is))) ∙ e in clash
-
-apart_more : (k : List ℕ) (a : Amount) (rs : List Row) → AreApart rs → AreApart (rows_more k a rs)
-apart_more k a [] apart = (refl, tt)
-apart_more k a (r ∷ rs) apart = by (bytes_eq k r.keyword) refl (apart_more k a rs apart.1)
-  where
-    by : (b : Bool) → bytes_eq k r.keyword ≡ b → AreApart (rows_more k a rs) → AreApart (if b then row_of r.keyword (more r.amount a.value.content) ∷ rs else r ∷ rows_more k a rs)
-    by true e rest = apart
-    by false e rest = (none_more r.keyword k a rs (other_way k r.keyword e) apart.0, rest)
-
-length_more : (k : List ℕ) (a : Amount) (rs : List Row) → length (rows_more k a rs) ≤ length rs + 1
-length_more k a [] = omega arith
-length_more k a (r ∷ rs) = by (bytes_eq k r.keyword) (length_more k a rs)
-  where
-    by : (b : Bool) → length (rows_more k a rs) ≤ length rs + 1 → length (if b then row_of r.keyword (more r.amount a.value.content) ∷ rs else r ∷ rows_more k a rs) ≤ suc (length rs) + 1
-    by true rest = omega arith
-    by false rest = omega (arith, rest)
-
-as_long : (k : List ℕ) (a x : Amount) (rs : List Row) → amount_under k rs ≡ Some x → length (rows_more k a rs) ≡ length rs
-as_long k a x [] is = absurd (cc)
-as_long k a x (r ∷ rs) is = by (bytes_eq k r.keyword) (as_long k a x rs) is
-  where
-    by : (b : Bool) → (amount_under k rs ≡ Some x → length (rows_more k a rs) ≡ length rs) → cond b (Some r.amount) (amount_under k rs) ≡ Some x → length (if b then row_of r.keyword (more r.amount a.value.content) ∷ rs else r ∷ rows_more k a rs) ≡ suc (length rs)
-    by true to e = refl
-    by false to e = ap suc (to e)
-
-rows_less_are : (k : List ℕ) (c : Content) (rs : List Row) → AreRows rs → AreRows (rows_less k c rs)
-rows_less_are k c rs is = record { few = omega (arith, is.few, length_less k c rs); apart = apart_less k c rs is.apart }
-
-rows_more_are : (k : List ℕ) (b : ℕ) (w : Worth) (rs : List Row) → TakesOrOpens (amount_under k rs) rs b w → AreRows rs → AreRows (rows_more k (amount_of b w) rs)
-rows_more_are k b w rs can is = record { few = by (amount_under k rs) refl can; apart = apart_more k (amount_of b w) rs is.apart }
-  where
-    by : (o : Option Amount) → amount_under k rs ≡ o → TakesOrOpens o rs b w → length (rows_more k (amount_of b w) rs) ≤ most_rows
-    by None e takes = omega (arith, takes.1, length_more k (amount_of b w) rs)
-    by (Some x) e takes = omega (arith, is.few, as_long k (amount_of b w) x rs e)
+-- ---- rows that are emptied
 
 none_emptied : (q : List ℕ) (rs : List Row) → amount_under q rs ≡ None → amount_under q (map emptied rs) ≡ None
 none_emptied q [] none = none
@@ -114,17 +38,40 @@ apart_emptied : (rs : List Row) → AreApart rs → AreApart (map emptied rs)
 apart_emptied [] apart = tt
 apart_emptied (r ∷ rs) apart = (none_emptied r.keyword rs apart.0, apart_emptied rs apart.1)
 
+pub emptied_are : (rs : List Row) → AreRows rs → AreRows (map emptied rs)
+emptied_are rs is = record { few = omega (arith, is.few, length_map emptied rs); apart = apart_emptied rs is.apart }
+
+pub empty_slots_are : (p : Proposal) → FitsSeat p → AreRows p.give → AreRows p.want → AreRows (empty_slots p)
+empty_slots_are p fits give want = emptied_are (slots_of p) (AreRows-slots_of p fits give want)
+
 -- ---- slots through movements
 
 no_slots : AreRows []
 no_slots = record { few = omega arith; apart = tt }
 
-slots_taken : (r : Rights) (h : Holder) (b : ℕ) (w : Worth) → AllByRecursion AreRows r.slots → AllByRecursion AreRows (taken r h b w).slots
-slots_taken r (Slot s k) b w all = all_set AreRows r.slots s _ all (rows_less_are k w.content (slots_at r.slots s) (all_read_or AreRows r.slots s [] all no_slots))
-slots_taken r _ b w all = all
+room_taken : (k : List ℕ) (rs : List Row) (b : ℕ) (w : Worth) (o : Option Amount) → amount_under k rs ≡ o → HasOrOpens o rs b w → amount_under k rs ≡ None → length rs < most_rows
+room_taken k rs b w None e can none = can.1
+room_taken k rs b w (Some x) e can none = let clash : Some x ≡ None = sym e ∙ none in cc
+
+room_given : (k : List ℕ) (rs : List Row) (b : ℕ) (w : Worth) (o : Option Amount) → amount_under k rs ≡ o → TakesOrOpens o rs b w → amount_under k rs ≡ None → length rs < most_rows
+room_given k rs b w None e can none = can.1
+room_given k rs b w (Some x) e can none = let clash : Some x ≡ None = sym e ∙ none in cc
+
+slots_taken : (r : Rights) (hand : ℕ → Content) (h : Holder) (b : ℕ) (w : Worth) → CanTake r hand h b w → AllByRecursion AreRows r.slots → AllByRecursion AreRows (taken r h b w).slots
+slots_taken r hand (Slot s k) b w can all =
+    let rs = slots_at r.slots s in
+    let is = all_read_or AreRows r.slots s [] all no_slots in
+    all_set AreRows r.slots s _ all (rows_with_are k (λ x. less x w.content) (holding (amount_of b w) nothing) rs (room_taken k rs b w (amount_under k rs) refl can.has) is)
+slots_taken r hand (Purse n) b w can all = all
+slots_taken r hand (Payment n) b w can all = all
+slots_taken r hand Hand b w can all = all
+slots_taken r hand Outside b w can all = all
 
 slots_given : (r : Rights) (h : Holder) (b : ℕ) (w : Worth) → CanGive r h b w → AllByRecursion AreRows r.slots → AllByRecursion AreRows (given r h b w).slots
-slots_given r (Slot s k) b w can all = all_set AreRows r.slots s _ all (rows_more_are k b w (slots_at r.slots s) can.takes (all_read_or AreRows r.slots s [] all no_slots))
+slots_given r (Slot s k) b w can all =
+    let rs = slots_at r.slots s in
+    let is = all_read_or AreRows r.slots s [] all no_slots in
+    all_set AreRows r.slots s _ all (rows_with_are k (λ x. more x w.content) (amount_of b w) rs (room_given k rs b w (amount_under k rs) refl can.takes) is)
 slots_given r (Purse n) b w can all = all
 slots_given r (Payment n) b w can all = all
 slots_given r Hand b w can all = all
@@ -132,7 +79,37 @@ slots_given r Outside b w can all = all
 
 pub slots_moved : (r : Rights) (hand : ℕ → Content) (ms : List Movement) → CanMoveAll r hand ms → AllByRecursion AreRows r.slots → AllByRecursion AreRows (all_moved r ms).slots
 slots_moved r hand [] can all = all
-slots_moved r hand (m ∷ ms) can all = slots_moved (moved r m) (hand_after hand m) ms can.1 (slots_given (taken r m.from m.brand m.value) m.to m.brand m.value can.0.to (slots_taken r m.from m.brand m.value all))
+slots_moved r hand (m ∷ ms) can all =
+    slots_moved (moved r m) (hand_after hand m) ms can.1
+    (slots_given (taken r m.from m.brand m.value) m.to m.brand m.value can.0.to (slots_taken r hand m.from m.brand m.value can.0.from all))
+
+-- ---- names of slots through movements
+
+named_taken : (r : Rights) (h : Holder) (b : ℕ) (w : Worth) → IsNamedHolder h → AllByRecursion AreNamed r.slots → AllByRecursion AreNamed (taken r h b w).slots
+named_taken r (Slot s k) b w named all = all_set AreNamed r.slots s _ all (rows_with_named k (λ x. less x w.content) (holding (amount_of b w) nothing) named (slots_at r.slots s) (all_read_or AreNamed r.slots s [] all tt))
+named_taken r (Purse n) b w named all = all
+named_taken r (Payment n) b w named all = all
+named_taken r Hand b w named all = all
+named_taken r Outside b w named all = all
+
+named_given : (r : Rights) (h : Holder) (b : ℕ) (w : Worth) → IsNamedHolder h → AllByRecursion AreNamed r.slots → AllByRecursion AreNamed (given r h b w).slots
+named_given r (Slot s k) b w named all = all_set AreNamed r.slots s _ all (rows_with_named k (λ x. more x w.content) (amount_of b w) named (slots_at r.slots s) (all_read_or AreNamed r.slots s [] all tt))
+named_given r (Purse n) b w named all = all
+named_given r (Payment n) b w named all = all
+named_given r Hand b w named all = all
+named_given r Outside b w named all = all
+
+named_moved : (seats : List Seat) (r : Rights) (ms : List Movement) → AllByRecursion (IsGoodMove seats) ms → AllByRecursion AreNamed r.slots → AllByRecursion AreNamed (all_moved r ms).slots
+named_moved seats r [] good all = all
+named_moved seats r (m ∷ ms) good all =
+    named_moved seats (moved r m) ms good.1
+    (named_given (taken r m.from m.brand m.value) m.to m.brand m.value good.0.to_named (named_taken r m.from m.brand m.value good.0.from_named all))
+
+emptied_named : (rs : List Row) → AreNamed rs → AreNamed (map emptied rs)
+emptied_named rs all = emptied_all (λ (r : Row). IsKeyword r.keyword) (λ r is. is) rs all
+
+pub empty_slots_named : (p : Proposal) → AreNamed p.give → AreNamed p.want → AreNamed (empty_slots p)
+empty_slots_named p give want = empty_slots_all (λ (r : Row). IsKeyword r.keyword) (λ r is. is) p give want
 
 seats_taken : (r : Rights) (h : Holder) (b : ℕ) (w : Worth) → length (taken r h b w).slots ≡ length r.slots
 seats_taken r (Slot s k) b w = length_set r.slots s _
@@ -147,11 +124,11 @@ seats_moved r [] = refl
 seats_moved r (m ∷ ms) = seats_moved (moved r m) ms ∙ (seats_given (taken r m.from m.brand m.value) m.to m.brand m.value ∙ seats_taken r m.from m.brand m.value)
 
 pub seats-after : (w : State) (e : Effect) → IsGoodEffect w e → IsGoodWorld w → AreSeats (after w e).seats (after w e).rights.slots (after w e).pairs (after w e).staging
-seats-after w (moves ms) can good = record { staged = good.seats.staged; slotted = seats_moved w.rights ms ∙ good.seats.slotted; paired = good.seats.paired; rows = slots_moved w.rights no_hand ms can.can good.seats.rows }
-seats-after w (invite d) can good = record { staged = good.seats.staged; slotted = good.seats.slotted; paired = good.seats.paired; rows = good.seats.rows }
-seats-after w (stage s rows) can good = record { staged = length_set w.staging s (Some rows) ∙ good.seats.staged; slotted = good.seats.slotted; paired = good.seats.paired; rows = good.seats.rows }
-seats-after w (unstage s) can good = record { staged = length_set w.staging s None ∙ good.seats.staged; slotted = good.seats.slotted; paired = good.seats.paired; rows = good.seats.rows }
-seats-after w end_staging can good = record { staged = length_map no_rows w.staging ∙ good.seats.staged; slotted = good.seats.slotted; paired = good.seats.paired; rows = good.seats.rows }
+seats-after w (moves ms) can good = record { staged = good.seats.staged; slotted = seats_moved w.rights ms ∙ good.seats.slotted; paired = good.seats.paired; rows = slots_moved w.rights no_hand ms can.can good.seats.rows; named = named_moved w.seats w.rights ms can.good good.seats.named }
+seats-after w (invite d) can good = record { staged = good.seats.staged; slotted = good.seats.slotted; paired = good.seats.paired; rows = good.seats.rows; named = good.seats.named }
+seats-after w (stage s rows) can good = record { staged = length_set w.staging s (Some rows) ∙ good.seats.staged; slotted = good.seats.slotted; paired = good.seats.paired; rows = good.seats.rows; named = good.seats.named }
+seats-after w (unstage s) can good = record { staged = length_set w.staging s None ∙ good.seats.staged; slotted = good.seats.slotted; paired = good.seats.paired; rows = good.seats.rows; named = good.seats.named }
+seats-after w end_staging can good = record { staged = length_map no_rows w.staging ∙ good.seats.staged; slotted = good.seats.slotted; paired = good.seats.paired; rows = good.seats.rows; named = good.seats.named }
 seats-after w (offer o) can good =
     let r = with_slots w.rights (empty_slots o.proposal) in
     let more = length_push w.seats (new_seat (offered_by w o).instance o.proposal) in
@@ -159,7 +136,8 @@ seats-after w (offer o) can good =
       staged = omega (arith, more, length_push w.staging None, good.seats.staged);
       slotted = omega (arith, more, seats_moved r (burn_and_escrows o), length_push w.rights.slots (empty_slots o.proposal), good.seats.slotted);
       paired = omega (arith, more, length_push w.pairs (next_pair w), good.seats.paired);
-      rows = slots_moved r no_hand (burn_and_escrows o) can.moves.can (all_push AreRows w.rights.slots (empty_slots o.proposal) good.seats.rows can.proposal.slots);
+      rows = slots_moved r no_hand (burn_and_escrows o) can.moves.can (all_push AreRows w.rights.slots (empty_slots o.proposal) good.seats.rows (empty_slots_are o.proposal can.proposal.fits can.proposal.give can.proposal.want));
+      named = named_moved (w.seats ++ new_seat (offered_by w o).instance o.proposal ∷ []) r (burn_and_escrows o) can.moves.good (all_push AreNamed w.rights.slots (empty_slots o.proposal) good.seats.named (empty_slots_named o.proposal can.proposal.give_named can.proposal.want_named));
     }
 seats-after w (empty_seat i rule) can good =
     let more = length_push w.seats (new_seat i (of_own rule)) in
@@ -168,6 +146,7 @@ seats-after w (empty_seat i rule) can good =
       slotted = omega (arith, more, length_push w.rights.slots [], good.seats.slotted);
       paired = omega (arith, more, length_push w.pairs (next_pair w), good.seats.paired);
       rows = all_push AreRows w.rights.slots [] good.seats.rows no_slots;
+      named = all_push AreNamed w.rights.slots [] good.seats.named tt;
     }
 seats-after w (exit s cause) can good =
     let rows = slots_at w.rights.slots s in
@@ -177,7 +156,8 @@ seats-after w (exit s cause) can good =
       staged = omega (arith, as_many, length_set w.staging s None, good.seats.staged);
       slotted = omega (arith, as_many, length_set w.rights.slots s (map emptied rows), good.seats.slotted);
       paired = omega (arith, as_many, good.seats.paired);
-      rows = all_set AreRows w.rights.slots s (map emptied rows) good.seats.rows (record { few = omega (arith, is.few, length_map emptied rows); apart = apart_emptied rows is.apart });
+      rows = all_set AreRows w.rights.slots s (map emptied rows) good.seats.rows (emptied_are rows is);
+      named = all_set AreNamed w.rights.slots s (map emptied rows) good.seats.named (emptied_named rows (all_read_or AreNamed w.rights.slots s [] good.seats.named tt));
     }
 seats-after w _ can good = good.seats
 

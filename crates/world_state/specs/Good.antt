@@ -1,24 +1,32 @@
--- What holds of the world between effects, part by part, each over the stores that it reads; and what each effect needs.
-use Rattle.std.specs.Prelude.{◌≡◌, ◌≢◌, ◌⊎◌, ℕ, ◌+◌, ◌<◌, ◌≤◌, ◌==◌, ◌&&◌, if◌then◌else◌, Bool, false, List, [], ◌∷◌, ◌++◌, length, Option, Some, None, IfSome, IsSome, is_none}
+-- What holds of the world between effects, part by part, each over the stores that it reads; and
+-- what each effect needs.
+use Rattle.std.specs.Prelude.{◌≡◌, ◌≢◌, ◌⊎◌, ℕ, ◌+◌, ◌<◌, ◌≤◌, ◌==◌, ◌&&◌, if◌then◌else◌}
+use Rattle.std.specs.Prelude.{Bool, true, false, codes, List, [], ◌∷◌, ◌++◌, length}
+use Rattle.std.specs.Prelude.{Option, Some, None, IfSome, IsSome, IsSomeAnd, is_none}
 use Rattle.std.specs.List.{AllByRecursion}
+use Rattle.amount_math.specs.Amount.{Meet}
 use Rattle.amount_math.specs.Content.{count}
 use Rattle.amount_math.specs.Worth.{Fits, Worth}
 use Rattle.amount_math.specs.declared.Amount.{Amount}
 use Rattle.amount_math.specs.declared.Kind.TheVariants.{Set}
 use Rattle.actors.specs.Labels.{Bound, bound_to}
 use Rattle.brands.specs.Brands.{brand_at, most_brands}
-use Rattle.brands.specs.IssuerRecords.{brand_under, most_issuers}
+use Rattle.brands.specs.IssuerRecords.{AreIssuers, brand_under, most_issuers}
 use Rattle.brands.specs.declared.Brand.{Brand}
 use Rattle.brands.specs.declared.issuer_record.Issuer.{Issuer}
 use Rattle.ertp_mint.specs.BrandSupply.{BrandSupply, supply_at}
 use Rattle.ertp_mint.specs.Stocks.{most_made}
+use Rattle.host_text.specs.Words.{is_field_name, is_keyword}
 use Rattle.instance_store.specs.Facets.{FacetView}
 use Rattle.instance_store.specs.SeatPromises.{pair_at}
 use Rattle.instance_store.specs.Tables.{InstanceView, initial_state, instance_at, module_at}
+use Rattle.instance_store.specs.declared.instance.Standing.{Standing}
+use Rattle.instance_store.specs.declared.instance.Standing.TheVariants.{Halted}
 use Rattle.instance_store.specs.declared.seat_promises.SeatPair.{SeatPair}
 use Rattle.invitations.specs.Details.{DetailsView}
 use Rattle.invitations.specs.Elements.{element}
-use Rattle.jessie_tree.specs.Tree.{Tree, object}
+use Rattle.jessie_tree.specs.Syntax.{Routine, routines}
+use Rattle.jessie_tree.specs.Tree.{Tree, fields, get, object}
 use Rattle.jessie_tree.specs.declared.data.Obj.{Obj}
 use Rattle.jessie_tree.specs.declared.syntax.Module.{Module}
 use Rattle.payments.specs.Papers.{Paper, paper_at}
@@ -29,22 +37,40 @@ use Rattle.proposals.specs.OfferSafety.{IsOfferSafe}
 use Rattle.proposals.specs.Rows.{AreRows, amount_under}
 use Rattle.proposals.specs.Slots.{FitsSeat, in_byte_order}
 use Rattle.proposals.specs.declared.allocations.Row.{Row}
+use Rattle.proposals.specs.declared.offers.Exit.{Exit}
+use Rattle.proposals.specs.declared.offers.Exit.TheVariants.{AfterDeadline, OnDemand, Waived}
 use Rattle.proposals.specs.declared.offers.Proposal.{Proposal}
 use Rattle.rights_model.specs.declared.Holder.{Holder}
 use Rattle.rights_model.specs.declared.Holder.TheVariants.{Purse, Payment, Slot, Hand, Outside}
 use Rattle.rights_model.specs.declared.Movement.{Movement}
 use Rattle.right_steps.specs.Tables.{no_hand}
-use Rattle.turn_records.specs.Deliveries.{Delivery, Notice, Offer, Send, Start, Wakeup, bad, call, deadline, give, notify, offer as offers, promise_of, send as sends, start as starts, tick, wake as wakes}
-use Rattle.world_state.specs.Known.{HasFunction, IsHanded, IsKnownTo, IsPlain, IsSeatOf}
-use Rattle.world_state.specs.Promises.{IsPending, PromiseBook, target_of}
-use Rattle.world_state.specs.Rights.{CanMoveAll, Rights, all_moved, held_of, kind_at, moved_together, slots_at, with_slots}
-use Rattle.world_state.specs.Worlds.{Effect, IsOpen, Maker, Offering, Seat, Starting, State, after, burn_and_escrows, empty_slots, new_seat, of_host, of_instance, of_kit, offered_by, seat_at, staged_at, promises_made, add_issuer, arrive, bind_label, empty_payment, empty_seat, end_staging, exit, halt, install, invite, keep_state, make_facet, maker_at, moves, new_brand, new_promise, new_purse, note_call, offer, publish, resolve, send, set_time, stage, start, stop, unstage, wake, when}
+use Rattle.timer.specs.Schedules.{Schedule}
+use Rattle.turn_records.specs.Deliveries.{Delivery, Notice, Offer, Send, Start, Wakeup, promise_of}
+use Rattle.turn_records.specs.Deliveries.{bad, call, deadline, give, notify, tick}
+use Rattle.turn_records.specs.Deliveries.{offer as offers, send as sends, start as starts}
+use Rattle.turn_records.specs.Deliveries.{wake as wakes}
+use Rattle.turn_rows.specs.Form.{times_end}
+use Rattle.world_state.specs.Known.{HasFunction, IsHanded, IsKnownTo, IsNamed, IsPlain, IsSeatOf}
+use Rattle.world_state.specs.Lines.{IsFormedCall, IsFormedGift}
+use Rattle.world_state.specs.Promises.{IsPending, PromiseBook, WasSettled, settlement_at, target_of}
+use Rattle.world_state.specs.Rights.{CanMoveAll, Rights, all_moved, held_of, kind_at}
+use Rattle.world_state.specs.Rights.{moved_together, slots_at, with_slots}
+use Rattle.world_state.specs.Worlds.{Effect, Maker, Offering, Seat, Starting, State, after}
+use Rattle.world_state.specs.Worlds.{of_host, of_instance, of_kit, maker_at, new_seat}
+use Rattle.world_state.specs.Worlds.{IsOpen, seat_at, staged_at, burn_and_escrows, empty_slots}
+use Rattle.world_state.specs.Worlds.{invitation_value, offered_by, promises_made}
+use Rattle.world_state.specs.Worlds.{add_issuer, arrive, bind_label, empty_payment, empty_seat}
+use Rattle.world_state.specs.Worlds.{end_staging, exit, halt, install, invite, keep_state}
+use Rattle.world_state.specs.Worlds.{moves, new_brand, new_promise, new_purse, note_call, offer}
+use Rattle.world_state.specs.Worlds.{publish, resolve, send, set_time, stage, start, stop, unstage}
+use Rattle.world_state.specs.Worlds.{make_facet, wake, when}
 
 -- ---- rights
 
 -- all that is held is what is out
 pub record IsBalanced (r : Rights) : Type 0 where
-  pub each : (b : ℕ) (k : List ℕ) → held_of r b k ≡ count (supply_at r.out b).outstanding.content k
+  pub each : (b : ℕ) (k : List ℕ)
+      → held_of r b k ≡ count (supply_at r.out b).outstanding.content k
 
 -- an amount of a brand that was made, of its kind
 pub record IsOfKind (out : List BrandSupply) (a : Amount) : Type 0 where
@@ -73,10 +99,15 @@ pub record AreBrands (bs : List Brand) (makers : List Maker) (out : List BrandSu
   pub first : (brand_at bs 0).kind ≡ Set
   pub host : maker_at makers 0 ≡ of_host
 
--- nothing is out of brand 0 but elements of invitations that were made, and no more were ever issued
+-- a key isn't the element of an invitation that was made
+abbrev pub IsOfNone : List DetailsView → List ℕ → Type 0
+IsOfNone ds k = (n : ℕ) → n < length ds → k ≢ element n
+
+-- nothing is out of brand 0 but elements of invitations that were made; no more were ever issued
 pub record AreInvitations (out : List BrandSupply) (ds : List DetailsView) : Type 0 where
   pub once : (supply_at out 0).minted ≤ length ds
-  pub made : (k : List ℕ) → ((n : ℕ) → n < length ds → k ≢ element n) → count (supply_at out 0).outstanding.content k ≡ 0
+  pub made : (k : List ℕ) → IsOfNone ds k
+      → count (supply_at out 0).outstanding.content k ≡ 0
 
 -- ---- seats
 
@@ -89,34 +120,105 @@ open_slots [] slots = 0
 open_slots (s ∷ ss) [] = 0
 open_slots (s ∷ ss) (rows ∷ rest) = slots_in s rows + open_slots ss rest
 
-pub record HasRoom (payments : List Paper) (slots : List (List Row)) (seats : List Seat) : Type 0 where
-  pub left : length payments + open_slots seats slots ≤ most_made
+pub record HasRoom (ps : List Paper) (slots : List (List Row)) (seats : List Seat) : Type 0 where
+  pub left : length ps + open_slots seats slots ≤ most_made
 
 -- what an open seat has covers what it wants, or what it gave
 pub record AreCovered (slots : List (List Row)) (seats : List Seat) : Type 0 where
-  pub each : (s : ℕ) → IsOpen (seat_at seats s) → IsOfferSafe (seat_at seats s).proposal (slots_at slots s)
+  pub each : (s : ℕ) → IsOpen (seat_at seats s)
+      → IsOfferSafe (seat_at seats s).proposal (slots_at slots s)
 
--- each seat has its slots, under keywords of their own, and two promises
-pub record AreSeats (seats : List Seat) (slots : List (List Row)) (pairs : List SeatPair) (staging : List (Option (List Row))) : Type 0 where
+-- rows stand under keywords
+abbrev pub IsKeyword : List ℕ → Type 0
+IsKeyword k = is_keyword k ≡ true
+
+abbrev pub AreNamed : List Row → Type 0
+AreNamed rows = AllByRecursion (λ (r : Row). IsKeyword r.keyword) rows
+
+-- each seat has its slots, under keywords of their own, two promises, and a place for its staging
+pub record AreSeats (seats : List Seat) (slots : List (List Row)) (pairs : List SeatPair)
+    (staging : List (Option (List Row))) : Type 0 where
   pub staged : length staging ≡ length seats
   pub slotted : length slots ≡ length seats
   pub paired : length pairs ≡ length seats
   pub rows : AllByRecursion AreRows slots
+  pub named : AllByRecursion AreNamed slots
 
--- and is of an instance that was made
+-- both of its promises were made
+pub record IsPair (made : ℕ) (pair : SeatPair) : Type 0 where
+  pub results : pair.«result» < made
+  pub payouts : pair.payouts < made
+
+-- it is of an instance that was made
 abbrev pub IsPlaced : State → Seat → Type 0
 IsPlaced w seat = seat.instance < length w.tables.instances
 
--- what is staged of a seat is of the brands of its slots
+-- an instance that has halted has no open seat
+abbrev pub standing_of : List InstanceView → ℕ → Standing
+standing_of xs i = (instance_at xs i).standing
+
+pub record AreAtWork (seats : List Seat) (xs : List InstanceView) : Type 0 where
+  pub each : (s : ℕ) → IsOpen (seat_at seats s) → standing_of xs (seat_at seats s).instance ≢ Halted
+
+-- a deadline is such as lines can set the time to
+abbrev pub IsRule : Exit → Type 0
+IsRule (AfterDeadline t) = t < times_end
+IsRule OnDemand = Unit {0}
+IsRule Waived = Unit {0}
+
+-- what is proposed: keywords of their own, amounts of brands that were made
+pub record IsProposal (out : List BrandSupply) (p : Proposal) : Type 0 where
+  pub give : AreRows p.give
+  pub want : AreRows p.want
+  pub give_named : AreNamed p.give
+  pub want_named : AreNamed p.want
+  pub fits : FitsSeat p
+  pub gives : AreRowsOf out p.give
+  pub wants : AreRowsOf out p.want
+  pub rule : IsRule p.exit
+
+-- a row has a slot under its keyword, of its brand and kind
+abbrev pub HasSlot : List Row → Row → Type 0
+HasSlot slots row = IsSomeAnd (amount_under row.keyword slots) (λ slot. Meet slot row.amount)
+
+-- and so has each row of a proposal
+pub record HaveSlots (slots : List Row) (p : Proposal) : Type 0 where
+  pub give : AllByRecursion (HasSlot slots) p.give
+  pub want : AllByRecursion (HasSlot slots) p.want
+
+-- what a seat had when it was left
+pub record IsLast (out : List BrandSupply) (p : Proposal) (rows : List Row) : Type 0 where
+  pub apart : AreRows rows
+  pub named : AreNamed rows
+  pub of_kinds : AreRowsOf out rows
+  pub slots : HaveSlots rows p
+
+-- what a seat was opened for, and what it has or had
+pub record IsSeat (out : List BrandSupply) (seat : Seat) (rows : List Row) : Type 0 where
+  pub proposal : IsProposal out seat.proposal
+  pub slots : HaveSlots rows seat.proposal
+  pub last : IfSome seat.last (IsLast out seat.proposal)
+
+pub record AreProposed (out : List BrandSupply) (seats : List Seat)
+    (slots : List (List Row)) : Type 0 where
+  pub each : (s : ℕ) → s < length seats → IsSeat out (seat_at seats s) (slots_at slots s)
+
+-- what is staged of an open seat: keywords of their own, amounts of brands that were made, where
+-- there is a slot of its brand
 abbrev pub IsOfSlot : List Row → Row → Type 0
 IsOfSlot slots row = IfSome (amount_under row.keyword slots) (λ a. a.brand ≡ row.amount.brand)
 
-pub record IsStaged (seat : Seat) (slots rows : List Row) : Type 0 where
+pub record IsStaged (out : List BrandSupply) (seat : Seat) (slots rows : List Row) : Type 0 where
   pub is_open : IsOpen seat
+  pub apart : AreRows rows
+  pub named : AreNamed rows
+  pub of_kinds : AreRowsOf out rows
   pub of_slots : AllByRecursion (IsOfSlot slots) rows
 
-pub record AreStaged (seats : List Seat) (slots : List (List Row)) (staging : List (Option (List Row))) : Type 0 where
-  pub each : (s : ℕ) (rows : List Row) → staged_at staging s ≡ Some rows → IsStaged (seat_at seats s) (slots_at slots s) rows
+pub record AreStaged (out : List BrandSupply) (seats : List Seat) (slots : List (List Row))
+    (staging : List (Option (List Row))) : Type 0 where
+  pub each : (s : ℕ) (rows : List Row) → staged_at staging s ≡ Some rows
+      → IsStaged out (seat_at seats s) (slots_at slots s) rows
 
 -- ---- promises that are owed
 
@@ -128,10 +230,13 @@ is_for None p = false
 is_for (Some q) p = q == p
 
 -- to open seats for their payouts, by what waits to be delivered, and to those who are to be told
+abbrev pub owes_payouts : Seat → SeatPair → ℕ → Bool
+owes_payouts s q p = is_none s.last && (q.payouts == p)
+
 abbrev pub owed_payouts : List Seat → List SeatPair → ℕ → ℕ
 owed_payouts [] pairs p = 0
 owed_payouts (s ∷ ss) [] p = 0
-owed_payouts (s ∷ ss) (q ∷ qs) p = one_if (is_none s.last && (q.payouts == p)) + owed_payouts ss qs p
+owed_payouts (s ∷ ss) (q ∷ qs) p = one_if (owes_payouts s q p) + owed_payouts ss qs p
 
 abbrev pub owed_answers : List Delivery → ℕ → ℕ
 owed_answers [] p = 0
@@ -142,13 +247,20 @@ owed_notices [] p = 0
 owed_notices (n ∷ ns) p = one_if (n.answer == p) + owed_notices ns p
 
 abbrev pub owes : List Seat → List SeatPair → List Delivery → PromiseBook → ℕ → ℕ
-owes seats pairs waiting book p = owed_payouts seats pairs p + owed_answers waiting p + owed_notices book.requests p
+owes seats pairs waiting book p =
+    owed_payouts seats pairs p + owed_answers waiting p + owed_notices book.requests p
 
 -- what is owed is owed once, and is pending, and follows none; what follows another was made
-pub record AreOwed (seats : List Seat) (pairs : List SeatPair) (waiting : List Delivery) (book : PromiseBook) : Type 0 where
+pub record AreOwed (seats : List Seat) (pairs : List SeatPair) (waiting : List Delivery)
+    (book : PromiseBook) : Type 0 where
   pub made : AllByRecursion (λ (f : Following). f.promise < length book.settled) book.follows
   pub once : (p : ℕ) → owes seats pairs waiting book p ≤ 1
   pub pending : (p : ℕ) → 0 < owes seats pairs waiting book p → IsPending book p
+
+-- who is to be told of a promise still is while it isn't settled
+abbrev pub AreAsked : PromiseBook → Type 0
+AreAsked book =
+    AllByRecursion (λ (n : Notice). settlement_at book.settled n.promise ≡ None) book.requests
 
 -- ---- data and functions that the world holds
 
@@ -164,18 +276,29 @@ pub record IsFinal (w : State) (v : SettlementView) : Type 0 where
 abbrev pub IsSettled : State → Option SettlementView → Type 0
 IsSettled w s = IfSome s (IsFinal w)
 
+-- its installation is that of its instance
 pub record IsInvitation (w : State) (d : DetailsView) : Type 0 where
   pub handler : HasFunction w.tables d.instance d.handler
+  pub installation : d.installation ≡ (instance_at w.tables.instances d.instance).installation
   pub held : IsKnownTo w d.instance d.held
 
-abbrev pub IsBrandMade : State → Issuer → Type 0
-IsBrandMade w i = i.brand < length w.brands
+-- an issuer of a brand that was made, under a keyword
+pub record IsIssuer (w : State) (i : Issuer) : Type 0 where
+  pub made : i.brand < length w.brands
+  pub named : IsKeyword i.keyword
+
+-- terms are a record without the fields that the host adds to them
+abbrev pub AreTerms : Tree → Type 0
+AreTerms (fields fs) = (get (codes "issuers") fs ≡ None) × (get (codes "brands") fs ≡ None)
+AreTerms _ = ⊥
 
 -- the n-th instance
 pub record IsInstance (w : State) (n : ℕ) (x : InstanceView) : Type 0 where
   pub installed : x.installation < length w.tables.installations
-  pub issuers : AllByRecursion (IsBrandMade w) x.issuers
+  pub issuers : AllByRecursion (IsIssuer w) x.issuers
+  pub apart : AreIssuers x.issuers
   pub terms : IsHanded w x.terms
+  pub bare : AreTerms x.terms
   pub facet : IfSome x.public_facet (IsHanded w)
   pub whole : length x.state ≡ length (module_at w.tables.installations x.installation).variables
   pub state : AllByRecursion (IsKnownTo w n) x.state
@@ -183,13 +306,19 @@ pub record IsInstance (w : State) (n : ℕ) (x : InstanceView) : Type 0 where
 pub record AreInstances (w : State) (xs : List InstanceView) : Type 0 where
   pub each : (n : ℕ) → n < length xs → IsInstance w n (instance_at xs n)
 
--- what the state variables of a module begin with names nothing
-abbrev pub IsModule : Module → Type 0
-IsModule m = AllByRecursion IsPlain (initial_state m)
+-- what the state variables of a module begin with names nothing; its functions have names of
+-- their form, and one of them is its start
+pub record IsModule (m : Module) : Type 0 where
+  pub plain : AllByRecursion IsPlain (initial_state m)
+  pub starts : IsNamed (codes "start") (routines m)
+  pub named : AllByRecursion (λ (r : Routine). is_field_name r.name ≡ true) (routines m)
+
+abbrev pub IsMethod : State → ℕ → List ℕ × List ℕ → Type 0
+IsMethod w i m = HasFunction w.tables i m.1
 
 pub record IsFacet (w : State) (f : FacetView) : Type 0 where
   pub made : f.instance < length w.tables.instances
-  pub methods : AllByRecursion (λ (m : List ℕ × List ℕ). HasFunction w.tables f.instance m.1) f.methods
+  pub methods : AllByRecursion (IsMethod w f.instance) f.methods
   pub held : IsKnownTo w f.instance f.held
 
 abbrev pub IsLabel : State → Bound → Type 0
@@ -203,6 +332,11 @@ pub record IsNotice (w : State) (n : Notice) : Type 0 where
   pub promise : n.promise < length w.promises.settled
   pub function : HasFunction w.tables n.instance n.function
   pub held : IsKnownTo w n.instance n.held
+
+-- its promise is settled
+pub record IsNews (w : State) (n : Notice) : Type 0 where
+  pub notice : IsNotice w n
+  pub settled : WasSettled (settlement_at w.promises.settled n.promise)
 
 pub record IsStart (w : State) (s : Start) : Type 0 where
   pub made : s.instance < length w.tables.instances
@@ -224,15 +358,15 @@ pub record IsSend (w : State) (s : Send) : Type 0 where
 
 -- what waits is due
 abbrev pub IsDue : State → Delivery → Type 0
-IsDue w (call c) = Unit {0}
-IsDue w (give g) = Unit {0}
-IsDue w (tick t) = Unit {0}
+IsDue w (call c) = IsFormedCall c
+IsDue w (give g) = IsFormedGift g
+IsDue w (tick t) = t < times_end
 IsDue w (bad r) = Unit {0}
 IsDue w (sends s) = IsSend w s
 IsDue w (starts s) = IsStart w s
 IsDue w (offers o) = IsOfferCall w o
 IsDue w (wakes d) = IsWakeup w d
-IsDue w (notify n) = IsNotice w n
+IsDue w (notify n) = IsNews w n
 IsDue w (deadline seat) = seat < length w.seats
 
 -- what waits for a time is due then: a wakeup, or a deadline
@@ -243,6 +377,11 @@ IsTimed w _ = ⊥
 
 abbrev pub IsTimedEntry : State → ℕ × Delivery → Type 0
 IsTimedEntry w e = IsTimed w e.1
+
+-- the time, and each time that something waits for, is such as lines can set it to
+pub record IsTimely (s : Schedule Delivery) : Type 0 where
+  pub time : s.time < times_end
+  pub waiting : AllByRecursion (λ (e : ℕ × Delivery). e.0 < times_end) s.waiting
 
 -- ---- the world
 
@@ -255,11 +394,15 @@ pub record IsGoodWorld (w : State) : Type 0 where
   pub brands : AreBrands w.brands w.makers w.rights.out
   pub invited : AreInvitations w.rights.out w.invitations
   pub seats : AreSeats w.seats w.rights.slots w.pairs w.staging
+  pub paired : AllByRecursion (IsPair (promises_made w)) w.pairs
   pub placed : AllByRecursion (IsPlaced w) w.seats
+  pub at_work : AreAtWork w.seats w.tables.instances
+  pub proposed : AreProposed w.rights.out w.seats w.rights.slots
   pub covered : AreCovered w.rights.slots w.seats
   pub room : HasRoom w.rights.payments w.rights.slots w.seats
-  pub staged : AreStaged w.seats w.rights.slots w.staging
+  pub staged : AreStaged w.rights.out w.seats w.rights.slots w.staging
   pub owed : AreOwed w.seats w.pairs w.waiting w.promises
+  pub asked : AreAsked w.promises
   pub settled : AllByRecursion (IsSettled w) w.promises.settled
   pub requests : AllByRecursion (IsNotice w) w.promises.requests
   pub modules : AllByRecursion IsModule w.tables.installations
@@ -268,6 +411,7 @@ pub record IsGoodWorld (w : State) : Type 0 where
   pub facets : AllByRecursion (IsFacet w) w.facets
   pub labels : AllByRecursion (IsLabel w) w.labels
   pub timed : AllByRecursion (IsTimedEntry w) w.schedule.waiting
+  pub timely : IsTimely w.schedule
   pub waiting : AllByRecursion (IsDue w) w.waiting
 
 -- ---- what each effect needs
@@ -300,14 +444,27 @@ IsAtOpen seats (Payment n) = Unit {0}
 IsAtOpen seats Hand = Unit {0}
 IsAtOpen seats Outside = Unit {0}
 
+-- a slot is named by a keyword
+abbrev pub IsNamedHolder : Holder → Type 0
+IsNamedHolder (Slot s k) = IsKeyword k
+IsNamedHolder (Purse n) = Unit {0}
+IsNamedHolder (Payment n) = Unit {0}
+IsNamedHolder Hand = Unit {0}
+IsNamedHolder Outside = Unit {0}
+
 pub record IsGoodMove (seats : List Seat) (m : Movement) : Type 0 where
   pub brings : BringsNoInvitation m
+  pub from_named : IsNamedHolder m.from
+  pub to_named : IsNamedHolder m.to
   pub from : IsAtOpen seats m.from
   pub to : IsAtOpen seats m.to
 
 -- a payment that was taken from has nothing left
+abbrev pub HoldsNothing : Paper → Type 0
+HoldsNothing p = IfSome p.held (λ (w : Worth). (k : List ℕ) → count w.content k ≡ 0)
+
 abbrev pub HasNothing : List Paper → Holder → Type 0
-HasNothing ps (Payment n) = IfSome (paper_at ps n).held (λ (w : Worth). (k : List ℕ) → count w.content k ≡ 0)
+HasNothing ps (Payment n) = HoldsNothing (paper_at ps n)
 HasNothing ps (Purse n) = Unit {0}
 HasNothing ps (Slot s k) = Unit {0}
 HasNothing ps Hand = Unit {0}
@@ -321,33 +478,35 @@ IsFresh made (Slot s k) = Unit {0}
 IsFresh made Hand = Unit {0}
 IsFresh made Outside = Unit {0}
 
--- movements can be made together: each in order; nothing is left in the hand, or in a payment that was taken from; what is given to a payment makes it; the slots of a seat of which something is staged stay as they are; each open seat is covered, and can be paid out
-pub record CanMoveTogether (r : Rights) (seats : List Seat) (staging : List (Option (List Row))) (ms : List Movement) : Type 0 where
+-- movements leave a seat's slots as they are
+abbrev pub LeavesSlots : Rights → List Movement → ℕ → Type 0
+LeavesSlots r ms s = slots_at (moved_together r ms).slots s ≡ slots_at r.slots s
+
+-- what they leave in its slots is offer safe
+abbrev pub LeavesSafe : Rights → List Seat → List Movement → ℕ → Type 0
+LeavesSafe r seats ms s =
+    IsOfferSafe (seat_at seats s).proposal (slots_at (moved_together r ms).slots s)
+
+-- movements can be made together: each in order; nothing is left in the hand, or in a payment
+-- that was taken from; what is given to a payment makes it; the slots of a seat of which
+-- something is staged stay as they are; each open seat is covered, and can be paid out
+pub record CanMoveTogether (r : Rights) (seats : List Seat) (staging : List (Option (List Row)))
+    (ms : List Movement) : Type 0 where
   pub can : CanMoveAll r no_hand ms
   pub good : AllByRecursion (IsGoodMove seats) ms
   pub emptied : AllByRecursion (λ (m : Movement). HasNothing (all_moved r ms).payments m.from) ms
   pub fresh : AllByRecursion (λ (m : Movement). IsFresh (length r.payments) m.to) ms
-  pub apart : (s : ℕ) → IsSome (staged_at staging s) → slots_at (moved_together r ms).slots s ≡ slots_at r.slots s
-  pub safe : (s : ℕ) → (slots_at (moved_together r ms).slots s ≡ slots_at r.slots s) ⊎ IsOfferSafe (seat_at seats s).proposal (slots_at (moved_together r ms).slots s)
+  pub apart : (s : ℕ) → IsSome (staged_at staging s) → LeavesSlots r ms s
+  pub safe : (s : ℕ) → LeavesSlots r ms s ⊎ LeavesSafe r seats ms s
   pub room : HasRoom (moved_together r ms).payments (moved_together r ms).slots seats
 
--- what an offer proposes: keywords of their own, amounts of brands that were made
-pub record IsProposal (r : Rights) (p : Proposal) : Type 0 where
-  pub give : AreRows p.give
-  pub want : AreRows p.want
-  pub fits : FitsSeat p
-  pub gives : AreRowsOf r.out p.give
-  pub wants : AreRowsOf r.out p.want
-  -- so has each slot that it opens
-  pub slots : AreRows (empty_slots p)
-  pub of_kinds : AreRowsOf r.out (empty_slots p)
-
--- one payment of an invitation is burned
-pub record IsBurn (m : Movement) : Type 0 where
+-- the payment of an invitation is burned, whole
+pub record IsBurn (invitation : ℕ) (m : Movement) : Type 0 where
   pub payment : ℕ
   pub brand : m.brand ≡ 0
   pub from : m.from ≡ Payment payment
   pub to : m.to ≡ Outside
+  pub value : m.value ≡ invitation_value invitation
 
 pub record IsEscrow (seat : ℕ) (row : Row) (m : Movement) : Type 0 where
   pub payment : ℕ
@@ -362,22 +521,42 @@ AreEscrows seat [] [] = Unit {0}
 AreEscrows seat (r ∷ rs) (m ∷ ms) = IsEscrow seat r m × AreEscrows seat rs ms
 AreEscrows seat _ _ = ⊥
 
+-- no two movements take from the same
+abbrev pub TakeApart : List Movement → Type 0
+TakeApart [] = Unit {0}
+TakeApart (m ∷ ms) = AllByRecursion (λ (n : Movement). n.from ≢ m.from) ms × TakeApart ms
+
+-- an instance has not halted
+abbrev pub IsAtWork : State → ℕ → Type 0
+IsAtWork w i = standing_of w.tables.instances i ≢ Halted
+
 abbrev pub with_next_seat : State → ℕ → Proposal → List Seat
 with_next_seat w instance p = w.seats ++ new_seat instance p ∷ []
 
+-- the slots of a new seat, and the seats with it
+abbrev pub rights_for : State → Offering → Rights
+rights_for w o = with_slots w.rights (empty_slots o.proposal)
+
+abbrev pub seats_for : State → Offering → List Seat
+seats_for w o = with_next_seat w (offered_by w o).instance o.proposal
+
 pub record CanOffer (w : State) (o : Offering) : Type 0 where
   pub invited : o.invitation < length w.invitations
-  pub proposal : IsProposal w.rights o.proposal
-  pub burn : IsBurn o.burn
+  pub at_work : IsAtWork w (offered_by w o).instance
+  pub proposal : IsProposal w.rights.out o.proposal
+  pub burn : IsBurn o.invitation o.burn
   pub escrows : AreEscrows (length w.seats) (in_byte_order o.proposal.give) o.escrows
-  pub moves : CanMoveTogether (with_slots w.rights (empty_slots o.proposal)) (with_next_seat w (offered_by w o).instance o.proposal) w.staging (burn_and_escrows o)
+  pub payments : TakeApart (burn_and_escrows o)
+  pub moves : CanMoveTogether (rights_for w o) (seats_for w o) w.staging (burn_and_escrows o)
   pub safe : IsOfferSafe o.proposal (slots_at (after w (offer o)).rights.slots (length w.seats))
   pub arguments : IsHanded w o.arguments
   pub seats : length w.seats < most_made
   pub promises : promises_made w + 2 ≤ most_made
 
-pub record CanOpenSeat (w : State) (i : ℕ) : Type 0 where
+pub record CanOpenSeat (w : State) (i : ℕ) (rule : Exit) : Type 0 where
   pub made : i < length w.tables.instances
+  pub at_work : IsAtWork w i
+  pub timely : IsRule rule
   pub seats : length w.seats < most_made
   pub promises : promises_made w + 2 ≤ most_made
 
@@ -386,7 +565,8 @@ pub record CanInvite (w : State) (d : DetailsView) : Type 0 where
   pub few : length w.invitations < most_made
   pub room : length w.rights.payments + open_slots w.seats w.rights.slots < most_made
 
--- a promise is pending, and owed to none; what it is resolved to can be handed out, and doesn't lead back to it
+-- a promise is pending, and owed to none; what it is resolved to can be handed out, and doesn't
+-- lead back to it
 pub record CanResolve (w : State) (p : ℕ) (v : SettlementView) : Type 0 where
   pub pending : IsPending w.promises p
   pub free : owes w.seats w.pairs w.waiting w.promises p ≡ 0
@@ -405,28 +585,39 @@ pub record CanAsk (w : State) (i p : ℕ) (f : List ℕ) (t : Tree) : Type 0 whe
   pub held : IsKnownTo w i t
   pub room : promises_made w < most_made
 
+pub record CanWake (w : State) (t : ℕ) (d : Wakeup) : Type 0 where
+  pub wakeup : IsWakeup w d
+  pub timely : t < times_end
+
+-- the time doesn't go back
+pub record CanSetTime (s : Schedule Delivery) (t : ℕ) : Type 0 where
+  pub later : s.time ≤ t
+  pub timely : t < times_end
+
 abbrev pub IsLine : Delivery → Type 0
-IsLine (call c) = Unit {0}
-IsLine (give g) = Unit {0}
-IsLine (tick t) = Unit {0}
+IsLine (call c) = IsFormedCall c
+IsLine (give g) = IsFormedGift g
+IsLine (tick t) = t < times_end
 IsLine (bad r) = Unit {0}
 IsLine _ = ⊥
 
 pub record CanInstall (w : State) (m : Module) : Type 0 where
-  pub plain : IsModule m
+  pub «module» : IsModule m
   pub room : length w.tables.installations < most_made
 
 pub record CanStart (w : State) (s : Starting) : Type 0 where
   pub installed : s.installation < length w.tables.installations
-  pub issuers : AllByRecursion (IsBrandMade w) s.issuers
+  pub issuers : AllByRecursion (IsIssuer w) s.issuers
+  pub apart : AreIssuers s.issuers
   pub terms : IsHanded w s.terms
+  pub bare : AreTerms s.terms
   pub arguments : IsHanded w s.private_arguments
   pub instances : length w.tables.instances < most_made
   pub promises : promises_made w < most_made
 
 pub record CanAddIssuer (w : State) (i : ℕ) (issuer : Issuer) : Type 0 where
   pub made : i < length w.tables.instances
-  pub brand : IsBrandMade w issuer
+  pub issuer_is : IsIssuer w issuer
   pub free : brand_under issuer.keyword (instance_at w.tables.instances i).issuers ≡ None
   pub few : length (instance_at w.tables.instances i).issuers < most_issuers
 
@@ -438,6 +629,11 @@ pub record CanKeep (w : State) (i : ℕ) (values : List Tree) : Type 0 where
   pub made : i < length w.tables.instances
   pub as_many : length values ≡ length (instance_at w.tables.instances i).state
   pub known : AllByRecursion (IsKnownTo w i) values
+
+-- none of its seats is open
+pub record CanHalt (w : State) (i : ℕ) : Type 0 where
+  pub made : i < length w.tables.instances
+  pub left : (s : ℕ) → IsOpen (seat_at w.seats s) → (seat_at w.seats s).instance ≢ i
 
 pub record CanMakeFacet (w : State) (f : FacetView) : Type 0 where
   pub facet : IsFacet w f
@@ -452,19 +648,20 @@ IsGoodEffect w (new_brand b maker) = CanMakeBrand w maker
 IsGoodEffect w (new_purse b) = CanOpenPurse w b
 IsGoodEffect w (empty_payment b) = CanMakeEmpty w b
 IsGoodEffect w (moves ms) = CanMoveTogether w.rights w.seats w.staging ms
-IsGoodEffect w (stage s rows) = IsStaged (seat_at w.seats s) (slots_at w.rights.slots s) rows
+IsGoodEffect w (stage s rows) =
+    IsStaged w.rights.out (seat_at w.seats s) (slots_at w.rights.slots s) rows
 IsGoodEffect w (unstage s) = Unit {0}
 IsGoodEffect w end_staging = Unit {0}
 IsGoodEffect w (offer o) = CanOffer w o
-IsGoodEffect w (empty_seat i rule) = CanOpenSeat w i
+IsGoodEffect w (empty_seat i rule) = CanOpenSeat w i rule
 IsGoodEffect w (exit s cause) = IsOpen (seat_at w.seats s)
 IsGoodEffect w (invite d) = CanInvite w d
 IsGoodEffect w new_promise = promises_made w < most_made
 IsGoodEffect w (resolve p v) = CanResolve w p v
 IsGoodEffect w (send i target method arguments) = CanSend w i target arguments
 IsGoodEffect w (when i p function held) = CanAsk w i p function held
-IsGoodEffect w (wake t d) = IsWakeup w d
-IsGoodEffect w (set_time t) = w.schedule.time ≤ t
+IsGoodEffect w (wake t d) = CanWake w t d
+IsGoodEffect w (set_time t) = CanSetTime w.schedule t
 IsGoodEffect w (arrive d) = IsLine d
 IsGoodEffect w (install m) = CanInstall w m
 IsGoodEffect w (start s) = CanStart w s
@@ -472,7 +669,7 @@ IsGoodEffect w (add_issuer i issuer) = CanAddIssuer w i issuer
 IsGoodEffect w (publish i facet) = CanPublish w i facet
 IsGoodEffect w (keep_state i values) = CanKeep w i values
 IsGoodEffect w (stop i) = i < length w.tables.instances
-IsGoodEffect w (halt i) = i < length w.tables.instances
+IsGoodEffect w (halt i) = CanHalt w i
 IsGoodEffect w (make_facet f) = CanMakeFacet w f
 IsGoodEffect w (bind_label party label value) = CanBind w party label value
 IsGoodEffect w (note_call c) = Unit {0}
@@ -480,3 +677,15 @@ IsGoodEffect w (note_call c) = Unit {0}
 abbrev pub AreGood : State → List Effect → Type 0
 AreGood w [] = Unit {0}
 AreGood w (e ∷ es) = IsGoodEffect w e × AreGood (after w e) es
+
+-- ---- a turn's own promise
+
+-- an effect doesn't resolve the promise that a delivery settles when its turn is over
+abbrev pub LeavesAnswer : Delivery → Effect → Type 0
+LeavesAnswer d (resolve p v) = promise_of d ≢ Some p
+LeavesAnswer d _ = Unit {0}
+
+-- a promise that is the turn's alone: it is pending, and owed to none else
+pub record IsInHand (w : State) (p : ℕ) : Type 0 where
+  pub pending : IsPending w.promises p
+  pub free : owes w.seats w.pairs w.waiting w.promises p ≡ 0

@@ -1,21 +1,30 @@
--- Which objects were made, which an instance may name, what data of theirs is formed, and what it is that all that was made stays what it is.
-use Rattle.std.specs.Prelude.{◌≡◌, ℕ, ◌<◌, ◌≤◌, ◌⊎◌, List, [], ◌∷◌, length, slice_index_or, Option, Some, None}
+-- Which objects were made, which an instance may name, what data of theirs is formed, and what it
+-- is that all that was made stays what it is.
+use Rattle.std.specs.Prelude.{◌≡◌, ℕ, ◌<◌, ◌≤◌, ◌⊎◌, true, Option, Some, None, IsSome}
+use Rattle.std.specs.Prelude.{List, [], ◌∷◌, length, slice_index_or}
 use Rattle.amount_math.specs.declared.Kind.{Kind}
 use Rattle.brands.specs.Brands.{brand_at, no_brand}
 use Rattle.brands.specs.declared.Brand.{Brand}
+use Rattle.data_nodes.specs.Nodes.{NodeFact}
+use Rattle.data_rows.specs.Printable.{HaveFieldNames}
+use Rattle.host_text.specs.Words.{is_field_name}
 use Rattle.data_nodes.specs.Nodes.{EachNode, FunctionIs, HasFieldsInOrder, IsShallow, ObjectIs}
 use Rattle.instance_store.specs.Facets.{no_facet}
 use Rattle.instance_store.specs.SeatPromises.{no_pair}
-use Rattle.instance_store.specs.Tables.{InstanceView, Tables, instance_at, module_at, no_instance, no_module}
+use Rattle.instance_store.specs.Tables.{InstanceView, Tables, instance_at, module_at}
+use Rattle.instance_store.specs.Tables.{no_instance, no_module}
 use Rattle.invitations.specs.Details.{no_details}
 use Rattle.jessie_tree.specs.Syntax.{Routine, routines}
-use Rattle.jessie_tree.specs.Tree.{Tree}
+use Rattle.jessie_tree.specs.Tree.{Tree, fields, function}
 use Rattle.jessie_tree.specs.declared.data.Obj.{Obj}
 use Rattle.jessie_tree.specs.declared.data.ObjKind.{ObjKind}
 use Rattle.jessie_tree.specs.declared.data.ObjKind.TheVariants as kinds
 use Rattle.jessie_tree.specs.declared.syntax.Module.{Module}
+use Rattle.payments.specs.Papers.{Paper, spent_paper}
 use Rattle.proposals.specs.declared.offers.Proposal.{Proposal}
-use Rattle.world_state.specs.Worlds.{Maker, Seat, State, maker_at, no_seat, of_host, of_instance, of_kit, seat_at}
+use Rattle.world_state.specs.Promises.{WasSettled, no_promise}
+use Rattle.world_state.specs.Worlds.{Maker, Seat, State, maker_at, no_seat, seat_at}
+use Rattle.world_state.specs.Worlds.{of_host, of_instance, of_kit}
 
 -- a brand of a kind was made
 pub record IsBrand (bs : List Brand) (kind : Kind) (b : ℕ) : Type 0 where
@@ -32,7 +41,8 @@ pub record IsSeatOf (seats : List Seat) (i n : ℕ) : Type 0 where
   pub made : n < length seats
   pub own : (seat_at seats n).instance ≡ i
 
--- an object that can be named outside instances was made: the services are there once, brand and issuer go by one number, so do a purse and its deposit facet
+-- an object that can be named outside instances was made: the services are there once, brand and
+-- issuer go by one number, so do a purse and its deposit facet
 abbrev pub made_as : State → ObjKind → ℕ → Type 0
 made_as w kinds.Ertp n = n ≡ 0
 made_as w kinds.Zoe n = n ≡ 0
@@ -85,10 +95,18 @@ abbrev pub FunctionKnown : Option ℕ → State → List ℕ → Type 0
 FunctionKnown None w f = ⊥
 FunctionKnown (Some i) w f = HasFunction w.tables i f
 
--- all that the data names is known to its holder, the fields of its records stand in order, and it nests at most 32 deep
+-- the fields of records and functions have names of the form that field names have
+abbrev pub HasNames : NodeFact
+HasNames n (fields fs) = HaveFieldNames fs
+HasNames n (function name) = is_field_name name ≡ true
+HasNames n _ = Unit {0}
+
+-- all that the data names is known to its holder, fields and functions have names of their form,
+-- the fields of its records stand in order, and it nests at most 32 deep
 pub record IsFormed (w : State) (holder : Option ℕ) (t : Tree) : Type 0 where
   pub objects : EachNode (ObjectIs (ObjectKnown holder w)) 0 t
   pub functions : EachNode (FunctionIs (FunctionKnown holder w)) 0 t
+  pub named : EachNode HasNames 0 t
   pub ordered : EachNode HasFieldsInOrder 0 t
   pub shallow : EachNode (IsShallow 32) 0 t
 
@@ -104,6 +122,7 @@ IsKnownTo w i t = IsFormed w (Some i) t
 pub record IsPlain (t : Tree) : Type 0 where
   pub objects : EachNode (ObjectIs (λ o. ⊥)) 0 t
   pub functions : EachNode (FunctionIs (λ f. ⊥)) 0 t
+  pub named : EachNode HasNames 0 t
   pub ordered : EachNode HasFieldsInOrder 0 t
   pub shallow : EachNode (IsShallow 32) 0 t
 
@@ -112,7 +131,13 @@ pub record IsPlain (t : Tree) : Type 0 where
 -- a list has all that the other has, in its place, as far as it is seen
 pub record Extends {A B : Type 0} (seen : A → B) (none : A) (xs ys : List A) : Type 0 where
   pub more : length xs ≤ length ys
-  pub same : (n : ℕ) → n < length xs → seen (slice_index_or ys n none) ≡ seen (slice_index_or xs n none)
+  pub same : (n : ℕ) → n < length xs
+      → seen (slice_index_or ys n none) ≡ seen (slice_index_or xs n none)
+
+-- what has a property in a list has it in the other
+pub record Keeps {A : Type 0} (P : A → Type 0) (none : A) (xs ys : List A) : Type 0 where
+  pub each : (n : ℕ) → n < length xs
+      → P (slice_index_or xs n none) → P (slice_index_or ys n none)
 
 abbrev pub whole : {A : Type 0} → A → A
 whole x = x
@@ -123,6 +148,13 @@ seat_origin s = (s.instance, s.proposal)
 
 abbrev pub instance_origin : InstanceView → ℕ × Tree
 instance_origin x = (x.installation, x.terms)
+
+-- a seat was left, a payment was spent
+abbrev pub WasLeft : Seat → Type 0
+WasLeft seat = IsSome seat.last
+
+abbrev pub WasSpent : Paper → Type 0
+WasSpent p = p.held ≡ None
 
 pub record Grows (old new : State) : Type 0 where
   pub brands : Extends whole no_brand old.brands new.brands
@@ -136,3 +168,6 @@ pub record Grows (old new : State) : Type 0 where
   pub instances : Extends instance_origin no_instance old.tables.instances new.tables.instances
   pub facets : Extends whole no_facet old.facets new.facets
   pub promises : length old.promises.settled ≤ length new.promises.settled
+  pub settled : Keeps WasSettled no_promise old.promises.settled new.promises.settled
+  pub left : Keeps WasLeft no_seat old.seats new.seats
+  pub spent : Keeps WasSpent (spent_paper 0) old.rights.payments new.rights.payments

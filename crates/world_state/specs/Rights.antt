@@ -1,9 +1,13 @@
--- What is held and what is out, as lists; what written movements make of them, one after another and together; and when they can be made.
-use Rattle.std.specs.Prelude.{◌≡◌, ℕ, ◌+◌, ◌<◌, ◌^◌, ◌==◌, if◌then◌else◌, Bool, true, false, List, [], ◌∷◌, ◌++◌, length, map, slice_index_or, slice_set, Option, Some, None, IsSomeAnd}
+-- What is held and what is out, as lists; what written movements make of them, one after another
+-- and together; and when they can be made.
+use Rattle.std.specs.Prelude.{◌≡◌, ℕ, ◌+◌, ◌<◌, ◌^◌, ◌==◌, if◌then◌else◌, Bool, true, false}
+use Rattle.std.specs.Prelude.{List, [], ◌∷◌, ◌++◌, length, map, slice_index_or, slice_set}
+use Rattle.std.specs.Prelude.{Option, Some, None, IsSomeAnd}
 use Rattle.std.specs.List.{flat_map}
 use Rattle.std.specs.Option.{option_map}
 use Rattle.std.specs.Str.{bytes_eq}
-use Rattle.amount_math.specs.Content.{Content, Contains, sum, difference, count}
+use Rattle.amount_math.specs.Amount.{holding}
+use Rattle.amount_math.specs.Content.{Content, Contains, sum, difference, count, nothing}
 use Rattle.amount_math.specs.Counted.{counted}
 use Rattle.amount_math.specs.Worth.{Worth, Fits, IsValue, with_content}
 use Rattle.amount_math.specs.declared.Amount.{Amount}
@@ -18,7 +22,8 @@ use Rattle.rights_model.specs.declared.Movement.{Movement}
 use Rattle.right_steps.specs.Lists.{amount_of, less, more, purse_at}
 use Rattle.right_steps.specs.Tables.{Right, all_in, hand_minus, hand_plus, right_in, right_on}
 
--- purses and payments by number, the slots of each seat by the seat's number, and what is out of each brand
+-- purses and payments by number, the slots of each seat by the seat's number, and what is out of
+-- each brand
 pub record Rights : Type 0 where
   pub purses : List Amount
   pub payments : List Paper
@@ -47,31 +52,54 @@ paper_less p c = record { brand = p.brand; held = option_map (value_less c) p.he
 abbrev pub paper_more : Paper → Content → Paper
 paper_more p c = record { brand = p.brand; held = option_map (value_more c) p.held }
 
--- rows with a content less under a keyword
-abbrev pub rows_less : List ℕ → Content → List Row → List Row
-rows_less keyword c [] = []
-rows_less keyword c (r ∷ rs) = if bytes_eq keyword r.keyword then row_of r.keyword (less r.amount c) ∷ rs else r ∷ rows_less keyword c rs
+-- rows with another amount under a keyword, which gets a row, last, where it has none
+abbrev pub changed_row : (Amount → Amount) → Row → Row
+changed_row change r = row_of r.keyword (change r.amount)
 
--- rows with an amount more under a keyword, which gets a row, last, where it has none
+abbrev pub rows_with : List ℕ → (Amount → Amount) → Amount → List Row → List Row
+rows_with keyword change new [] = row_of keyword new ∷ []
+rows_with keyword change new (r ∷ rs) =
+    if bytes_eq keyword r.keyword then changed_row change r ∷ rs
+    else r ∷ rows_with keyword change new rs
+
+-- rows with an amount less under a keyword: nothing where it had no row
+abbrev pub rows_less : List ℕ → Amount → List Row → List Row
+rows_less keyword a rows =
+    rows_with keyword (λ had. less had a.value.content) (holding a nothing) rows
+
+-- rows with an amount more under a keyword
 abbrev pub rows_more : List ℕ → Amount → List Row → List Row
-rows_more keyword a [] = row_of keyword a ∷ []
-rows_more keyword a (r ∷ rs) = if bytes_eq keyword r.keyword then row_of r.keyword (more r.amount a.value.content) ∷ rs else r ∷ rows_more keyword a rs
+rows_more keyword a rows = rows_with keyword (λ had. more had a.value.content) a rows
 
--- the next payment is made by what comes to it; one that was made by a movement before has that more
+-- the next payment is made by what comes to it; one that a movement before made has that more
+abbrev pub paper_paid : List Paper → ℕ → Amount → Paper
+paper_paid ps n a = paper_more (paper_at ps n) a.value.content
+
 abbrev pub paid : List Paper → ℕ → Amount → List Paper
-paid ps n a = if n == length ps then ps ++ live_paper a ∷ [] else slice_set ps n (paper_more (paper_at ps n) a.value.content)
+paid ps n a =
+    if n == length ps then ps ++ live_paper a ∷ [] else slice_set ps n (paper_paid ps n a)
 
 abbrev pub taken : Rights → Holder → ℕ → Worth → Rights
-taken r (Purse n) b w = record r { purses = slice_set r.purses n (less (purse_at r.purses n) w.content) }
-taken r (Payment n) b w = record r { payments = slice_set r.payments n (paper_less (paper_at r.payments n) w.content) }
-taken r (Slot s k) b w = record r { slots = slice_set r.slots s (rows_less k w.content (slots_at r.slots s)) }
+taken r (Purse n) b w = record r {
+  purses = slice_set r.purses n (less (purse_at r.purses n) w.content);
+}
+taken r (Payment n) b w = record r {
+  payments = slice_set r.payments n (paper_less (paper_at r.payments n) w.content);
+}
+taken r (Slot s k) b w = record r {
+  slots = slice_set r.slots s (rows_less k (amount_of b w) (slots_at r.slots s));
+}
 taken r Hand b w = r
 taken r Outside b w = record r { out = slice_set r.out b (issued (supply_at r.out b) w.content) }
 
 abbrev pub given : Rights → Holder → ℕ → Worth → Rights
-given r (Purse n) b w = record r { purses = slice_set r.purses n (more (purse_at r.purses n) w.content) }
+given r (Purse n) b w = record r {
+  purses = slice_set r.purses n (more (purse_at r.purses n) w.content);
+}
 given r (Payment n) b w = record r { payments = paid r.payments n (amount_of b w) }
-given r (Slot s k) b w = record r { slots = slice_set r.slots s (rows_more k (amount_of b w) (slots_at r.slots s)) }
+given r (Slot s k) b w = record r {
+  slots = slice_set r.slots s (rows_more k (amount_of b w) (slots_at r.slots s));
+}
 given r Hand b w = r
 given r Outside b w = record r { out = slice_set r.out b (retired (supply_at r.out b) w.content) }
 
@@ -132,14 +160,26 @@ pub record PurseHas (r : Rights) (n b : ℕ) (w : Worth) : Type 0 where
   pub made : n < length r.purses
   pub has : Has (purse_at r.purses n) b w
 
--- a payment is live
+-- a payment is live, and what it has meets a test
+abbrev pub IsPaperWith : Paper → (Amount → Type 0) → Type 0
+IsPaperWith p P = IsSomeAnd p.held (λ held. P (amount_of p.brand held))
+
 pub record PaymentHas (r : Rights) (n b : ℕ) (w : Worth) : Type 0 where
   pub made : n < length r.payments
-  pub has : IsSomeAnd (paper_at r.payments n).held (λ held. Has (amount_of (paper_at r.payments n).brand held) b w)
+  pub has : IsPaperWith (paper_at r.payments n) (λ a. Has a b w)
+
+-- nothing of any element
+pub record IsNothing (c : Content) : Type 0 where
+  pub each : (k : List ℕ) → count c k ≡ 0
+
+-- the slot has it; where there is none, nothing is taken, and the slot can be opened
+abbrev pub HasOrOpens : Option Amount → List Row → ℕ → Worth → Type 0
+HasOrOpens (Some a) rows b w = Has a b w
+HasOrOpens None rows b w = IsNothing w.content × (length rows < most_rows)
 
 pub record SlotHas (r : Rights) (s : ℕ) (k : List ℕ) (b : ℕ) (w : Worth) : Type 0 where
   pub made : s < length r.slots
-  pub has : IsSomeAnd (amount_under k (slots_at r.slots s)) (λ a. Has a b w)
+  pub has : HasOrOpens (amount_under k (slots_at r.slots s)) (slots_at r.slots s) b w
 
 pub record HandHas (hand : ℕ → Content) (b : ℕ) (w : Worth) : Type 0 where
   pub has : Contains (hand b) w.content
@@ -163,7 +203,7 @@ pub record PurseTakes (r : Rights) (n b : ℕ) (w : Worth) : Type 0 where
 -- a payment that is live takes more
 pub record PaymentMore (r : Rights) (n b : ℕ) (w : Worth) : Type 0 where
   pub made : n < length r.payments
-  pub takes : IsSomeAnd (paper_at r.payments n).held (λ held. Takes (amount_of (paper_at r.payments n).brand held) b w)
+  pub takes : IsPaperWith (paper_at r.payments n) (λ a. Takes a b w)
 
 abbrev pub IsNextOr : Bool → Rights → ℕ → ℕ → Worth → Type 0
 IsNextOr true r n b w = IsValue w.kind w.content
@@ -208,7 +248,8 @@ hand_in hand (Slot s k) b c = hand
 hand_in hand Outside b c = hand
 
 abbrev pub hand_after : (ℕ → Content) → Movement → ℕ → Content
-hand_after hand m = hand_in (hand_out hand m.from m.brand m.value.content) m.to m.brand m.value.content
+hand_after hand m =
+    hand_in (hand_out hand m.from m.brand m.value.content) m.to m.brand m.value.content
 
 -- a movement of a brand that was made, of its kind, can be made
 pub record CanMove (r : Rights) (hand : ℕ → Content) (m : Movement) : Type 0 where
@@ -225,6 +266,24 @@ abbrev pub CanMoveAll : Rights → (ℕ → Content) → List Movement → Type 
 CanMoveAll r hand [] = IsEmptyHand hand
 CanMoveAll r hand (m ∷ ms) = CanMove r hand m × CanMoveAll (moved r m) (hand_after hand m) ms
 
+-- ---- what movements issue
+
+-- how many counts of all elements together come from outside
+abbrev pub issued_from : Holder → Content → ℕ
+issued_from Outside c = counted c
+issued_from (Purse n) c = 0
+issued_from (Payment n) c = 0
+issued_from (Slot s k) c = 0
+issued_from Hand c = 0
+
+abbrev pub issued_in : List Movement → ℕ
+issued_in [] = 0
+issued_in (m ∷ ms) = issued_from m.from m.value.content + issued_in ms
+
+-- so many counts may still be issued of each brand
+pub record IsRoomy (out : List BrandSupply) (n : ℕ) : Type 0 where
+  pub each : (b : ℕ) → (supply_at out b).minted + n < 2 ^ 128
+
 -- ---- all that is held
 
 abbrev pub right_of_row : Row → Right
@@ -235,4 +294,7 @@ slot_rights slots = flat_map (λ rows. map right_of_row rows) slots
 
 -- how many of an element all purses, payments and slots have of a brand
 abbrev pub held_of : Rights → ℕ → List ℕ → ℕ
-held_of r b k = all_in (map right_in r.purses) b k + all_in (map right_on r.payments) b k + all_in (slot_rights r.slots) b k
+held_of r b k =
+    all_in (map right_in r.purses) b k
+    + all_in (map right_on r.payments) b k
+    + all_in (slot_rights r.slots) b k

@@ -1,8 +1,10 @@
--- The state of the world in a turn, the effects that a call may have on it, and what each makes of it.
-use Rattle.std.specs.Prelude.{◌≡◌, ℕ, suc, ◌+◌, if◌then◌else◌, nat_lt, List, [], ◌∷◌, ◌++◌, length, map, slice_index_or, slice_set, Option, Some, None}
+-- The state of the world in a turn, the effects that a call may have on it, what each makes of it.
+use Rattle.std.specs.Prelude.{◌≡◌, ℕ, suc, ◌+◌, if◌then◌else◌, nat_lt, Option, Some, None}
+use Rattle.std.specs.Prelude.{List, [], ◌∷◌, ◌++◌, length, map, slice_index_or, slice_set}
 use Rattle.amount_math.specs.declared.Kind.TheVariants.{Set}
 use Rattle.amount_math.specs.Content.{one_of}
 use Rattle.amount_math.specs.Worth.{Worth}
+use Rattle.amount_math.specs.declared.Amount.{Amount}
 use Rattle.actors.specs.Labels.{Bound, bound}
 use Rattle.brands.specs.Brands as brands
 use Rattle.brands.specs.declared.Brand.{Brand}
@@ -11,7 +13,8 @@ use Rattle.ertp_mint.specs.BrandSupply.{new_supply}
 use Rattle.ertp_mint.specs.Stocks.{empty_amount}
 use Rattle.instance_store.specs.Facets.{FacetView}
 use Rattle.instance_store.specs.SeatPromises.{pair_at}
-use Rattle.instance_store.specs.Tables.{Tables, installed, started, with_halted, with_issuer, with_public_facet, with_state, with_stopped}
+use Rattle.instance_store.specs.Tables.{Tables, installed, started, with_halted, with_issuer}
+use Rattle.instance_store.specs.Tables.{with_public_facet, with_state, with_stopped}
 use Rattle.instance_store.specs.declared.seat_promises.SeatPair.{SeatPair}
 use Rattle.invitations.specs.Details.{DetailsView, details_at}
 use Rattle.invitations.specs.Elements.{element}
@@ -33,25 +36,31 @@ use Rattle.rights_model.specs.declared.Movement.{Movement}
 use Rattle.timer.specs.Schedules.{Schedule, due_after, due_by, woken_at}
 use Rattle.turn_records.specs.Deliveries as deliveries
 use Rattle.turn_records.specs.Deliveries.{Delivery, Notice, Offer, Send, Start, Wakeup}
-use Rattle.turn_records.specs.Events.{Call, Event, called, exited, moved as movement_made, opened, settled}
+use Rattle.turn_records.specs.Events.{Call, Event, called, exited, moved as movement_made}
+use Rattle.turn_records.specs.Events.{opened, settled}
 use Rattle.turn_rows.specs.Causes.{Cause}
 use Rattle.turn_rows.specs.Turns.{Payout}
-use Rattle.world_state.specs.Promises.{PromiseBook, Resolved, asking, resolving, settlement_at, told_at_once, with_promise}
-use Rattle.world_state.specs.Rights.{Rights, moved_together, slots_at, with_payment, with_purse, with_slots, with_supply}
+use Rattle.world_state.specs.Promises.{PromiseBook, Resolved, asking, resolving, settlement_at}
+use Rattle.world_state.specs.Promises.{told_at_once, with_promise}
+use Rattle.world_state.specs.Rights.{Rights, issued_in, moved_together, slots_at}
+use Rattle.world_state.specs.Rights.{with_payment, with_purse, with_slots, with_supply}
 
--- who made a brand: it is that of invitations, or it was made with an issuer and a mint, or by an instance
+-- who made a brand: it is that of invitations, or was made with an issuer and a mint, or by an
+-- instance
 pub data Maker : Type 0 where
   of_host : Maker
   of_kit : Maker
   of_instance : ℕ → Maker
 
--- a seat: whose it is, what it was opened for, and what its slots had when it was left, once it was
+-- a seat: whose it is, what it was opened for, and what its slots had when it was left, once it
+-- was
 pub record Seat : Type 0 where
   pub instance : ℕ
   pub proposal : Proposal
   pub last : Option (List Row)
 
--- The stores, by number where it isn't said otherwise. `waiting` are the deliveries behind the one that the turn is about; `schedule` is the timer; `log` is what happened in the turn.
+-- The stores, by number where it isn't said otherwise. `waiting` are the deliveries behind the
+-- one that the turn is about; `schedule` is the timer; `log` is what happened in the turn.
 pub record State : Type 0 where
   pub rights : Rights
   pub seats : List Seat
@@ -71,7 +80,8 @@ pub record State : Type 0 where
   pub waiting : List Delivery
   pub log : List Event
 
--- an offer that is made: the number of its invitation and the payment that is burned of it; what is proposed; the movements to the slots of give; what goes to the handler
+-- an offer that is made: the number of its invitation and the payment that is burned of it; what
+-- is proposed; the movements to the slots of give; what goes to the handler
 pub record Offering : Type 0 where
   pub invitation : ℕ
   pub proposal : Proposal
@@ -98,7 +108,8 @@ pub data Effect : Type 0 where
   stage : ℕ → List Row → Effect
   unstage : ℕ → Effect
   end_staging : Effect
-  -- an offer opens a seat: its invitation is burned, its payments are escrowed, its handler is to be called, and its deadline waits
+  -- an offer opens a seat: its invitation is burned, its payments are escrowed, its handler is to
+  -- be called, and its deadline waits
   offer : Offering → Effect
   -- an instance opens a seat of its own, with an exit rule
   empty_seat : ℕ → Exit → Effect
@@ -122,7 +133,8 @@ pub data Effect : Type 0 where
   -- a module is installed; an instance is started, and its start is to be delivered
   install : Module → Effect
   start : Starting → Effect
-  -- an instance keeps an issuer under a keyword, its public facet, its state values; it takes no more offers; it halts
+  -- an instance keeps an issuer under a keyword, its public facet, its state values; it takes no
+  -- more offers; it halts, when no seat of its is open
   add_issuer : ℕ → Issuer → Effect
   publish : ℕ → Tree → Effect
   keep_state : ℕ → List Tree → Effect
@@ -138,7 +150,11 @@ pub data Effect : Type 0 where
 -- ---- what is read of the state
 
 abbrev pub no_seat : Seat
-no_seat = record { instance = 0; proposal = record { give = []; want = []; exit = OnDemand }; last = Some [] }
+no_seat = record {
+  instance = 0;
+  proposal = record { give = []; want = []; exit = OnDemand };
+  last = Some [];
+}
 
 abbrev pub seat_at : List Seat → ℕ → Seat
 seat_at seats n = slice_index_or seats n no_seat
@@ -195,7 +211,8 @@ abbrev pub new_seat : ℕ → Proposal → Seat
 new_seat instance proposal = record { instance = instance; proposal = proposal; last = None }
 
 abbrev pub opening_of : State → ℕ → Proposal → Event
-opening_of w instance proposal = opened (record { seat = length w.seats; instance = instance; proposal = proposal })
+opening_of w instance proposal =
+    opened (record { seat = length w.seats; instance = instance; proposal = proposal })
 
 abbrev pub next_pair : State → SeatPair
 next_pair w = record { «result» = promises_made w; payouts = promises_made w + 1 }
@@ -221,6 +238,14 @@ handler_call w o = deliveries.offer (record {
   promise = promises_made w;
 })
 
+abbrev pub offer_events : State → Offering → List Event
+offer_events w o =
+    opening_of w (offered_by w o).instance o.proposal ∷ map movement_made (burn_and_escrows o)
+
+-- the deadline of the next seat, where it has come
+abbrev pub deadline_of : State → Exit → List Delivery
+deadline_of w rule = deadline_now rule (length w.seats) w.schedule
+
 abbrev pub of_own : Exit → Proposal
 of_own rule = record { give = []; want = []; exit = rule }
 
@@ -233,13 +258,18 @@ payouts_from n (r ∷ rs) = record { keyword = r.keyword; payment = n } ∷ payo
 
 abbrev pub payout_moves : ℕ → ℕ → List Row → List Movement
 payout_moves seat n [] = []
-payout_moves seat n (r ∷ rs) = movement r.amount.brand (Slot seat r.keyword) (Payment n) r.amount.value ∷ payout_moves seat (suc n) rs
+payout_moves seat n (r ∷ rs) =
+    movement r.amount.brand (Slot seat r.keyword) (Payment n) r.amount.value
+    ∷ payout_moves seat (suc n) rs
 
 abbrev pub paid_out : Row → Paper
 paid_out r = live_paper r.amount
 
 abbrev pub rights_left : Rights → ℕ → Rights
-rights_left r seat = record r { payments = r.payments ++ map paid_out (slots_at r.slots seat); slots = slice_set r.slots seat (map emptied (slots_at r.slots seat)) }
+rights_left r seat = record r {
+  payments = r.payments ++ map paid_out (slots_at r.slots seat);
+  slots = slice_set r.slots seat (map emptied (slots_at r.slots seat));
+}
 
 abbrev pub left_seat : Seat → List Row → Seat
 left_seat seat rows = record seat { last = Some rows }
@@ -250,11 +280,14 @@ seats_left seats n rows = slice_set seats n (left_seat (seat_at seats n) rows)
 -- the record from keyword to payment, in byte order of keywords
 abbrev pub placed_field : List ℕ → Tree → Fields → Fields
 placed_field name t no_fields = field name t no_fields
-placed_field name t (field next u fs) = if is_upto name next then field name t (field next u fs) else field next u (placed_field name t fs)
+placed_field name t (field next u fs) =
+    if is_upto name next then field name t (field next u fs)
+    else field next u (placed_field name t fs)
 
 abbrev pub payout_fields : List Payout → Fields
 payout_fields [] = no_fields
-payout_fields (p ∷ ps) = placed_field p.keyword (object_tree kinds.Payment p.payment) (payout_fields ps)
+payout_fields (p ∷ ps) =
+    placed_field p.keyword (object_tree kinds.Payment p.payment) (payout_fields ps)
 
 abbrev pub payouts_at : State → ℕ → List Payout
 payouts_at w seat = payouts_from (length w.rights.payments) (slots_at w.rights.slots seat)
@@ -266,11 +299,16 @@ abbrev pub moves_out : State → ℕ → List Movement
 moves_out w seat = payout_moves seat (length w.rights.payments) (slots_at w.rights.slots seat)
 
 abbrev pub leaving_events : State → ℕ → Cause → List Event
-leaving_events w seat cause = exited (record { seat = seat; cause = cause; payouts = payouts_at w seat }) ∷ map movement_made (moves_out w seat)
+leaving_events w seat cause =
+    exited (record { seat = seat; cause = cause; payouts = payouts_at w seat })
+    ∷ map movement_made (moves_out w seat)
 
 -- the promise of its payouts is settled
 abbrev pub leaving : State → ℕ → Cause → Resolved
-leaving w seat cause = resolving (pair_at w.pairs seat).payouts (ok (payouts_tree w seat)) w.promises w.waiting (w.log ++ leaving_events w seat cause)
+leaving w seat cause =
+    let given = ok (payouts_tree w seat) in
+    let log = w.log ++ leaving_events w seat cause in
+    resolving (pair_at w.pairs seat).payouts given w.promises w.waiting log
 
 -- ---- an invitation is made
 
@@ -278,26 +316,63 @@ abbrev pub invitation_value : ℕ → Worth
 invitation_value n = record { kind = Set; content = one_of (element n) }
 
 abbrev pub invitation_move : State → Movement
-invitation_move w = movement 0 Outside (Payment (length w.rights.payments)) (invitation_value (length w.invitations))
+invitation_move w =
+    let next = Payment (length w.rights.payments) in
+    movement 0 Outside next (invitation_value (length w.invitations))
+
+-- ---- what has nothing
+
+abbrev pub nothing_of : State → ℕ → Amount
+nothing_of w b = empty_amount b (brands.brand_at w.brands b).kind
 
 -- ---- what is to be delivered
 
 abbrev pub starting_call : State → Starting → Delivery
-starting_call w s = deliveries.start (record { instance = length w.tables.instances; private_arguments = s.private_arguments; promise = promises_made w })
+starting_call w s = deliveries.start (record {
+  instance = length w.tables.instances;
+  private_arguments = s.private_arguments;
+  promise = promises_made w;
+})
 
 abbrev pub sent_call : State → ℕ → Obj → List ℕ → List Tree → Delivery
-sent_call w i target method arguments = deliveries.send (record { instance = i; target = target; method = method; arguments = arguments; promise = promises_made w })
+sent_call w i target method arguments = deliveries.send (record {
+  instance = i;
+  target = target;
+  method = method;
+  arguments = arguments;
+  promise = promises_made w;
+})
 
 abbrev pub request_of : State → ℕ → ℕ → List ℕ → Tree → Notice
-request_of w i p function held = record { instance = i; promise = p; function = function; held = held; answer = promises_made w }
+request_of w i p function held = record {
+  instance = i;
+  promise = p;
+  function = function;
+  held = held;
+  answer = promises_made w;
+}
+
+-- it is asked by a request whose answer is the next promise
+abbrev pub asked : State → ℕ → Notice → State
+asked w p n = record w {
+  promises = asking (settlement_at w.promises.settled p) n (with_promise None w.promises);
+  waiting = w.waiting ++ told_at_once (settlement_at w.promises.settled p) n;
+}
 
 -- ---- what each effect makes of the state
 
 abbrev pub after : State → Effect → State
-after w (new_brand b maker) = record w { rights = with_supply w.rights (new_supply b.kind); brands = w.brands ++ b ∷ []; makers = w.makers ++ maker ∷ [] }
-after w (new_purse b) = record w { rights = with_purse w.rights (empty_amount b (brands.brand_at w.brands b).kind) }
-after w (empty_payment b) = record w { rights = with_payment w.rights (empty_amount b (brands.brand_at w.brands b).kind) }
-after w (moves ms) = record w { rights = moved_together w.rights ms; log = w.log ++ map movement_made ms }
+after w (new_brand b maker) = record w {
+  rights = with_supply w.rights (new_supply b.kind);
+  brands = w.brands ++ b ∷ [];
+  makers = w.makers ++ maker ∷ [];
+}
+after w (new_purse b) = record w { rights = with_purse w.rights (nothing_of w b) }
+after w (empty_payment b) = record w { rights = with_payment w.rights (nothing_of w b) }
+after w (moves ms) = record w {
+  rights = moved_together w.rights ms;
+  log = w.log ++ map movement_made ms;
+}
 after w (stage seat rows) = record w { staging = slice_set w.staging seat (Some rows) }
 after w (unstage seat) = record w { staging = slice_set w.staging seat None }
 after w end_staging = record w { staging = map no_rows w.staging }
@@ -308,8 +383,8 @@ after w (offer o) = record w {
   pairs = w.pairs ++ next_pair w ∷ [];
   promises = with_promise None (with_promise None w.promises);
   schedule = with_deadline o.proposal.exit (length w.seats) w.schedule;
-  waiting = w.waiting ++ handler_call w o ∷ deadline_now o.proposal.exit (length w.seats) w.schedule;
-  log = w.log ++ opening_of w (offered_by w o).instance o.proposal ∷ map movement_made (burn_and_escrows o);
+  waiting = w.waiting ++ handler_call w o ∷ deadline_of w o.proposal.exit;
+  log = w.log ++ offer_events w o;
 }
 after w (empty_seat i rule) = record w {
   rights = with_slots w.rights [];
@@ -318,7 +393,7 @@ after w (empty_seat i rule) = record w {
   pairs = w.pairs ++ next_pair w ∷ [];
   promises = with_promise None (with_promise (Some (ok null)) w.promises);
   schedule = with_deadline rule (length w.seats) w.schedule;
-  waiting = w.waiting ++ deadline_now rule (length w.seats) w.schedule;
+  waiting = w.waiting ++ deadline_of w rule;
   log = w.log ++ opening_of w i (of_own rule) ∷ settled (promises_made w) (ok null) ∷ [];
 }
 after w (exit seat cause) = record w {
@@ -340,13 +415,19 @@ after w (resolve p v) = record w {
   waiting = (resolving p v w.promises w.waiting w.log).waiting;
   log = (resolving p v w.promises w.waiting w.log).log;
 }
-after w (send i target method arguments) = record w { promises = with_promise None w.promises; waiting = w.waiting ++ sent_call w i target method arguments ∷ [] }
-after w (when i p function held) = record w {
-  promises = asking (settlement_at w.promises.settled p) (request_of w i p function held) (with_promise None w.promises);
-  waiting = w.waiting ++ told_at_once (settlement_at w.promises.settled p) (request_of w i p function held);
+after w (send i target method arguments) = record w {
+  promises = with_promise None w.promises;
+  waiting = w.waiting ++ sent_call w i target method arguments ∷ [];
 }
-after w (wake t d) = record w { schedule = scheduled t (deliveries.wake d) w.schedule; waiting = w.waiting ++ due_now t (deliveries.wake d) w.schedule }
-after w (set_time t) = record w { schedule = set_to t w.schedule; waiting = w.waiting ++ due_at t w.schedule }
+after w (when i p function held) = asked w p (request_of w i p function held)
+after w (wake t d) = record w {
+  schedule = scheduled t (deliveries.wake d) w.schedule;
+  waiting = w.waiting ++ due_now t (deliveries.wake d) w.schedule;
+}
+after w (set_time t) = record w {
+  schedule = set_to t w.schedule;
+  waiting = w.waiting ++ due_at t w.schedule;
+}
 after w (arrive d) = record w { waiting = w.waiting ++ d ∷ [] }
 after w (install m) = record w { tables = installed m w.tables }
 after w (start s) = record w {
@@ -360,9 +441,22 @@ after w (keep_state i values) = record w { tables = with_state i values w.tables
 after w (stop i) = record w { tables = with_stopped i w.tables }
 after w (halt i) = record w { tables = with_halted i w.tables }
 after w (make_facet f) = record w { facets = w.facets ++ f ∷ [] }
-after w (bind_label party label value) = record w { labels = w.labels ++ bound party label value ∷ [] }
+after w (bind_label party label value) = record w {
+  labels = w.labels ++ bound party label value ∷ [];
+}
 after w (note_call c) = record w { log = w.log ++ called c ∷ [] }
 
 abbrev pub after_all : State → List Effect → State
 after_all w [] = w
 after_all w (e ∷ es) = after_all (after w e) es
+
+-- the world of a turn with the delivery that the turn is about still in front
+abbrev pub in_front : Delivery → State → State
+in_front d w = record w { waiting = d ∷ w.waiting }
+
+-- how many counts an effect issues
+abbrev pub issued_by : State → Effect → ℕ
+issued_by w (moves ms) = issued_in ms
+issued_by w (offer o) = issued_in (burn_and_escrows o)
+issued_by w (invite d) = issued_in (invitation_move w ∷ [])
+issued_by w _ = 0
