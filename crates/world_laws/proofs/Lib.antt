@@ -18,3 +18,7 @@ pub mod Owed
 pub mod Owing
 pub mod Kept
 pub mod First
+pub mod Roomy
+pub mod Fronts
+pub mod Agreed
+pub mod Printables

@@ -63,7 +63,7 @@ under_ordered q (r ∷ rs) apart =
     ∙ ap (λ o. cond (bytes_eq q r.keyword) (Some r.amount) o) (under_ordered q rs apart.1)
 
 -- an amount under a keyword of the first, or else of the second
-abbrev first_of : Option Amount → Option Amount → Option Amount
+abbrev pub first_of : Option Amount → Option Amount → Option Amount
 first_of (Some a) o = Some a
 first_of None o = o
 
@@ -71,12 +71,12 @@ first_cond : (b : Bool) (a : Amount) (o p : Option Amount) → cond b (Some a) (
 first_cond true a o p = refl
 first_cond false a o p = refl
 
-under_append : (q : List ℕ) (xs ys : List Row) → amount_under q (xs ++ ys) ≡ first_of (amount_under q xs) (amount_under q ys)
+pub under_append : (q : List ℕ) (xs ys : List Row) → amount_under q (xs ++ ys) ≡ first_of (amount_under q xs) (amount_under q ys)
 under_append q [] ys = refl
 under_append q (x ∷ xs) ys = ap (λ o. cond (bytes_eq q x.keyword) (Some x.amount) o) (under_append q xs ys) ∙ first_cond (bytes_eq q x.keyword) x.amount (amount_under q xs) (amount_under q ys)
 
 -- a row stands under its keyword
-under_own : (rs : List Row) → AreApart rs → AllByRecursion (λ (r : Row). amount_under r.keyword rs ≡ Some r.amount) rs
+pub under_own : (rs : List Row) → AreApart rs → AllByRecursion (λ (r : Row). amount_under r.keyword rs ≡ Some r.amount) rs
 under_own [] apart = tt
 under_own (r ∷ rs) apart = (
   ap (λ t. cond t (Some r.amount) (amount_under r.keyword rs)) ((bytes_eq-Decides r.keyword r.keyword).1 refl),
@@ -107,7 +107,7 @@ none_given q a want (r ∷ rs) e fits = by (bytes_eq q r.keyword) refl (none_giv
         let clash : None ≡ Some a = sym none ∙ e in cc
     by false f rest = rest
 
-meets_by : (o : Option Amount) (a : Amount) → o ≡ Some a → IsSomeAnd o (λ x. Meet x a)
+pub meets_by : (o : Option Amount) (a : Amount) → o ≡ Some a → IsSomeAnd o (λ x. Meet x a)
 meets_by o a e = subst (λ p. IsSomeAnd p (λ x. Meet x a)) (sym e) (record { brand = refl; kind = refl })
 
 module _ (p : Proposal) (fits : FitsSeat p) (give : AreRows p.give) (want : AreRows p.want) where

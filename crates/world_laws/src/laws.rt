@@ -1,10 +1,20 @@
 //! The laws. The bodies are empty: what they state is proved of the definitions.
 
-ghost use Rattle.std.specs.Prelude.{List};
+ghost use Rattle.std.specs.Prelude.{◌≡◌, ◌<◌, ◌≤◌, ◌+◌, ℕ, true, length, List, Option, Some};
+ghost use Rattle.std.specs.List.{AllByRecursion};
+ghost use Rattle.data_nodes.specs.Nodes.{EachNode};
+ghost use Rattle.data_rows.specs.Printable.{IsPrintable};
+ghost use Rattle.host_text.specs.Words.{is_field_name};
+ghost use Rattle.jessie_tree.specs.Tree.{Tree};
+ghost use Rattle.proposals.specs.OfferSafety.{MeetSlots};
+ghost use Rattle.proposals.specs.declared.allocations.Row.{Row};
+ghost use Rattle.turn_records.specs.Deliveries.{Delivery, promise_of};
 ghost use Rattle.world_laws.specs.First.{first_world};
-ghost use Rattle.world_state.specs.Good.{AreGood, IsGoodEffect, IsGoodWorld};
-ghost use Rattle.world_state.specs.Known.{Grows};
-ghost use Rattle.world_state.specs.Worlds.{Effect, State, after, after_all};
+ghost use Rattle.world_laws.specs.Turns.{Agree, HasWidth, allocation_at, amounts_at};
+ghost use Rattle.world_state.specs.Good.{AreGood, IsDue, IsGoodEffect, IsGoodWorld, IsInHand, LeavesAnswer};
+ghost use Rattle.world_state.specs.Known.{Grows, HasFunction, IsFormed};
+ghost use Rattle.world_state.specs.Rights.{IsRoomy};
+ghost use Rattle.world_state.specs.Worlds.{Effect, State, after, after_all, in_front, issued_by, seat_at};
 
 /// Whatever an effect does, what was made stays what it is: brands and who made them, whose a seat is and what
 /// it was opened for, the installation of an instance, invitations, facets, and how many there are of all else.
@@ -21,4 +31,50 @@ pub fn good_effects_keep_the_world_good()
 /// The world of a new host is good.
 pub fn a_new_world_is_good()
     ensures good { IsGoodWorld first_world }
+{}
+
+/// What a seat had when it was left stays what it is through good effects.
+pub fn what_was_left_stays()
+    ensures left { (w : State) (e : Effect) (s : ℕ) (rows : List Row) → IsGoodEffect w e → s < length w.seats
+        → (seat_at w.seats s).last ≡ Some rows → (seat_at (after w e).seats s).last ≡ Some rows }
+{}
+
+/// A turn works on the world behind its delivery. Where the world with the delivery in front is good, so is
+/// the one behind it, the delivery is due in it, and the promise that it settles is the turn's alone.
+pub fn a_turn_has_its_delivery()
+    ensures behind { (w : State) (d : Delivery) → IsGoodWorld (in_front d w) → IsGoodWorld w }
+    ensures due { (w : State) (d : Delivery) → IsGoodWorld (in_front d w) → IsDue w d }
+    ensures own { (w : State) (d : Delivery) (p : ℕ) → IsGoodWorld (in_front d w) → promise_of d ≡ Some p → IsInHand w p }
+{}
+
+/// Good effects keep the world with the turn's delivery in front good, but those that resolve its promise.
+pub fn good_effects_keep_the_turns_delivery()
+    ensures one { (w : State) (d : Delivery) (e : Effect) → IsGoodEffect w e → LeavesAnswer d e
+        → IsGoodWorld (in_front d w) → IsGoodWorld (in_front d (after w e)) }
+    ensures all { (w : State) (d : Delivery) (es : List Effect) → AreGood w es → AllByRecursion (LeavesAnswer d) es
+        → IsGoodWorld (in_front d w) → IsGoodWorld (in_front d (after_all w es)) }
+{}
+
+/// What an effect doesn't issue may still be issued after it.
+pub fn what_is_not_issued_may_still_be()
+    ensures room { (w : State) (e : Effect) (n m : ℕ) → IsRoomy w.rights.out n → issued_by w e + m ≤ n
+        → IsRoomy (after w e).rights.out m }
+{}
+
+/// All amounts that are known of a seat are, under one keyword, of one brand and kind: what it has or had, what
+/// is staged of it, what it wants and what it gave. So changes of its slots can be planned.
+pub fn amounts_of_a_seat_agree()
+    ensures agree { (w : State) (s : ℕ) → IsGoodWorld w → s < length w.seats → Agree (amounts_at w s) }
+    ensures want { (w : State) (s : ℕ) → IsGoodWorld w → s < length w.seats
+        → MeetSlots (allocation_at w s) (seat_at w.seats s).proposal.want }
+    ensures give { (w : State) (s : ℕ) → IsGoodWorld w → s < length w.seats
+        → MeetSlots (allocation_at w s) (seat_at w.seats s).proposal.give }
+{}
+
+/// What the world holds can be printed: functions have names of their form, and data that is formed, and as wide
+/// as its types let it be, has the form of printed data.
+pub fn what_is_held_is_printable()
+    ensures function { (w : State) (i : ℕ) (f : List ℕ) → IsGoodWorld w → HasFunction w.tables i f → is_field_name f ≡ true }
+    ensures tree { (w : State) (holder : Option ℕ) (t : Tree) → IsGoodWorld w → IsFormed w holder t → EachNode HasWidth 0 t
+        → IsPrintable t }
 {}
