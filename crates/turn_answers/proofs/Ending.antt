@@ -1,0 +1,52 @@
+-- What a turn can end with is an answer that its kind may have.
+use Rattle.std.proofs.Common.{◌≡◌, ℕ, refl, ap, sym, subst}
+use Rattle.data_rows.specs.Printed as data_rows
+use Rattle.jessie_tree.specs.Tree.{null}
+use Rattle.jessie_tree.specs.declared.data.ObjKind.{ObjKind}
+use Rattle.jessie_tree.specs.declared.data.ObjKind.TheVariants.{Facet}
+use Rattle.refusals.specs.declared.codes.Refusal.TheVariants.{Backwards}
+use Rattle.turn_rows.specs.Form.{IsAnswerOf, IsCallAnswer, IsRefusal, IsTickAnswer}
+use Rattle.turn_records.specs.Deliveries.{Delivery, call, give, tick, bad, send, deadline, Reading, target, gift}
+use Rattle.turn_records.specs.Events.{Answer, given, refused, threw, spent}
+use Rattle.turn_records.specs.Printed.{call_kind, gift_kind, kind_of, kind_on, printed_answer}
+use Rattle.turn_answers.specs.Ends.{CanEnd, CanEndCall, CanEndGift, CanEndOn, CanEndTick, IsAnswered, IsRefused}
+
+refusal_is : (a : Answer) → IsRefused a → IsRefusal (printed_answer a)
+refusal_is (given t) h = absurd h
+refusal_is (refused r) h = tt
+refusal_is (threw t) h = absurd h
+refusal_is (spent meter) h = absurd h
+
+answer_is : (a : Answer) → IsAnswered a → IsCallAnswer (printed_answer a)
+answer_is (given t) h = tt
+answer_is (refused r) h = tt
+answer_is (threw t) h = absurd h
+answer_is (spent meter) h = absurd h
+
+on_is : (kind : ObjKind) (a : Answer) → CanEndOn kind a → IsAnswerOf (kind_on kind) (printed_answer a)
+on_is Facet a h = tt
+on_is _ a h = answer_is a h
+
+call_is : (r : Reading) (a : Answer) → CanEndCall r a → IsAnswerOf (call_kind r) (printed_answer a)
+call_is (target o args) a h = on_is o.kind a h
+call_is _ a h = refusal_is a h
+
+gift_is : (r : Reading) (a : Answer) → CanEndGift r a → IsAnswerOf (gift_kind r) (printed_answer a)
+gift_is (gift t) a h = ap printed_answer h
+gift_is _ a h = refusal_is a h
+
+tick_is : (t : ℕ) (a : Answer) → CanEndTick t a → IsTickAnswer (printed_answer a)
+tick_is t (given d) h = ap data_rows.printed h
+tick_is t (refused (Backwards now earlier)) h = refl
+tick_is t (refused _) h = absurd h
+tick_is t (threw d) h = absurd h
+tick_is t (spent meter) h = absurd h
+
+pub ends : (d : Delivery) (r : Reading) (a : Answer) → CanEnd d r a → IsAnswerOf (kind_of d r) (printed_answer a)
+ends (call c) r a h = call_is r a h
+ends (send s) r a h = call_is r a h
+ends (give g) r a h = gift_is r a h
+ends (tick t) r a h = tick_is t a h
+ends (bad refusal) r a h = refusal_is a (subst IsRefused (sym h) tt)
+ends (deadline seat) r a h = ap printed_answer h
+ends _ r a h = tt

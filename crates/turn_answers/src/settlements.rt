@@ -1,0 +1,62 @@
+//! What the promise of a delivery is settled with.
+
+ghost use Rattle.std.specs.Prelude.{◌≡◌, IfOk};
+ghost use Rattle.jessie_tree.specs.View.{tree};
+ghost use Rattle.promise_store.specs.States.{broken, ok, settlement_view};
+ghost use Rattle.refusals.specs.Codes.{refusal_tree, spent};
+ghost use Rattle.turn_records.specs.Endings.{settled_by};
+ghost use Rattle.turn_events.specs.Views.{answer_view};
+
+use jessie_tree::data::Data;
+use promise_store::Settlement;
+use refusals::codes::{NumberCode, Refusal};
+use std::alloc::{AllocError, Global};
+use turn_events::events::Answer;
+
+/// A refusal breaks it with the refusal's data (our own).
+fn broken_by(alloc: Global, refusal: &Refusal) -> Result<Settlement, AllocError>
+    ensures { IfOk result (λ made. settlement_view made ≡ broken (refusal_tree refusal.now)) }
+{
+    Ok(Settlement::Broken(refusal.data(alloc)?))
+}
+
+fn fulfilled_by(alloc: Global, value: &Data) -> Result<Settlement, AllocError>
+    ensures { IfOk result (λ made. settlement_view made ≡ ok (tree value.now)) }
+{
+    Ok(Settlement::Ok(value.copy(alloc)?))
+}
+
+fn thrown_by(alloc: Global, reason: &Data) -> Result<Settlement, AllocError>
+    ensures { IfOk result (λ made. settlement_view made ≡ broken (tree reason.now)) }
+{
+    Ok(Settlement::Broken(reason.copy(alloc)?))
+}
+
+fn spent_data(alloc: Global, meter: u32) -> Result<Data, AllocError>
+    ensures { IfOk result (λ made. tree made ≡ refusal_tree (spent meter)) }
+{
+    let refusal = Refusal::Numbered(NumberCode::Spent, meter);
+    let made = refusal.data(alloc);
+    drop(refusal);
+    made
+}
+
+fn spent_by(alloc: Global, meter: u32) -> Result<Settlement, AllocError>
+    ensures { IfOk result (λ made. settlement_view made ≡ broken (refusal_tree (spent meter))) }
+{
+    Ok(Settlement::Broken(spent_data(alloc, meter)?))
+}
+
+/// An answer settles it; a refusal, what was thrown and a spent meter break it (the meter as the refusal
+/// Spent shows it; our own). An answer that is a promise is to be followed in its place. Its data is a copy:
+/// the answer stands in the turn's record too.
+pub fn settlement_of(alloc: Global, answer: &Answer) -> Result<Settlement, AllocError>
+    ensures { IfOk result (λ made. settlement_view made ≡ settled_by (answer_view answer.now)) }
+{
+    match answer {
+        Answer::Given(value) => fulfilled_by(alloc, value),
+        Answer::Refused(refusal) => broken_by(alloc, refusal),
+        Answer::Threw(reason) => thrown_by(alloc, reason),
+        Answer::Spent(meter) => spent_by(alloc, *meter),
+    }
+}
