@@ -1,7 +1,6 @@
 -- What a turn can end with is an answer that its kind may have.
-use Rattle.std.proofs.Common.{◌≡◌, ℕ, refl, ap, sym, subst}
+use Rattle.std.proofs.Common.{ℕ, refl, ap, sym, subst}
 use Rattle.data_rows.specs.Printed as data_rows
-use Rattle.jessie_tree.specs.Tree.{null}
 use Rattle.jessie_tree.specs.declared.data.ObjKind.{ObjKind}
 use Rattle.jessie_tree.specs.declared.data.ObjKind.TheVariants.{Facet}
 use Rattle.refusals.specs.declared.codes.Refusal.TheVariants.{Backwards}

@@ -1,5 +1,5 @@
 -- The data of refusals, and what promises are settled with, can be printed.
-use Rattle.std.proofs.Common.{◌≡◌, ◌<◌, ◌≤◌, ◌+◌, ℕ, List, [], ◌∷◌, Bool, true, false, map, nat_lt, if◌then◌else◌, refl, arith}
+use Rattle.std.proofs.Common.{◌≡◌, ◌<◌, ◌+◌, ℕ, List, [], ◌∷◌, Bool, true, false, map, nat_lt, if◌then◌else◌, refl, arith}
 use Rattle.std.specs.Prelude.{codes}
 use Rattle.std.proofs.lemmas.Bool.{ltb-true}
 use Rattle.amount_math.specs.Content.{Content, entries}
@@ -67,6 +67,7 @@ HasNames n _ = Unit {0}
 
 mutual
   unfolding HasNames
+
   named : (n : ℕ) (t : Tree) → EachNode CanPrintNode n t → EachNode HasNames (n + 1) t
   named n null h = tt
   named n (boolean b) h = tt

@@ -1,5 +1,5 @@
 -- Data of which the types give their part and the rest is shown is printable; what refusals show is.
-use Rattle.std.proofs.Common.{◌≡◌, ◌<◌, ◌^◌, ◌+◌, ℕ, ℤ, pos, List, [], ◌∷◌, Bool, true, false, map, nat_lt, if◌then◌else◌, arith}
+use Rattle.std.proofs.Common.{◌<◌, ◌+◌, ℕ, List, [], ◌∷◌, Bool, true, false, map, if◌then◌else◌, arith}
 use Rattle.std.specs.List.{AllByRecursion}
 use Rattle.amount_math.specs.Content.{Content, entries}
 use Rattle.amount_math.specs.Worth.{Worth}
@@ -18,7 +18,7 @@ use Rattle.jessie_tree.specs.declared.data.ObjKind.{ObjKind}
 use Rattle.jessie_tree.specs.declared.data.ObjKind.TheVariants.{Brand, Issuer, Mint, Zmint}
 use Rattle.promise_store.specs.States.{SettlementView, broken, ok}
 use Rattle.turn_rows.specs.Form.{HasElementForm, HasValueForm, objects_end}
-use Rattle.turn_records.specs.Printed.{notice_tree, told_value}
+use Rattle.turn_records.specs.Printed.{notice_tree}
 use Rattle.turn_records.specs.Tellable.{ArePrintable, IsTellableValue}
 use Rattle.turn_form.specs.Printing.{CanPrintAll, CanPrintData, CanPrintNode, IsBrandBelow}
 use Rattle.turn_form.specs.Typed.{HasDataTypes, HasFieldTypes, HasNodeTypes, HasSettlementTypes, HaveDataTypes}

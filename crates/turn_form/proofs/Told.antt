@@ -9,7 +9,7 @@ use Rattle.promise_store.specs.States.{SettlementView, broken, ok}
 use Rattle.turn_rows.specs.Form.{IsParty}
 use Rattle.turn_rows.specs.Kinds as kinds
 use Rattle.turn_rows.specs.Kinds.{How}
-use Rattle.turn_records.specs.Deliveries.{Delivery, call, give, tick, bad, send, start, offer, wake, notify, deadline, IsReadFor, Reading, nothing, target, gift, time, settlement}
+use Rattle.turn_records.specs.Deliveries.{Delivery, call, give, tick, bad, send, start, offer, wake, notify, deadline, Reading, nothing, target, gift, time, settlement}
 use Rattle.turn_records.specs.Events.{Answer, given, refused, threw, spent, Call, Event, called, opened, moved, exited, settled}
 use Rattle.turn_records.specs.Printed.{notice_tree, read_trees, trees_of}
 use Rattle.turn_records.specs.Tellable.{ArePrintable, IsObjectCalled, IsTellable, IsTellableAnswer, IsTellableCall, IsTellableDelivery, IsTellableEvent, IsTellableReading, IsTellableSettlement, IsTold}
