@@ -3,6 +3,8 @@
 //! seats, keys and counts.
 #![tactic(auto)]
 
+pub mod laws;
+
 ghost use Rattle.std.specs.Prelude.{◌≡◌};
 ghost use Rattle.refusals.specs.Told.{CanShow};
 ghost use Rattle.plan_refusals.specs.Told.{PlanCanShow, plan_told, seats_told, unkept_told};
