@@ -1,5 +1,5 @@
 -- How many rows seats have that a change touches, and what bounds their counts.
-use Rattle.std.specs.Prelude.{◌<◌, ◌^◌, ℕ, List, length, sum_by}
+use Rattle.std.specs.Prelude.{◌<◌, ◌^◌, List, length, sum_by}
 use Rattle.std.specs.List.{AllByRecursion}
 use Rattle.amount_math.specs.Worth.{IsValue}
 use Rattle.proposals.specs.declared.allocations.Row.{Row}

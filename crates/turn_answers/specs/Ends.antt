@@ -4,10 +4,10 @@ use Rattle.jessie_tree.specs.Tree.{null}
 use Rattle.jessie_tree.specs.declared.data.ObjKind.{ObjKind}
 use Rattle.jessie_tree.specs.declared.data.ObjKind.TheVariants.{Facet}
 use Rattle.refusals.specs.declared.codes.Refusal.TheVariants.{Backwards}
-use Rattle.turn_records.specs.Deliveries.{Delivery, call, give, tick, bad, send, deadline, Reading, target, gift}
-use Rattle.turn_records.specs.Events.{Answer, given, refused}
-use Rattle.turn_records.specs.Printed.{kind_of, printed_answer}
-use Rattle.turn_rows.specs.Form.{IsAnswerOf}
+use Rattle.turn_records.specs.Deliveries.{Delivery, call, give, tick, bad, send, start, offer, wake, notify, deadline, Reading, target, gift}
+use Rattle.turn_records.specs.Events.{Answer, given, refused, spent, Event, called}
+use Rattle.turn_records.specs.Printed.{kind_of, printed_answer, printed_event}
+use Rattle.turn_rows.specs.Form.{IsAnswerOf, MayStand, runs_function}
 
 abbrev pub IsRefused : Answer → Type 0
 IsRefused (refused r) = Unit {0}
@@ -51,3 +51,36 @@ CanEnd _ r a = Unit {0}
 -- the printed turn of the kind may have the answer
 abbrev pub FitsKind : Delivery → Reading → Answer → Type 0
 FitsKind d r a = IsAnswerOf (kind_of d r) (printed_answer a)
+
+-- ---- calls of the host
+
+abbrev pub IsOfFacet : ObjKind → Type 0
+IsOfFacet Facet = Unit {0}
+IsOfFacet _ = ⊥
+
+abbrev pub IsFacetCalled : Reading → Type 0
+IsFacetCalled (target o args) = IsOfFacet o.kind
+IsFacetCalled _ = ⊥
+
+-- a turn of the delivery runs a function of a contract
+abbrev pub RunsFunction : Delivery → Reading → Type 0
+RunsFunction (call c) r = IsFacetCalled r
+RunsFunction (send s) r = IsFacetCalled r
+RunsFunction (start s) r = Unit {0}
+RunsFunction (offer o) r = Unit {0}
+RunsFunction (wake w) r = Unit {0}
+RunsFunction (notify n) r = Unit {0}
+RunsFunction _ r = ⊥
+
+abbrev pub IsUnspent : Answer → Type 0
+IsUnspent (spent meter) = ⊥
+IsUnspent _ = Unit {0}
+
+-- a call of the host is told only where a function was run that didn't spend its meter; all else is always told
+abbrev pub CanTell : Delivery → Reading → Answer → Event → Type 0
+CanTell d r a (called c) = RunsFunction d r × IsUnspent a
+CanTell d r a _ = Unit {0}
+
+-- the printed event may stand in the printed turn of the kind
+abbrev pub StandsIn : Delivery → Reading → Answer → Event → Type 0
+StandsIn d r a e = MayStand (runs_function (kind_of d r) (printed_answer a)) (printed_event e)
