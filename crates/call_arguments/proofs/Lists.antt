@@ -1,5 +1,9 @@
 -- Lists of numbers: the least of some, that all pass where none that fails is found, and that none stands twice where none is found.
-use Rattle.std.proofs.Common.{◌≡◌, ℕ, Bool, true, false, cond, eqb, not, ◌||◌, List, [], ◌∷◌, ◌++◌, Option, Some, None, refl, sym, ◌∙◌, ap, arith}
+use Rattle.std.proofs.Common.{◌≡◌, ℕ, Bool, true, false, cond, eqb, not, ◌||◌, List, [], ◌∷◌, ◌++◌, Option, Some, None, ◌+◌, ◌<◌, ◌==◌, drop, get_or, length, nat_cmp, take, refl, sym, ◌∙◌, ap, arith}
+use Rattle.std.specs.BTreeMap.{is_at}
+use Rattle.std.proofs.lemmas.Bool.Decides.{nat_tests}
+use Rattle.std.proofs.lemmas.List.{drop_more, take_more}
+use Rattle.std.proofs.lemmas.List.Folds.{list_any-append}
 use Rattle.std.proofs.lemmas.Bool.{eq-eqb}
 use Rattle.std.proofs.lemmas.List.Elements.{All-cons, All-nil}
 use Rattle.std.specs.List.{All, filter}
@@ -74,3 +78,29 @@ apart ps o is none = none_twice ps (sym is ∙ none)
 
 pub all_passed : (passes : ℕ → Bool) (ns : List ℕ) (o : Option ℕ) → o ≡ least_failing passes ns → o ≡ None → All (λ n. passes n ≡ true) ns
 all_passed passes ns o is none = all_pass passes ns (sym is ∙ none)
+
+-- ---- numbers that were seen
+
+at_is : (x n : ℕ) → is_at (nat_cmp x) n ≡ (x == n)
+at_is x n = grind (arith, nat_tests)
+
+pub seen_more : (ns : List ℕ) (x n : ℕ) (was now : Bool) → was ≡ is_among ns n → now ≡ cond (is_at (nat_cmp x) n) true was → now ≡ is_among (ns ++ x ∷ []) n
+seen_more ns x n was now before is = is ∙ rw (at_is x n, before) (by (x == n) (is_among ns n)) ∙ sym (list_any-append (λ m. m == n) ns (x ∷ []))
+  where
+    by : (it any : Bool) → cond it true any ≡ (any || (it || false))
+    by true true = refl
+    by true false = refl
+    by false true = refl
+    by false false = refl
+
+pub again_here : (ns : List ℕ) (i x : ℕ) → i < length ns → x ≡ get_or ns i x → is_among (take i ns) x ≡ true → first_again (take i ns) (drop i ns) ≡ Some x
+again_here ns i x lt at is = ap (first_again (take i ns)) (drop_more ns i x lt ∙ ap (λ y. y ∷ drop (i + 1) ns) (sym at)) ∙ ap (λ b. cond b (Some x) (first_again (take i ns ++ x ∷ []) (drop (i + 1) ns))) is
+
+pub take_next : (ns : List ℕ) (i x : ℕ) → i < length ns → x ≡ get_or ns i x → take (i + 1) ns ≡ take i ns ++ x ∷ []
+take_next ns i x lt at = take_more ns i x lt ∙ ap (λ y. take i ns ++ y ∷ []) (sym at)
+
+pub again_later : (ns : List ℕ) (i x : ℕ) → i < length ns → x ≡ get_or ns i x → is_among (take i ns) x ≡ false → first_again (take i ns) (drop i ns) ≡ first_again (take (i + 1) ns) (drop (i + 1) ns)
+again_later ns i x lt at is =
+    ap (first_again (take i ns)) (drop_more ns i x lt ∙ ap (λ y. y ∷ drop (i + 1) ns) (sym at))
+    ∙ ap (λ b. cond b (Some x) (first_again (take i ns ++ x ∷ []) (drop (i + 1) ns))) is
+    ∙ ap (λ qs. first_again qs (drop (i + 1) ns)) (sym (take_next ns i x lt at))

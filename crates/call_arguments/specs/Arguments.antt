@@ -1,13 +1,24 @@
 -- What a call is given: arguments by their places, and what an argument has to be.
-use Rattle.std.specs.Prelude.{ℕ, ℤ, pos, ◌-◌, ◌<◌, ◌==◌, ◌&&◌, nat_le, List, length, slice_index_or, Bool, Option, Some, None, option_and_then, Result, if◌then◌else◌}
+use Rattle.std.specs.Prelude.{ℕ, ℤ, pos, ◌-◌, ◌<◌, ◌==◌, ◌&&◌, nat_le, List, [], ◌∷◌, length, slice_index_or, Bool, true, false, not, Option, Some, None, option_and_then, Result, Ok, if◌then◌else◌, codes}
+use Rattle.std.specs.Str.{bytes_eq}
+use Rattle.host_text.specs.Words.{is_keyword}
+use Rattle.amount_math.specs.declared.Kind.{Kind}
+use Rattle.amount_math.specs.declared.Kind.TheVariants.{Nat, Set, Bag}
 use Rattle.std.specs.Option.{ForSome}
-use Rattle.jessie_tree.specs.Tree.{Tree, null, function_of, list_of, number_of, object_of, pairs_of, text_of}
+use Rattle.jessie_tree.specs.Tree.{Tree, is_null, null, function_of, list_of, number_of, object_of, pairs_of, text_of}
 use Rattle.jessie_tree.specs.declared.data.Obj.{Obj}
 use Rattle.jessie_tree.specs.declared.data.ObjKind.{ObjKind}
 use Rattle.jessie_tree.specs.declared.data.ObjKind.TheVariants.{Ertp, Zoe, Timer, Brand, Issuer, Mint, Purse, Deposit, Payment, Installation, Instance, Zcf, Seat, Zseat, Zmint, Facet, Promise}
-use Rattle.refusals.specs.Codes.{bad_args, wrong_object}
-use Rattle.refusals.specs.Outcomes.{wanted}
+use Rattle.refusals.specs.Codes.{bad_args, bad_keyword, wrong_object}
+use Rattle.refusals.specs.Outcomes.{◌>>=◌, ◌>>◌, need, wanted}
 use Rattle.refusals.specs.declared.codes.Refusal.{Refusal}
+use Rattle.refusals.specs.declared.stops.Stop.{Stop}
+use Rattle.refusals.specs.declared.stops.Stop.TheVariants.{NoMemory, Refused}
+
+-- it is a refusal, and not that memory ran out: so a reader ends that takes none
+abbrev pub IsRefusal : Stop → Type 0
+IsRefusal NoMemory = ⊥
+IsRefusal (Refused r) = Unit {0}
 
 -- the argument at a place, from 1; one that is missing is null
 abbrev pub arg : ℕ → List Tree → Tree
@@ -89,3 +100,41 @@ list_at place args = wanted (list_of (arg place args)) (bad_args place)
 -- the names and parts of a record; null is none
 unfoldable pub record_at : ℕ → List Tree → Result (List (List ℕ × Tree)) Refusal
 record_at place args = wanted (pairs_of (arg place args)) (bad_args place)
+
+abbrev pub is_empty : {A : Type 0} → List A → Bool
+is_empty [] = true
+is_empty (x ∷ xs) = false
+
+-- the parts of an array that has some
+unfoldable pub filled_list_at : ℕ → List Tree → Result (List Tree) Refusal
+filled_list_at place args = do
+  items ← list_at place args
+  need (not (is_empty items)) (bad_args place)
+  Ok items
+
+-- the same, where null is the empty record
+unfoldable pub fields_at : ℕ → List Tree → Result (List (List ℕ × Tree)) Refusal
+fields_at place args = if is_null (arg place args) then Ok [] else record_at place args
+
+-- ---- kinds and keywords
+
+-- the kinds by their words (ERTP)
+abbrev pub kind_named : List ℕ → Option Kind
+kind_named word = if bytes_eq word (codes "nat") then Some Nat else if bytes_eq word (codes "set") then Some Set else if bytes_eq word (codes "bag") then Some Bag else None
+
+-- null is nat
+unfoldable pub kind_in : Tree → Option Kind
+kind_in t = if is_null t then Some Nat else option_and_then kind_named (text_of t)
+
+unfoldable pub kind_at : ℕ → List Tree → Result Kind Refusal
+kind_at place args = wanted (kind_in (arg place args)) (bad_args place)
+
+abbrev pub text_or_empty : Option (List ℕ) → List ℕ
+text_or_empty None = []
+text_or_empty (Some t) = t
+
+-- a keyword; where no text is, the empty one is shown (own)
+unfoldable pub keyword_at : ℕ → List Tree → Result (List ℕ) Refusal
+keyword_at place args =
+    let name = text_or_empty (text_of (arg place args)) in
+    need (is_keyword name) (bad_keyword name) >> Ok name

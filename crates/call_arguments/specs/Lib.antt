@@ -1,4 +1,3 @@
 pub mod Amounts
 pub mod Arguments
 pub mod Numbers
-pub mod Records

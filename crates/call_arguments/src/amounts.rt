@@ -111,9 +111,9 @@ pub fn check_held(
     check_same(held, &named)
 }
 
-/// That a value is the one that is named for it: else `WrongAmount` with both.
+/// That a value is the one that is named for it: else `WrongAmount` with both (own).
 #[tactic(auto, unfolding(refusals::specs::Outcomes::need))]
-fn check_same(held: &Value, named: &Value) -> Result<(), Stop>
+pub fn check_same(held: &Value, named: &Value) -> Result<(), Stop>
     requires { held.now.kind ≡ named.now.kind }
     ensures { Gives (λ _. tt) result (need (is_same held.now named.now) (wrong_amount held.now named.now)) }
 {

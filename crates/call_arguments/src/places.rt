@@ -1,16 +1,19 @@
 //! Arguments by their places, and what an argument has to be. Each reader's one contract: what it reads, or
 //! refuses, is as its definition says.
 
-ghost use Rattle.std.specs.Prelude.{◌≡◌, ◌<◌, ◌≤◌, IfOk, IfSome, length};
-ghost use Rattle.jessie_tree.specs.Tree.{is_null};
+ghost use Rattle.std.specs.Prelude.{◌≡◌, ◌<◌, ◌≤◌, true, IfErr, IfOk, IfSome, length, option_map};
+ghost use Rattle.host_text.specs.Words.{is_keyword};
+ghost use Rattle.jessie_tree.specs.Tree.{is_null, text_of};
 ghost use Rattle.jessie_tree.specs.View.{named_trees, tree, trees};
 ghost use Rattle.call_data.specs.Amounts.{seen};
 ghost use Rattle.refusals.specs.Outcomes.{Gives};
-ghost use Rattle.call_arguments.specs.Arguments.{IsMade, arg, function_at, list_at, number_at, number_in, object_at, object_in, place_of, record_at, text_at};
+ghost use Rattle.call_arguments.specs.Arguments.{IsMade, IsRefusal, arg, fields_at, filled_list_at, function_at, keyword_at, kind_at, kind_in, kind_named, list_at, number_at, number_in, object_at, object_in, place_of, record_at, text_at, text_or_empty};
 
+use amount_math::Kind;
+use host_text::keyword::Keyword;
 use host_text::text::Text;
 use jessie_tree::data::{Data, ObjKind};
-use refusals::codes::NumberCode;
+use refusals::codes::{NumberCode, TextCode};
 use refusals::stops::Stop;
 use std::alloc::{AllocError, Global};
 
@@ -89,6 +92,7 @@ pub fn object_at(kind: ObjKind, made: u32, place: u32, args: &[Data]) -> Result<
     requires place { 1 ≤ place }
     requires known { IsMade kind made (arg place (trees args.now)) }
     ensures gives { Gives (λ number. number) result (object_at kind place (trees args.now)) }
+    ensures told { IfErr result IsRefusal }
     ensures made { IfOk result (λ number. number < made) }
 {
     match object_seen(kind, argument(args, place)) {
@@ -132,6 +136,7 @@ fn number_in(least: u64, most: u64, given: Option<&Data>) -> Option<u64>
 pub fn number_at(least: u64, most: u64, place: u32, args: &[Data]) -> Result<u64, Stop>
     requires { 1 ≤ place }
     ensures gives { Gives (λ number. number) result (number_at least most place (trees args.now)) }
+    ensures told { IfErr result IsRefusal }
     ensures least { IfOk result (λ number. least ≤ number) }
     ensures most { IfOk result (λ number. number ≤ most) }
 {
@@ -146,6 +151,7 @@ pub fn number_at(least: u64, most: u64, place: u32, args: &[Data]) -> Result<u64
 pub fn text_at(least: usize, most: usize, place: u32, args: &[Data]) -> Result<&Text, Stop>
     requires { 1 ≤ place }
     ensures gives { Gives (λ text. text.now) result (text_at least most place (trees args.now)) }
+    ensures told { IfErr result IsRefusal }
     ensures least { IfOk result (λ text. least ≤ length text.now) }
     ensures most { IfOk result (λ text. length text.now ≤ most) }
 {
@@ -167,7 +173,8 @@ pub fn text_at(least: usize, most: usize, place: u32, args: &[Data]) -> Result<&
 #[tactic(auto, unfolding(crate::specs::Arguments::function_at, refusals::specs::Outcomes::wanted))]
 pub fn function_at(place: u32, args: &[Data]) -> Result<&Text, Stop>
     requires { 1 ≤ place }
-    ensures { Gives (λ name. name.now) result (function_at place (trees args.now)) }
+    ensures gives { Gives (λ name. name.now) result (function_at place (trees args.now)) }
+    ensures told { IfErr result IsRefusal }
 {
     let Some(given) = argument(args, place) else {
         return Err(Stop::numbered(NumberCode::BadArgs, place));
@@ -184,7 +191,8 @@ pub fn function_at(place: u32, args: &[Data]) -> Result<&Text, Stop>
 #[tactic(auto, unfolding(crate::specs::Arguments::list_at, refusals::specs::Outcomes::wanted))]
 pub fn list_at(place: u32, args: &[Data]) -> Result<&[Data], Stop>
     requires { 1 ≤ place }
-    ensures { Gives (λ items. trees items.now) result (list_at place (trees args.now)) }
+    ensures gives { Gives (λ items. trees items.now) result (list_at place (trees args.now)) }
+    ensures told { IfErr result IsRefusal }
 {
     let Some(given) = argument(args, place) else {
         return Err(Stop::numbered(NumberCode::BadArgs, place));
@@ -199,7 +207,8 @@ pub fn list_at(place: u32, args: &[Data]) -> Result<&[Data], Stop>
 #[tactic(auto, unfolding(crate::specs::Arguments::record_at, refusals::specs::Outcomes::wanted))]
 pub fn record_at(place: u32, args: &[Data]) -> Result<&[(Text, Data)], Stop>
     requires { 1 ≤ place }
-    ensures { Gives (λ fields. named_trees fields.now) result (record_at place (trees args.now)) }
+    ensures gives { Gives (λ fields. named_trees fields.now) result (record_at place (trees args.now)) }
+    ensures told { IfErr result IsRefusal }
 {
     let Some(given) = argument(args, place) else {
         return Err(Stop::numbered(NumberCode::BadArgs, place));
@@ -207,5 +216,98 @@ pub fn record_at(place: u32, args: &[Data]) -> Result<&[(Text, Data)], Stop>
     match given.fields() {
         Some(fields) => Ok(fields),
         None => Err(Stop::numbered(NumberCode::BadArgs, place)),
+    }
+}
+
+/// The parts of the array at a place, which has one at least: else `BadArgs` with the place (own).
+#[tactic(auto, unfolding(crate::specs::Arguments::filled_list_at, refusals::specs::Outcomes::bind, refusals::specs::Outcomes::need))]
+pub fn filled_list_at(place: u32, args: &[Data]) -> Result<&[Data], Stop>
+    requires { 1 ≤ place }
+    ensures gives { Gives (λ items. trees items.now) result (filled_list_at place (trees args.now)) }
+    ensures told { IfErr result IsRefusal }
+{
+    let items = list_at(place, args)?;
+    if items.is_empty() {
+        Err(Stop::numbered(NumberCode::BadArgs, place))
+    } else {
+        Ok(items)
+    }
+}
+
+/// The fields of the record at a place, each with its name; null, or none there, is the empty record: else
+/// `BadArgs` with the place.
+#[tactic(auto, unfolding(crate::specs::Arguments::fields_at, crate::specs::Arguments::record_at))]
+pub fn fields_at(place: u32, args: &[Data]) -> Result<&[(Text, Data)], Stop>
+    requires { 1 ≤ place }
+    ensures gives { Gives (λ fields. named_trees fields.now) result (fields_at place (trees args.now)) }
+    ensures told { IfErr result IsRefusal }
+{
+    if is_missing(argument(args, place)) {
+        return Ok(&[]);
+    }
+    record_at(place, args)
+}
+
+// ---- kinds and keywords
+
+/// The kind of a word (ERTP).
+fn kind_named(word: &str) -> Option<Kind>
+    ensures { result ≡ kind_named word.now }
+{
+    match word {
+        "nat" => Some(Kind::Nat),
+        "set" => Some(Kind::Set),
+        "bag" => Some(Kind::Bag),
+        _ => None,
+    }
+}
+
+/// The kind that data names.
+#[tactic(auto, unfolding(crate::specs::Arguments::kind_in))]
+fn kind_in(given: Option<&Data>) -> Option<Kind>
+    ensures { result ≡ kind_in (seen given.entry) }
+{
+    if is_missing(given) {
+        return Some(Kind::Nat);
+    }
+    kind_named(given?.text()?.as_str())
+}
+
+/// The kind that is named at a place, `nat`, `set` or `bag`; null, or none there, is nat: else `BadArgs` with
+/// the place (ERTP).
+#[tactic(auto, unfolding(crate::specs::Arguments::kind_at, refusals::specs::Outcomes::wanted))]
+pub fn kind_at(place: u32, args: &[Data]) -> Result<Kind, Stop>
+    requires { 1 ≤ place }
+    ensures gives { Gives (λ kind. kind) result (kind_at place (trees args.now)) }
+    ensures told { IfErr result IsRefusal }
+{
+    match kind_in(argument(args, place)) {
+        Some(kind) => Ok(kind),
+        None => Err(Stop::numbered(NumberCode::BadArgs, place)),
+    }
+}
+
+/// The text that data is, where it is one.
+fn text_of(given: Option<&Data>) -> Option<&Text>
+    ensures { option_map (λ text. text.now) result ≡ text_of (seen given.entry) }
+{
+    given?.text()
+}
+
+/// The keyword at a place: else `BadKeyword` with the text that is there, with the empty one where none is
+/// (Zoe). What it shows takes memory.
+#[tactic(auto, unfolding(crate::specs::Arguments::keyword_at, refusals::specs::Outcomes::bind, refusals::specs::Outcomes::need))]
+pub fn keyword_at(alloc: Global, place: u32, args: &[Data]) -> Result<&Text, Stop>
+    requires { 1 ≤ place }
+    ensures gives { Gives (λ name. name.now) result (keyword_at place (trees args.now)) }
+    ensures form { IfOk result (λ name. is_keyword name.now ≡ true) }
+{
+    let Some(text) = text_of(argument(args, place)) else {
+        return Err(Stop::worded(alloc, TextCode::BadKeyword, ""));
+    };
+    if Keyword::is_keyword(text.as_str().as_bytes()) {
+        Ok(text)
+    } else {
+        Err(Stop::worded(alloc, TextCode::BadKeyword, text.as_str()))
     }
 }

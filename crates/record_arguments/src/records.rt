@@ -1,24 +1,23 @@
 //! Records that a call is given: amounts under keywords, objects under keywords or in an array.
 
-ghost use Rattle.std.specs.Prelude.{◌≡◌, ◌<◌, All, None, IfOk, option_map};
+ghost use Rattle.std.specs.Prelude.{◌≡◌, ◌<◌, All, None, IfOk, OnOk, option_map};
 ghost use Rattle.host_text.specs.Words.{is_keyword};
-ghost use Rattle.jessie_tree.specs.View.{named_trees, tree, trees};
-ghost use Rattle.call_data.specs.Amounts.{read_all};
-ghost use Rattle.refusals.specs.Codes.{bad_args, bad_value};
-ghost use Rattle.refusals.specs.Outcomes.{Gives, none_such, wanted};
+ghost use Rattle.jessie_tree.specs.View.{named_trees, tree};
+ghost use Rattle.refusals.specs.Codes.{bad_value};
+ghost use Rattle.refusals.specs.Outcomes.{Gives, wanted};
 ghost use Rattle.call_arguments.specs.Arguments.{IsMade};
-ghost use Rattle.call_arguments.specs.Records.{first_ill, keywords, objects_in, objects_under, row_data, row_in, row_value, rows_data, rows_in, values_in};
+ghost use Rattle.record_arguments.specs.Records.{amounts_under, are_keywords, brands_in, first_ill, has_name, keywords, names, objects_under, row_data, row_value, rows_data, rows_in, values_in};
 
-use crate::amounts::value;
-use crate::places::object_in;
 use amount_math::Value;
+use call_arguments::amounts::value;
+use call_arguments::places::object_in;
 use call_data::amounts::{GivenAmount, amount_fields};
 use host_text::keyword::Keyword;
 use host_text::text::Text;
 use jessie_tree::data::{Data, ObjKind};
 use refusals::codes::{NumberCode, TextCode};
 use refusals::stops::Stop;
-use std::alloc::Global;
+use std::alloc::{AllocError, Global};
 
 /// A row as it was given: a keyword, and what stands in the amount under it.
 #[derive(Clone, Copy)]
@@ -48,13 +47,13 @@ fn first_ill<'a>(rows: &[GivenRow<'a>]) -> Option<&'a Text>
 }
 
 /// The amounts in a record's fields: else `BadArgs` with the place.
-#[tactic(auto, unfolding(refusals::specs::Outcomes::wanted))]
-fn amounts<'a>(
+#[tactic(auto, unfolding(crate::specs::Records::amounts_under, refusals::specs::Outcomes::wanted))]
+pub fn amounts<'a>(
     alloc: Global,
     place: u32,
     fields: &'a [(Text, Data)],
 ) -> Result<Vec<GivenRow<'a>>, Stop>
-    ensures { Gives (λ rows. rows_data rows.items) result (wanted (read_all row_in (named_trees fields.now)) (bad_args place)) }
+    ensures { Gives (λ rows. rows_data rows.items) result (amounts_under place (named_trees fields.now)) }
 {
     let mut rows = Vec::new(alloc);
     for (keyword, data) in fields {
@@ -64,6 +63,43 @@ fn amounts<'a>(
         rows.push(GivenRow { keyword, amount })?;
     }
     Ok(rows)
+}
+
+/// That each row is under a keyword: else `BadKeyword` with the first name that is none (Zoe).
+#[tactic(auto, unfolding(refusals::specs::Outcomes::none_such))]
+pub fn check_keywords(alloc: Global, rows: &[GivenRow]) -> Result<(), Stop>
+    ensures gives { Gives (λ _. tt) result (are_keywords (keywords (rows_data rows.now))) }
+    ensures named { OnOk result (first_ill (keywords (rows_data rows.now)) ≡ None) }
+{
+    match first_ill(rows) {
+        Some(name) => Err(Stop::worded(alloc, TextCode::BadKeyword, name.as_str())),
+        None => Ok(()),
+    }
+}
+
+/// The first name of a field that is no keyword.
+#[tactic(auto, unfolding(crate::specs::Records::first_ill))]
+fn first_ill_name(fields: &[(Text, Data)]) -> Option<&Text>
+    ensures { option_map (λ name. name.now) result ≡ first_ill (names (named_trees fields.now)) }
+{
+    for (name, _) in fields {
+        if !Keyword::is_keyword(name.as_str().as_bytes()) {
+            return Some(name);
+        }
+    }
+    None
+}
+
+/// That each field's name is a keyword: else `BadKeyword` with the first that is none (Zoe).
+#[tactic(auto, unfolding(refusals::specs::Outcomes::none_such))]
+pub fn check_names(alloc: Global, fields: &[(Text, Data)]) -> Result<(), Stop>
+    ensures gives { Gives (λ _. tt) result (are_keywords (names (named_trees fields.now))) }
+    ensures named { OnOk result (first_ill (names (named_trees fields.now)) ≡ None) }
+{
+    match first_ill_name(fields) {
+        Some(name) => Err(Stop::worded(alloc, TextCode::BadKeyword, name.as_str())),
+        None => Ok(()),
+    }
 }
 
 /// The amounts in a record's fields, each under a keyword: `BadArgs` with the place where a field is no
@@ -78,10 +114,19 @@ pub fn rows<'a>(
     ensures named { IfOk result (λ rows. first_ill (keywords (rows_data rows.items)) ≡ None) }
 {
     let rows = amounts(alloc, place, fields)?;
-    match first_ill(rows.as_slice()) {
-        Some(name) => Err(Stop::worded(alloc, TextCode::BadKeyword, name.as_str())),
-        None => Ok(rows),
+    check_keywords(alloc, rows.as_slice())?;
+    Ok(rows)
+}
+
+/// The numbers of the brands that rows name.
+pub fn brands(alloc: Global, rows: &[GivenRow]) -> Result<Vec<u32>, AllocError>
+    ensures { IfOk result (λ brands. brands.items ≡ brands_in (rows_data rows.now)) }
+{
+    let mut brands = Vec::new(alloc);
+    for row in rows {
+        brands.push(row.amount.brand)?;
     }
+    Ok(brands)
 }
 
 /// The values of rows, of the kinds of the brands that they name: else `BadValue`.
@@ -103,31 +148,6 @@ fn row_value(alloc: Global, row: &GivenRow) -> Result<Value, Stop>
 }
 
 // ---- objects
-
-/// The objects of one kind in an array, by their numbers, of which so many were made: else `WrongObject` with
-/// the place.
-#[tactic(auto, unfolding(crate::specs::Records::objects_in, refusals::specs::Outcomes::wanted))]
-pub fn objects_in(
-    alloc: Global,
-    kind: ObjKind,
-    made: u32,
-    place: u32,
-    items: &[Data],
-) -> Result<Vec<u32>, Stop>
-    requires { All (λ d. IsMade kind made (tree d)) items.now }
-    ensures gives { Gives (λ numbers. numbers.items) result (objects_in kind place (trees items.now)) }
-    ensures made { IfOk result (λ numbers. All (λ n. n < made) numbers.items) }
-{
-    let mut numbers = Vec::new(alloc);
-    for item in items {
-        let Some(number) = object_in(kind, item) else {
-            return Err(Stop::numbered(NumberCode::WrongObject, place));
-        };
-        prove!(number < made);
-        numbers.push(number)?;
-    }
-    Ok(numbers)
-}
 
 /// The objects of one kind under names, by their numbers, of which so many were made: else `WrongObject` with
 /// the place.
@@ -152,4 +172,19 @@ pub fn objects_under(
         numbers.push(number)?;
     }
     Ok(numbers)
+}
+
+// ---- names
+
+/// Whether a field has the name.
+#[tactic(auto, unfolding(crate::specs::Records::has_name))]
+pub fn has_name(fields: &[(Text, Data)], wanted: &str) -> bool
+    ensures { result ≡ has_name wanted.now (names (named_trees fields.now)) }
+{
+    for (name, _) in fields {
+        if name.as_str() == wanted {
+            return true;
+        }
+    }
+    false
 }

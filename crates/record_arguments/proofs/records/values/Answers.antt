@@ -1,8 +1,8 @@
 use Rattle.std.proofs.Common.{arith}
 use Rattle.call_data.proofs.ReadLists.{read_more}
 use Rattle.refusals.proofs.Steps.{wanted_there}
-use Rattle.call_arguments.specs.Records.{row_data, row_value}
-use Rattle.call_arguments.proofs.records.values.Goals as goal
+use Rattle.record_arguments.specs.Records.{row_data, row_value}
+use Rattle.record_arguments.proofs.records.values.Goals as goal
 
 pub loop-row-preserved : goal.loop-row-preserved
 loop-row-preserved c =

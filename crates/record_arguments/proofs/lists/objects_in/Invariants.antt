@@ -3,7 +3,7 @@ use Rattle.std.specs.List.{All}
 use Rattle.jessie_tree.specs.View.{tree}
 use Rattle.call_data.proofs.ReadLists.{IsRead}
 use Rattle.call_arguments.specs.Arguments.{object_in}
-use Rattle.call_arguments.proofs.records.objects_in.Given as goal
+use Rattle.record_arguments.proofs.lists.objects_in.Given as goal
 
 abbrev pub invariant-loop-item : goal.invariant-loop-item
 invariant-loop-item l = record {

@@ -4,7 +4,7 @@ use Rattle.jessie_tree.specs.Tree.{Tree}
 use Rattle.jessie_tree.specs.View.{named}
 use Rattle.call_data.proofs.ReadLists.{IsRead}
 use Rattle.call_arguments.specs.Arguments.{object_in}
-use Rattle.call_arguments.proofs.records.objects_under.Given as goal
+use Rattle.record_arguments.proofs.records.objects_under.Given as goal
 
 abbrev pub invariant-loop-part : goal.invariant-loop-part
 invariant-loop-part l = record {

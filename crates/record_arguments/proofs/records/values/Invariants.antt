@@ -1,8 +1,8 @@
 use Rattle.std.proofs.Common.{◌≡◌, ◌≤◌, length, vec_len}
 use Rattle.std.specs.Vec.{vec_capacity}
 use Rattle.call_data.proofs.ReadLists.{IsRead}
-use Rattle.call_arguments.specs.Records.{row_data, row_value}
-use Rattle.call_arguments.proofs.records.values.Given as goal
+use Rattle.record_arguments.specs.Records.{row_data, row_value}
+use Rattle.record_arguments.proofs.records.values.Given as goal
 
 abbrev pub invariant-loop-row : goal.invariant-loop-row
 invariant-loop-row l = record {
