@@ -1,3 +1,8 @@
+ghost use Rattle.std.specs.Prelude.{◌≡◌, ◌<◌, IsTrue};
+ghost use Rattle.promise_store.specs.States.{is_final, pending, settlement_view};
+ghost use Rattle.promise_store.specs.Turns.{state_at};
+ghost use Rattle.promise_store.specs.Views.{links_now, now_of};
+
 use actors::leaving::leaves;
 use actors::paths::{ResolveFault, Stands};
 use actors::{BindFault, Parties};
@@ -139,24 +144,22 @@ fn alice(rt: &impl Abort, alloc: Global) -> Parties {
     parties
 }
 
+fn can_settle(promises: &Promises<u32>, number: u32, settlement: &Settlement) -> bool
+    ensures made { IsTrue result → number < (links_now promises.now).made }
+    ensures is_pending { IsTrue result → state_at (now_of promises.now) number ≡ pending }
+    ensures is_final { IsTrue result → IsTrue (is_final (settlement_view settlement.now)) }
+{
+    number < promises.made()
+        && settlement.is_final()
+        && matches!(promises.state(number), State::Pending)
+}
+
 /// Settles a promise that is pending.
 fn settle(promises: &mut Promises<u32>, number: u32, settlement: Settlement) -> bool {
-    if promises.made() <= number || !settlement.is_final() {
+    if !can_settle(promises, number, &settlement) {
         return false;
     }
-    let State::Pending = promises.state(number) else {
-        return false;
-    };
-    match promises.settle(number, settlement) {
-        Ok(events) => {
-            drop(events);
-            true
-        }
-        Err(back) => {
-            drop(back);
-            false
-        }
-    }
+    promises.settle(number, settlement).is_ok()
 }
 
 /// A promise that is settled with a record, one that is pending, and a broken one.
@@ -227,13 +230,28 @@ fn resolved(
     }
 }
 
+fn are_resolved(
+    rt: &impl Abort,
+    alloc: Global,
+    parties: &Parties,
+    promises: &Promises<u32>,
+) -> bool {
+    for (path, wanted) in PATHS {
+        if resolved(rt, alloc, parties, promises, path) != *wanted {
+            return false;
+        }
+    }
+    true
+}
+
 #[test]
 fn paths_follow_promises(rt: HostRuntime) {
     let parties = alice(&rt, rt.alloc());
     let promises = three_promises(&rt, rt.alloc());
-    for (path, wanted) in PATHS {
-        assert!(rt; resolved(&rt, rt.alloc(), &parties, &promises, path) == *wanted);
-    }
+    let resolved = are_resolved(&rt, rt.alloc(), &parties, &promises);
+    drop(promises);
+    drop(parties);
+    assert!(rt; resolved);
 }
 
 #[test]

@@ -124,33 +124,45 @@ fn sum(minted: u128, burned: u128, purses: u128, payments: u128, slots: u128) ->
     }
 }
 
+/// A hundred are minted to a payment and put in a purse: whether the sums run with it.
+fn goes_to_a_purse(rt: &impl Abort, escrow: &mut Escrow) -> bool
+    requires told { (t : Table) × AreSums t escrow.old }
+    ensures holds { HoldsNumber escrow.new (holder.Purse 0) 100 }
+    ensures instances { escrow.new.instances ≡ escrow.old.instances }
+{
+    mint(rt, escrow, Holder::Payment(0), 100);
+    let minted = escrow.totals(1);
+    pass(rt, escrow, Holder::Payment(0), Holder::Purse(0), 100);
+    minted == sum(100, 0, 0, 100, 0) && escrow.totals(1) == sum(100, 0, 100, 0, 0)
+}
+
+/// Thirty of the hundred are taken out and put in a slot: whether the sums run with it.
+fn goes_to_a_slot(rt: &impl Abort, alloc: Global, escrow: &mut Escrow) -> bool
+    requires has { HoldsNumber escrow.old (holder.Purse 0) 100 }
+    requires opened { length escrow.old.instances ≡ 1 }
+    ensures holds { HoldsNumber escrow.new (holder.Slot 0 (codes "Price")) 30 }
+    ensures instances { escrow.new.instances ≡ escrow.old.instances }
+{
+    pass(rt, escrow, Holder::Purse(0), Holder::Payment(1), 30);
+    let taken = escrow.totals(1);
+    let slot = Holder::Slot(0, price(rt, alloc));
+    pass(rt, escrow, Holder::Payment(1), slot, 30);
+    taken == sum(100, 0, 70, 30, 0) && escrow.totals(1) == sum(100, 0, 70, 0, 30)
+}
+
 #[test]
 fn totals_run_with_the_movements(rt: HostRuntime) {
     let mut escrow = Escrow::new(rt.alloc());
     open(&rt, &mut escrow, 7);
-    mint(&rt, &mut escrow, Holder::Payment(0), 100);
-    assert!(rt; escrow.totals(1) == sum(100, 0, 0, 100, 0));
-    pass(&rt, &mut escrow, Holder::Payment(0), Holder::Purse(0), 100);
-    assert!(rt; escrow.totals(1) == sum(100, 0, 100, 0, 0));
-    pass(&rt, &mut escrow, Holder::Purse(0), Holder::Payment(1), 30);
-    assert!(rt; escrow.totals(1) == sum(100, 0, 70, 30, 0));
-    pass(
-        &rt,
-        &mut escrow,
-        Holder::Payment(1),
-        Holder::Slot(0, price(&rt, rt.alloc())),
-        30,
-    );
-    assert!(rt; escrow.totals(1) == sum(100, 0, 70, 0, 30));
-    assert!(rt; escrow.of_instance(7, 1) == 30 && escrow.of_instance(8, 1) == 0);
-    let burned = sum_where_burned(
-        &rt,
-        &mut escrow,
-        Holder::Slot(0, price(&rt, rt.alloc())),
-        30,
-    );
-    assert!(rt; burned == sum(100, 30, 70, 0, 0));
-    assert!(rt; escrow.totals(1) == sum(100, 0, 70, 0, 30));
+    let to_a_purse = goes_to_a_purse(&rt, &mut escrow);
+    let to_a_slot = goes_to_a_slot(&rt, rt.alloc(), &mut escrow);
+    let shares = (escrow.of_instance(7, 1), escrow.of_instance(8, 1));
+    let slot = Holder::Slot(0, price(&rt, rt.alloc()));
+    let burned = sum_where_burned(&rt, &mut escrow, slot, 30);
+    let after = escrow.totals(1);
+    drop(escrow);
+    assert!(rt; to_a_purse && to_a_slot && shares == (30, 0));
+    assert!(rt; burned == sum(100, 30, 70, 0, 0) && after == sum(100, 0, 70, 0, 30));
 }
 
 #[test]

@@ -242,14 +242,37 @@ const STEPS: &[(Step, Row, Row)] = &[
     ),
 ];
 
+/// Whether the first two instances have these rows after a step.
+fn goes(
+    rt: &impl Abort,
+    alloc: Global,
+    instances: &mut Instances,
+    went: &(Step, Row, Row),
+) -> bool {
+    let (step, first, second) = *went;
+    take(rt, alloc, instances, step);
+    row(rt, alloc, instances, 0) == first && row(rt, alloc, instances, 1) == second
+}
+
 #[test]
 fn a_turns_changes_are_undone_or_kept(rt: HostRuntime) {
     let mut instances = Instances::new(rt.alloc());
-    for (step, first, second) in STEPS {
-        take(&rt, rt.alloc(), &mut instances, *step);
-        assert!(rt; row(&rt, rt.alloc(), &instances, 0) == *first);
-        assert!(rt; row(&rt, rt.alloc(), &instances, 1) == *second);
+    for went in STEPS {
+        assert!(rt; goes(&rt, rt.alloc(), &mut instances, went));
     }
+}
+
+/// An instance of one installation.
+fn started(rt: &impl Abort, alloc: Global) -> Instances
+    ensures installation { 0 < installations_made result }
+    ensures instance { 0 < instances_made result }
+{
+    let mut instances = Instances::new(alloc);
+    install(rt, alloc, &mut instances);
+    start(rt, alloc, &mut instances);
+    assert!(rt; instances.installations() == 1);
+    assert!(rt; instances.made() == 1);
+    instances
 }
 
 /// Whether the first installation's module is shared whole.
@@ -268,25 +291,21 @@ fn is_shared(instances: &Instances) -> bool
 
 #[test]
 fn a_module_is_shared(rt: HostRuntime) {
-    let mut instances = Instances::new(rt.alloc());
-    install(&rt, rt.alloc(), &mut instances);
-    start(&rt, rt.alloc(), &mut instances);
-    assert!(rt; instances.installations() == 1 && instances.made() == 1);
-    assert!(rt; is_shared(&instances) && instances.installation(0) == 0);
-    assert!(rt; instances.terms(0).is_null());
-    assert!(rt; add_issuer(&rt, rt.alloc(), &mut instances, 0, 3).is_none());
+    let instances = started(&rt, rt.alloc());
+    let shared = is_shared(&instances);
+    let of_the_first = instances.installation(0) == 0 && instances.terms(0).is_null();
+    drop(instances);
+    assert!(rt; shared && of_the_first);
 }
 
 #[test]
 fn a_keyword_is_taken_once(rt: HostRuntime) {
-    let mut instances = Instances::new(rt.alloc());
-    install(&rt, rt.alloc(), &mut instances);
-    start(&rt, rt.alloc(), &mut instances);
+    let mut instances = started(&rt, rt.alloc());
+    let first = add_issuer(&rt, rt.alloc(), &mut instances, 0, 3);
     assert!(rt; instances.made() == 1);
-    assert!(rt; add_issuer(&rt, rt.alloc(), &mut instances, 0, 3).is_none());
-    assert!(rt; instances.made() == 1);
-    let fault = add_issuer(&rt, rt.alloc(), &mut instances, 0, 4);
-    assert!(rt; fault == Some(IssuerFault::KeywordTaken));
+    let second = add_issuer(&rt, rt.alloc(), &mut instances, 0, 4);
+    drop(instances);
+    assert!(rt; first.is_none() && second == Some(IssuerFault::KeywordTaken));
 }
 
 /// Adds a facet of the instance.

@@ -71,29 +71,45 @@ fn spend(payments: &mut Payments, alloc: Global, number: u32) -> bool {
     }
 }
 
+/// Whether a payment is made where the first, which was spent, stood.
+fn follows_the_spent(payments: &mut Payments, alloc: Global) -> bool {
+    let made = make(payments, alloc, 3) && spend(payments, alloc, 0);
+    let place = payments.next_key();
+    made && make(payments, alloc, 4)
+        && stands_at(payments, 0, place)
+        && stands_at(payments, 1, place)
+}
+
 #[test]
 fn a_spent_payment_is_dead_where_the_next_stands(rt: HostRuntime) {
     let mut payments = Payments::new(rt.alloc());
-    let made = make(&mut payments, rt.alloc(), 3) && spend(&mut payments, rt.alloc(), 0);
-    let place = payments.next_key();
-    let next = make(&mut payments, rt.alloc(), 4);
-    let stand = stands_at(&payments, 0, place) && stands_at(&payments, 1, place);
-    assert!(rt; made && next && stand);
+    let follows = follows_the_spent(&mut payments, rt.alloc());
     let live = is_live(&payments, 1) && !is_live(&payments, 0);
-    let dead = !spend(&mut payments, rt.alloc(), 0);
-    assert!(rt; live && dead && brand(&payments, 0) == 3 && brand(&payments, 1) == 4);
+    let spent = spend(&mut payments, rt.alloc(), 0);
+    let brands = (brand(&payments, 0), brand(&payments, 1));
+    drop(payments);
+    assert!(rt; follows && live && !spent && brands == (3, 4));
+}
+
+/// What is left and how many were made, once a payment is made from one of two slots.
+fn from_a_slot(payments: &mut Payments, alloc: Global) -> Option<(u32, u32)> {
+    let Ok(()) = payments.reserve_slots(2) else {
+        return None;
+    };
+    if make_from_slot(payments, alloc, 1) {
+        Some((payments.left(), payments.made()))
+    } else {
+        None
+    }
 }
 
 #[test]
 fn a_slot_counts_from_its_opening(rt: HostRuntime) {
     let mut payments = Payments::new(rt.alloc());
-    let Ok(()) = payments.reserve_slots(2) else {
-        return;
-    };
-    let left = payments.left();
-    let made = make_from_slot(&mut payments, rt.alloc(), 1);
-    assert!(rt; made && left == 4_294_967_293 && payments.left() == left && payments.made() == 1);
-    let more = payments.reserve_slots(left).is_ok();
+    let first = from_a_slot(&mut payments, rt.alloc());
+    let more = payments.reserve_slots(payments.left()).is_ok();
     let over = payments.reserve_slots(1).is_err();
-    assert!(rt; more && over && payments.left() == 0);
+    let left = payments.left();
+    drop(payments);
+    assert!(rt; first == Some((4_294_967_293, 1)) && more && over && left == 0);
 }

@@ -1,11 +1,14 @@
 //! Purses.
 
-ghost use Rattle.std.specs.Prelude.{◌≡◌, ◌<◌, length};
+ghost use Rattle.std.specs.Prelude.{◌≡◌, ◌<◌, ◌≤◌, ◌∷◌, [], length};
+ghost use Rattle.amount_math.specs.Worth.{nat_bound};
+ghost use Rattle.ertp_mint.specs.Balances.{empty_store};
+ghost use Rattle.purses.specs.Purses.{store_at};
 
 use crate::ertp_mint_tests::set;
 use amount_math::shortfall::LossFault;
-use amount_math::{AmountKind, Key, Kind, PutFault, SetKind, TooMuch, Value};
-use ertp_mint::{Circulations, Parcel};
+use amount_math::{AmountKind, Key, Kind, PutFault, SetKind, Value};
+use ertp_mint::{Balance, Circulations, Parcel};
 use purses::Purses;
 use std::alloc::{AllocError, Global};
 use std::process::Abort;
@@ -23,45 +26,81 @@ fn parcel(rt: &impl Abort, alloc: Global, value: Value) -> Parcel
     supply.issue(0, value).ok().expect(rt, "within the bound")
 }
 
+/// A purse of a kind, of brand 0.
+fn opened(rt: &impl Abort, alloc: Global, kind: Kind) -> Purses
+    ensures { result ≡ empty_store 0 kind ∷ [] }
+{
+    let mut purses = Purses::new(alloc);
+    assert!(rt; purses.open(0, kind).is_ok());
+    purses
+}
+
+/// Puts a value in the first purse, which takes it.
+fn put(rt: &impl Abort, alloc: Global, purses: &mut Purses, value: Value)
+    requires made { 0 < length purses.old }
+    requires brand { (store_at purses.old 0).amount.brand ≡ 0 }
+    requires kind { (store_at purses.old 0).amount.value.kind ≡ value.kind }
+    ensures made { length purses.new ≡ length purses.old }
+    ensures kind { (store_at purses.new 0).amount.value.kind ≡ value.kind }
+{
+    let parcel = parcel(rt, alloc, value);
+    if let Err((_parcel, _fault)) = purses.put(0, parcel) {
+        panic!(rt; "it is within the bound");
+    }
+}
+
 /// How many units the first purse has.
-fn held(purses: &Purses) -> Option<u128>
+fn held(purses: &Purses) -> u128
     requires { 0 < length purses.now }
 {
-    purses.amount(0).number()
+    purses.amount(0).total()
 }
 
-/// What was held and what was asked for, where it was more.
-fn short(answer: &Result<Parcel, LossFault>) -> Option<(u128, u128)> {
-    match answer {
+/// How many units are taken out and how many stay, where the taking is worked backwards.
+fn taken_and_left(purses: &mut Purses, number: u128) -> Option<(u128, u128)>
+    requires made { 0 < length purses.old }
+    requires kind { (store_at purses.old 0).amount.value.kind ≡ Kind.Nat }
+    requires small { number ≤ nat_bound }
+    ensures made { length purses.new ≡ length purses.old }
+    ensures kind { (store_at purses.new 0).amount.value.kind ≡ Kind.Nat }
+{
+    match purses.take(0, &Value::nat(number)) {
+        Ok(taken) => {
+            let both = (taken.value().total(), held(purses));
+            purses.undo_take(0, taken);
+            Some(both)
+        }
+        Err(_) => None,
+    }
+}
+
+/// What is held and what is asked for, where it is more.
+fn short_of(alloc: Global, purses: &mut Purses, number: u128) -> Option<(u128, u128)>
+    requires made { 0 < length purses.old }
+    requires kind { (store_at purses.old 0).amount.value.kind ≡ Kind.Nat }
+    requires small { number ≤ nat_bound }
+{
+    match purses.take(0, &Value::nat(number)) {
+        Ok(taken) => {
+            drop(Balance::of(alloc, taken));
+            None
+        }
         Err(LossFault::NotEnough(short)) => Some((short.held.total(), short.asked.total())),
-        _ => None,
+        Err(_) => None,
     }
 }
 
-/// A hundred units are put in, thirty taken out, and both are worked backwards.
+/// A hundred units are put in, thirty taken out, and that is worked backwards.
 #[test]
-fn a_deposit_and_a_withdrawal_are_worked_backwards(rt: HostRuntime) {
-    let mut purses = Purses::new(rt.alloc());
-    let number = purses.open(0, Kind::Nat);
-    assert!(rt; number == Ok(0));
-    let parcel = parcel(&rt, rt.alloc(), Value::nat(100));
-    if let Err((_parcel, _fault)) = purses.put(0, parcel) {
-        panic!(rt; "a hundred are within the bound");
-    }
-    let thirty = Value::nat(30);
-    let taken = purses.take(0, &thirty).ok().expect(&rt, "thirty are there");
-    drop(thirty);
-    assert!(rt; held(&purses) == Some(70) && taken.value().number() == Some(30));
-    purses.undo_take(0, taken);
-    assert!(rt; held(&purses) == Some(100));
-    let more = Value::nat(101);
-    let answer = purses.take(0, &more);
-    assert!(rt; short(&answer) == Some((100, 101)));
-    if let Ok(_parcel) = answer {
-        panic!(rt; "a hundred and one aren't there");
-    }
-    drop(more);
+fn a_withdrawal_is_worked_backwards(rt: HostRuntime) {
+    let mut purses = opened(&rt, rt.alloc(), Kind::Nat);
+    put(&rt, rt.alloc(), &mut purses, Value::nat(100));
+    let both = taken_and_left(&mut purses, 30);
+    assert!(rt; purses.made() == 1);
+    let after = held(&purses);
+    let short = short_of(rt.alloc(), &mut purses, 101);
     drop(purses);
+    assert!(rt; both == Some((30, 70)) && after == 100 && short == Some((100, 101)));
 }
 
 /// So many keys, which differ.
@@ -82,39 +121,35 @@ fn set_of_many(rt: &impl Abort, alloc: Global, count: u32) -> Value
     SetKind::make(keys).ok().expect(rt, "keys of a set")
 }
 
-/// Why a value isn't put in, where it is too much.
-fn over(answer: &Result<(), PutFault>) -> Option<TooMuch> {
+/// The sum that would be and its bound, where a value is too much.
+fn over(answer: Result<(), PutFault>) -> Option<(u128, u128)> {
     match answer {
-        Err(PutFault::TooMuch(over)) => Some(*over),
+        Err(PutFault::TooMuch(over)) => Some((over.sum, over.bound)),
         _ => None,
     }
+}
+
+/// A purse of 4,096 keys.
+fn full(rt: &impl Abort, alloc: Global) -> Purses
+    ensures made { 0 < length result }
+    ensures kind { (store_at result 0).amount.value.kind ≡ Kind.Set }
+{
+    let mut purses = opened(rt, alloc, Kind::Set);
+    let most = set_of_many(rt, alloc, 4096);
+    let room = purses.make_room_for(0, &most).is_ok();
+    put(rt, alloc, &mut purses, most);
+    assert!(rt; room);
+    purses
 }
 
 /// A purse of 4,096 keys takes no further one.
 #[test]
 fn a_set_has_at_most_4096_keys(rt: HostRuntime) {
-    let mut purses = Purses::new(rt.alloc());
-    let number = purses.open(0, Kind::Set);
-    assert!(rt; number == Ok(0));
-    let most = set_of_many(&rt, rt.alloc(), 4096);
-    purses
-        .make_room_for(0, &most)
-        .expect(&rt, "memory for keys");
-    purses.reserve(0, 1).expect(&rt, "memory for a key");
-    let parcel = parcel(&rt, rt.alloc(), most);
-    if let Err((_parcel, _fault)) = purses.put(0, parcel) {
-        panic!(rt; "4,096 keys are a value");
-    }
+    let mut purses = full(&rt, rt.alloc());
+    let reserved = purses.reserve(0, 1).is_ok();
     let further = set(&rt, rt.alloc(), &["x"]);
-    let answer = purses.can_put(0, &further);
-    assert!(rt;
-        over(&answer)
-            == Some(TooMuch {
-                sum: 4097,
-                bound: 4096
-            })
-    );
-    drop(answer);
+    let over = over(purses.can_put(0, &further));
     drop(further);
     drop(purses);
+    assert!(rt; reserved && over == Some((4097, 4096)));
 }

@@ -173,16 +173,24 @@ struct Case {
     said: Said,
 }
 
+fn said_of_gains(answer: Result<Plan, GainsFault>, case: &Case) -> Said {
+    match &answer {
+        Ok(plan) => planned(plan, case.slots, case.after),
+        Err(fault) => of_gains(fault),
+    }
+}
+
 /// What is planned of a gain.
 fn gained(rt: &impl Abort, alloc: Global, case: &Case) -> Said {
     let state = seller(rt, alloc, case.is_open, case.slots);
     let gains = coins(rt, alloc, case.rows);
-    let answer = plan_gains(alloc, case.instance, &state, &gains);
-    drop(state);
-    drop(gains);
+    said_of_gains(plan_gains(alloc, case.instance, &state, &gains), case)
+}
+
+fn said_of_losses(answer: Result<Plan, LossesFault>, case: &Case) -> Said {
     match &answer {
         Ok(plan) => planned(plan, case.slots, case.after),
-        Err(fault) => of_gains(fault),
+        Err(fault) => of_losses(fault),
     }
 }
 
@@ -190,13 +198,7 @@ fn gained(rt: &impl Abort, alloc: Global, case: &Case) -> Said {
 fn lost(rt: &impl Abort, alloc: Global, case: &Case) -> Said {
     let state = seller(rt, alloc, case.is_open, case.slots);
     let losses = coins(rt, alloc, case.rows);
-    let answer = plan_losses(alloc, case.instance, &state, &losses);
-    drop(state);
-    drop(losses);
-    match &answer {
-        Ok(plan) => planned(plan, case.slots, case.after),
-        Err(fault) => of_losses(fault),
-    }
+    said_of_losses(plan_losses(alloc, case.instance, &state, &losses), case)
 }
 
 const MOST: u128 = (1 << 63) - 1;

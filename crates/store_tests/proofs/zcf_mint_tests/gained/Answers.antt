@@ -3,5 +3,5 @@ use Rattle.amount_math.specs.declared.Kind.TheVariants.{Nat}
 use Rattle.store_tests.proofs.Coins.{meet_slots}
 use Rattle.store_tests.proofs.zcf_mint_tests.gained.Goals as goal
 
-pub plan_gains-answer-requires : goal.plan_gains-answer-requires
-plan_gains-answer-requires g c = meet_slots Nat c.seller-state.result.allocation c.seller-state.result.allocation c.coins-gains.result refl c.seller-state.ensures.slots c.coins-gains.ensures
+pub plan_gains-requires : goal.plan_gains-requires
+plan_gains-requires g c = meet_slots Nat c.seller-state.result.allocation c.seller-state.result.allocation c.coins-gains.result refl c.seller-state.ensures.slots c.coins-gains.ensures
