@@ -1,0 +1,335 @@
+//! What changes of seats are planned from, by short tables, and what is told of a plan.
+
+ghost use Rattle.std.specs.Prelude.{◌≡◌, ◌++◌, ◌∷◌, [], All, IfSome};
+ghost use Rattle.seat_tests.specs.Brands.{AreOfTheirBrands, HasBrands, IsOfItsBrand, brand_of, kind_of};
+
+use amount_math::{Amount, Key, Kind, NAT_BOUND, Value};
+use host_text::keyword::Keyword;
+use proposals::allocations::{Allocation, MOST_ROWS};
+use proposals::offers::{Exit, Proposal};
+use proposals::plans::{Plan, SeatState};
+use rearrange::plans::PlanFault;
+use rearrange::seats::SeatsFault;
+use std::alloc::Global;
+use std::process::Abort;
+
+/// Keywords with so many units, under `Nft` the token nft-1 or none.
+pub type Rows = &'static [(&'static str, u128)];
+
+/// What a seat is.
+#[derive(Clone, Copy)]
+pub struct Given {
+    pub seat: u32,
+    pub instance: u32,
+    pub is_open: bool,
+    pub give: Rows,
+    pub want: Rows,
+    pub slots: Rows,
+    pub staged: Option<Rows>,
+}
+
+/// An open seat of instance 1, with nothing.
+pub const OPEN: Given = Given {
+    seat: 0,
+    instance: 1,
+    is_open: true,
+    give: &[],
+    want: &[],
+    slots: &[],
+    staged: None,
+};
+
+/// Seat 5, with as many slots as a seat may have.
+pub const FULL: Given = Given {
+    seat: 5,
+    slots: &[
+        ("A", 0),
+        ("B", 0),
+        ("C", 0),
+        ("D", 0),
+        ("E", 0),
+        ("F", 0),
+        ("G", 0),
+        ("H", 0),
+        ("I", 0),
+        ("J", 0),
+        ("K", 0),
+        ("L", 0),
+        ("M", 0),
+        ("N", 0),
+        ("O", 0),
+        ("P", 0),
+        ("Q", 0),
+        ("R", 0),
+        ("S", 0),
+        ("T", 0),
+        ("U", 0),
+        ("V", 0),
+        ("W", 0),
+        ("Z", 0),
+        ("AA", 0),
+        ("AB", 0),
+        ("AC", 0),
+        ("AD", 0),
+        ("AE", 0),
+        ("AF", 0),
+        ("AG", 0),
+        ("AH", 0),
+        ("AI", 0),
+        ("AJ", 0),
+        ("AK", 0),
+        ("AL", 0),
+        ("AM", 0),
+        ("AN", 0),
+        ("AO", 0),
+        ("AP", 0),
+        ("AQ", 0),
+        ("AR", 0),
+        ("AS", 0),
+        ("AT", 0),
+        ("AU", 0),
+        ("AV", 0),
+        ("AW", 0),
+        ("AX", 0),
+        ("AY", 0),
+        ("AZ", 0),
+        ("BA", 0),
+        ("BB", 0),
+        ("BC", 0),
+        ("BD", 0),
+        ("BE", 0),
+        ("BF", 0),
+        ("BG", 0),
+        ("BH", 0),
+        ("BI", 0),
+        ("BJ", 0),
+        ("BK", 0),
+        ("BL", 0),
+        ("BM", 0),
+        ("BN", 0),
+    ],
+    ..OPEN
+};
+
+/// What was planned, or why it wasn't, with what is shown.
+#[derive(Clone, Copy, PartialEq, Eq)]
+pub enum Said {
+    Planned,
+    WrongInstance(u32),
+    OneSeat,
+    RepeatedSeat(u32),
+    SeatExited(u32),
+    StagedLeftOut(u32),
+    NotEnough(u128, u128),
+    Overlap,
+    TooMuch(u128, u128),
+    /// The brand, and how many there are before and after.
+    NotConserved(u16, u128, u128),
+    NotOfferSafe(u32),
+    Limit,
+    Other,
+}
+
+/// The most units of a value.
+pub const MOST: u128 = (1 << 63) - 1;
+
+fn brand_of(keyword: &Keyword) -> u16
+    ensures { result ≡ brand_of keyword.now }
+{
+    if keyword.as_str() == "Nft" {
+        return 3;
+    }
+    if keyword.as_str() == "Asset" || keyword.as_str() == "Out" || keyword.as_str() == "Y" {
+        return 1;
+    }
+    2
+}
+
+fn kind_of(keyword: &Keyword) -> Kind
+    ensures { result ≡ kind_of keyword.now }
+{
+    if keyword.as_str() == "Nft" {
+        return Kind::Set;
+    }
+    Kind::Nat
+}
+
+/// The token nft-1.
+pub fn token(rt: &impl Abort, alloc: Global) -> Value
+    ensures { result.kind ≡ Kind.Set }
+{
+    let key = Key::new(String::from_str(alloc, "nft-1").expect(rt, "memory for a key"));
+    assert!(rt; key.is_key());
+    Value::set_of_one(alloc, key)
+        .ok()
+        .expect(rt, "memory for a set")
+}
+
+/// So many units of a kind, or the token.
+fn value(rt: &impl Abort, alloc: Global, kind: Kind, number: u128) -> Value
+    ensures { result.kind ≡ kind }
+{
+    assert!(rt; number <= NAT_BOUND);
+    match kind {
+        Kind::Nat => Value::nat(number),
+        Kind::Set if number == 1 => token(rt, alloc),
+        _ => Value::empty(kind),
+    }
+}
+
+pub fn keyword(rt: &impl Abort, alloc: Global, text: &str) -> Keyword {
+    let keyword = Keyword::read(alloc, text.as_bytes()).ok();
+    keyword.expect(rt, "a keyword, and memory")
+}
+
+/// The amount of so many units under a keyword.
+fn amount(rt: &impl Abort, alloc: Global, keyword: &Keyword, number: u128) -> Amount
+    ensures brand { result.brand ≡ brand_of keyword.now }
+    ensures kind { result.value.kind ≡ kind_of keyword.now }
+{
+    let value = value(rt, alloc, kind_of(keyword), number);
+    let brand = brand_of(keyword);
+    Amount { brand, value }
+}
+
+fn add(rt: &impl Abort, alloc: Global, made: &mut Allocation, text: &str, number: u128)
+    requires { AreOfTheirBrands made.old }
+    ensures { AreOfTheirBrands made.new }
+{
+    let keyword = keyword(rt, alloc, text);
+    assert!(rt; made.len() < MOST_ROWS);
+    assert!(rt; made.get(&keyword).is_none());
+    let amount = amount(rt, alloc, &keyword, number);
+    let added = made.push(alloc, keyword, amount);
+    assert!(rt; added.is_ok());
+}
+
+pub fn rows(rt: &impl Abort, alloc: Global, rows: Rows) -> Allocation
+    ensures { AreOfTheirBrands result }
+{
+    let mut made = Allocation::new(alloc);
+    for (text, number) in rows {
+        add(rt, alloc, &mut made, text, *number);
+    }
+    made
+}
+
+pub fn some_rows(rt: &impl Abort, alloc: Global, given: Option<Rows>) -> Option<Allocation>
+    ensures { IfSome result AreOfTheirBrands }
+{
+    match given {
+        Some(given) => Some(rows(rt, alloc, given)),
+        None => None,
+    }
+}
+
+pub fn proposal(rt: &impl Abort, alloc: Global, give: Rows, want: Rows) -> Proposal
+    ensures give { AreOfTheirBrands result.give }
+    ensures want { AreOfTheirBrands result.want }
+{
+    let give = rows(rt, alloc, give);
+    let want = rows(rt, alloc, want);
+    let exit = Exit::OnDemand;
+    Proposal { give, want, exit }
+}
+
+fn state(rt: &impl Abort, alloc: Global, given: &Given) -> SeatState
+    ensures { HasBrands result }
+{
+    let proposal = proposal(rt, alloc, given.give, given.want);
+    let allocation = rows(rt, alloc, given.slots);
+    let staged = some_rows(rt, alloc, given.staged);
+    SeatState {
+        seat: given.seat,
+        instance: given.instance,
+        proposal,
+        allocation,
+        staged,
+        is_open: given.is_open,
+    }
+}
+
+/// Adds a seat's state behind the others.
+fn add_state(rt: &impl Abort, states: &mut Vec<SeatState>, state: SeatState)
+    ensures { states.new.items ≡ states.old.items ++ state ∷ [] }
+{
+    if let Err(_failed) = states.push(state) {
+        panic!(rt; "memory for a seat");
+    }
+}
+
+pub fn states(rt: &impl Abort, alloc: Global, all: &[Given]) -> Vec<SeatState>
+    ensures { All HasBrands result.items }
+{
+    let mut states = Vec::new(alloc);
+    for given in all {
+        add_state(rt, &mut states, state(rt, alloc, given));
+    }
+    states
+}
+
+/// Whether an allocation has just these rows, in this order.
+pub fn has_rows(allocation: &Allocation, rows: Rows) -> bool {
+    if allocation.len() != rows.len() {
+        return false;
+    }
+    for (row, (text, number)) in allocation.rows().iter().zip(rows) {
+        if row.keyword.as_str() != *text || row.amount.value.total() != *number {
+            return false;
+        }
+    }
+    true
+}
+
+/// Whether a plan touches just these seats, in this order, and brings them to these rows.
+fn planned(plan: &Plan, after: &[(u32, Rows)]) -> Said {
+    if plan.touched().len() != after.len() {
+        return Said::Other;
+    }
+    for (touched, (seat, rows)) in plan.touched().iter().zip(after) {
+        if touched.seat != *seat || !has_rows(&touched.after, *rows) {
+            return Said::Other;
+        }
+    }
+    Said::Planned
+}
+
+fn of_seats(fault: SeatsFault) -> Said {
+    match fault {
+        SeatsFault::WrongInstance(seat) => Said::WrongInstance(seat),
+        SeatsFault::OneSeat => Said::OneSeat,
+        SeatsFault::RepeatedSeat(seat) => Said::RepeatedSeat(seat),
+        SeatsFault::SeatExited(seat) => Said::SeatExited(seat),
+        SeatsFault::StagedLeftOut(seat) => Said::StagedLeftOut(seat),
+    }
+}
+
+/// An overlap is told where nft-1 is shown.
+fn of_fault(fault: &PlanFault) -> Said {
+    match fault {
+        PlanFault::Seats(fault) => of_seats(*fault),
+        PlanFault::NotEnough(short) => Said::NotEnough(short.held.total(), short.asked.total()),
+        PlanFault::Overlap(key) if key.as_str() == "nft-1" => Said::Overlap,
+        PlanFault::TooMuch(over) => Said::TooMuch(over.sum, over.bound),
+        PlanFault::NotConserved(kept) => Said::NotConserved(kept.brand, kept.before, kept.after),
+        PlanFault::NotOfferSafe(seat) => Said::NotOfferSafe(*seat),
+        PlanFault::Limit => Said::Limit,
+        _ => Said::Other,
+    }
+}
+
+fn of_plan(plan: Plan, after: &[(u32, Rows)]) -> Said {
+    planned(&plan, after)
+}
+
+fn of_refusal(fault: PlanFault) -> Said {
+    of_fault(&fault)
+}
+
+/// What is told of a plan that is to bring its seats to these rows, or of a refusal.
+pub fn told(answer: Result<Plan, PlanFault>, after: &[(u32, Rows)]) -> Said {
+    match answer {
+        Ok(plan) => of_plan(plan, after),
+        Err(fault) => of_refusal(fault),
+    }
+}
