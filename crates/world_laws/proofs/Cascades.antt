@@ -28,12 +28,12 @@ abbrev pub Paired : List CascadeStep → CascadeStep → Type 0
 Paired ss (settles p) = Has (notifies p) ss
 Paired ss (notifies p) = Has (settles p) ss
 
-has_first : (s : CascadeStep) (xs ys : List CascadeStep) → Has s xs → Has s (xs ++ ys)
+pub has_first : (s : CascadeStep) (xs ys : List CascadeStep) → Has s xs → Has s (xs ++ ys)
 has_first s [] ys has = absurd has
 has_first s (x ∷ xs) ys (inl e) = inl e
 has_first s (x ∷ xs) ys (inr has) = inr (has_first s xs ys has)
 
-has_second : (s : CascadeStep) (xs ys : List CascadeStep) → Has s ys → Has s (xs ++ ys)
+pub has_second : (s : CascadeStep) (xs ys : List CascadeStep) → Has s ys → Has s (xs ++ ys)
 has_second s [] ys has = has
 has_second s (x ∷ xs) ys has = inr (has_second s xs ys has)
 
@@ -69,7 +69,7 @@ set_settled [] p v = refl
 set_settled (s ∷ ss) zero v = refl
 set_settled (s ∷ ss) (suc p) v = set_settled ss p v
 
-settled_on : (ss ts : List (Option SettlementView)) (p : ℕ) → Keeps WasSettled no_promise ss ts → length ts ≡ length ss → WasSettled (settlement_at ss p) → WasSettled (settlement_at ts p)
+pub settled_on : (ss ts : List (Option SettlementView)) (p : ℕ) → Keeps WasSettled no_promise ss ts → length ts ≡ length ss → WasSettled (settlement_at ss p) → WasSettled (settlement_at ts p)
 settled_on ss ts p keeps as_many is = by (nat_lt p (length ss)) refl
   where
     by : (b : Bool) → nat_lt p (length ss) ≡ b → WasSettled (settlement_at ts p)
@@ -120,11 +120,11 @@ steps_quiet v P (s ∷ ss) f all =
     (steps_quiet v (λ n. P n × IsQuiet n s) ss g (step_quiet v P s f all))
 
 -- what no step settles stays as it is
-abbrev IsAway : ℕ → CascadeStep → Type 0
+abbrev pub IsAway : ℕ → CascadeStep → Type 0
 IsAway q (settles p) = p ≢ q
 IsAway q (notifies p) = Unit {0}
 
-steps_away : (v : SettlementView) (q : ℕ) (ss : List CascadeStep) (f : Flow) → AllByRecursion (IsAway q) ss → settlement_at (all_stepped v ss f).settled q ≡ settlement_at f.settled q
+pub steps_away : (v : SettlementView) (q : ℕ) (ss : List CascadeStep) (f : Flow) → AllByRecursion (IsAway q) ss → settlement_at (all_stepped v ss f).settled q ≡ settlement_at f.settled q
 steps_away v q [] f away = refl
 steps_away v q (settles p ∷ ss) f away = steps_away v q ss (stepped v (settles p) f) away.1 ∙ read_other f.settled p q (Some v) no_promise away.0
 steps_away v q (notifies p ∷ ss) f away = steps_away v q ss (stepped v (notifies p) f) away.1
@@ -165,7 +165,7 @@ module _ (p : ℕ) (b : PromiseBook) (ds : List Delivery) (log : List Event) (ar
 
 -- ---- by effect
 
-unsettled_made : (ss : List (Option SettlementView)) (p : ℕ) → settlement_at ss p ≡ None → p < length ss
+pub unsettled_made : (ss : List (Option SettlementView)) (p : ℕ) → settlement_at ss p ≡ None → p < length ss
 unsettled_made [] p is = cc
 unsettled_made (s ∷ ss) zero is = omega arith
 unsettled_made (s ∷ ss) (suc p) is = let lt : p < length ss = unsettled_made ss p is in omega arith

@@ -1,12 +1,12 @@
 -- The world of a new host is good.
-use Rattle.std.proofs.Common.{◌≡◌, ℕ, zero, suc, List, [], ◌∷◌, Some, None, refl, arith}
+use Rattle.std.proofs.Common.{◌≡◌, ◌*◌, ℕ, zero, suc, List, [], ◌∷◌, Some, None, refl, arith}
 use Rattle.amount_math.specs.Content.{count, count-nothing}
 use Rattle.amount_math.specs.declared.Kind.TheVariants.{Set}
 use Rattle.brands.specs.Brands.{brand_at, started}
 use Rattle.ertp_mint.specs.BrandSupply.{new_supply, supply_at}
 use Rattle.proposals.specs.declared.allocations.Row.{Row}
 use Rattle.world_state.specs.Good.{IsGoodWorld}
-use Rattle.world_state.specs.Rights.{kind_at}
+use Rattle.world_state.specs.Rights.{IsRoomy, kind_at, most_issued, most_turns}
 use Rattle.world_laws.specs.First.{first_world}
 
 none_out : (b : ℕ) (k : List ℕ) → count (supply_at (new_supply Set ∷ []) b).outstanding.content k ≡ 0
@@ -22,6 +22,9 @@ nothing_is rows e = cc
 
 closed : (rows : List Row) → Some rows ≡ None → ⊥
 closed rows e = cc
+
+led : {q : ℕ} → None ≡ Some q → ⊥
+led e = cc
 
 pub first_is_good : IsGoodWorld first_world
 first_is_good = record {
@@ -42,6 +45,7 @@ first_is_good = record {
   staged = record { each = λ s rows e. absurd (nothing_is rows e) };
   owed = record { made = tt; once = λ p. omega arith; pending = λ p some. absurd (omega (arith, some)) };
   asked = tt;
+  following = record { forest = tt; made = tt; unsettled = λ p q e none. absurd (led e) };
   settled = tt;
   requests = tt;
   modules = tt;
@@ -53,3 +57,10 @@ first_is_good = record {
   timely = record { time = omega arith; waiting = tt };
   waiting = tt;
 }
+
+minted_none : (b : ℕ) → (supply_at (new_supply Set ∷ []) b).minted ≡ 0
+minted_none zero = refl
+minted_none (suc b) = refl
+
+pub first_is_roomy : IsRoomy first_world.rights.out (most_turns * most_issued)
+first_is_roomy = record { each = λ b. omega (arith, minted_none b) }

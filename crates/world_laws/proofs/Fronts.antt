@@ -1,7 +1,7 @@
 -- The world with a turn's delivery in front, and the one behind it.
-use Rattle.std.specs.Prelude.{◌==◌, slice_set}
+use Rattle.std.specs.Prelude.{◌==◌, drop, slice_set}
 use Rattle.std.specs.List.{AllByRecursion}
-use Rattle.std.proofs.Common.{◌≡◌, ◌≢◌, ℕ, ◌+◌, Bool, true, false, List, [], ◌∷◌, ◌++◌, Some, None, Option, length, refl, ◌∙◌, ap, subst, arith}
+use Rattle.std.proofs.Common.{◌≡◌, ◌≢◌, ℕ, ◌+◌, Bool, true, false, List, [], ◌∷◌, ◌++◌, Some, None, Option, length, refl, ◌∙◌, sym, ap, subst, arith}
 use Rattle.std.proofs.lemmas.Bool.{eq-eqb, eqb-true}
 use Rattle.brands.specs.Brands.{no_brand}
 use Rattle.instance_store.specs.Facets.{no_facet}
@@ -16,7 +16,7 @@ use Rattle.world_state.specs.Good.{AreGood, IsDue, IsFacet, IsGoodEffect, IsGood
 use Rattle.world_state.specs.Known.{Grows, WasLeft, WasSpent, instance_origin, seat_origin, whole}
 use Rattle.world_state.specs.Promises.{CascadeStep, Flow, PromiseBook, Resolved, WasSettled, all_stepped, cascade, flowing, following, no_promise, notifies, resolving, resolving_to, settlement_at, settles, settling, stepped, target_of}
 use Rattle.world_state.specs.Rights.{slots_at}
-use Rattle.world_state.specs.Worlds.{Effect, Maker, State, after, after_all, in_front, leaving_events, no_seat, of_host, of_instance, of_kit, payouts_tree, rights_left, seats_left}
+use Rattle.world_state.specs.Worlds.{Effect, Maker, State, after, after_all, behind, in_front, leaving_events, no_seat, of_host, of_instance, of_kit, payouts_tree, rights_left, seats_left}
 use Rattle.world_state.specs.Worlds.{add_issuer, arrive, bind_label, empty_payment, empty_seat, end_staging, exit, halt, install, invite, keep_state, make_facet, moves, new_brand, new_promise, new_purse, note_call, offer, publish, resolve, send, set_time, stage, start, stop, unstage, wake, when}
 use Rattle.world_laws.proofs.Forms.{due_grows, facet_grows, formed_grows, function_grows, handed_all_grow, instance_grows, invitation_grows, issuer_grows, issuers_all_grow, known_all_grow, label_grows, notice_grows, settled_grows, settling_grows, timed_grows, wakeup_grows}
 use Rattle.world_laws.proofs.Kept.{good-after}
@@ -61,6 +61,9 @@ module _ (w : State) (d : Delivery) where
     spent = keeps_refl WasSpent (spent_paper 0) w.rights.payments;
   }
 
+  pub begins : (ds : List Delivery) → w.waiting ≡ d ∷ ds → w ≡ in_front d (behind w)
+  begins ds is = ap (λ (l : List Delivery). record w { waiting = l }) (is ∙ ap (λ (l : List Delivery). d ∷ drop 1 l) (sym is))
+
   owed_front : (p : ℕ) → owes w.seats w.pairs (d ∷ w.waiting) w.promises p ≡ owes w.seats w.pairs w.waiting w.promises p + one_if (is_for (promise_of d) p)
   owed_front p = omega arith
 
@@ -101,6 +104,7 @@ module _ (w : State) (d : Delivery) where
           pending = λ p some. good.owed.pending p (omega (arith, some, owed_front p));
         };
         asked = good.asked;
+        following = good.following;
         settled = all_map (IsSettled v) (IsSettled w) (settled_grows v w g) w.promises.settled good.settled;
         requests = all_map (IsNotice v) (IsNotice w) (notice_grows v w g) w.promises.requests good.requests;
         modules = good.modules;

@@ -16,6 +16,7 @@ pub mod Balanced
 pub mod Rooms
 pub mod Owed
 pub mod Owing
+pub mod Followings
 pub mod Kept
 pub mod First
 pub mod Roomy

@@ -33,7 +33,7 @@ payouts-push [] (x ∷ xs) s q p e = absurd (omega (arith, e))
 payouts-push (t ∷ ts) [] s q p e = absurd (omega (arith, e))
 payouts-push (t ∷ ts) (x ∷ xs) s q p e = omega (arith, payouts-push ts xs s q p (omega (arith, e)))
 
-payouts-left : (seats : List Seat) (pairs : List SeatPair) (n : ℕ) (rows : List Row) (p : ℕ) → length pairs ≡ length seats → (seat_at seats n).last ≡ None → owed_payouts (slice_set seats n (left_seat (seat_at seats n) rows)) pairs p + one_if ((pair_at pairs n).payouts == p) ≡ owed_payouts seats pairs p
+pub payouts-left : (seats : List Seat) (pairs : List SeatPair) (n : ℕ) (rows : List Row) (p : ℕ) → length pairs ≡ length seats → (seat_at seats n).last ≡ None → owed_payouts (slice_set seats n (left_seat (seat_at seats n) rows)) pairs p + one_if ((pair_at pairs n).payouts == p) ≡ owed_payouts seats pairs p
 payouts-left [] pairs n rows p e is = cc
 payouts-left (t ∷ ts) [] n rows p e is = absurd (omega (arith, e))
 payouts-left (t ∷ ts) (x ∷ xs) zero rows p e is = omega (arith, ap (λ (o : Option (List Row)). one_if (is_none o && (x.payouts == p))) is)

@@ -9,7 +9,7 @@ use Rattle.rights_model.specs.declared.Holder.{Holder}
 use Rattle.rights_model.specs.declared.Holder.TheVariants.{Purse, Payment, Slot, Hand, Outside}
 use Rattle.rights_model.specs.declared.Movement.{Movement}
 use Rattle.world_state.specs.Rights.{IsRoomy, Rights, all_moved, given, issued_from, issued_in, moved, taken, with_slots}
-use Rattle.world_state.specs.Worlds.{Effect, State, after, burn_and_escrows, empty_slots, invitation_move, issued_by, invite, moves, new_brand, offer}
+use Rattle.world_state.specs.Worlds.{Effect, State, after, after_all, burn_and_escrows, empty_slots, invitation_move, issued_by, issued_by_all, invite, moves, new_brand, offer}
 
 abbrev minted_at : List BrandSupply → ℕ → ℕ
 minted_at out e = (supply_at out e).minted
@@ -54,3 +54,12 @@ roomy-after w (moves ms) n m is le = roomy_moved w.rights ms m (roomy_less w.rig
 roomy-after w (offer o) n m is le = roomy_moved (with_slots w.rights (empty_slots o.proposal)) (burn_and_escrows o) m (roomy_less w.rights.out n (issued_in (burn_and_escrows o) + m) le is)
 roomy-after w (invite d) n m is le = roomy_moved w.rights (invitation_move w ∷ []) m (roomy_less w.rights.out n (issued_in (invitation_move w ∷ []) + m) le is)
 roomy-after w _ n m is le = roomy_less w.rights.out n m (omega (arith, le)) is
+
+pub roomy-movement : (r : Rights) (x : Movement) (xs : List Movement) (n : ℕ) → IsRoomy r.out (issued_in (x ∷ xs) + n) → IsRoomy (moved r x).out (issued_in xs + n)
+roomy-movement r x xs n is =
+    roomy_given (taken r x.from x.brand x.value) x.to x.brand x.value (issued_in xs + n)
+    (roomy_taken r x.from x.brand x.value (issued_in xs + n) (roomy_less r.out (issued_in (x ∷ xs) + n) (issued_from x.from x.value.content + (issued_in xs + n)) (omega arith) is))
+
+pub roomy-after_all : (w : State) (es : List Effect) (n m : ℕ) → IsRoomy w.rights.out n → issued_by_all w es + m ≤ n → IsRoomy (after_all w es).rights.out m
+roomy-after_all w [] n m is le = roomy_less w.rights.out n m (omega (arith, le)) is
+roomy-after_all w (e ∷ es) n m is le = roomy-after_all (after w e) es (issued_by_all (after w e) es + m) m (roomy-after w e n (issued_by_all (after w e) es + m) is (omega (arith, le))) (omega arith)

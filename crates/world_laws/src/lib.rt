@@ -1,6 +1,6 @@
-//! Laws of the world: what was made stays what it is, each good effect keeps the world good, and the world of a
-//! new host is good. It stands on the definitions of world_state, and on lemmas of the stores below. Its one
-//! contract: the laws that the functions of `laws` state.
+//! Laws of the world: what was made stays what it is, each good effect keeps the world good, and
+//! the world of a new host is good. It stands on the definitions of world_state, and on lemmas of
+//! the stores below. Its one contract: the laws that the functions of `laws` state.
 #![tactic(auto)]
 
 pub mod laws;

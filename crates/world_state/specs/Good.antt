@@ -30,7 +30,7 @@ use Rattle.jessie_tree.specs.Tree.{Tree, fields, get, object}
 use Rattle.jessie_tree.specs.declared.data.Obj.{Obj}
 use Rattle.jessie_tree.specs.declared.syntax.Module.{Module}
 use Rattle.payments.specs.Papers.{Paper, paper_at}
-use Rattle.promise_store.specs.Linked.{LeadsTo}
+use Rattle.promise_store.specs.Linked.{IsForest, LeadsTo, leader}
 use Rattle.promise_store.specs.States.{SettlementView, broken, ok}
 use Rattle.promise_store.specs.declared.links.Following.{Following}
 use Rattle.proposals.specs.OfferSafety.{IsOfferSafe}
@@ -262,6 +262,18 @@ abbrev pub AreAsked : PromiseBook → Type 0
 AreAsked book =
     AllByRecursion (λ (n : Notice). settlement_at book.settled n.promise ≡ None) book.requests
 
+-- what follows another was made, as that was; none leads to itself; and what follows a promise that
+-- isn't settled isn't settled
+pub record IsFollowing (made : ℕ) (f : Following) : Type 0 where
+  pub promise : f.promise < made
+  pub target : f.target < made
+
+pub record AreFollowing (book : PromiseBook) : Type 0 where
+  pub forest : IsForest book.follows
+  pub made : AllByRecursion (IsFollowing (length book.settled)) book.follows
+  pub unsettled : (p q : ℕ) → leader book.follows p ≡ Some q
+      → settlement_at book.settled q ≡ None → settlement_at book.settled p ≡ None
+
 -- ---- data and functions that the world holds
 
 -- what a promise is settled with ends it, and can be handed out
@@ -403,6 +415,7 @@ pub record IsGoodWorld (w : State) : Type 0 where
   pub staged : AreStaged w.rights.out w.seats w.rights.slots w.staging
   pub owed : AreOwed w.seats w.pairs w.waiting w.promises
   pub asked : AreAsked w.promises
+  pub following : AreFollowing w.promises
   pub settled : AllByRecursion (IsSettled w) w.promises.settled
   pub requests : AllByRecursion (IsNotice w) w.promises.requests
   pub modules : AllByRecursion IsModule w.tables.installations

@@ -280,7 +280,15 @@ abbrev pub issued_in : List Movement → ℕ
 issued_in [] = 0
 issued_in (m ∷ ms) = issued_from m.from m.value.content + issued_in ms
 
--- so many counts may still be issued of each brand
+-- the most counts that a turn issues, all elements together, and how many turns there may be
+abbrev pub most_issued : ℕ
+most_issued = 2 ^ 87
+
+abbrev pub most_turns : ℕ
+most_turns = 4000000000
+
+-- so many counts may still be issued of each brand. Between turns that is what the turns that are
+-- left may issue
 pub record IsRoomy (out : List BrandSupply) (n : ℕ) : Type 0 where
   pub each : (b : ℕ) → (supply_at out b).minted + n < 2 ^ 128
 

@@ -1,6 +1,6 @@
 -- The state of the world in a turn, the effects that a call may have on it, what each makes of it.
 use Rattle.std.specs.Prelude.{◌≡◌, ℕ, suc, ◌+◌, if◌then◌else◌, nat_lt, Option, Some, None}
-use Rattle.std.specs.Prelude.{List, [], ◌∷◌, ◌++◌, length, map, slice_index_or, slice_set}
+use Rattle.std.specs.Prelude.{List, [], ◌∷◌, ◌++◌, drop, length, map, slice_index_or, slice_set}
 use Rattle.amount_math.specs.declared.Kind.TheVariants.{Set}
 use Rattle.amount_math.specs.Content.{one_of}
 use Rattle.amount_math.specs.Worth.{Worth}
@@ -454,9 +454,17 @@ after_all w (e ∷ es) = after_all (after w e) es
 abbrev pub in_front : Delivery → State → State
 in_front d w = record w { waiting = d ∷ w.waiting }
 
+-- the world behind the delivery that is in front
+abbrev pub behind : State → State
+behind w = record w { waiting = drop 1 w.waiting }
+
 -- how many counts an effect issues
 abbrev pub issued_by : State → Effect → ℕ
 issued_by w (moves ms) = issued_in ms
 issued_by w (offer o) = issued_in (burn_and_escrows o)
 issued_by w (invite d) = issued_in (invitation_move w ∷ [])
 issued_by w _ = 0
+
+abbrev pub issued_by_all : State → List Effect → ℕ
+issued_by_all w [] = 0
+issued_by_all w (e ∷ es) = issued_by w e + issued_by_all (after w e) es

@@ -1,5 +1,0 @@
-use Rattle.world_laws.proofs.Agreed.{left-after}
-use Rattle.world_laws.proofs.laws.what_was_left_stays.Goals as goal
-
-pub returns : goal.returns
-returns c = record { left = left-after }
