@@ -32,6 +32,7 @@ first_is_good = record {
   purse_kinds = tt;
   payment_kinds = tt;
   slot_kinds = tt;
+  valued = record { purses = tt; payments = tt; slots = tt };
   bounded = (record { each = λ k. omega (arith, count-nothing k) }, tt);
   brands = record { some = omega arith; few = omega arith; supplies = refl; made_by = refl; kinds = same_kinds; first = refl; host = refl };
   invited = record { once = omega arith; made = λ k none. count-nothing k };

@@ -87,6 +87,7 @@ module _ (w : State) (d : Delivery) where
         purse_kinds = good.purse_kinds;
         payment_kinds = good.payment_kinds;
         slot_kinds = good.slot_kinds;
+        valued = good.valued;
         bounded = good.bounded;
         brands = good.brands;
         invited = good.invited;

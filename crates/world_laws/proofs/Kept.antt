@@ -5,6 +5,7 @@ use Rattle.world_state.specs.Worlds.{Effect, State, after, after_all}
 use Rattle.world_laws.proofs.Balanced.{balanced-after}
 use Rattle.world_laws.proofs.Data.{facets-after, invitations-after, known-after, labels-after, modules-after, timed-after, timely-after}
 use Rattle.world_laws.proofs.Cascades.{asked-after}
+use Rattle.world_laws.proofs.Valued.{valued-after}
 use Rattle.world_laws.proofs.Followings.{following-after}
 use Rattle.world_laws.proofs.Proposed.{paired-after, proposed-after}
 use Rattle.world_laws.proofs.HeldKinds.{kinds-after}
@@ -23,6 +24,7 @@ good-after w e can good =
       purse_kinds = kinds.purses;
       payment_kinds = kinds.payments;
       slot_kinds = kinds.slots;
+      valued = valued-after w e can good;
       bounded = bounded-after w e can good;
       brands = brands-after w e can good;
       invited = invited-after w e can good;

@@ -24,7 +24,7 @@ use Rattle.rights_model.specs.declared.Holder.{Holder}
 use Rattle.rights_model.specs.declared.Holder.TheVariants.{Slot}
 use Rattle.rights_model.specs.declared.Movement.{Movement}
 use Rattle.right_steps.specs.Lists.{amount_of, less, more}
-use Rattle.world_state.specs.Good.{AreNamed, AreProposed, AreRowsOf, HasSlot, HaveSlots, IsGoodEffect, IsGoodWorld, IsLast, IsPair, IsProposal, IsSeat}
+use Rattle.world_state.specs.Good.{AreNamed, AreProposed, AreRowsOf, AreRowsValued, HasSlot, HaveSlots, IsGoodEffect, IsGoodWorld, IsLast, IsPair, IsProposal, IsSeat}
 use Rattle.world_state.specs.Rights.{Rights, all_moved, given, moved, slots_at, taken, with_slots}
 use Rattle.world_state.specs.Worlds.{Effect, Seat, State, after, burn_and_escrows, empty_slots, invitation_move, left_seat, new_seat, next_pair, no_seat, of_own, offered_by, promises_made, seat_at, empty_seat, exit, invite, moves, new_brand, offer}
 use Rattle.world_laws.proofs.Growing.{grows-after}
@@ -168,6 +168,8 @@ module _ (out new : List BrandSupply) (stay : KindsStay out new) where
     want = is.want;
     give_named = is.give_named;
     want_named = is.want_named;
+    give_valued = is.give_valued;
+    want_valued = is.want_valued;
     fits = is.fits;
     gives = rows_stay out new stay p.give is.gives;
     wants = rows_stay out new stay p.want is.wants;
@@ -176,7 +178,7 @@ module _ (out new : List BrandSupply) (stay : KindsStay out new) where
 
   last_stays : (o : Option (List Row)) (p : Proposal) → IfSome o (IsLast out p) → IfSome o (IsLast new p)
   last_stays None p is = tt
-  last_stays (Some rows) p is = record { apart = is.apart; named = is.named; of_kinds = rows_stay out new stay rows is.of_kinds; slots = is.slots }
+  last_stays (Some rows) p is = record { apart = is.apart; named = is.named; valued = is.valued; of_kinds = rows_stay out new stay rows is.of_kinds; slots = is.slots }
 
   seat_stays : (seat : Seat) (rows after_rows : List Row) → ((q : List ℕ) → Carried (amount_under q rows) (amount_under q after_rows)) → IsSeat out seat rows → IsSeat new seat after_rows
   seat_stays seat rows after_rows c is = record {
@@ -224,6 +226,8 @@ proposed-after w (empty_seat i rule) can good =
         want = no_rows_are;
         give_named = tt;
         want_named = tt;
+        give_valued = tt;
+        want_valued = tt;
         fits = record { apart = λ k d lt. absurd (omega (arith, lt)); few = omega arith };
         gives = tt;
         wants = tt;
@@ -245,6 +249,7 @@ proposed-after w (exit n cause) can good =
       last = record {
         apart = all_read_or AreRows w.rights.slots n [] good.seats.rows no_rows_are;
         named = all_read_or AreNamed w.rights.slots n [] good.seats.named tt;
+        valued = all_read_or AreRowsValued w.rights.slots n [] good.valued.slots tt;
         of_kinds = all_read_or (AreRowsOf w.rights.out) w.rights.slots n [] good.slot_kinds tt;
         slots = was.slots;
       };

@@ -69,7 +69,7 @@ module _ (out : List BrandSupply) where
   staged_by seat new slots after_slots rows e f is = subst (λ (q : Seat). IsStaged out q after_slots rows) (sym e) (subst (λ x. IsStaged out seat x rows) (sym f) is)
 
 staged_stays : (out new : List BrandSupply) → KindsStay out new → (seat : Seat) (slots rows : List Row) → IsStaged out seat slots rows → IsStaged new seat slots rows
-staged_stays out new stay seat slots rows is = record { is_open = is.is_open; apart = is.apart; named = is.named; of_kinds = rows_stay out new stay rows is.of_kinds; of_slots = is.of_slots }
+staged_stays out new stay seat slots rows is = record { is_open = is.is_open; apart = is.apart; named = is.named; valued = is.valued; of_kinds = rows_stay out new stay rows is.of_kinds; of_slots = is.of_slots }
 
 all_stay : (out new : List BrandSupply) → KindsStay out new → (seats : List Seat) (slots : List (List Row)) (staging : List (Option (List Row))) → AreStaged out seats slots staging → AreStaged new seats slots staging
 all_stay out new stay seats slots staging are = record { each = λ s rows e. staged_stays out new stay (seat_at seats s) (slots_at slots s) rows (are.each s rows e) }

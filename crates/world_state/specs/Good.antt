@@ -6,7 +6,7 @@ use Rattle.std.specs.Prelude.{Option, Some, None, IfSome, IsSome, IsSomeAnd, is_
 use Rattle.std.specs.List.{AllByRecursion}
 use Rattle.amount_math.specs.Amount.{Meet}
 use Rattle.amount_math.specs.Content.{count}
-use Rattle.amount_math.specs.Worth.{Fits, Worth}
+use Rattle.amount_math.specs.Worth.{Fits, IsValue, Worth}
 use Rattle.amount_math.specs.declared.Amount.{Amount}
 use Rattle.amount_math.specs.declared.Kind.TheVariants.{Set}
 use Rattle.actors.specs.Labels.{Bound, bound_to}
@@ -84,6 +84,25 @@ pub record IsPaper (out : List BrandSupply) (p : Paper) : Type 0 where
 
 abbrev pub AreRowsOf : List BrandSupply → List Row → Type 0
 AreRowsOf out rows = AllByRecursion (λ (r : Row). IsOfKind out r.amount) rows
+
+-- amounts are values of their kind
+abbrev pub IsValued : Worth → Type 0
+IsValued w = IsValue w.kind w.content
+
+abbrev pub IsAmountValued : Amount → Type 0
+IsAmountValued a = IsValued a.value
+
+abbrev pub IsPaperValued : Paper → Type 0
+IsPaperValued p = IfSome p.held IsValued
+
+abbrev pub AreRowsValued : List Row → Type 0
+AreRowsValued rows = AllByRecursion (λ (r : Row). IsAmountValued r.amount) rows
+
+-- and so is what purses, payments and slots have
+pub record AreValues (r : Rights) : Type 0 where
+  pub purses : AllByRecursion IsAmountValued r.purses
+  pub payments : AllByRecursion IsPaperValued r.payments
+  pub slots : AllByRecursion AreRowsValued r.slots
 
 -- there is no more out of a brand than its kind lets there be
 abbrev pub IsInBounds : BrandSupply → Type 0
@@ -172,6 +191,8 @@ pub record IsProposal (out : List BrandSupply) (p : Proposal) : Type 0 where
   pub want : AreRows p.want
   pub give_named : AreNamed p.give
   pub want_named : AreNamed p.want
+  pub give_valued : AreRowsValued p.give
+  pub want_valued : AreRowsValued p.want
   pub fits : FitsSeat p
   pub gives : AreRowsOf out p.give
   pub wants : AreRowsOf out p.want
@@ -190,6 +211,7 @@ pub record HaveSlots (slots : List Row) (p : Proposal) : Type 0 where
 pub record IsLast (out : List BrandSupply) (p : Proposal) (rows : List Row) : Type 0 where
   pub apart : AreRows rows
   pub named : AreNamed rows
+  pub valued : AreRowsValued rows
   pub of_kinds : AreRowsOf out rows
   pub slots : HaveSlots rows p
 
@@ -212,6 +234,7 @@ pub record IsStaged (out : List BrandSupply) (seat : Seat) (slots rows : List Ro
   pub is_open : IsOpen seat
   pub apart : AreRows rows
   pub named : AreNamed rows
+  pub valued : AreRowsValued rows
   pub of_kinds : AreRowsOf out rows
   pub of_slots : AllByRecursion (IsOfSlot slots) rows
 
@@ -402,6 +425,7 @@ pub record IsGoodWorld (w : State) : Type 0 where
   pub purse_kinds : AllByRecursion (IsOfKind w.rights.out) w.rights.purses
   pub payment_kinds : AllByRecursion (IsPaper w.rights.out) w.rights.payments
   pub slot_kinds : AllByRecursion (AreRowsOf w.rights.out) w.rights.slots
+  pub valued : AreValues w.rights
   pub bounded : AllByRecursion IsInBounds w.rights.out
   pub brands : AreBrands w.brands w.makers w.rights.out
   pub invited : AreInvitations w.rights.out w.invitations
