@@ -1,0 +1,6 @@
+pub mod Steps
+pub mod Taking
+pub mod Made
+pub mod Opened
+pub mod Seated
+pub mod Loop

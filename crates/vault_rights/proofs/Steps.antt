@@ -1,0 +1,533 @@
+-- How a draft begins and ends, and what each step keeps.
+use Rattle.std.proofs.Common.{◌≡◌, ◌≢◌, ℕ, zero, suc, ◌+◌, ◌-◌, ◌<◌, ◌≤◌, ◌==◌, Bool, true, false, cond, List, [], ◌∷◌, ◌++◌, length, map, reverse, take, refl, sym, ◌∙◌, ap, subst, arith}
+use Rattle.std.specs.Prelude.{slice_index_or, slice_set}
+use Rattle.std.proofs.lemmas.Bool.{eq-eqb}
+use Rattle.std.proofs.lemmas.List.{length-reverse, reverse-append}
+use Rattle.amount_math.specs.Content.{Content, Contains, Contains-trans, count-difference, difference, nothing, sum, sum-difference}
+use Rattle.amount_math.specs.Held.{Held, HasRoom, keys_in, keys_of-sum, more_room, room_for_fewer, with_more}
+use Rattle.amount_math.specs.KindLaws.{keys_within}
+use Rattle.amount_math.specs.Worth.{Worth, keys_of}
+use Rattle.amount_math.specs.declared.Amount.{Amount}
+use Rattle.amount_math.specs.declared.Kind.{Kind}
+use Rattle.amount_math.specs.declared.Kind.TheVariants.{Nat, Set, Bag}
+use Rattle.amount_math.proofs.Places.{keys_of-nothing}
+use Rattle.ertp_mint.specs.BrandSupply.{BrandSupply, issued, new_supply, retired, supply_at}
+use Rattle.ertp_mint.specs.Circulating.{CirculationView, circulation_at}
+use Rattle.list_edits.proofs.ListEdits.{keeps, length_map, length_set, map_set, read_map}
+use Rattle.right_steps.specs.declared.Step.{Step}
+use Rattle.right_steps.specs.declared.Step.TheVariants.{Moves, OpensPurse, AddsBrand, OpensSeat, OpensSlot, ClosesSeat}
+use Rattle.right_steps.specs.Backwards.{CanAllBack, CanBack, HandHas, Rooms, all_back, from_hand, in_hand, retired_by, to_outside}
+use Rattle.right_steps.specs.Lists.{CanGive, CanTake, Lists, back, given, kind_of, moved, no_lists, taken, ungiven, untaken, with_reopened_seat, without_last_brand, without_last_purse, without_last_seat, without_last_slot_of}
+use Rattle.right_steps.specs.Tables.{Agrees, IsSound, hand_minus, hand_plus, no_hand, table_of}
+use Rattle.right_steps.proofs.Agreeing.{agrees_alike, agrees_from_hand, agrees_given, agrees_in_hand, agrees_taken, can_move_in, can_move_out, one_table, table_agrees}
+use Rattle.right_steps.proofs.Sound.{at_or_else, hand_is_out, sound_alike, sound_given, sound_taken}
+use Rattle.right_steps.proofs.Undone.{all_grows, ungiven-given, untaken-taken}
+use Rattle.rights_model.specs.declared.Holder.{Holder}
+use Rattle.rights_model.specs.declared.Holder.TheVariants.{Purse, Payment, Slot, Hand, Outside}
+use Rattle.rights_model.specs.declared.Movement.{Movement}
+use Rattle.rights_model.specs.Table as table
+use Rattle.rights_model.specs.Table.{Table, CanMove, CanMoveAll, movement, table_after}
+use Rattle.rights_model.proofs.TableLaws.{CanMoveAll-push, table_after-push}
+use Rattle.transit.specs.Transit.{CanHold, TransitView, empty_hand, held_at, in_store, with_hand}
+use Rattle.vault_stores.specs.Memory.{IsForward, IsGiven, IsRoomed, IsTaken, content_in_store, given_up_in, kept_given, kept_of, lists_of, rooms_of, staged_of, store_of, supply_of}
+use Rattle.vault_stores.specs.Forgetting.{AreMade, IsForgetting, IsForgotten}
+use Rattle.vault_rights.specs.Drafts.{HandGoes, HandKeeps, IsClean, IsDraft, IsValid, IsVault, after, draft_of, given_up_too, table_now}
+use Rattle.vault_rights.specs.Working.{IsWorking}
+use Rattle.vault_stores.specs.declared.stores.Stores.{Stores}
+use Rattle.vault_stores.proofs.Halves.{supply_read}
+
+-- ---- rooms by keys
+
+room_of_keys : (kind : Kind) (c : Content) (n room : ℕ) → keys_in kind c ≤ n → HasRoom kind n room → HasRoom kind (keys_of c) room
+room_of_keys Nat c n room le has = tt
+room_of_keys Set c n room le has = omega (arith, le, has)
+room_of_keys Bag c n room le has = omega (arith, le, has)
+
+keys_together : (kind : Kind) (c d : Content) → keys_in kind (sum c d) ≤ keys_in kind c + keys_in kind d
+keys_together Nat c d = omega arith
+keys_together Set c d = keys_of-sum c d
+keys_together Bag c d = keys_of-sum c d
+
+fewer_keys : (kind : Kind) (c d : Content) → Contains c d → keys_in kind d ≤ keys_in kind c
+fewer_keys Nat c d has = omega arith
+fewer_keys Set c d has = keys_within c d has
+fewer_keys Bag c d has = keys_within c d has
+
+no_keys : (kind : Kind) → keys_in kind nothing ≤ 0
+no_keys Nat = omega arith
+no_keys Set = omega (arith, keys_of-nothing)
+no_keys Bag = omega (arith, keys_of-nothing)
+
+pub keys_none : (kind : Kind) (n : ℕ) → keys_in kind nothing ≤ n
+keys_none kind n = omega (arith, no_keys kind)
+
+pub room_for_none : (kind : Kind) (room : ℕ) → HasRoom kind (keys_of nothing) room
+room_for_none Nat room = tt
+room_for_none Set room = omega (arith, keys_of-nothing)
+room_for_none Bag room = omega (arith, keys_of-nothing)
+
+less_has : (c d : Content) → Contains c (difference c d)
+less_has c d = record { each = λ k. omega (arith, count-difference c d k) }
+
+-- ---- what was given up, read
+
+pub given_read : (p : Stores) (b : ℕ) → slice_index_or (given_up_in p) b nothing ≡ store_of p b
+given_read p b = read_map content_in_store p.transit.hand b (empty_hand Nat)
+
+pub same_store : (p q : Stores) → given_up_in q ≡ given_up_in p → (b : ℕ) → store_of q b ≡ store_of p b
+same_store p q same b = sym (given_read q b) ∙ ap (λ (l : List Content). slice_index_or l b nothing) same ∙ given_read p b
+
+pub brands_there : (p : Stores) → length (lists_of p).out ≡ length p.transit.out
+brands_there p = length_map supply_of p.transit.out
+
+-- ---- beginning and end
+
+-- where nothing is kept of the brands that were made, nothing is of any
+none_kept : (l : List CirculationView) → ((b : ℕ) → b < length l → (circulation_at l b).kept ≡ nothing) → (b : ℕ) → (circulation_at l b).kept ≡ nothing
+none_kept [] none b = refl
+none_kept (x ∷ l) none zero = none 0 (omega arith)
+none_kept (x ∷ l) none (suc b) = none_kept l (λ e lt. none (suc e) (omega (arith, lt))) b
+
+pub begins : (p : Stores) (ks : List Step) (ms : List Movement) → IsVault p ks ms → IsDraft p ks ms 0 false
+begins p ks ms is = subst (λ (l : List Step). IsDraft p l ms 0 false) (sym is.no_steps) (subst (λ (l : List Movement). IsDraft p [] l 0 false) (sym is.no_movements) (record {
+  can = refl;
+  bounded = λ b. no_keys (kind_of (lists_of p) b);
+  room = λ b lt. room_for_none (kind_of (lists_of p) b) ((rooms_of p).hand b);
+  clear = λ sound b lt. is.empty b lt;
+  retired = none_kept p.transit.out is.kept;
+  valid = record { sound = is.sound; agrees = table_agrees (lists_of p); moves = tt; was_sound = is.sound };
+}))
+
+pub kept_start : (p : Stores) (ks : List Step) (ms : List Movement) → IsVault p ks ms → all_back (lists_of p) (reverse ks) (reverse ms) ≡ lists_of p
+kept_start p ks ms is = ap (λ (l : List Step). all_back (lists_of p) (reverse l) (reverse ms)) is.no_steps
+
+pub clean_start : (p : Stores) (ks : List Step) (ms : List Movement) → IsVault p ks ms → IsClean (draft_of p ks ms false)
+clean_start p ks ms is = record { sound = refl; hand = λ b. ap (λ (l : List Movement). in_hand (reverse l) b) is.no_movements }
+
+pub starts : (p : Stores) (ks : List Step) (ms : List Movement) (keys : ℕ) (spoiled : Bool) → IsDraft p ks ms keys spoiled → HandGoes (draft_of p ks ms spoiled)
+    → IsWorking (rooms_of p) (all_back (lists_of p) (reverse ks) (reverse ms)) p (reverse ks) (reverse ms)
+starts p ks ms keys spoiled is goes = record {
+  kept_is = refl;
+  can = is.can;
+  rooms = record { purses = λ n lt. omega arith; slots = λ n k has. omega arith; capacity = omega arith; hand = λ b lt. omega arith };
+  retired = λ b lt. is.retired b;
+  hand = λ b lt. sym (given_read p b) ∙ goes.each b (omega (arith, lt, brands_there p));
+}
+
+pub no_items : {X : Type 0} (xs : List X) → length xs ≡ 0 → xs ≡ []
+no_items [] e = refl
+no_items (x ∷ xs) e = absurd (omega arith)
+
+pub none_reversed : {X : Type 0} (xs : List X) → reverse xs ≡ [] → xs ≡ []
+none_reversed xs is = no_items xs (omega (arith, length-reverse xs, ap length is))
+
+pub ended : (R : Rooms) (kept : Lists) (p q : Stores) (ks : List Step) (ms : List Movement) → IsSound kept no_hand → ks ≡ [] → IsWorking R kept p (reverse ks) (reverse ms) → lists_of q ≡ lists_of p → staged_of q ≡ [] → q.transit ≡ p.transit → (lists_of q ≡ kept) × IsVault q ks ms
+ended R kept p q ks ms sound none is lists staging transit =
+    let at_end : IsWorking R kept p [] (reverse ms) = subst (λ (l : List Step). IsWorking R kept p (reverse l) (reverse ms)) none is in
+    let no_more : ms ≡ [] = none_reversed ms at_end.can in
+    let there : (b : ℕ) → b < length q.transit.out → b < length p.transit.out = λ b lt. omega (arith, lt, ap (λ (t : TransitView). length t.out) transit) in (
+      lists ∙ at_end.kept_is,
+      record {
+        no_steps = none;
+        no_movements = no_more;
+        no_staging = staging;
+        empty = λ b lt. ap (λ (t : TransitView). in_store t b) transit ∙ at_end.hand b (there b lt) ∙ ap (λ (l : List Movement). in_hand l b) at_end.can;
+        kept = λ b lt. ap (λ (t : TransitView). (circulation_at t.out b).kept) transit ∙ at_end.retired b (there b lt) ∙ ap (λ (l : List Movement). retired_by l b) at_end.can;
+        sound = subst (λ (s : Lists). IsSound s no_hand) (sym (lists ∙ at_end.kept_is)) sound;
+      },
+    )
+
+-- what is done to forget starts and ends
+brands_made : (R : Rooms) (s : Lists) (ks : List Step) (ms : List Movement) (n : ℕ) → length s.out ≤ n → CanAllBack R s ks ms → AreMade n ms
+brands_made R s [] ms n le can = subst (AreMade n) (sym can) tt
+brands_made R s (Moves ∷ ks) [] n le can = absurd can
+brands_made R s (Moves ∷ ks) (m ∷ ms) n le can = (omega (arith, le, can.0.made), brands_made R (back s m) ks ms n (omega (arith, le, back_long s m)) can.1)
+  where
+    ungiven_long : (x : Lists) (h : Holder) (b : ℕ) (w : Worth) → length (ungiven x h b w).out ≡ length x.out
+    ungiven_long x (Purse n) b w = refl
+    ungiven_long x (Payment n) b w = refl
+    ungiven_long x (Slot v j) b w = refl
+    ungiven_long x Hand b w = refl
+    ungiven_long x Outside b w = length_set x.out b _
+
+    untaken_long : (x : Lists) (h : Holder) (b : ℕ) (w : Worth) → length (untaken x h b w).out ≡ length x.out
+    untaken_long x (Purse n) b w = refl
+    untaken_long x (Payment n) b w = refl
+    untaken_long x (Slot v j) b w = refl
+    untaken_long x Hand b w = refl
+    untaken_long x Outside b w = length_set x.out b _
+
+    back_long : (x : Lists) (m : Movement) → length (back x m).out ≡ length x.out
+    back_long x m = untaken_long (ungiven x m.to m.brand m.value) m.from m.brand m.value ∙ ungiven_long x m.to m.brand m.value
+brands_made R s (OpensPurse ∷ ks) ms n le can = brands_made R (without_last_purse s) ks ms n le can.1
+brands_made R s (OpensSeat ∷ ks) ms n le can = brands_made R (without_last_seat s) ks ms n le can.1
+brands_made R s (OpensSlot v ∷ ks) ms n le can = brands_made R (without_last_slot_of v s) ks ms n le can.1
+brands_made R s (ClosesSeat v ∷ ks) ms n le can = brands_made R (with_reopened_seat v s) ks ms n le can.1
+brands_made R s (AddsBrand ∷ ks) ms n le can = brands_made R (without_last_brand s) ks ms n (omega (arith, le, taken_short s.out (length s.out - 1))) can.1
+  where
+    taken_short : {X : Type 0} (xs : List X) (n : ℕ) → length (take n xs) ≤ length xs
+    taken_short [] zero = omega arith
+    taken_short [] (suc n) = omega arith
+    taken_short (x ∷ xs) zero = omega arith
+    taken_short (x ∷ xs) (suc n) = omega (arith, taken_short xs n)
+
+pub forget_starts : (p : Stores) (ks : List Step) (ms : List Movement) (keys : ℕ) (spoiled : Bool) → IsDraft p ks ms keys spoiled → IsForgetting p p (reverse ms)
+forget_starts p ks ms keys spoiled is = record {
+  lists = refl;
+  staging = refl;
+  given_up = refl;
+  made = brands_made (rooms_of p) (lists_of p) (reverse ks) (reverse ms) (length p.transit.out) (omega (arith, brands_there p)) is.can;
+  kept = is.retired;
+}
+
+pub forget_ends : (p q : Stores) (ms : List Movement) → ms ≡ [] → IsForgetting p q (reverse ms) → IsForgotten p q
+forget_ends p q ms none is = record { lists = is.lists; staging = is.staging; given_up = is.given_up; kept = λ b. is.kept b ∙ ap (λ (l : List Movement). retired_by (reverse l) b) none }
+
+pub committed : (p q r : Stores) (ks ls : List Step) (ms ns : List Movement) (keys : ℕ) (spoiled : Bool) → IsDraft p ks ms keys spoiled → IsForgotten p q → lists_of r ≡ lists_of q → staged_of r ≡ [] → r.transit ≡ q.transit → ls ≡ [] → ns ≡ [] → IsClean (draft_of p ks ms spoiled) → IsVault r ls ns
+committed p q r ks ls ms ns keys spoiled is gone lists staging transit no_steps no_movements clean =
+    let there : (b : ℕ) → b < length r.transit.out → b < length p.transit.out = λ b lt. omega (arith, lt, ap (λ (t : TransitView). length t.out) transit, brands_there p, brands_there q, ap (λ (s : Lists). length s.out) gone.lists) in
+    record {
+      no_steps = no_steps;
+      no_movements = no_movements;
+      no_staging = staging;
+      empty = λ b lt. ap (λ (t : TransitView). in_store t b) transit ∙ same_store p q gone.given_up b ∙ is.clear clean.sound b (there b lt);
+      kept = λ b lt. ap (λ (t : TransitView). (circulation_at t.out b).kept) transit ∙ gone.kept b;
+      sound = subst (λ (s : Lists). IsSound s no_hand) (sym (lists ∙ gone.lists)) (sound_alike (lists_of p) (in_hand (reverse ms)) no_hand clean.hand is.valid.sound);
+    }
+
+pub committed_table : (p q r : Stores) (ks : List Step) (ms : List Movement) (keys : ℕ) (spoiled : Bool) → IsDraft p ks ms keys spoiled → IsForgotten p q → lists_of r ≡ lists_of q → IsClean (draft_of p ks ms spoiled) → table_of (lists_of r) ≡ table_now (draft_of p ks ms spoiled)
+committed_table p q r ks ms keys spoiled is gone lists clean =
+    ap table_of (lists ∙ gone.lists) ∙ one_table (lists_of p) no_hand _ _ (table_agrees (lists_of p)) (agrees_alike (lists_of p) (in_hand (reverse ms)) no_hand _ clean.hand is.valid.agrees)
+
+-- ---- room alone is made
+
+pub same_draft : (p q : Stores) (ks : List Step) (ms : List Movement) (spoiled : Bool) → IsRoomed p q → draft_of q ks ms spoiled ≡ draft_of p ks ms spoiled
+same_draft p q ks ms spoiled roomed = λ i. record { kept = all_back (roomed.lists i) (reverse ks) (reverse ms); now = roomed.lists i; staging = roomed.staging i; movements = ms; given_up = roomed.given_up i; is_spoiled = spoiled }
+
+pub room_stays : (p q : Stores) (ks : List Step) (ms : List Movement) (keys : ℕ) (spoiled : Bool) → IsDraft p ks ms keys spoiled → IsRoomed p q → IsDraft q ks ms keys spoiled
+room_stays p q ks ms keys spoiled is roomed = record {
+  can = subst (λ (s : Lists). CanAllBack (rooms_of q) s (reverse ks) (reverse ms)) (sym roomed.lists) (all_grows (rooms_of p) (rooms_of q) roomed.rooms (lists_of p) (reverse ks) (reverse ms) is.can);
+  bounded = λ b. subst (λ (s : Lists). keys_in (kind_of s b) (in_hand (reverse ms) b) ≤ keys) (sym roomed.lists) (is.bounded b);
+  room = λ b lt. subst (λ (s : Lists). HasRoom (kind_of s b) (keys_of (in_hand (reverse ms) b)) ((rooms_of q).hand b)) (sym roomed.lists)
+      (more_room (kind_of (lists_of p) b) (keys_of (in_hand (reverse ms) b)) ((rooms_of p).hand b) ((rooms_of q).hand b) (roomed.rooms.hand b) (is.room b (before b lt)));
+  clear = λ sound b lt. same_store p q roomed.given_up b ∙ is.clear sound b (before b lt);
+  retired = λ b. roomed.kept b ∙ is.retired b;
+  valid = subst IsValid (sym (same_draft p q ks ms spoiled roomed)) is.valid;
+}
+  where
+    before : (b : ℕ) → b < length q.transit.out → b < length p.transit.out
+    before b lt = omega (arith, lt, brands_there p, brands_there q, ap (λ (s : Lists). length s.out) roomed.lists)
+
+-- ---- any movement that can be worked backwards
+
+pub last_first : {X : Type 0} (xs : List X) (x : X) → reverse (xs ++ x ∷ []) ≡ x ∷ reverse xs
+last_first xs x = reverse-append xs (x ∷ [])
+
+module _ (p q : Stores) (ks : List Step) (ms : List Movement) (m : Movement) (keys more : ℕ) (k : ℕ → Content) (is : IsDraft p ks ms keys false)
+    (step : IsForward p q (moved (lists_of p) m) (staged_of p) k) (undone : back (moved (lists_of p) m) m ≡ lists_of p) where
+  back_there : back (lists_of q) m ≡ lists_of p
+  back_there = ap (λ (s : Lists). back s m) step.lists ∙ undone
+
+  kept_after : all_back (lists_of q) (reverse (ks ++ Moves ∷ [])) (reverse (ms ++ m ∷ [])) ≡ all_back (lists_of p) (reverse ks) (reverse ms)
+  kept_after =
+      (λ i. all_back (lists_of q) (last_first ks Moves i) (last_first ms m i))
+      ∙ ap (λ (s : Lists). all_back s (reverse ks) (reverse ms)) back_there
+
+  table_then : table_now (draft_of q (ks ++ Moves ∷ []) (ms ++ m ∷ []) false) ≡ table.moved (table_now (draft_of p ks ms false)) m
+  table_then = ap (λ (s : Lists). table_after (table_of s) (ms ++ m ∷ [])) kept_after ∙ table_after-push (table_of (all_back (lists_of p) (reverse ks) (reverse ms))) ms m
+
+  pub draft_after : draft_of q (ks ++ Moves ∷ []) (ms ++ m ∷ []) false ≡ after (draft_of p ks ms false) m
+  draft_after = λ i. record { kept = kept_after i; now = step.lists i; staging = step.staging i; movements = ms ++ m ∷ []; given_up = step.given_up i; is_spoiled = false }
+
+  pub pushed : CanBack (rooms_of q) (lists_of q) m (reverse ms)
+      → ((b : ℕ) → keys_in (kind_of (lists_of q) b) (in_hand (m ∷ reverse ms) b) ≤ more)
+      → ((b : ℕ) → b < length q.transit.out → HasRoom (kind_of (lists_of q) b) (keys_of (in_hand (m ∷ reverse ms) b)) ((rooms_of q).hand b))
+      → length q.transit.out ≡ length p.transit.out
+      → ((b : ℕ) → k b ≡ retired_by (m ∷ reverse ms) b)
+      → IsSound (lists_of q) (in_hand (m ∷ reverse ms))
+      → Agrees (lists_of q) (in_hand (m ∷ reverse ms)) (table.moved (table_now (draft_of p ks ms false)) m)
+      → CanMove (table_now (draft_of p ks ms false)) m
+      → IsDraft q (ks ++ Moves ∷ []) (ms ++ m ∷ []) more false
+  pushed can bounded room brands retires sound agrees moves = record {
+    can = subst (λ (l : List Movement). CanAllBack (rooms_of q) (lists_of q) (reverse (ks ++ Moves ∷ [])) l) (sym (last_first ms m))
+        (subst (λ (l : List Step). CanAllBack (rooms_of q) (lists_of q) l (m ∷ reverse ms)) (sym (last_first ks Moves))
+        (can, subst (λ (s : Lists). CanAllBack (rooms_of q) s (reverse ks) (reverse ms)) (sym back_there) (all_grows (rooms_of p) (rooms_of q) step.rooms (lists_of p) (reverse ks) (reverse ms) is.can)));
+    bounded = λ b. subst (λ (l : List Movement). keys_in (kind_of (lists_of q) b) (in_hand l b) ≤ more) (sym (last_first ms m)) (bounded b);
+    room = λ b lt. subst (λ (l : List Movement). HasRoom (kind_of (lists_of q) b) (keys_of (in_hand l b)) ((rooms_of q).hand b)) (sym (last_first ms m)) (room b lt);
+    clear = λ sound b lt. same_store p q step.given_up b ∙ is.clear sound b (omega (arith, lt, brands));
+    retired = λ b. step.kept b ∙ retires b ∙ ap (λ (l : List Movement). retired_by l b) (sym (last_first ms m));
+    valid = record {
+      sound = subst (λ (l : List Movement). IsSound (lists_of q) (in_hand l)) (sym (last_first ms m)) sound;
+      agrees = subst (λ (l : List Movement). Agrees (lists_of q) (in_hand l) (table_now (draft_of q (ks ++ Moves ∷ []) (ms ++ m ∷ []) false))) (sym (last_first ms m))
+          (subst (λ (t : Table). Agrees (lists_of q) (in_hand (m ∷ reverse ms)) t) (sym table_then) agrees);
+      moves = subst (λ (s : Lists). CanMoveAll (table_of s) (ms ++ m ∷ [])) (sym kept_after) (CanMoveAll-push (table_of (all_back (lists_of p) (reverse ks) (reverse ms))) ms m is.valid.moves moves);
+      was_sound = subst (λ (s : Lists). IsSound s no_hand) (sym kept_after) is.valid.was_sound;
+    };
+  }
+
+-- ---- kinds and brands stay
+
+kind_taken : (s : Lists) (h : Holder) (b : ℕ) (w : Worth) (e : ℕ) → kind_of (taken s h b w) e ≡ kind_of s e
+kind_taken s (Purse n) b w e = refl
+kind_taken s (Payment n) b w e = refl
+kind_taken s (Slot v j) b w e = refl
+kind_taken s Hand b w e = refl
+kind_taken s Outside b w e = keeps (λ (x : BrandSupply). x.outstanding.kind) s.out b (issued (supply_at s.out b) w.content) (new_supply Nat) refl e
+
+kind_given : (s : Lists) (h : Holder) (b : ℕ) (w : Worth) (e : ℕ) → kind_of (given s h b w) e ≡ kind_of s e
+kind_given s (Purse n) b w e = refl
+kind_given s (Payment n) b w e = refl
+kind_given s (Slot v j) b w e = refl
+kind_given s Hand b w e = refl
+kind_given s Outside b w e = keeps (λ (x : BrandSupply). x.outstanding.kind) s.out b (retired (supply_at s.out b) w.content) (new_supply Nat) refl e
+
+long_taken : (s : Lists) (h : Holder) (b : ℕ) (w : Worth) → length (taken s h b w).out ≡ length s.out
+long_taken s (Purse n) b w = refl
+long_taken s (Payment n) b w = refl
+long_taken s (Slot v j) b w = refl
+long_taken s Hand b w = refl
+long_taken s Outside b w = length_set s.out b _
+
+long_given : (s : Lists) (h : Holder) (b : ℕ) (w : Worth) → length (given s h b w).out ≡ length s.out
+long_given s (Purse n) b w = refl
+long_given s (Payment n) b w = refl
+long_given s (Slot v j) b w = refl
+long_given s Hand b w = refl
+long_given s Outside b w = length_set s.out b _
+
+-- ---- what is kept
+
+either_way : (t : Bool) (x : Content) → cond t x x ≡ x
+either_way true x = refl
+either_way false x = refl
+
+kept_after_give : (b : ℕ) (c : Content) (h : Holder) (S X : ℕ → Content) (e : ℕ) → S e ≡ X e → kept_given S h b c e ≡ cond (b == e) (to_outside h (X e) c) (X e)
+kept_after_give b c Outside S X e is = ap (λ x. cond (b == e) (sum x c) x) is
+kept_after_give b c (Purse n) S X e is = is ∙ sym (either_way (b == e) (X e))
+kept_after_give b c (Payment n) S X e is = is ∙ sym (either_way (b == e) (X e))
+kept_after_give b c (Slot v j) S X e is = is ∙ sym (either_way (b == e) (X e))
+kept_after_give b c Hand S X e is = is ∙ sym (either_way (b == e) (X e))
+
+-- ---- a take into the hand
+
+in_hand_plus : (s : Lists) (h : Holder) (b : ℕ) (w : Worth) (ms : List Movement) → CanTake s h b w → in_hand (movement b h Hand w ∷ ms) ≡ hand_plus (in_hand ms) b w.content
+in_hand_plus s (Purse n) b w ms can = refl
+in_hand_plus s (Payment n) b w ms can = refl
+in_hand_plus s (Slot v j) b w ms can = refl
+in_hand_plus s Hand b w ms can = absurd can
+in_hand_plus s Outside b w ms can = refl
+
+no_hand_needed : (s : Lists) (h : Holder) (b : ℕ) (w : Worth) (x : Content) → CanTake s h b w → HandHas h x w.content
+no_hand_needed s (Purse n) b w x can = tt
+no_hand_needed s (Payment n) b w x can = tt
+no_hand_needed s (Slot v j) b w x can = tt
+no_hand_needed s Hand b w x can = absurd can
+no_hand_needed s Outside b w x can = tt
+
+not_from_hand : (s : Lists) (h : Holder) (b : ℕ) (w : Worth) (x : Content) → CanTake s h b w → from_hand h x w.content ≡ x
+not_from_hand s (Purse n) b w x can = refl
+not_from_hand s (Payment n) b w x can = refl
+not_from_hand s (Slot v j) b w x can = refl
+not_from_hand s Hand b w x can = absurd can
+not_from_hand s Outside b w x can = refl
+
+module _ (p q : Stores) (ks : List Step) (ms : List Movement) (keys more : ℕ) (from : Holder) (b : ℕ) (w : Worth) (is : IsDraft p ks ms keys false) (took : IsTaken p q from b w) (can : CanTake (lists_of p) from b w) where
+  abbrev h : ℕ → Content
+  h = in_hand (reverse ms)
+
+  abbrev m : Movement
+  m = movement b from Hand w
+
+  plus : in_hand (m ∷ reverse ms) ≡ hand_plus h b w.content
+  plus = in_hand_plus (lists_of p) from b w (reverse ms) can
+
+  pub take_after : draft_of q (ks ++ Moves ∷ []) (ms ++ m ∷ []) false ≡ after (draft_of p ks ms false) m
+  take_after = draft_after p q ks ms m keys more (kept_of p) is took.half (untaken-taken (lists_of p) from b w can)
+
+  kind_here : (e : ℕ) → kind_of (lists_of q) e ≡ kind_of (lists_of p) e
+  kind_here e = ap (λ (s : Lists). kind_of s e) took.half.lists ∙ kind_taken (lists_of p) from b w e
+
+  brands : length q.transit.out ≡ length p.transit.out
+  brands = omega (arith, brands_there p, brands_there q, ap (λ (s : Lists). length s.out) took.half.lists, long_taken (lists_of p) from b w)
+
+  sound_then : IsSound (lists_of q) (hand_plus h b w.content)
+  sound_then = subst (λ (s : Lists). IsSound s (hand_plus h b w.content)) (sym took.half.lists) (sound_taken (lists_of p) h b w is.valid.sound from can)
+
+  plus_here : hand_plus h b w.content b ≡ sum (h b) w.content
+  plus_here = ap (λ t. cond t (sum (h b) w.content) (h b)) (eq-eqb b b refl)
+
+  module _ (brand : b < length p.transit.out) (kind : kind_of (lists_of p) b ≡ w.kind) (counted : more ≡ keys + keys_in w.kind w.content) (room : HasRoom (kind_of (lists_of p) b) more ((rooms_of q).hand b)) where
+    few : (e : ℕ) → keys_in (kind_of (lists_of p) e) (hand_plus h b w.content e) ≤ more
+    few e = at_or_else (λ x t. keys_in (kind_of (lists_of p) x) (cond t (sum (h x) w.content) (h x)) ≤ more) b e
+        (omega (arith, keys_together (kind_of (lists_of p) b) (h b) w.content, is.bounded b, counted, ap (λ k. keys_in k w.content) kind))
+        (λ differs. omega (arith, is.bounded e, counted))
+
+    roomy : (e : ℕ) → e < length q.transit.out → HasRoom (kind_of (lists_of p) e) (keys_of (hand_plus h b w.content e)) ((rooms_of q).hand e)
+    roomy e lt = at_or_else (λ x t. x < length p.transit.out → HasRoom (kind_of (lists_of p) x) (keys_of (cond t (sum (h x) w.content) (h x))) ((rooms_of q).hand x)) b e
+        (λ made. subst (λ y. HasRoom (kind_of (lists_of p) b) (keys_of y) ((rooms_of q).hand b)) plus_here (room_of_keys (kind_of (lists_of p) b) (hand_plus h b w.content b) more ((rooms_of q).hand b) (few b) room))
+        (λ differs made. more_room (kind_of (lists_of p) e) (keys_of (h e)) ((rooms_of p).hand e) ((rooms_of q).hand e) (took.half.rooms.hand e) (is.room e made))
+        (omega (arith, lt, brands))
+
+    pub take_keeps : IsDraft q (ks ++ Moves ∷ []) (ms ++ m ∷ []) more false
+    take_keeps = pushed p q ks ms m keys more (kept_of p) is took.half (untaken-taken (lists_of p) from b w can)
+        (record {
+          ungive = tt;
+          untake = took.back;
+          made = omega (arith, brand, brands, brands_there q);
+          kind = kind_here b ∙ kind;
+          has = no_hand_needed (lists_of p) from b w (h b) can;
+          out = subst (λ x. Contains (supply_at (lists_of q).out b).outstanding.content (sum x w.content)) (sym (not_from_hand (lists_of p) from b w (h b) can))
+              (subst (λ x. Contains (supply_at (lists_of q).out b).outstanding.content x) plus_here (hand_is_out (lists_of q) (hand_plus h b w.content) sound_then b));
+          room = subst (λ k. HasRoom k (keys_of (h b)) ((rooms_of q).hand b)) kind
+              (more_room (kind_of (lists_of p) b) (keys_of (h b)) ((rooms_of p).hand b) ((rooms_of q).hand b) (took.half.rooms.hand b) (is.room b brand));
+        })
+        (λ e. subst (λ (g : ℕ → Content). keys_in (kind_of (lists_of q) e) (g e) ≤ more) (sym plus) (subst (λ k. keys_in k (hand_plus h b w.content e) ≤ more) (sym (kind_here e)) (few e)))
+        (λ e lt. subst (λ (g : ℕ → Content). HasRoom (kind_of (lists_of q) e) (keys_of (g e)) ((rooms_of q).hand e)) (sym plus) (subst (λ k. HasRoom k (keys_of (hand_plus h b w.content e)) ((rooms_of q).hand e)) (sym (kind_here e)) (roomy e lt)))
+        brands
+        (λ e. is.retired e ∙ sym (either_way (b == e) (retired_by (reverse ms) e)))
+        (subst (λ (g : ℕ → Content). IsSound (lists_of q) g) (sym plus) sound_then)
+        (subst (λ (g : ℕ → Content). Agrees (lists_of q) g (table.moved (table_now (draft_of p ks ms false)) m)) (sym plus)
+        (subst (λ (s : Lists). Agrees s (hand_plus h b w.content) (table.moved (table_now (draft_of p ks ms false)) m)) (sym took.half.lists)
+        (agrees_in_hand (taken (lists_of p) from b w) h (table.taken (table_now (draft_of p ks ms false)) from b w.content) b w
+        (agrees_taken (lists_of p) h (table_now (draft_of p ks ms false)) b w is.valid.agrees from can))))
+        (can_move_in (lists_of p) h (table_now (draft_of p ks ms false)) b w is.valid.agrees from can Hand)
+
+-- ---- a put from the hand
+
+in_hand_minus : (s : Lists) (h : Holder) (b : ℕ) (w : Worth) (ms : List Movement) → CanGive s h b w → in_hand (movement b Hand h w ∷ ms) ≡ hand_minus (in_hand ms) b w.content
+in_hand_minus s (Purse n) b w ms can = refl
+in_hand_minus s (Payment n) b w ms can = refl
+in_hand_minus s (Slot v j) b w ms can = refl
+in_hand_minus s Hand b w ms can = absurd can
+in_hand_minus s Outside b w ms can = refl
+
+module _ (p q : Stores) (ks : List Step) (ms : List Movement) (keys : ℕ) (to : Holder) (b : ℕ) (w : Worth) (is : IsDraft p ks ms keys false) (gave : IsGiven p q to b w) (can : CanGive (lists_of p) to b w) where
+  abbrev g : ℕ → Content
+  g = in_hand (reverse ms)
+
+  abbrev n : Movement
+  n = movement b Hand to w
+
+  minus : in_hand (n ∷ reverse ms) ≡ hand_minus g b w.content
+  minus = in_hand_minus (lists_of p) to b w (reverse ms) can
+
+  undone_put : back (moved (lists_of p) n) n ≡ lists_of p
+  undone_put = ungiven-given (lists_of p) to b w can
+
+  pub put_after : draft_of q (ks ++ Moves ∷ []) (ms ++ n ∷ []) false ≡ after (draft_of p ks ms false) n
+  put_after = draft_after p q ks ms n keys keys (kept_given (kept_of p) to b w.content) is gave.half undone_put
+
+  kind_there : (e : ℕ) → kind_of (lists_of q) e ≡ kind_of (lists_of p) e
+  kind_there e = ap (λ (s : Lists). kind_of s e) gave.half.lists ∙ kind_given (lists_of p) to b w e
+
+  brands_same : length q.transit.out ≡ length p.transit.out
+  brands_same = omega (arith, brands_there p, brands_there q, ap (λ (s : Lists). length s.out) gave.half.lists, long_given (lists_of p) to b w)
+
+  less_at : (e : ℕ) → Contains (g e) (hand_minus g b w.content e)
+  less_at e = elim (b == e) as (λ t. Contains (g e) (cond t (difference (g e) w.content) (g e))) [
+    | true ↦ less_has (g e) w.content
+    | false ↦ record { each = λ k. omega arith }
+  ]
+
+  module _ (brand : b < length p.transit.out) (kind : kind_of (lists_of p) b ≡ w.kind) (has : Contains (g b) w.content) where
+    pub put_keeps : IsDraft q (ks ++ Moves ∷ []) (ms ++ n ∷ []) keys false
+    put_keeps = pushed p q ks ms n keys keys (kept_given (kept_of p) to b w.content) is gave.half undone_put
+        (record {
+          ungive = gave.back;
+          untake = tt;
+          made = omega (arith, brand, brands_same, brands_there q);
+          kind = kind_there b ∙ kind;
+          has = has;
+          out = subst (λ (s : Lists). Contains (supply_at s.out b).outstanding.content (sum (difference (g b) w.content) w.content)) (sym (ap (λ (s : Lists). ungiven s to b w) gave.half.lists ∙ ungiven-given (lists_of p) to b w can))
+              (subst (λ x. Contains (supply_at (lists_of p).out b).outstanding.content x) (sym (sum-difference (g b) w.content has)) (hand_is_out (lists_of p) g is.valid.sound b));
+          room = subst (λ k. HasRoom k (keys_of (g b)) ((rooms_of q).hand b)) kind
+              (more_room (kind_of (lists_of p) b) (keys_of (g b)) ((rooms_of p).hand b) ((rooms_of q).hand b) (gave.half.rooms.hand b) (is.room b brand));
+        })
+        (λ e. subst (λ (x : ℕ → Content). keys_in (kind_of (lists_of q) e) (x e) ≤ keys) (sym minus) (subst (λ k. keys_in k (hand_minus g b w.content e) ≤ keys) (sym (kind_there e))
+        (omega (arith, fewer_keys (kind_of (lists_of p) e) (g e) (hand_minus g b w.content e) (less_at e), is.bounded e))))
+        (λ e lt. subst (λ (x : ℕ → Content). HasRoom (kind_of (lists_of q) e) (keys_of (x e)) ((rooms_of q).hand e)) (sym minus) (subst (λ k. HasRoom k (keys_of (hand_minus g b w.content e)) ((rooms_of q).hand e)) (sym (kind_there e))
+        (room_for_fewer (kind_of (lists_of p) e) (keys_of (hand_minus g b w.content e)) (keys_of (g e)) ((rooms_of q).hand e) (keys_within (g e) (hand_minus g b w.content e) (less_at e))
+        (more_room (kind_of (lists_of p) e) (keys_of (g e)) ((rooms_of p).hand e) ((rooms_of q).hand e) (gave.half.rooms.hand e) (is.room e (omega (arith, lt, brands_same)))))))
+        brands_same
+        (λ e. kept_after_give b w.content to (kept_of p) (retired_by (reverse ms)) e (is.retired e))
+        (subst (λ (x : ℕ → Content). IsSound (lists_of q) x) (sym minus) (subst (λ (s : Lists). IsSound s (hand_minus g b w.content)) (sym gave.half.lists) (sound_given (lists_of p) g b w is.valid.sound to can has)))
+        (subst (λ (x : ℕ → Content). Agrees (lists_of q) x (table.moved (table_now (draft_of p ks ms false)) n)) (sym minus)
+        (subst (λ (s : Lists). Agrees s (hand_minus g b w.content) (table.moved (table_now (draft_of p ks ms false)) n)) (sym gave.half.lists)
+        (agrees_given (lists_of p) (hand_minus g b w.content) (table.taken (table_now (draft_of p ks ms false)) Hand b w.content) b w
+        (agrees_from_hand (lists_of p) g (table_now (draft_of p ks ms false)) b w is.valid.agrees) to can)))
+        (can_move_out (lists_of p) g (table_now (draft_of p ks ms false)) b w is.valid.agrees has to)
+
+-- ---- a parcel given up
+
+module _ (p : Stores) (ks : List Step) (ms : List Movement) (keys : ℕ) (spoiled : Bool) (a : Amount) (is : IsDraft p ks ms keys spoiled) (keep : HandKeeps (draft_of p ks ms spoiled) a) where
+  there : a.brand < length p.transit.out
+  there = omega (arith, keep.brand.made, brands_there p)
+
+  -- with what was given up it is in the hand
+  among : Contains (in_hand (reverse ms) a.brand) (sum (store_of p a.brand) a.value.content)
+  among = subst (λ x. Contains (in_hand (reverse ms) a.brand) (sum x a.value.content)) (given_read p a.brand) keep.has
+
+  pub can_hold : CanHold p.transit a
+  can_hold = record {
+    way = record {
+      made = there;
+      kind = ap (λ (x : BrandSupply). x.outstanding.kind) (sym (supply_read p.transit.out a.brand)) ∙ keep.brand.kind;
+      has = subst (λ (x : BrandSupply). Contains x.outstanding.content (sum (store_of p a.brand) a.value.content)) (supply_read p.transit.out a.brand)
+          (Contains-trans (supply_at (lists_of p).out a.brand).outstanding.content (in_hand (reverse ms) a.brand) (sum (store_of p a.brand) a.value.content) (hand_is_out (lists_of p) (in_hand (reverse ms)) is.valid.sound a.brand) among);
+    };
+    room = subst (λ k. HasRoom k (keys_of (sum (store_of p a.brand) a.value.content)) ((rooms_of p).hand a.brand)) keep.brand.kind
+        (room_for_fewer (kind_of (lists_of p) a.brand) (keys_of (sum (store_of p a.brand) a.value.content)) (keys_of (in_hand (reverse ms) a.brand)) ((rooms_of p).hand a.brand) (keys_within (in_hand (reverse ms) a.brand) (sum (store_of p a.brand) a.value.content) among) (is.room a.brand there));
+  }
+
+  module _ (t : TransitView) (held : t ≡ with_hand p.transit a.brand (with_more (held_at p.transit.hand a.brand) a.value.content)) where
+    abbrev q : Stores
+    q = record p { transit = t }
+
+    lists_same : lists_of q ≡ lists_of p
+    lists_same = ap (λ (u : TransitView). lists_of (record p { transit = u })) held
+
+    hand_rooms : (b : ℕ) → (held_at t.hand b).room ≡ (held_at p.transit.hand b).room
+    hand_rooms b = ap (λ (u : TransitView). (held_at u.hand b).room) held ∙ keeps (λ (x : Held). x.room) p.transit.hand a.brand (with_more (held_at p.transit.hand a.brand) a.value.content) (empty_hand Nat) refl b
+
+    out_same : t.out ≡ p.transit.out
+    out_same = ap (λ (u : TransitView). u.out) held
+
+    pub up_after : draft_of q ks ms true ≡ given_up_too (draft_of p ks ms spoiled) a
+    up_after = (λ i. record { kept = all_back (lists_same i) (reverse ks) (reverse ms); now = lists_same i; staging = staged_of p; movements = ms; given_up = map content_in_store (held i).hand; is_spoiled = true })
+        ∙ ap (λ l. record { kept = all_back (lists_of p) (reverse ks) (reverse ms); now = lists_of p; staging = staged_of p; movements = ms; given_up = l; is_spoiled = true })
+        (map_set content_in_store p.transit.hand a.brand (with_more (held_at p.transit.hand a.brand) a.value.content) ∙ ap (λ x. slice_set (given_up_in p) a.brand (sum x a.value.content)) (sym (given_read p a.brand)))
+
+    pub up_keeps : IsDraft q ks ms keys true
+    up_keeps = record {
+      can = subst (λ (s : Lists). CanAllBack (rooms_of q) s (reverse ks) (reverse ms)) (sym lists_same) (all_grows (rooms_of p) (rooms_of q) (record {
+        purses = λ n. omega arith;
+        slots = λ n k. omega arith;
+        capacity = omega arith;
+        hand = λ b. omega (arith, hand_rooms b);
+      }) (lists_of p) (reverse ks) (reverse ms) is.can);
+      bounded = λ b. subst (λ (s : Lists). keys_in (kind_of s b) (in_hand (reverse ms) b) ≤ keys) (sym lists_same) (is.bounded b);
+      room = λ b lt. subst (λ (s : Lists). HasRoom (kind_of s b) (keys_of (in_hand (reverse ms) b)) ((rooms_of q).hand b)) (sym lists_same)
+          (subst (λ r. HasRoom (kind_of (lists_of p) b) (keys_of (in_hand (reverse ms) b)) r) (sym (hand_rooms b)) (is.room b (omega (arith, lt, ap length out_same))));
+      clear = λ sound. absurd (sound_not sound);
+      retired = λ b. ap (λ l. (circulation_at l b).kept) out_same ∙ is.retired b;
+      valid = subst (λ (s : Lists). IsValid (record { kept = all_back s (reverse ks) (reverse ms); now = s; staging = staged_of p; movements = ms; given_up = given_up_in q; is_spoiled = true })) (sym lists_same)
+          (record { sound = is.valid.sound; agrees = is.valid.agrees; moves = is.valid.moves; was_sound = is.valid.was_sound });
+    }
+      where
+        sound_not : true ≢ false
+        sound_not e = cc
+
+-- ---- a vault in which nothing was made
+
+pub nothing_made : (p : Stores) (ks : List Step) (ms : List Movement) → lists_of p ≡ no_lists → staged_of p ≡ [] → p.transit.out ≡ [] → ks ≡ [] → ms ≡ [] → IsVault p ks ms
+nothing_made p ks ms lists staging out steps movements = record {
+  no_steps = steps;
+  no_movements = movements;
+  no_staging = staging;
+  empty = λ b lt. absurd (none b lt);
+  kept = λ b lt. absurd (none b lt);
+  sound = subst (λ (s : Lists). IsSound s no_hand) (sym lists) (record { balanced = λ b k. omega arith; owed = refl });
+}
+  where
+    none : (b : ℕ) → b < length p.transit.out → ⊥
+    none b lt = omega (arith, lt, ap length out)

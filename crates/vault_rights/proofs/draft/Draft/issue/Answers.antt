@@ -1,0 +1,52 @@
+use Rattle.std.proofs.Common.{◌∙◌, ap, refl, List, [], ◌∷◌, ◌++◌}
+use Rattle.right_steps.specs.declared.Step.{Step}
+use Rattle.right_steps.specs.declared.Step.TheVariants.{Moves}
+use Rattle.rights_model.specs.declared.Holder.TheVariants.{Outside}
+use Rattle.rights_model.specs.declared.Movement.{Movement}
+use Rattle.vault_rights.proofs.Made.{may_come, none_in_store, taken_after_so, taken_keeps_so}
+use Rattle.vault_rights.proofs.Steps.{room_stays}
+use Rattle.vault_rights.proofs.draft.Draft.issue.Goals as goal
+
+pub invariant_of-self : goal.invariant_of-self
+invariant_of-self c = rw (c.in_default.ensures.steps, c.in_default.ensures.movements) (room_stays c.self.inside.stores c.note_take.new.stores c.self.inside.steps.items c.self.inside.movements.items c.self.inside.keys c.self.inside.is_spoiled c.self.invariant c.in_default.ensures.roomed)
+
+pub issue-requires-clause-empty : goal.issue-requires-clause-empty
+issue-requires-clause-empty c =
+    let sound = rw (← c.self.view_is) at c.requires.sound in
+    let brand = rw (← c.self.view_is) at c.requires.brand in
+    none_in_store c.self.inside.stores c.note_take.new.stores c.self.inside.steps.items c.self.inside.movements.items c.self.inside.keys c.self.inside.is_spoiled c.args.brand c.args.value c.in-Ok.ensures.roomed brand sound c.self.invariant
+
+pub invariant_of-self-in-Ok-issue : goal.invariant_of-self-in-Ok-issue
+invariant_of-self-in-Ok-issue c =
+    let sound = rw (← c.self.view_is) at c.requires.sound in
+    let brand = rw (← c.self.view_is) at c.requires.brand in
+    taken_keeps_so c.self.inside.stores c.note_take.new.stores c.issue.new.self c.self.inside.steps.items _ c.self.inside.movements.items _ c.self.inside.keys c.in-Ok.noted.keys c.self.inside.is_spoiled Outside c.args.brand c.args.brand c.args.value c.in-Ok.noted.movement sound c.self.invariant c.in-Ok.ensures.roomed c.in-Ok-issue.ensures.ok
+    (may_come c.self.inside.stores c.note_take.new.stores c.self.inside.steps.items c.self.inside.movements.items c.self.inside.keys c.self.inside.is_spoiled c.args.brand c.args.value c.in-Ok.ensures.roomed brand c.in-Ok-issue.ensures.fits) refl
+    (c.push_reserved-in-Ok-issue.ensures.items ∙ ap (λ (l : List Step). l ++ Moves ∷ []) c.in-Ok.ensures.steps)
+    (c.push_reserved.ensures.items ∙ ap (λ (l : List Movement). l ++ c.in-Ok.noted.movement ∷ []) c.in-Ok.ensures.movements)
+    c.in-Ok.ensures.movement brand c.in-Ok.ensures.keys c.in-Ok.ensures.hand_room
+
+pub invariant_of-self-in-Err : goal.invariant_of-self-in-Err
+invariant_of-self-in-Err c = rw (c.in-Err.ensures.err, c.in-Ok.ensures.steps, c.in-Ok.ensures.movements) (room_stays c.self.inside.stores c.note_take.new.stores c.self.inside.steps.items c.self.inside.movements.items c.self.inside.keys c.self.inside.is_spoiled c.self.invariant c.in-Ok.ensures.roomed)
+
+pub invariant_of-self-in-Err-2 : goal.invariant_of-self-in-Err-2
+invariant_of-self-in-Err-2 c = rw (c.in-Err.ensures.err, c.in-Ok.ensures.steps, c.in-Ok.ensures.movements) (room_stays c.self.inside.stores c.note_take.new.stores c.self.inside.steps.items c.self.inside.movements.items c.self.inside.keys c.self.inside.is_spoiled c.self.invariant c.in-Ok.ensures.roomed)
+
+pub invariant_of-self-in-Err-3 : goal.invariant_of-self-in-Err-3
+invariant_of-self-in-Err-3 c = rw (c.in-Err.ensures.err, c.in-Ok.ensures.steps, c.in-Ok.ensures.movements) (room_stays c.self.inside.stores c.note_take.new.stores c.self.inside.steps.items c.self.inside.movements.items c.self.inside.keys c.self.inside.is_spoiled c.self.invariant c.in-Ok.ensures.roomed)
+
+pub invariant_of-self-in-Err-4 : goal.invariant_of-self-in-Err-4
+invariant_of-self-in-Err-4 c = rw (c.in-Err.ensures.err, c.in-Ok.ensures.steps, c.in-Ok.ensures.movements) (room_stays c.self.inside.stores c.note_take.new.stores c.self.inside.steps.items c.self.inside.movements.items c.self.inside.keys c.self.inside.is_spoiled c.self.invariant c.in-Ok.ensures.roomed)
+
+pub invariant_of-self-in-Err-5 : goal.invariant_of-self-in-Err-5
+invariant_of-self-in-Err-5 c = rw (c.in-Err.ensures.err, c.in-Ok.ensures.steps, c.in-Ok.ensures.movements) (room_stays c.self.inside.stores c.note_take.new.stores c.self.inside.steps.items c.self.inside.movements.items c.self.inside.keys c.self.inside.is_spoiled c.self.invariant c.in-Ok.ensures.roomed)
+
+pub returns-in-Ok-issue-clause-ok : goal.returns-in-Ok-issue-clause-ok
+returns-in-Ok-issue-clause-ok c =
+    let sound = rw (← c.self.view_is) at c.requires.sound in
+    let brand = rw (← c.self.view_is) at c.requires.brand in
+    rw (← c.self.view_is) (taken_after_so c.self.inside.stores c.note_take.new.stores c.issue.new.self c.self.inside.steps.items _ c.self.inside.movements.items _ c.self.inside.keys c.in-Ok.noted.keys c.self.inside.is_spoiled Outside c.args.brand c.args.brand c.args.value c.in-Ok.noted.movement sound c.self.invariant c.in-Ok.ensures.roomed c.in-Ok-issue.ensures.ok
+    (may_come c.self.inside.stores c.note_take.new.stores c.self.inside.steps.items c.self.inside.movements.items c.self.inside.keys c.self.inside.is_spoiled c.args.brand c.args.value c.in-Ok.ensures.roomed brand c.in-Ok-issue.ensures.fits) refl
+    (c.push_reserved-in-Ok-issue.ensures.items ∙ ap (λ (l : List Step). l ++ Moves ∷ []) c.in-Ok.ensures.steps)
+    (c.push_reserved.ensures.items ∙ ap (λ (l : List Movement). l ++ c.in-Ok.noted.movement ∷ []) c.in-Ok.ensures.movements)
+    c.in-Ok.ensures.movement)
