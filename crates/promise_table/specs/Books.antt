@@ -26,7 +26,8 @@ settled_with os vs n = option_map (with_number vs) (settlement_of os n)
 abbrev pub is_asking : List Outcome → Notice → Bool
 is_asking os r = is_none (settlement_of os r.promise)
 
--- The book of these links, settlements by number and requests by number. A request stays until its promise is settled.
+-- The book of these links, settlements by number and requests by number. A request stays until its
+-- promise is settled.
 abbrev pub book_by : Linked → List SettlementView → List Notice → PromiseBook
 book_by l vs rs = record {
   settled = listed (settled_with l.outcomes vs) l.made;
@@ -47,7 +48,8 @@ pub record IsOutcomeMade (made settlements : ℕ) (o : Outcome) : Type 0 where
   pub promise : o.promise < made
   pub settlement : o.settlement < settlements
 
--- What holds of them: no promise leads to itself, none is settled before what it follows, and each request says which promise it asks for.
+-- What holds of them: no promise leads to itself, none is settled before what it follows, and each
+-- request says which promise it asks for.
 pub record IsBooked (l : Linked) (vs : List SettlementView) (rs : List Notice) : Type 0 where
   pub forest : IsForest l.follows
   pub order : IsInOrder l.follows l.outcomes

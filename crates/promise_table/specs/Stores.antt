@@ -1,4 +1,4 @@
--- What a store of promises, a queue and a log are to the world: a book, and what waits and was told beside it.
+-- What a store of promises and a queue are to the world: a book, and what waits beside it.
 use Rattle.std.specs.Prelude.{Bool, true, false, List, map}
 use Rattle.promise_store.specs.States.{StateView, follows, pending, settled}
 use Rattle.promise_store.specs.Turns.{Store, Turn}
@@ -49,7 +49,8 @@ abbrev pub beside : PromiseBook → List deliveries.Delivery → List events.Eve
 beside b ds es = record { promises = b; waiting = ds; log = es }
 
 -- what waits and what is told after these, where a promise is settled; else all stays
-abbrev pub waits_after : StateView → List deliveries.Notice → List Event → List deliveries.Delivery → List deliveries.Delivery
+abbrev pub waits_after : StateView → List deliveries.Notice → List Event
+    → List deliveries.Delivery → List deliveries.Delivery
 waits_after (settled v) rs es ds = queued rs es ds
 waits_after pending rs es ds = ds
 waits_after (follows q) rs es ds = ds

@@ -3,7 +3,7 @@
 ghost use Rattle.std.specs.Prelude.{◌≡◌, ◌≢◌, ◌↔◌, ◌<◌, ◌+◌, ◌++◌, ◌∷◌, [], ℕ, Err, None, IfErr, IfOk, IfSome, IsOk, OnErr, OnOk, is_some, length};
 ghost use Rattle.promise_store.specs.Linked.{LeadsTo, most_made};
 ghost use Rattle.promise_store.specs.States.{settlement_view};
-ghost use Rattle.promise_store.specs.Turns.{kept_at, state_at};
+ghost use Rattle.promise_store.specs.Turns.{back_at, kept_at, state_at};
 ghost use Rattle.promise_store.specs.Views.{now_of, promises_of, state_view};
 ghost use Rattle.promise_store.specs.declared.store.FollowFault.TheVariants as faults;
 ghost use Rattle.promise_store.specs.declared.store.MakeFault.TheVariants as make_faults;
@@ -25,7 +25,7 @@ use turn_events::log::Log;
 use turn_queue::TurnQueue;
 
 /// All promises, and the functions that are to be told of them (eventual send). Contracts see the stores of
-/// the turn's start and of now, and by `book_before` and `book_now` the books that they are to the world.
+/// the turn's start and of now, and by `book_at_start` and `book` what they are to the world.
 #[derive(Drop)]
 pub struct PromiseTable {
     promises: Promises<Notice>,
@@ -34,12 +34,12 @@ pub struct PromiseTable {
 }
 
 impl PromiseTable {
-    ghost use Rattle.promise_table.specs.Tables.{turn_of};
+    ghost use Rattle.promise_table.specs.Tables.{book, book_at_start, made_in, settled_at, standing, start_of, turn_of};
 
     /// No promises yet.
     pub fn new(alloc: Global) -> PromiseTable
-        ensures start { book_before (turn_of result) ≡ record { settled = []; follows = []; requests = [] } }
-        ensures now { book_now (turn_of result) ≡ record { settled = []; follows = []; requests = [] } }
+        ensures start { book_at_start result ≡ record { settled = []; follows = []; requests = [] } }
+        ensures now { book result ≡ record { settled = []; follows = []; requests = [] } }
     {
         PromiseTable {
             promises: Promises::new(alloc),
@@ -56,26 +56,27 @@ impl PromiseTable {
 
     /// How many promises were made: the number that the next one gets.
     pub fn made(&self) -> u32
-        ensures { result ≡ length (book_now (turn_of self.now)).settled }
+        ensures { result ≡ made_in self.now }
     {
         self.promises.made()
     }
 
     /// A promise as it is.
     pub fn state(&self, promise: u32) -> State<'_>
-        requires { promise < length (book_now (turn_of self.now)).settled }
-        ensures { state_view result ≡ state_of (book_now (turn_of self.now)) promise }
+        requires { promise < made_in self.now }
+        ensures { state_view result ≡ state_of (book self.now) promise }
     {
         self.promises.state(promise)
     }
 
     /// Makes the next promise, which is pending, and answers its number. On an error all is as before.
     pub fn make(&mut self) -> Result<u32, MakeFault>
-        ensures ok { OnOk result (book_now (turn_of self.new) ≡ with_promise None (book_now (turn_of self.old))) }
-        ensures number { IfOk result (λ number. number ≡ length (book_now (turn_of self.old)).settled) }
-        ensures room { IsOk result → length (book_now (turn_of self.old)).settled < most_made }
-        ensures limit { IfErr result (λ f. (f ≡ make_faults.Limit) ↔ (length (book_now (turn_of self.old)).settled ≡ most_made)) }
-        ensures start { (turn_of self.new).start ≡ (turn_of self.old).start }
+        ensures ok { OnOk result (book self.new ≡ with_promise None (book self.old)) }
+        ensures number { IfOk result (λ number. number ≡ made_in self.old) }
+        ensures room { IsOk result → made_in self.old < most_made }
+        ensures limit { IfErr result
+            (λ fault. (fault ≡ make_faults.Limit) ↔ (made_in self.old ≡ most_made)) }
+        ensures start { start_of self.new ≡ start_of self.old }
         ensures err { OnErr result (turn_of self.new ≡ turn_of self.old) }
     {
         self.promises.make()
@@ -89,11 +90,12 @@ impl PromiseTable {
         queue: &mut TurnQueue<Delivery>,
         log: &mut Log,
     ) -> Result<(), AllocError>
-        requires pending { IsPending (book_now (turn_of self.old)) promise }
+        requires pending { IsPending (book self.old) promise }
         requires ends { target_of (settlement_view settlement) ≡ None }
-        ensures ok { OnOk result (beside (book_now (turn_of self.new)) (waiting_of queue.new.now) (log_of log.new)
-            ≡ settling promise (settlement_view settlement) (book_now (turn_of self.old)) (waiting_of queue.old.now) (log_of log.old)) }
-        ensures start { (turn_of self.new).start ≡ (turn_of self.old).start }
+        ensures ok { OnOk result (standing self.new queue.new.now log.new
+            ≡ settling promise (settlement_view settlement) (book self.old)
+            (waiting_of queue.old.now) (log_of log.old)) }
+        ensures start { start_of self.new ≡ start_of self.old }
         ensures queue_start { queue.new.start ≡ queue.old.start }
     {
         let events = settle_promise(&mut self.promises, promise, settlement)?;
@@ -109,17 +111,18 @@ impl PromiseTable {
         queue: &mut TurnQueue<Delivery>,
         log: &mut Log,
     ) -> Result<(), FollowFault>
-        requires pending { IsPending (book_now (turn_of self.old)) promise }
-        requires target_made { target < length (book_now (turn_of self.old)).settled }
-        ensures cycle { (result ≡ Err (faults.PromiseCycle promise)) ↔ LeadsTo (book_now (turn_of self.old)).follows promise target }
+        requires pending { IsPending (book self.old) promise }
+        requires target_made { target < made_in self.old }
+        ensures cycle { (result ≡ Err (faults.PromiseCycle promise))
+            ↔ LeadsTo (book self.old).follows promise target }
         ensures shown { IfErr result (λ f. (n : ℕ) → f ≡ faults.PromiseCycle n → n ≡ promise) }
-        ensures ok { OnOk result (beside (book_now (turn_of self.new)) (waiting_of queue.new.now) (log_of log.new)
-            ≡ following (settlement_at (book_now (turn_of self.old)).settled target) promise target
-            (book_now (turn_of self.old)) (waiting_of queue.old.now) (log_of log.old)) }
+        ensures ok { OnOk result (standing self.new queue.new.now log.new
+            ≡ following (settled_at self.old target) promise target
+            (book self.old) (waiting_of queue.old.now) (log_of log.old)) }
         ensures refused { result ≡ Err (faults.PromiseCycle promise)
-            → beside (book_now (turn_of self.new)) (waiting_of queue.new.now) (log_of log.new)
-            ≡ beside (book_now (turn_of self.old)) (waiting_of queue.old.now) (log_of log.old) }
-        ensures start { (turn_of self.new).start ≡ (turn_of self.old).start }
+            → standing self.new queue.new.now log.new
+            ≡ standing self.old queue.old.now log.old }
+        ensures start { start_of self.new ≡ start_of self.old }
         ensures queue_start { queue.new.start ≡ queue.old.start }
     {
         let events = self.promises.follow(promise, target)?;
@@ -140,17 +143,19 @@ impl PromiseTable {
         queue: &mut TurnQueue<Delivery>,
         log: &mut Log,
     ) -> Result<(), FollowFault>
-        requires pending { IsPending (book_now (turn_of self.old)) promise }
-        requires target_made { IfSome (target_of (settlement_view settlement)) (λ t. t < length (book_now (turn_of self.old)).settled) }
+        requires pending { IsPending (book self.old) promise }
+        requires target_made { IfSome (target_of (settlement_view settlement))
+            (λ target. target < made_in self.old) }
         ensures cycle { (result ≡ Err (faults.PromiseCycle promise))
-            ↔ ComesRound (book_now (turn_of self.old)).follows promise (target_of (settlement_view settlement)) }
+            ↔ ComesRound (book self.old).follows promise (target_of (settlement_view settlement)) }
         ensures shown { IfErr result (λ f. (n : ℕ) → f ≡ faults.PromiseCycle n → n ≡ promise) }
-        ensures ok { OnOk result (beside (book_now (turn_of self.new)) (waiting_of queue.new.now) (log_of log.new)
-            ≡ resolving promise (settlement_view settlement) (book_now (turn_of self.old)) (waiting_of queue.old.now) (log_of log.old)) }
+        ensures ok { OnOk result (standing self.new queue.new.now log.new
+            ≡ resolving promise (settlement_view settlement) (book self.old)
+            (waiting_of queue.old.now) (log_of log.old)) }
         ensures refused { result ≡ Err (faults.PromiseCycle promise)
-            → beside (book_now (turn_of self.new)) (waiting_of queue.new.now) (log_of log.new)
-            ≡ beside (book_now (turn_of self.old)) (waiting_of queue.old.now) (log_of log.old) }
-        ensures start { (turn_of self.new).start ≡ (turn_of self.old).start }
+            → standing self.new queue.new.now log.new
+            ≡ standing self.old queue.old.now log.old }
+        ensures start { start_of self.new ≡ start_of self.old }
         ensures queue_start { queue.new.start ≡ queue.old.start }
     {
         if let Some(target) = target_of(&settlement) {
@@ -170,12 +175,13 @@ impl PromiseTable {
         request: Notice,
         queue: &mut TurnQueue<Delivery>,
     ) -> Result<(), AllocError>
-        requires { request.promise < length (book_now (turn_of self.old)).settled }
-        ensures asking { OnOk result (book_now (turn_of self.new)
-            ≡ asking (settlement_at (book_now (turn_of self.old)).settled request.promise) (notice_view request) (book_now (turn_of self.old))) }
+        requires { request.promise < made_in self.old }
+        ensures asking { OnOk result (book self.new
+            ≡ asking (settled_at self.old request.promise) (notice_view request) (book self.old)) }
         ensures told { OnOk result (waiting_of queue.new.now
-            ≡ waiting_of queue.old.now ++ told_at_once (settlement_at (book_now (turn_of self.old)).settled request.promise) (notice_view request)) }
-        ensures start { (turn_of self.new).start ≡ (turn_of self.old).start }
+            ≡ waiting_of queue.old.now
+            ++ told_at_once (settled_at self.old request.promise) (notice_view request)) }
+        ensures start { start_of self.new ≡ start_of self.old }
         ensures queue_start { queue.new.start ≡ queue.old.start }
         ensures err { OnErr result (turn_of self.new ≡ turn_of self.old) }
         ensures queue_err { OnErr result (queue.new ≡ queue.old) }
@@ -190,11 +196,13 @@ impl PromiseTable {
     /// An instance sends a call (eventual send): the promise of its answer, which is the next, is made, and the call
     /// waits in the queue. What an error leaves can be worked back.
     pub fn send(&mut self, call: Send, queue: &mut TurnQueue<Delivery>) -> Result<(), MakeFault>
-        requires { call.promise ≡ length (book_now (turn_of self.old)).settled }
-        ensures promises { OnOk result (book_now (turn_of self.new) ≡ with_promise None (book_now (turn_of self.old))) }
-        ensures waiting { OnOk result (waiting_of queue.new.now ≡ waiting_of queue.old.now ++ send (send_view call) ∷ []) }
-        ensures limit { IfErr result (λ f. (f ≡ make_faults.Limit) ↔ (length (book_now (turn_of self.old)).settled ≡ most_made)) }
-        ensures start { (turn_of self.new).start ≡ (turn_of self.old).start }
+        requires { call.promise ≡ made_in self.old }
+        ensures promises { OnOk result (book self.new ≡ with_promise None (book self.old)) }
+        ensures waiting { OnOk result (waiting_of queue.new.now
+            ≡ waiting_of queue.old.now ++ send (send_view call) ∷ []) }
+        ensures limit { IfErr result
+            (λ fault. (fault ≡ make_faults.Limit) ↔ (made_in self.old ≡ most_made)) }
+        ensures start { start_of self.new ≡ start_of self.old }
         ensures queue_start { queue.new.start ≡ queue.old.start }
     {
         self.make()?;
@@ -206,8 +214,8 @@ impl PromiseTable {
 
     /// Whether a promise is settled.
     pub fn is_settled(&self, promise: u32) -> bool
-        requires { promise < length (book_now (turn_of self.now)).settled }
-        ensures { result ≡ is_some (settlement_at (book_now (turn_of self.now)).settled promise) }
+        requires { promise < made_in self.now }
+        ensures { result ≡ is_some (settled_at self.now promise) }
     {
         match self.promises.state(promise) {
             State::Settled(_) => true,
@@ -227,8 +235,10 @@ impl PromiseTable {
         requires made { promise < (now_of self.now.promises).links.made }
         requires there { AreRequestsIn (length (now_of self.now.promises).entries) happened.now }
         ensures queued { OnOk result (waiting_of queue.new.now
-            ≡ waits_after (state_at (now_of self.now.promises) promise) (notice_views (now_of self.now.promises).entries) happened.now (waiting_of queue.old.now)) }
-        ensures told { OnOk result (log_of log.new ≡ told_after (state_at (now_of self.now.promises) promise) happened.now (log_of log.old)) }
+            ≡ waits_after (state_at (now_of self.now.promises) promise)
+            (notice_views (now_of self.now.promises).entries) happened.now (waiting_of queue.old.now)) }
+        ensures told { OnOk result (log_of log.new
+            ≡ told_after (state_at (now_of self.now.promises) promise) happened.now (log_of log.old)) }
         ensures start { queue.new.start ≡ queue.old.start }
     {
         match self.promises.state(promise) {
@@ -246,7 +256,7 @@ impl PromiseTable {
 
     /// Goes back to the turn's start. It takes no memory.
     pub fn back(&mut self)
-        ensures { turn_of self.new ≡ record { start = (turn_of self.old).start; now = (turn_of self.old).start } }
+        ensures { turn_of self.new ≡ back_at (turn_of self.old) }
     {
         self.promises.back();
     }

@@ -26,8 +26,10 @@ pub fn tell_all(
     log: &mut Log,
 ) -> Result<(), AllocError>
     requires { AreRequestsIn (length (now_of promises.now).entries) happened.now }
-    ensures queued { OnOk result (waiting_of queue.new.now ≡ queued (notice_views (now_of promises.now).entries) happened.now (waiting_of queue.old.now)) }
-    ensures recorded { OnOk result (log_of log.new ≡ recorded (settlement_view settlement.now) happened.now (log_of log.old)) }
+    ensures queued { OnOk result (waiting_of queue.new.now
+        ≡ queued (notice_views (now_of promises.now).entries) happened.now (waiting_of queue.old.now)) }
+    ensures recorded { OnOk result (log_of log.new
+        ≡ recorded (settlement_view settlement.now) happened.now (log_of log.old)) }
     ensures start { queue.new.start ≡ queue.old.start }
 {
     for event in happened {
@@ -46,8 +48,10 @@ fn tell(
     log: &mut Log,
 ) -> Result<(), AllocError>
     requires { AreRequestsIn (length (now_of promises.now).entries) (event ∷ []) }
-    ensures queued { OnOk result (waiting_of queue.new.now ≡ queued (notice_views (now_of promises.now).entries) (event ∷ []) (waiting_of queue.old.now)) }
-    ensures recorded { OnOk result (log_of log.new ≡ recorded (settlement_view settlement.now) (event ∷ []) (log_of log.old)) }
+    ensures queued { OnOk result (waiting_of queue.new.now
+        ≡ queued (notice_views (now_of promises.now).entries) (event ∷ []) (waiting_of queue.old.now)) }
+    ensures recorded { OnOk result (log_of log.new
+        ≡ recorded (settlement_view settlement.now) (event ∷ []) (log_of log.old)) }
     ensures start { queue.new.start ≡ queue.old.start }
 {
     match event {
