@@ -10,20 +10,9 @@ ghost use Rattle.turn_events.specs.Views.{event_view};
 
 use promise_store::{Event, Promises, Settlement};
 use std::alloc::AllocError;
-use turn_events::deliveries::{Delivery, Notice};
+use turn_events::deliveries::Notice;
 use turn_events::events;
 use turn_events::log::Log;
-use turn_queue::TurnQueue;
-
-/// Appends a delivery. For want of memory all is as before.
-pub fn queue_delivery(queue: &mut TurnQueue<Delivery>, delivery: Delivery) -> Result<(), AllocError>
-    ensures ok { OnOk result (queue.new.now ≡ queue.old.now ++ delivery ∷ []) }
-    ensures start { queue.new.start ≡ queue.old.start }
-    ensures err { OnErr result (queue.new ≡ queue.old) }
-{
-    queue.push(delivery)?;
-    Ok(())
-}
 
 /// Adds an event, last. For want of memory all is as before.
 pub fn log_event(log: &mut Log, event: events::Event) -> Result<(), AllocError>

@@ -9,5 +9,6 @@ mod calls;
 mod copies;
 mod table;
 mod telling;
+pub mod waiting;
 
 pub use table::PromiseTable;

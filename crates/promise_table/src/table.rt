@@ -15,8 +15,9 @@ ghost use Rattle.promise_table.specs.Books.{AreRequestsIn, ComesRound};
 ghost use Rattle.promise_table.specs.Facts.{AreBooked-prop};
 ghost use Rattle.promise_table.specs.Stores.{AreBooked, beside, book_before, book_now, book_of, books_of, notice_views, told_after, waiting_of, waits_after};
 
-use crate::calls::{keep_request, queue_delivery, settle_promise};
+use crate::calls::{keep_request, settle_promise};
 use crate::telling::tell_all;
+use crate::waiting::queue_delivery;
 use jessie_tree::data::{Data, ObjKind};
 use promise_store::{Event, FollowFault, MakeFault, Promises, Settlement, State};
 use std::alloc::{AllocError, Global};

@@ -7,8 +7,9 @@ ghost use Rattle.turn_events.specs.Logs.{log_of};
 ghost use Rattle.promise_table.specs.Books.{AreRequestsIn, queued, recorded};
 ghost use Rattle.promise_table.specs.Stores.{notice_views, waiting_of};
 
-use crate::calls::{log_event, queue_delivery};
+use crate::calls::log_event;
 use crate::copies::{copy_notice, copy_settlement};
+use crate::waiting::queue_delivery;
 use promise_store::{Event, Promises, Settlement};
 use std::alloc::{AllocError, Global};
 use turn_events::deliveries::{Delivery, Notice};
