@@ -3,3 +3,4 @@ pub mod Forms
 pub mod Sums
 pub mod Given
 pub mod Moving
+pub mod Next

@@ -27,7 +27,7 @@ use Rattle.call_rows.specs.Words.{one_move}
 next_takes : (r : Rights) (b : ℕ) (v : Worth) → IsValue v.kind v.content → PaymentTakes r (length r.payments) b v
 next_takes r b v is = subst (λ t. IsNextOr t r (length r.payments) b v) (sym (eq-eqb (length r.payments) (length r.payments) refl)) is
 
-paid_next : (ps : List Paper) (a : Amount) → length (paid ps (length ps) a) ≡ length ps + 1
+pub paid_next : (ps : List Paper) (a : Amount) → length (paid ps (length ps) a) ≡ length ps + 1
 paid_next ps a =
     subst (λ b. length (if b then ps ++ live_paper a ∷ [] else slice_set ps (length ps) (paper_more (paper_at ps (length ps)) a.value.content)) ≡ length ps + 1)
     (sym (eq-eqb (length ps) (length ps) refl)) (length_push ps (live_paper a))

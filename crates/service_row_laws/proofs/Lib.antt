@@ -1,0 +1,5 @@
+pub mod Payments
+pub mod Purses
+pub mod Issuers
+pub mod Mints
+pub mod Seats
