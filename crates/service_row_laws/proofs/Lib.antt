@@ -3,3 +3,4 @@ pub mod Purses
 pub mod Issuers
 pub mod Mints
 pub mod Seats
+pub mod Kits
