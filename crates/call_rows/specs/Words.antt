@@ -1,11 +1,14 @@
 -- Tests that rows of both kinds make, and numbers of what is made next.
-use Rattle.std.specs.Prelude.{ℕ, ◌+◌, nat_lt, not, Bool, true, false, List, [], ◌∷◌, length, Result, Ok, Err}
+use Rattle.std.specs.Prelude.{ℕ, ◌+◌, nat_lt, not, Bool, true, false, List, [], ◌∷◌, length, unwrap_or, Result, Ok, Err}
+use Rattle.host_text.specs.Words.{is_keyword}
+use Rattle.call_arguments.specs.Arguments.{arg}
+use Rattle.jessie_tree.specs.Tree.{Tree, text_of}
 use Rattle.amount_math.specs.Worth.{Worth}
 use Rattle.ertp_mint.specs.Stocks.{most_made}
 use Rattle.instance_store.specs.Tables.{instance_at}
 use Rattle.instance_store.specs.declared.instance.Standing.{Standing}
 use Rattle.instance_store.specs.declared.instance.Standing.TheVariants.{Accepting, Halted, Stopped}
-use Rattle.refusals.specs.Codes.{closed, limit, no_method}
+use Rattle.refusals.specs.Codes.{bad_keyword, closed, limit, no_method}
 use Rattle.refusals.specs.Outcomes.{◌>>◌, need}
 use Rattle.refusals.specs.declared.codes.Refusal.{Refusal}
 use Rattle.world_state.specs.Good.{open_slots}
@@ -53,3 +56,15 @@ runs w i = need (not (has_halted (standing_of w i))) (closed i)
 
 unfoldable pub is_offered_to : State → ℕ → Result (Unit {0}) Refusal
 is_offered_to w i = need (takes_offers (standing_of w i)) (closed i)
+
+-- ---- keywords
+
+-- the text of data, which is empty where it is none
+abbrev pub shown_text : Tree → List ℕ
+shown_text t = unwrap_or (text_of t) []
+
+-- a keyword; the refusal shows the text that was given
+unfoldable pub keyword_at : ℕ → List Tree → Result (List ℕ) Refusal
+keyword_at place args = do
+  need (is_keyword (shown_text (arg place args))) (bad_keyword (shown_text (arg place args)))
+  Ok (shown_text (arg place args))

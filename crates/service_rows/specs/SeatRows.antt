@@ -1,21 +1,20 @@
 -- The methods of users' seats (Zoe).
-use Rattle.std.specs.Prelude.{ℕ, List, [], ◌∷◌, Bool, true, false, Option, Some, None, is_none, is_some, unwrap_or, Result, Ok}
-use Rattle.host_text.specs.Words.{is_keyword}
-use Rattle.call_arguments.specs.Arguments.{arg}
+use Rattle.std.specs.Prelude.{ℕ, List, [], ◌∷◌, Bool, true, false, Option, Some, None, is_none, is_some, Result, Ok}
 use Rattle.call_data.specs.Values.{object_tree}
 use Rattle.instance_store.specs.SeatPromises.{pair_at}
-use Rattle.jessie_tree.specs.Tree.{Tree, boolean, field_of, null, text_of}
+use Rattle.jessie_tree.specs.Tree.{Tree, boolean, field_of, null}
 use Rattle.jessie_tree.specs.declared.data.ObjKind.TheVariants as kinds
 use Rattle.promise_store.specs.States.{SettlementView, broken, ok}
 use Rattle.proposals.specs.declared.offers.Exit.{Exit}
 use Rattle.proposals.specs.declared.offers.Exit.TheVariants.{AfterDeadline, OnDemand, Waived}
-use Rattle.refusals.specs.Codes.{bad_keyword, keyword_mismatch, not_on_demand, pending, seat_exited}
+use Rattle.refusals.specs.Codes.{keyword_mismatch, not_on_demand, pending, seat_exited}
 use Rattle.refusals.specs.Outcomes.{◌>>=◌, ◌>>◌, need, wanted}
 use Rattle.refusals.specs.declared.codes.Refusal.{Refusal}
 use Rattle.turn_rows.specs.Causes.{asked}
 use Rattle.world_state.specs.Promises.{settlement_at}
 use Rattle.world_state.specs.Worlds.{Seat, State, exit, seat_at}
 use Rattle.call_rows.specs.Rows.{Outcome}
+use Rattle.call_rows.specs.Words.{keyword_at}
 
 abbrev pub seat_of : State → ℕ → Seat
 seat_of w seat = seat_at w.seats seat
@@ -36,16 +35,6 @@ unfoldable pub get_offer_result : State → ℕ → Result Tree Refusal
 get_offer_result w seat = Ok (object_tree kinds.Promise (pair_at w.pairs seat).«result»)
 
 -- ---- seat.getPayout(keyword)
-
--- the text of an argument, which is empty where it has none
-abbrev pub shown_text : Tree → List ℕ
-shown_text t = unwrap_or (text_of t) []
-
--- a keyword; the refusal shows the text that was given
-unfoldable pub keyword_at : ℕ → List Tree → Result (List ℕ) Refusal
-keyword_at place args = do
-  need (is_keyword (shown_text (arg place args))) (bad_keyword (shown_text (arg place args)))
-  Ok (shown_text (arg place args))
 
 -- what a promise was fulfilled with, null where it wasn't
 abbrev pub fulfilled : Option SettlementView → Tree

@@ -1,0 +1,3 @@
+pub mod ZcfRows
+pub mod SeatRows
+pub mod Contracts
