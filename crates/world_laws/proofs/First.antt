@@ -47,6 +47,7 @@ first_is_good = record {
   owed = record { made = tt; once = λ p. omega arith; pending = λ p some. absurd (omega (arith, some)) };
   asked = tt;
   following = record { forest = tt; made = tt; unsettled = λ p q e none. absurd (led e) };
+  paid_out = record { each = λ s rows lt e. absurd (omega (arith, lt)) };
   settled = tt;
   requests = tt;
   modules = tt;

@@ -106,6 +106,7 @@ module _ (w : State) (d : Delivery) where
         };
         asked = good.asked;
         following = good.following;
+        paid_out = good.paid_out;
         settled = all_map (IsSettled v) (IsSettled w) (settled_grows v w g) w.promises.settled good.settled;
         requests = all_map (IsNotice v) (IsNotice w) (notice_grows v w g) w.promises.requests good.requests;
         modules = good.modules;

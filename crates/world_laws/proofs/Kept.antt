@@ -5,6 +5,7 @@ use Rattle.world_state.specs.Worlds.{Effect, State, after, after_all}
 use Rattle.world_laws.proofs.Balanced.{balanced-after}
 use Rattle.world_laws.proofs.Data.{facets-after, invitations-after, known-after, labels-after, modules-after, timed-after, timely-after}
 use Rattle.world_laws.proofs.Cascades.{asked-after}
+use Rattle.world_laws.proofs.PaidOut.{paid_out-after}
 use Rattle.world_laws.proofs.Valued.{valued-after}
 use Rattle.world_laws.proofs.Followings.{following-after}
 use Rattle.world_laws.proofs.Proposed.{paired-after, proposed-after}
@@ -39,6 +40,7 @@ good-after w e can good =
       owed = owed-after w e can good;
       asked = asked-after w e good;
       following = following-after w e can good;
+      paid_out = paid_out-after w e can good;
       settled = known.settled;
       requests = known.requests;
       modules = modules-after w e can good.modules;

@@ -17,6 +17,7 @@ pub mod Rooms
 pub mod Owed
 pub mod Owing
 pub mod Followings
+pub mod PaidOut
 pub mod Valued
 pub mod Kept
 pub mod First

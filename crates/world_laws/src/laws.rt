@@ -34,8 +34,10 @@ pub fn what_was_made_stays()
 /// A good effect keeps the world good, and so do effects of which each is good after those before
 /// it.
 pub fn good_effects_keep_the_world_good()
-    ensures one { (w : State) (e : Effect) → IsGoodEffect w e → IsGoodWorld w → IsGoodWorld (after w e) }
-    ensures all { (w : State) (es : List Effect) → AreGood w es → IsGoodWorld w → IsGoodWorld (after_all w es) }
+    ensures one { (w : State) (e : Effect)
+        → IsGoodEffect w e → IsGoodWorld w → IsGoodWorld (after w e) }
+    ensures all { (w : State) (es : List Effect)
+        → AreGood w es → IsGoodWorld w → IsGoodWorld (after_all w es) }
 {}
 
 /// The world of a new host is good, and has room for all that its turns may issue.
@@ -47,7 +49,8 @@ pub fn a_new_world_is_good()
 /// Through good effects what a seat had when it was left stays what it is, and what a promise was
 /// settled with.
 pub fn what_was_left_or_settled_stays()
-    ensures left { (w : State) (e : Effect) (s : ℕ) (rows : List Row) → IsGoodEffect w e → s < length w.seats
+    ensures left { (w : State) (e : Effect) (s : ℕ) (rows : List Row)
+        → IsGoodEffect w e → s < length w.seats
         → (seat_at w.seats s).last ≡ Some rows → (seat_at (after w e).seats s).last ≡ Some rows }
     ensures settled { (w : State) (e : Effect) (p : ℕ) (v : SettlementView)
         → IsGoodEffect w e → IsGoodWorld w → p < promises_made w
@@ -92,7 +95,8 @@ pub fn what_is_not_issued_may_still_be()
 /// has or had, what is staged of it, what it wants and what it gave. So changes of its slots can
 /// be planned.
 pub fn amounts_of_a_seat_agree()
-    ensures agree { (w : State) (s : ℕ) → IsGoodWorld w → s < length w.seats → Agree (amounts_at w s) }
+    ensures agree { (w : State) (s : ℕ)
+        → IsGoodWorld w → s < length w.seats → Agree (amounts_at w s) }
     ensures want { (w : State) (s : ℕ) → IsGoodWorld w → s < length w.seats
         → MeetSlots (allocation_at w s) (seat_at w.seats s).proposal.want }
     ensures give { (w : State) (s : ℕ) → IsGoodWorld w → s < length w.seats

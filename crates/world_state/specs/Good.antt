@@ -58,7 +58,7 @@ use Rattle.world_state.specs.Rights.{moved_together, slots_at, with_slots}
 use Rattle.world_state.specs.Worlds.{Effect, Maker, Offering, Seat, Starting, State, after}
 use Rattle.world_state.specs.Worlds.{of_host, of_instance, of_kit, maker_at, new_seat}
 use Rattle.world_state.specs.Worlds.{IsOpen, seat_at, staged_at, burn_and_escrows, empty_slots}
-use Rattle.world_state.specs.Worlds.{invitation_value, offered_by, promises_made}
+use Rattle.world_state.specs.Worlds.{invitation_value, offered_by, payments_tree, promises_made}
 use Rattle.world_state.specs.Worlds.{add_issuer, arrive, bind_label, empty_payment, empty_seat}
 use Rattle.world_state.specs.Worlds.{end_staging, exit, halt, install, invite, keep_state}
 use Rattle.world_state.specs.Worlds.{moves, new_brand, new_promise, new_purse, note_call, offer}
@@ -297,6 +297,19 @@ pub record AreFollowing (book : PromiseBook) : Type 0 where
   pub unsettled : (p q : ℕ) → leader book.follows p ≡ Some q
       → settlement_at book.settled q ≡ None → settlement_at book.settled p ≡ None
 
+-- the promise of a seat's payouts is settled with the record of its payments, one under each
+-- keyword of what it had
+pub record IsPaidOut (settled : List (Option SettlementView)) (pair : SeatPair)
+    (rows : List Row) : Type 0 where
+  pub first : ℕ
+  pub given : settlement_at settled pair.payouts ≡ Some (ok (payments_tree first rows))
+
+-- a seat that was left was paid out
+pub record ArePaidOut (seats : List Seat) (pairs : List SeatPair)
+    (settled : List (Option SettlementView)) : Type 0 where
+  pub each : (s : ℕ) (rows : List Row) → s < length seats → (seat_at seats s).last ≡ Some rows
+      → IsPaidOut settled (pair_at pairs s) rows
+
 -- ---- data and functions that the world holds
 
 -- what a promise is settled with ends it, and can be handed out
@@ -440,6 +453,7 @@ pub record IsGoodWorld (w : State) : Type 0 where
   pub owed : AreOwed w.seats w.pairs w.waiting w.promises
   pub asked : AreAsked w.promises
   pub following : AreFollowing w.promises
+  pub paid_out : ArePaidOut w.seats w.pairs w.promises.settled
   pub settled : AllByRecursion (IsSettled w) w.promises.settled
   pub requests : AllByRecursion (IsNotice w) w.promises.requests
   pub modules : AllByRecursion IsModule w.tables.installations

@@ -292,8 +292,11 @@ payout_fields (p ∷ ps) =
 abbrev pub payouts_at : State → ℕ → List Payout
 payouts_at w seat = payouts_from (length w.rights.payments) (slots_at w.rights.slots seat)
 
+abbrev pub payments_tree : ℕ → List Row → Tree
+payments_tree first rows = fields (payout_fields (payouts_from first rows))
+
 abbrev pub payouts_tree : State → ℕ → Tree
-payouts_tree w seat = fields (payout_fields (payouts_at w seat))
+payouts_tree w seat = payments_tree (length w.rights.payments) (slots_at w.rights.slots seat)
 
 abbrev pub moves_out : State → ℕ → List Movement
 moves_out w seat = payout_moves seat (length w.rights.payments) (slots_at w.rights.slots seat)
