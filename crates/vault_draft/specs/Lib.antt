@@ -1,3 +1,0 @@
-pub mod Memory
-pub mod Drafts
-pub mod Working
