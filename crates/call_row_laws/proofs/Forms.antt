@@ -13,17 +13,17 @@ use Rattle.jessie_tree.specs.Tree.{Fields, Items, Tree}
 use Rattle.jessie_tree.specs.View.{items_of}
 use Rattle.jessie_tree.specs.declared.data.Obj.{Obj}
 use Rattle.jessie_tree.specs.declared.data.ObjKind.TheVariants as kinds
-use Rattle.world_state.specs.Known.{FunctionKnown, IsFormed, ObjectKnown}
+use Rattle.world_state.specs.Known.{FunctionKnown, HasNames, IsFormed, ObjectKnown}
 use Rattle.world_state.specs.Worlds.{State}
 
 pub null_formed : (w : State) (h : Option ℕ) → IsFormed w h trees.null
-null_formed w h = record { objects = tt; functions = tt; ordered = tt; shallow = tt }
+null_formed w h = record { objects = tt; functions = tt; named = tt; ordered = tt; shallow = tt }
 
 pub boolean_formed : (w : State) (h : Option ℕ) (b : Bool) → IsFormed w h (trees.boolean b)
-boolean_formed w h b = record { objects = tt; functions = tt; ordered = tt; shallow = tt }
+boolean_formed w h b = record { objects = tt; functions = tt; named = tt; ordered = tt; shallow = tt }
 
 pub object_formed : (w : State) (h : Option ℕ) (o : Obj) → ObjectKnown h w o → IsFormed w h (trees.object o)
-object_formed w h o known = record { objects = known; functions = tt; ordered = tt; shallow = tt }
+object_formed w h o known = record { objects = known; functions = tt; named = tt; ordered = tt; shallow = tt }
 
 -- ---- amounts
 
@@ -50,6 +50,7 @@ amount_formed w h a known =
     record {
       objects = (tt, (known, (content_each objects (λ n z. tt) (λ n t. tt) (λ n ts low. tt) 1 (omega arith) a.value.kind a.value.content, tt)));
       functions = (tt, (tt, (content_each functions (λ n z. tt) (λ n t. tt) (λ n ts low. tt) 1 (omega arith) a.value.kind a.value.content, tt)));
+      named = ((refl, (refl, tt)), (tt, (content_each HasNames (λ n z. tt) (λ n t. tt) (λ n ts low. tt) 1 (omega arith) a.value.kind a.value.content, tt)));
       ordered = ((refl, (tt, tt)), (tt, (content_each HasFieldsInOrder (λ n z. tt) (λ n t. tt) (λ n ts low. tt) 1 (omega arith) a.value.kind a.value.content, tt)));
       shallow = (omega arith, (tt, (content_each (IsShallow 32) (λ n z. tt) (λ n t. tt) (λ n ts low. low) 1 (omega arith) a.value.kind a.value.content, tt)));
     }
@@ -97,6 +98,11 @@ order_lower : (n : ℕ) (t : Tree) → HasFieldsInOrder (n + 1) t → HasFieldsI
 order_lower n (trees.fields fs) h = h
 order_lower n _ h = tt
 
+names_lower : (n : ℕ) (t : Tree) → HasNames (n + 1) t → HasNames n t
+names_lower n (trees.fields fs) h = h
+names_lower n (trees.function name) h = h
+names_lower n _ h = tt
+
 depth_lower : (d n : ℕ) (t : Tree) → IsShallow d (n + 1) t → IsShallow d n t
 depth_lower d n (trees.array ts) h = omega (arith, h)
 depth_lower d n (trees.fields fs) h = omega (arith, h)
@@ -107,6 +113,7 @@ pub field_formed : (w : State) (h : Option ℕ) (name : List ℕ) (t x : Tree) �
 field_formed w h name (trees.fields fs) x is at = record {
   objects = raised (ObjectIs (ObjectKnown h w)) (object_lower (ObjectKnown h w)) 0 x (got _ 1 name fs x is.objects.1 at);
   functions = raised (FunctionIs (FunctionKnown h w)) (function_lower (FunctionKnown h w)) 0 x (got _ 1 name fs x is.functions.1 at);
+  named = raised HasNames names_lower 0 x (got _ 1 name fs x is.named.1 at);
   ordered = raised HasFieldsInOrder order_lower 0 x (got _ 1 name fs x is.ordered.1 at);
   shallow = raised (IsShallow 32) (depth_lower 32) 0 x (got _ 1 name fs x is.shallow.1 at);
 }

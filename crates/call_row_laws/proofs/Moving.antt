@@ -103,7 +103,7 @@ module _ (w : State) (good : IsGoodWorld w) where
             },
             record { each = λ e k. count-nothing k },
           );
-          good = (record { brings = λ e z. cc; from = tt; to = tt }, tt);
+          good = (record { brings = λ e z. cc; from_named = tt; to_named = tt; from = tt; to = tt }, tt);
           emptied = (tt, tt);
           fresh = (omega arith, tt);
           apart = λ s staged. refl;
@@ -126,7 +126,7 @@ module _ (w : State) (good : IsGoodWorld w) where
         },
         record { each = λ e k. count-nothing k },
       );
-      good = (record { brings = λ e z. not_first z; from = tt; to = tt }, tt);
+      good = (record { brings = λ e z. not_first z; from_named = tt; to_named = tt; from = tt; to = tt }, tt);
       emptied = (tt, tt);
       fresh = (omega arith, tt);
       apart = λ s staged. refl;
@@ -161,7 +161,7 @@ module _ (w : State) (good : IsGoodWorld w) where
             },
             record { each = λ e k. count-nothing k },
           );
-          good = (record { brings = λ e z. cc; from = tt; to = tt }, tt);
+          good = (record { brings = λ e z. cc; from_named = tt; to_named = tt; from = tt; to = tt }, tt);
           emptied = (emptied_paper w.rights.payments p v holds.made holds.held, tt);
           fresh = (tt, tt);
           apart = λ s staged. refl;
@@ -190,7 +190,7 @@ module _ (w : State) (good : IsGoodWorld w) where
         },
         record { each = λ e k. count-nothing k },
       );
-      good = (record { brings = λ e z. cc; from = tt; to = tt }, tt);
+      good = (record { brings = λ e z. cc; from_named = tt; to_named = tt; from = tt; to = tt }, tt);
       emptied = (emptied_paper w.rights.payments p v holds.made holds.held, tt);
       fresh = (tt, tt);
       apart = λ s staged. refl;

@@ -1,19 +1,13 @@
 -- What the row of each call owes, as one record; and what it may count on.
 use Rattle.std.specs.Prelude.{◌≡◌, ◌≤◌, ◌<◌, ◌+◌, ◌^◌, ℕ, List, length, Option, IfOk, IfSome}
 use Rattle.std.specs.List.{AllByRecursion}
-use Rattle.amount_math.specs.Worth.{IsValue, Worth}
-use Rattle.amount_math.specs.declared.Amount.{Amount}
 use Rattle.call_arguments.specs.Arguments.{arg}
-use Rattle.ertp_mint.specs.BrandSupply.{supply_at}
-use Rattle.instance_store.specs.SeatPromises.{pair_at}
 use Rattle.jessie_tree.specs.Tree.{Tree}
 use Rattle.jessie_tree.specs.declared.data.Obj.{Obj}
-use Rattle.payments.specs.Papers.{Paper}
-use Rattle.proposals.specs.declared.allocations.Row.{Row}
 use Rattle.world_state.specs.Good.{AreGood, IsGoodWorld}
 use Rattle.world_state.specs.Known.{IsFormed, ObjectKnown}
-use Rattle.world_state.specs.Rights.{Rights}
-use Rattle.world_state.specs.Worlds.{Effect, State, after_all, promises_made}
+use Rattle.world_state.specs.Rights.{IsRoomy}
+use Rattle.world_state.specs.Worlds.{Effect, State, after_all}
 use Rattle.call_rows.specs.Licence.{AreLicensed, MayInvite}
 use Rattle.call_rows.specs.Rows.{Outcome}
 use Rattle.call_rows.specs.Traces.{calls_in, departures_by, departures_in, invitations_in, minted_in, movements_in, openings_by, openings_in}
@@ -44,35 +38,11 @@ IsGoodOutcome w caller o m args row = IfOk row (λ d. IsRow w caller o m args d.
 
 -- ---- what a row may count on
 
--- what is held are values: the code's types say so
-abbrev pub IsValued : Worth → Type 0
-IsValued w = IsValue w.kind w.content
-
-abbrev pub IsAmountValued : Amount → Type 0
-IsAmountValued a = IsValued a.value
-
-abbrev pub IsPaperValued : Paper → Type 0
-IsPaperValued p = IfSome p.held IsValued
-
-abbrev pub AreRowsValued : List Row → Type 0
-AreRowsValued rows = AllByRecursion (λ (r : Row). IsAmountValued r.amount) rows
-
-pub record AreValues (r : Rights) : Type 0 where
-  pub purses : AllByRecursion IsAmountValued r.purses
-  pub payments : AllByRecursion IsPaperValued r.payments
-  pub slots : AllByRecursion AreRowsValued r.slots
-
--- the two promises of each seat were made
-pub record ArePairsMade (w : State) : Type 0 where
-  pub results : (s : ℕ) → s < length w.seats → (pair_at w.pairs s).«result» < promises_made w
-  pub payouts : (s : ℕ) → s < length w.seats → (pair_at w.pairs s).payouts < promises_made w
-
--- a call may be made: the world is good, the caller may name the target and all that the arguments name, and
--- what was minted of each brand leaves room for one call more
+-- a call may be made: the world is good, an instance that calls was made, the caller may name the target and all
+-- that the arguments name, and what was minted of each brand leaves room for one call more
 pub record CanCall (w : State) (caller : Option ℕ) (o : Obj) (args : List Tree) : Type 0 where
   pub good : IsGoodWorld w
-  pub values : AreValues w.rights
-  pub pairs : ArePairsMade w
+  pub hosted : IfSome caller (λ i. i < length w.tables.instances)
   pub target : ObjectKnown caller w o
   pub arguments : (place : ℕ) → IsFormed w caller (arg place args)
-  pub room : (b : ℕ) → (supply_at w.rights.out b).minted + most_minted < 2 ^ 128
+  pub room : IsRoomy w.rights.out most_minted

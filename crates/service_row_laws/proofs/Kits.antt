@@ -21,6 +21,7 @@ kit_formed : (w : State) (kind : Kind) (n : ℕ) → IsBrand w.brands kind n →
 kit_formed w kind n brand issuer mint = record {
   objects = (tt, (brand, (issuer, (mint, tt))));
   functions = (tt, (tt, (tt, (tt, tt))));
+  named = ((refl, (refl, (refl, tt))), (tt, (tt, (tt, tt))));
   ordered = ((refl, (refl, (tt, tt))), (tt, (tt, (tt, tt))));
   shallow = (omega arith, (tt, (tt, (tt, tt))));
 }

@@ -47,7 +47,7 @@ module _ (w : State) (n : ℕ) (args : List Tree) where
         let value : IsValueOf (kind_at w.rights.out n) v = ok_has _ _ v reads (amount_is n (kind_at w.rights.out n) 1 (arg 1 args)) in
         let few = value_counts (kind_at w.rights.out n) v value in
         record {
-          good = outside_to_payment w can.good n v can.target value (fits_if (kind_at w.rights.out n) _ tt fits) (omega (arith, can.room n, few)) room;
+          good = outside_to_payment w can.good n v can.target value (fits_if (kind_at w.rights.out n) _ tt fits) (omega (arith, can.room.each n, few)) room;
           known = object_formed _ None _ (omega (arith, paid_next w.rights.payments (amount_of n v)));
           leaves = refl;
           opens = refl;

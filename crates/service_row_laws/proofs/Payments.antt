@@ -11,7 +11,7 @@ use Rattle.world_laws.proofs.Lists.{all_read}
 use Rattle.world_state.specs.Known.{IsFormed}
 use Rattle.world_state.specs.Worlds.{State}
 use Rattle.call_rows.specs.Licence.{NamesPayment}
-use Rattle.call_rows.specs.Obligations.{AreValues, IsPaperValued, IsValued}
+use Rattle.world_state.specs.Good.{AreValues, IsPaperValued, IsValued}
 use Rattle.call_row_laws.proofs.Given.{payment_made, payment_named}
 use Rattle.call_row_laws.proofs.Moving.{Holds}
 use Rattle.service_rows.specs.Payments.{LivePayment, live_at, paper_of, payment_at}

@@ -9,9 +9,10 @@ use Rattle.refusals.proofs.Steps.{after_check, after_known, after_need, after_st
 use Rattle.right_steps.specs.Lists.{amount_of}
 use Rattle.value_checks.proofs.Contents.{has-true}
 use Rattle.world_laws.proofs.Lists.{all_read}
+use Rattle.world_state.specs.Good.{IsAmountValued, IsValued}
 use Rattle.world_state.specs.Known.{IsFormed}
 use Rattle.world_state.specs.Worlds.{State}
-use Rattle.call_rows.specs.Obligations.{CanCall, IsAmountValued, IsGoodOutcome, IsValued}
+use Rattle.call_rows.specs.Obligations.{CanCall, IsGoodOutcome}
 use Rattle.call_rows.specs.Rows.{Outcome}
 use Rattle.call_row_laws.proofs.Forms.{amount_formed, object_formed}
 use Rattle.call_row_laws.proofs.Given.{amount_is}
@@ -40,7 +41,7 @@ module _ (w : State) (n : ℕ) (args : List Tree) (can : CanCall w None (numbere
   })
 
   held_is_value : IsValued (purse_of w n).value
-  held_is_value = all_read IsAmountValued w.rights.purses n no_amount can.values.purses can.target
+  held_is_value = all_read IsAmountValued w.rights.purses n no_amount can.good.valued.purses can.target
 
   withdraw_is : IsGoodOutcome w None (numbered kinds.Purse n) (codes "withdraw") args (withdraw w n args)
   unfolding withdraw
@@ -65,7 +66,7 @@ module _ (w : State) (n : ℕ) (args : List Tree) (can : CanCall w None (numbere
       let same = sym (purse_is w can.good n can.target).kind ∙ held_kind w can.good g.number b g.value given.holds in
       record {
         good = payment_to_purse w can.good g.number n g.value given.holds can.target
-            (sum_if (purse_of w n).value g.value tt same held_is_value (held_value w b g.number g.value can.values given.holds) fits);
+            (sum_if (purse_of w n).value g.value tt same held_is_value (held_value w b g.number g.value can.good.valued given.holds) fits);
         known = amount_formed _ None (amount_of b g.value) (record { made = brand_made; kind_is = sym (can.good.brands.kinds b) ∙ held_kind w can.good g.number b g.value given.holds });
         leaves = refl;
         opens = refl;

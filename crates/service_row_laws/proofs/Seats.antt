@@ -4,14 +4,14 @@ use Rattle.std.proofs.Common.{◌≡◌, ℕ, true, List, Option, Some, None, If
 use Rattle.jessie_tree.specs.Tree.{Tree, null}
 use Rattle.jessie_tree.specs.declared.data.ObjKind.TheVariants as kinds
 use Rattle.promise_store.specs.States.{SettlementView, broken, ok}
-use Rattle.instance_store.specs.SeatPromises.{pair_at}
+use Rattle.instance_store.specs.SeatPromises.{no_pair, pair_at}
 use Rattle.proposals.specs.declared.allocations.Row.{Row}
 use Rattle.refusals.proofs.Steps.{after_need, after_step}
-use Rattle.world_laws.proofs.Lists.{all_read_or}
-use Rattle.world_state.specs.Good.{IsSettled}
+use Rattle.world_laws.proofs.Lists.{all_read, all_read_or}
+use Rattle.world_state.specs.Good.{IsPair, IsSettled}
 use Rattle.world_state.specs.Known.{IsFormed, IsHanded}
 use Rattle.world_state.specs.Promises.{settlement_at}
-use Rattle.world_state.specs.Worlds.{State}
+use Rattle.world_state.specs.Worlds.{State, promises_made}
 use Rattle.call_rows.specs.Obligations.{CanCall, IsGoodOutcome}
 use Rattle.call_rows.specs.Rows.{Outcome}
 use Rattle.call_row_laws.proofs.Forms.{boolean_formed, field_formed, null_formed, object_formed}
@@ -32,17 +32,20 @@ fulfilled_handed w (Some (ok t)) is = is.handed
 fulfilled_handed w (Some (broken t)) is = null_formed w None
 
 module _ (w : State) (n : ℕ) (args : List Tree) (can : CanCall w None (numbered kinds.Seat n) args) where
+  pair_made : IsPair (promises_made w) (pair_at w.pairs n)
+  pair_made = all_read (IsPair (promises_made w)) w.pairs n no_pair can.good.paired (omega (arith, can.target, can.good.seats.paired))
+
   exited_formed : IfOk (has_exited w n) (IsFormed w None)
   unfolding has_exited
   exited_formed = boolean_formed w None _
 
   payouts_formed : IfOk (get_payouts w n) (IsFormed w None)
   unfolding get_payouts
-  payouts_formed = object_formed w None _ (can.pairs.payouts n can.target)
+  payouts_formed = object_formed w None _ pair_made.payouts
 
   result_formed : IfOk (get_offer_result w n) (IsFormed w None)
   unfolding get_offer_result
-  result_formed = object_formed w None _ (can.pairs.results n can.target)
+  result_formed = object_formed w None _ pair_made.results
 
   payouts_handed : IsHanded w (payouts_of w n)
   payouts_handed = fulfilled_handed w (settlement_at w.promises.settled (pair_at w.pairs n).payouts) (all_read_or (IsSettled w) w.promises.settled (pair_at w.pairs n).payouts (Some (broken null)) can.good.settled (record { ends = refl; handed = null_formed w None }))
