@@ -15,35 +15,15 @@ use Rattle.amount_math.proofs.Listed.{same_key}
 use Rattle.refusals.specs.Outcomes.{bind, need}
 use Rattle.refusals.proofs.Steps.{none_is}
 use Rattle.refusals.specs.declared.codes.Refusal.{Refusal}
-use Rattle.value_checks.specs.Tests.{counts_fit, counts_then_keys, first_past, has_few, keys_fit, past_refusal, sum_fits, value_fits}
-
--- ---- none is past a bound
-
-not_past : (most n : ℕ) → nat_lt most n ≡ false → n ≤ most
-not_past most n is = grind (arith, lt-ltb)
-
-first_none : (b : Bool) (k : List ℕ) (o : Option (List ℕ)) → cond b (Some k) o ≡ None → (b ≡ false) × (o ≡ None)
-first_none true k o is = absurd (cc)
-first_none false k o is = (refl, is)
-
-none_past : (most : ℕ) (c : Content) (es : Entries) → find (λ q. nat_lt most (count c q)) (map (λ (e : List ℕ × ℕ). e.0) es) ≡ None → (k : List ℕ) → listed es k ≢ 0 → count c k ≤ most
-none_past most c [] none k there = absurd (there refl)
-none_past most c (e ∷ es) none k there =
-    let both = first_none (nat_lt most (count c e.0)) e.0 (find (λ q. nat_lt most (count c q)) (map (λ (f : List ℕ × ℕ). f.0) es)) none in
-    elim (eq_by_cmp key_cmp k e.0) as (λ b. eq_by_cmp key_cmp k e.0 ≡ b → unwrap_or (cond b (Some e.1) (fin.find key_cmp k es)) 0 ≢ 0 → count c k ≤ most) [
-      | true ↦ λ p r. subst (λ q. count c q ≤ most) (sym (same_key k e.0 p)) (not_past most (count c e.0) both.0)
-      | false ↦ λ p r. none_past most c es both.1 k r
-    ] refl there
+use Rattle.value_totals.specs.Firsts.{first_past}
+use Rattle.value_totals.proofs.Firsts.{fits_where_none}
+use Rattle.value_checks.specs.Tests.{counts_fit, counts_then_keys, has_few, keys_fit, past_refusal, sum_fits, value_fits}
 
 pub fits_if : (kind : Kind) (c : Content) (x : Unit {0}) → counts_fit kind c ≡ Ok x → Fits kind c
 unfolding counts_fit
-fits_if kind c x is =
-    let none = none_is (first_past (bound kind) c) (past_refusal kind c) x is in
-    record { each = λ k. by k (listed (entries c) k) refl none }
-  where
-    by : (k : List ℕ) (n : ℕ) → listed (entries c) k ≡ n → first_past (bound kind) c ≡ None → count c k ≤ bound kind
-    by k zero is none = omega (arith, count_listed c k, is)
-    by k (suc n) is none = none_past (bound kind) c (entries c) none k (λ z. absurd (omega (arith, is, z)))
+fits_if kind c x is = record {
+  each = fits_where_none (bound kind) c (none_is (first_past (bound kind) c) (past_refusal kind c) x is);
+}
 
 -- ---- a value
 

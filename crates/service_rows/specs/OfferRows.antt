@@ -7,7 +7,7 @@ use Rattle.amount_math.specs.declared.Kind.TheVariants.{Nat}
 use Rattle.call_arguments.specs.Amounts.{is_same}
 use Rattle.call_arguments.specs.Arguments.{arg, object_at}
 use Rattle.call_arguments.specs.Numbers.{first_repeated, least_failing}
-use Rattle.call_arguments.specs.Records.{objects_under}
+use Rattle.record_arguments.specs.Records.{objects_under}
 use Rattle.call_data.specs.Values.{object_tree}
 use Rattle.ertp_mint.specs.Stocks.{most_made}
 use Rattle.instance_store.specs.Tables.{instance_at}

@@ -4,19 +4,16 @@ use Rattle.std.specs.Prelude.{ℕ, ◌==◌, ◌||◌, not, List, [], ◌∷◌,
 use Rattle.std.specs.List.{find, list_all, list_any}
 use Rattle.std.specs.Option.{option_map_or}
 use Rattle.std.specs.Str.{bytes_eq}
-use Rattle.amount_math.specs.Worth.{Worth, nat_bound}
+use Rattle.amount_math.specs.Worth.{Worth}
 use Rattle.brands.specs.declared.issuer_record.Issuer.{Issuer}
-use Rattle.call_arguments.specs.Arguments.{number_in, object_in}
 use Rattle.call_arguments.specs.Numbers.{least, least_of}
-use Rattle.call_arguments.specs.Records.{RowData, first_ill, keywords, names, row_in, values_in}
-use Rattle.call_data.specs.Amounts.{has_two, read_all}
-use Rattle.jessie_tree.specs.Tree.{Tree, field_count, field_of, is_null, null, pairs_of}
-use Rattle.jessie_tree.specs.declared.data.ObjKind.TheVariants as kinds
+use Rattle.record_arguments.specs.Records.{RowData, first_ill, keywords, names, row_in, values_in}
+use Rattle.call_data.specs.Amounts.{read_all}
+use Rattle.jessie_tree.specs.Tree.{Tree, field_of, null}
+use Rattle.exit_arguments.specs.Exits.{exit_in}
 use Rattle.proposals.specs.Rows.{row_of}
 use Rattle.proposals.specs.Slots.{is_upto}
 use Rattle.proposals.specs.declared.allocations.Row.{Row}
-use Rattle.proposals.specs.declared.offers.Exit.{Exit}
-use Rattle.proposals.specs.declared.offers.Exit.TheVariants.{AfterDeadline, OnDemand, Waived}
 use Rattle.proposals.specs.declared.offers.Proposal.{Proposal}
 use Rattle.refusals.specs.Codes.{bad_args, bad_exit, bad_keyword, keyword_mismatch, wrong_brand}
 use Rattle.refusals.specs.Outcomes.{◌>>=◌, ◌>>◌, need, none_such, wanted}
@@ -85,39 +82,6 @@ unfoldable pub valued : List RowData → Result (List Row) Refusal
 valued rows = do
   values ← values_in rows
   Ok (with_values rows values)
-
--- ---- exit
-
-abbrev pub if_null : Exit → Tree → Option Exit
-if_null rule t = if is_null t then Some rule else None
-
--- a record of exactly the timer and a time
-abbrev pub rule_at : Option ℕ → Option ℕ → Option Exit
-rule_at (Some timer) (Some time) = Some (AfterDeadline time)
-rule_at (Some timer) None = None
-rule_at None time = None
-
-abbrev pub deadline_in : Tree → Option Exit
-deadline_in t =
-    if has_two (field_count t)
-    then rule_at (object_in kinds.Timer (part (codes "timer") t)) (number_in 0 nat_bound (part (codes "deadline") t))
-    else None
-
-abbrev pub rule_named : List ℕ → Tree → Option Exit
-rule_named name t =
-    if bytes_eq name (codes "onDemand") then if_null OnDemand t
-    else if bytes_eq name (codes "waived") then if_null Waived t
-    else if bytes_eq name (codes "afterDeadline") then deadline_in t
-    else None
-
--- a record of one rule
-abbrev pub rule_from : List (List ℕ × Tree) → Option Exit
-rule_from (f ∷ []) = rule_named f.0 f.1
-rule_from _ = None
-
--- null stands for leaving on demand
-unfoldable pub exit_in : Tree → Option Exit
-exit_in t = if is_null t then Some OnDemand else option_and_then rule_from (pairs_of t)
 
 -- ---- the proposal and the payments
 

@@ -6,7 +6,7 @@ use Rattle.std.specs.Str.{bytes_eq}
 use Rattle.brands.specs.IssuerRecords.{issuer_of, most_issuers}
 use Rattle.brands.specs.declared.issuer_record.Issuer.{Issuer}
 use Rattle.call_arguments.specs.Arguments.{arg, object_at, object_in}
-use Rattle.call_arguments.specs.Records.{first_ill, names}
+use Rattle.record_arguments.specs.Records.{first_ill, names}
 use Rattle.call_data.specs.Amounts.{read_all}
 use Rattle.call_data.specs.Values.{object_tree}
 use Rattle.ertp_mint.specs.Stocks.{most_made}
