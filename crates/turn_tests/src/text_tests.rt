@@ -1,0 +1,99 @@
+use jessie_tree::data::Data;
+use promise_store::Settlement;
+use refusals::codes::Refusal;
+use std::alloc::Global;
+use turn_answers::records::{Delivered, turn_of};
+use turn_answers::settlements::settlement_of;
+use turn_events::deliveries::{Delivery, Reading, Start};
+use turn_events::events::{Answer, Event};
+use turn_events::log::Log;
+use turn_events::turns::TurnRecord;
+use turn_writer::{write_close, write_turn};
+
+/// Whether the text of a turn is the expected one.
+fn is_written(alloc: Global, turn: &TurnRecord, expected: &str) -> bool {
+    match write_turn(alloc, turn) {
+        Ok(text) => text.as_str() == expected,
+        Err(_) => false,
+    }
+}
+
+/// The record of a turn in which nothing happened.
+fn quiet_turn(alloc: Global, number: u32, delivery: Delivery, answer: Answer) -> TurnRecord {
+    let mut log = Log::new(alloc);
+    let delivered = Delivered {
+        delivery,
+        reading: Reading::Nothing,
+    };
+    turn_of(alloc, number, delivered, answer, &mut log, Vec::new(alloc))
+}
+
+#[test]
+fn a_tick_that_goes_back_is_told(rt: HostRuntime) {
+    let refused = Answer::Refused(Refusal::Backwards(5, 3));
+    let turn = quiet_turn(rt.alloc(), 2, Delivery::Tick(3), refused);
+    let expected =
+        "{\"answer\":{\"refused\":{\"code\":\"Backwards\",\"shown\":[5,3]}},\"args\":[3],\"by\":\"\",\"do\":\"\",\"kind\":\"tick\",\"n\":2,\"on\":\"timer\",\"row\":\"turn\"}\n";
+    let holds = is_written(rt.alloc(), &turn, expected);
+    drop(turn);
+    assert!(rt; holds);
+}
+
+/// Logs that promise 0 was settled.
+fn log_settled(log: &mut Log, settlement: Settlement) -> bool {
+    let pushed = log.push(Event::Settled(0, settlement));
+    let is_logged = pushed.is_ok();
+    drop(pushed);
+    is_logged
+}
+
+/// Logs that promise 0 was settled with what a spent meter of 1 brings.
+fn log_spent(alloc: Global, log: &mut Log) -> bool {
+    match settlement_of(alloc, &Answer::Spent(1)) {
+        Ok(settlement) => log_settled(log, settlement),
+        Err(_) => false,
+    }
+}
+
+/// The fifth turn, the start of an instance that spends its meter of 1.
+fn spent_turn(alloc: Global, log: &mut Log) -> TurnRecord {
+    let start = Start {
+        instance: 0,
+        private_arguments: Data::Null,
+        promise: 0,
+    };
+    let delivered = Delivered {
+        delivery: Delivery::Start(start),
+        reading: Reading::Nothing,
+    };
+    turn_of(alloc, 5, delivered, Answer::Spent(1), log, Vec::new(alloc))
+}
+
+/// Whether that turn is written so, with what the log has.
+fn is_spent_written(alloc: Global, log: &mut Log) -> bool {
+    let turn = spent_turn(alloc, log);
+    let expected =
+        "{\"answer\":{\"spent\":1},\"args\":[],\"by\":\"instance0\",\"do\":\"start\",\"kind\":\"start\",\"n\":5,\"on\":\"instance0\",\"row\":\"turn\"}\n{\"promise\":0,\"row\":\"settle\",\"to\":{\"broken\":{\"code\":\"Spent\",\"shown\":[1]}}}\n";
+    let holds = is_written(alloc, &turn, expected);
+    drop(turn);
+    holds
+}
+
+#[test]
+fn a_start_that_spends_its_meter_breaks_its_promise(rt: HostRuntime) {
+    let mut log = Log::new(rt.alloc());
+    let logged = log_spent(rt.alloc(), &mut log);
+    let written = is_spent_written(rt.alloc(), &mut log);
+    let holds = logged && written && log.events().is_empty();
+    drop(log);
+    assert!(rt; holds);
+}
+
+#[test]
+fn what_is_left_is_told_last(rt: HostRuntime) {
+    let holds = match write_close(rt.alloc(), 6, 0) {
+        Ok(text) => text.as_str() == "{\"left\":6,\"row\":\"close\",\"turns\":0}\n",
+        Err(_) => false,
+    };
+    assert!(rt; holds);
+}
