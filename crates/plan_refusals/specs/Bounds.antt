@@ -8,7 +8,7 @@ use Rattle.proposals.specs.declared.plans.Touched.{Touched}
 abbrev pub HasValue : Row → Type 0
 HasValue r = IsValue r.amount.value.kind r.amount.value.content
 
--- all rows of the seats, before a change and after it, have values of their kinds, and there are below 2^63 of them
+-- all rows of the seats, before a change and after it, have values of their kinds, and are below 2^63
 pub record AreBounded (touched : List Touched) : Type 0 where
   pub before : AllByRecursion (λ t. AllByRecursion HasValue t.before) touched
   pub after : AllByRecursion (λ t. AllByRecursion HasValue t.after) touched

@@ -16,7 +16,16 @@ use Rattle.refusals.specs.declared.stops.Stop.TheVariants.{NoMemory, Refused}
 
 -- the element of a brand that is not kept, and how many there are before and after
 abbrev pub unkept_told : plans.Unkept → Unkept
-unkept_told u = record { brand = u.brand; element = u.element; before = pos u.before; after = pos u.after }
+unkept_told u = record {
+  brand = u.brand;
+  element = u.element;
+  before = pos u.before;
+  after = pos u.after;
+}
+
+-- data can hold both counts
+abbrev pub CanShowUnkept : plans.Unkept → Type 0
+CanShowUnkept u = CanShow u.before u.after
 
 abbrev pub seats_told : SeatsFault → Refusal
 seats_told (seats.WrongInstance seat) = wrong_instance seat
@@ -38,5 +47,5 @@ plan_told plan.NoMemory = NoMemory
 -- sums that data can hold
 abbrev pub PlanCanShow : PlanFault → Type 0
 PlanCanShow (plan.TooMuch over) = CanShow over.sum over.bound
-PlanCanShow (plan.NotConserved unkept) = CanShow unkept.before unkept.after
+PlanCanShow (plan.NotConserved unkept) = CanShowUnkept unkept
 PlanCanShow _ = Unit {0}

@@ -4,11 +4,11 @@ ghost use Rattle.std.specs.Prelude.{List};
 ghost use Rattle.proposals.specs.declared.plans.Touched.{Touched};
 ghost use Rattle.rearrange.specs.Sums.{IsFirstUnkept};
 ghost use Rattle.rearrange.specs.declared.sums.Unkept.{Unkept};
-ghost use Rattle.refusals.specs.Told.{CanShow};
 ghost use Rattle.plan_refusals.specs.Bounds.{AreBounded};
+ghost use Rattle.plan_refusals.specs.Told.{CanShowUnkept};
 
 /// Data can hold the counts of what a change would not keep, where the seats' rows have values of their kinds
 /// and are below 2^63.
 pub fn what_is_not_kept_can_be_shown()
-    ensures { (ts : List Touched) (u : Unkept) → AreBounded ts → IsFirstUnkept ts u → CanShow u.before u.after }
+    ensures { (ts : List Touched) (u : Unkept) → AreBounded ts → IsFirstUnkept ts u → CanShowUnkept u }
 {}

@@ -6,8 +6,7 @@
 pub mod laws;
 
 ghost use Rattle.std.specs.Prelude.{◌≡◌};
-ghost use Rattle.refusals.specs.Told.{CanShow};
-ghost use Rattle.plan_refusals.specs.Told.{PlanCanShow, plan_told, seats_told, unkept_told};
+ghost use Rattle.plan_refusals.specs.Told.{CanShowUnkept, PlanCanShow, plan_told, seats_told, unkept_told};
 
 use rearrange::plans::PlanFault;
 use rearrange::seats::SeatsFault;
@@ -21,7 +20,7 @@ const MOST_SLOTS: u32 = 64;
 
 /// What a change would not keep, with its counts as numbers that data can hold.
 pub fn unkept_told(unkept: plans::Unkept) -> Unkept
-    requires { CanShow unkept.before unkept.after }
+    requires { CanShowUnkept unkept }
     ensures { result ≡ unkept_told unkept }
 {
     Unkept {

@@ -18,7 +18,7 @@ IsAnswered (given t) = Unit {0}
 IsAnswered (refused r) = Unit {0}
 IsAnswered _ = ⊥
 
--- a facet's method is a function of its contract, which can come to any end; another call is answered or refused
+-- a method of a facet can come to any end, as a function does; another call is answered or refused
 abbrev pub CanEndOn : ObjKind → Answer → Type 0
 CanEndOn Facet a = Unit {0}
 CanEndOn _ a = IsAnswered a
@@ -76,7 +76,7 @@ abbrev pub IsUnspent : Answer → Type 0
 IsUnspent (spent meter) = ⊥
 IsUnspent _ = Unit {0}
 
--- a call of the host is told only where a function was run that didn't spend its meter; all else is always told
+-- a call of the host is told only where a function was run that didn't spend its meter
 abbrev pub CanTell : Delivery → Reading → Answer → Event → Type 0
 CanTell d r a (called c) = RunsFunction d r × IsUnspent a
 CanTell d r a _ = Unit {0}
@@ -84,3 +84,7 @@ CanTell d r a _ = Unit {0}
 -- the printed event may stand in the printed turn of the kind
 abbrev pub StandsIn : Delivery → Reading → Answer → Event → Type 0
 StandsIn d r a e = MayStand (runs_function (kind_of d r) (printed_answer a)) (printed_event e)
+
+-- whatever can be told stands there
+abbrev pub AllStand : Delivery → Reading → Answer → Type 0
+AllStand d r a = (e : Event) → CanTell d r a e → StandsIn d r a e

@@ -28,7 +28,7 @@ IsBrandBelow Mint n = n < brands_end
 IsBrandBelow Zmint n = n < brands_end
 IsBrandBelow _ n = Unit {0}
 
--- arrays and records nest at most 32 deep, and fields and functions have names that texts of contracts can write
+-- arrays and records nest at most 32 deep, and fields and functions have names that contracts can write
 abbrev pub CanPrintNode : NodeFact
 CanPrintNode n (array ts) = n < most_nested
 CanPrintNode n (fields fs) = (n < most_nested) × HaveFieldNames fs
@@ -91,7 +91,8 @@ IsPromiseAsked None = ⊥
 abbrev pub CanPrintTarget : How → Option Obj → List ℕ → List Tree → Type 0
 CanPrintTarget kinds.calls on method args = CanPrintObject on
 CanPrintTarget kinds.sends on method args = CanPrintObject on
-CanPrintTarget kinds.when on method args = IsPromiseAsked on × IsFunctionText method × (length args ≡ 1)
+CanPrintTarget kinds.when on method args =
+    IsPromiseAsked on × IsFunctionText method × (length args ≡ 1)
 CanPrintTarget kinds.far on method args = (on ≡ None) × (length args ≡ 2)
 
 pub record CanPrintCall (c : Call) : Type 0 where
@@ -113,7 +114,8 @@ CanPrintEvent _ = Unit {0}
 
 -- a call of the host stands only where a function was run
 abbrev pub MayFollow : Turn → Event → Type 0
-MayFollow t e = MayStand (runs_function (kind_of t.delivery t.reading) (printed_answer t.answer)) (printed_event e)
+MayFollow t e =
+    MayStand (runs_function (kind_of t.delivery t.reading) (printed_answer t.answer)) (printed_event e)
 
 -- ---- turns
 

@@ -34,8 +34,8 @@ abbrev pub members_of : List Field → Members
 members_of [] = no_members
 members_of (f ∷ fs) = put f.0 f.1 (members_of fs)
 
-abbrev pub fields_json : List Field → Data
-fields_json fields = object (members_of fields)
+abbrev pub row_json : List Field → Data
+row_json fields = object (members_of fields)
 
 -- where there was memory for them, these fields were put
 pub record HasFields (row : JsonRow) (fields : List Field) : Type 0 where
@@ -45,18 +45,22 @@ pub record HasFields (row : JsonRow) (fields : List Field) : Type 0 where
 
 abbrev pub Puts : JsonRow → (Data → Type 0) → JsonRow → List ℕ → Type 0
 Puts row HasValue made name =
-    (fields : List Field) (d : Data) → HasFields row fields → HasValue d → HasFields made ((name, d) ∷ fields)
+    (fields : List Field) (d : Data) → HasFields row fields → HasValue d
+    → HasFields made ((name, d) ∷ fields)
 
 abbrev pub PutsText : JsonRow → (List ℕ → Type 0) → JsonRow → List ℕ → Type 0
 PutsText row HasValue made name =
-    (fields : List Field) (s : List ℕ) → HasFields row fields → HasValue s → HasFields made ((name, string s) ∷ fields)
+    (fields : List Field) (s : List ℕ) → HasFields row fields → HasValue s
+    → HasFields made ((name, string s) ∷ fields)
 
 abbrev pub PutsNumber : JsonRow → ℕ → JsonRow → List ℕ → Type 0
 PutsNumber row n made name =
-    (fields : List Field) → HasFields row fields → HasFields made ((name, number (unsigned n)) ∷ fields)
+    (fields : List Field) → HasFields row fields
+    → HasFields made ((name, number (unsigned n)) ∷ fields)
 
 -- the same to a map that may be wanting
 abbrev pub PutsMember : Result (BTreeMap (String Global) Value) AllocError → Result Value AllocError
     → Result (BTreeMap (String Global) Value) AllocError → List ℕ → Type 0
 PutsMember row value made name =
-    (members : Members) (d : Data) → HasMembers row members → IsJson value d → HasMembers made (put name d members)
+    (members : Members) (d : Data) → HasMembers row members → IsJson value d
+    → HasMembers made (put name d members)

@@ -7,4 +7,6 @@ use Rattle.turn_records.specs.Printed.{told_value}
 
 -- `{"ok":b,"value":d}`
 abbrev pub notice_json : Bool → Tree → json.Data
-notice_json b t = json.object (json.member (codes "ok") (json.boolean b) (json.member (codes "value") (printed (told_value t)) json.no_members))
+notice_json b t =
+    json.object (json.member (codes "ok") (json.boolean b)
+    (json.member (codes "value") (printed (told_value t)) json.no_members))

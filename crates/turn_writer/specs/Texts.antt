@@ -21,8 +21,8 @@ kind_text d r = kind_word (kind_of d r)
 abbrev pub trees_json : List Tree → Data
 trees_json ts = array (printed_trees ts)
 
-abbrev pub arguments_json : Delivery → Reading → Data
-arguments_json d r = trees_json (trees_of d r)
+abbrev pub args_json : Delivery → Reading → Data
+args_json d r = trees_json (trees_of d r)
 
 -- what a promise was settled with
 abbrev pub settled_json : SettlementView → Data

@@ -5,7 +5,7 @@ ghost use Rattle.std.specs.Prelude.{◌≡◌, [], List, ℕ};
 ghost use Rattle.serde_json.specs.Data.{object, string as json_string};
 ghost use Rattle.serde_json.specs.View.{view};
 ghost use Rattle.turn_rows.specs.Rows.{only};
-ghost use Rattle.turn_writer.specs.JsonRows.{Field, HasFields, IsJson, IsText, Puts, PutsMember, PutsNumber, PutsText, fields_json};
+ghost use Rattle.turn_writer.specs.JsonRows.{Field, HasFields, IsJson, IsText, Puts, PutsMember, PutsNumber, PutsText, row_json};
 
 use serde_json::{Map, Value, json, put};
 use std::alloc::{AllocError, Global};
@@ -63,7 +63,7 @@ impl JsonRow {
 
     /// The object, once its fields were put.
     pub fn finish(self) -> Result<Value, AllocError>
-        ensures { (fields : List Field) → HasFields self fields → IsJson result (fields_json fields) }
+        ensures { (fields : List Field) → HasFields self fields → IsJson result (row_json fields) }
     {
         Ok(Value::Object(self.made?))
     }

@@ -14,7 +14,7 @@ ghost use Rattle.turn_records.specs.Printed.{by_of, method_of, notice_tree, obje
 ghost use Rattle.turn_events.specs.Views.{delivery_view, reading_view, turn_view};
 ghost use Rattle.turn_writer.specs.Notices.{notice_json};
 ghost use Rattle.turn_writer.specs.JsonRows.{IsJson, IsText};
-ghost use Rattle.turn_writer.specs.Texts.{arguments_json, kind_text, trees_json};
+ghost use Rattle.turn_writer.specs.Texts.{args_json, kind_text, trees_json};
 
 use crate::answers::answer_value;
 use crate::json_row::JsonRow;
@@ -219,7 +219,7 @@ fn arguments_value(
     delivery: &Delivery,
     reading: &Reading,
 ) -> Result<Value, AllocError>
-    ensures { IsJson result (arguments_json (delivery_view delivery.now) (reading_view reading.now)) }
+    ensures { IsJson result (args_json (delivery_view delivery.now) (reading_view reading.now)) }
 {
     match delivery {
         Delivery::Offer(offer) => data_argument(alloc, &offer.offer_arguments),
