@@ -75,10 +75,27 @@ fn pay_slot(draft: &mut Draft, alloc: Global, seat: u32, row: &Row) -> Result<Pa
     ensures err { OnErr result (IsLeftOver draft.old draft.new (Slot seat row.now.keyword) row.now.amount.value) }
 {
     let keyword = row.keyword.copy(alloc)?;
-    let from = Holder::Slot(seat, row.keyword.copy(alloc)?);
+    let payment = pay_to_next(draft, alloc, seat, row)?;
+    Ok(Payout { keyword, payment })
+}
+
+/// Pays a slot out whole, and answers the payment's number.
+fn pay_to_next(
+    draft: &mut Draft,
+    alloc: Global,
+    seat: u32,
+    row: &Row,
+) -> Result<u32, AllocError>
+    requires { CanPay draft.old seat row.now }
+    ensures ok { OnOk result (draft.new ≡ paid draft.old seat row.now) }
+    ensures payment { IfOk result (λ payment. payment ≡ length draft.old.now.payments) }
+    ensures err { OnErr result (IsLeftOver draft.old draft.new (Slot seat row.now.keyword) row.now.amount.value) }
+{
+    let keyword = row.keyword.copy(alloc)?;
+    let from = Holder::Slot(seat, keyword);
     let payment = draft.payments().made();
     match transfer(draft, &from, &Holder::Payment(payment), &row.amount.value) {
-        Ok(()) => Ok(Payout { keyword, payment }),
+        Ok(()) => Ok(payment),
         Err(TransferFault::Take(TakeFault::NotEnough)) => unreachable!(),
         Err(_) => Err(AllocError),
     }
