@@ -80,12 +80,7 @@ fn pay_slot(draft: &mut Draft, alloc: Global, seat: u32, row: &Row) -> Result<Pa
 }
 
 /// Pays a slot out whole, and answers the payment's number.
-fn pay_to_next(
-    draft: &mut Draft,
-    alloc: Global,
-    seat: u32,
-    row: &Row,
-) -> Result<u32, AllocError>
+fn pay_to_next(draft: &mut Draft, alloc: Global, seat: u32, row: &Row) -> Result<u32, AllocError>
     requires { CanPay draft.old seat row.now }
     ensures ok { OnOk result (draft.new ≡ paid draft.old seat row.now) }
     ensures payment { IfOk result (λ payment. payment ≡ length draft.old.now.payments) }
