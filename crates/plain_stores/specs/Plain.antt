@@ -1,0 +1,41 @@
+-- The parts of the world that touch no rights.
+use Rattle.std.specs.Prelude.{List}
+use Rattle.actors.specs.Labels.{Bound}
+use Rattle.brands.specs.declared.Brand.{Brand}
+use Rattle.instance_store.specs.Facets.{FacetView}
+use Rattle.instance_store.specs.Tables.{Tables}
+use Rattle.instance_store.specs.declared.seat_promises.SeatPair.{SeatPair}
+use Rattle.invitations.specs.Details.{DetailsView}
+use Rattle.timer.specs.Schedules.{Schedule}
+use Rattle.turn_records.specs.Deliveries.{Delivery}
+use Rattle.turn_records.specs.Events.{Event}
+use Rattle.world_state.specs.Promises.{PromiseBook}
+use Rattle.world_state.specs.Worlds.{State}
+
+-- as the world's state has them
+pub record PlainState : Type 0 where
+  pub brands : List Brand
+  pub invitations : List DetailsView
+  pub schedule : Schedule Delivery
+  pub promises : PromiseBook
+  pub tables : Tables
+  pub facets : List FacetView
+  pub pairs : List SeatPair
+  pub labels : List Bound
+  pub waiting : List Delivery
+  pub log : List Event
+
+-- those of a world
+abbrev pub plain_of : State → PlainState
+plain_of w = record {
+  brands = w.brands;
+  invitations = w.invitations;
+  schedule = w.schedule;
+  promises = w.promises;
+  tables = w.tables;
+  facets = w.facets;
+  pairs = w.pairs;
+  labels = w.labels;
+  waiting = w.waiting;
+  log = w.log;
+}

@@ -1,0 +1,42 @@
+-- What the plain stores are to the world, now and at the turn's start.
+use Rattle.std.specs.Prelude.{[]}
+use Rattle.actors.specs.Turns.{parties_of}
+use Rattle.instance_store.specs.Facets.{facets_of}
+use Rattle.instance_store.specs.SeatPromises.{seat_promises_of}
+use Rattle.instance_store.specs.Turns.{instances_of}
+use Rattle.invitations.specs.Turns.{invitations_of}
+use Rattle.promise_table.specs.Stores.{waiting_of}
+use Rattle.promise_table.specs.Tables.{book, book_at_start}
+use Rattle.time_effects.specs.Timed.{schedule_of}
+use Rattle.turn_events.specs.Logs.{log_of}
+use Rattle.plain_stores.specs.Plain.{PlainState}
+use Rattle.plain_stores.specs.declared.PlainStores.{PlainStores}
+
+abbrev pub plain_now : PlainStores → PlainState
+plain_now s = record {
+  brands = s.brands.now;
+  invitations = (invitations_of s.invitations).now;
+  schedule = schedule_of s.timer.now;
+  promises = book s.promises;
+  tables = (instances_of s.instances).now;
+  facets = (facets_of s.facets).now;
+  pairs = (seat_promises_of s.pairs).now;
+  labels = (parties_of s.parties).now;
+  waiting = waiting_of s.queue.now;
+  log = log_of s.log;
+}
+
+-- at a turn's start nothing has happened in it
+abbrev pub plain_at_start : PlainStores → PlainState
+plain_at_start s = record {
+  brands = s.brands.start;
+  invitations = (invitations_of s.invitations).start;
+  schedule = schedule_of s.timer.start;
+  promises = book_at_start s.promises;
+  tables = (instances_of s.instances).start;
+  facets = (facets_of s.facets).start;
+  pairs = (seat_promises_of s.pairs).start;
+  labels = (parties_of s.parties).start;
+  waiting = waiting_of s.queue.start;
+  log = [];
+}
