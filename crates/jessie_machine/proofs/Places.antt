@@ -1,6 +1,6 @@
 -- Names and their places, and lists of data beside what they stand for.
 use Rattle.std.proofs.Common.{◌≡◌, ℕ, zero, suc, ◌+◌, ◌-◌, ◌<◌, ◌≤◌, List, [], ◌∷◌, ◌++◌, Bool, true, false, cond, map, Option, Some, None, option_map, refl, sym, ap, subst, ◌∙◌, length, get_or, take, drop, arith}
-use Rattle.std.specs.Prelude.{slice_get, slice_set, ◌||◌}
+use Rattle.std.specs.Prelude.{slice_get, slice_set, slice_index_or, ◌||◌}
 use Rattle.std.proofs.lemmas.Option.{slice_get-map}
 use Rattle.std.proofs.lemmas.List.{take_more, length-take}
 use Rattle.std.specs.Borrow.{Bor}
@@ -16,6 +16,7 @@ use Rattle.jessie_semantics.specs.Runs.{throws, came, halted, Computes}
 use Rattle.jessie_machine.specs.Stops.{halt}
 use Rattle.jessie_machine.specs.declared.stop.Stop.{Stop}
 use Rattle.jessie_syntax.specs.declared.syntax.Variable.{Variable}
+use Rattle.jessie_locals.specs.Places as locals
 use Rattle.jessie_machine.specs.Machine.{place, current, changes, changed_at, value_at, local_at, set_value, head_or, tail_of, or_else}
 
 -- lists of data and of names with data
@@ -82,6 +83,15 @@ module _ {X : Type 0} (named : X → List ℕ) where
 
   pub place_miss : (x : List ℕ) (ys : List X) (i : ℕ) (y : X) (k : List ℕ) → i < length ys → y ≡ get_or ys i y → k ≡ named y → bytes_eq k x ≡ false → place x (map named (take i ys)) ≡ place x (map named (take (i + 1) ys))
   place_miss x ys i y k h at e t = sym (place_next x ys i y h at ∙ ap (λ z. cond z (Some i) (place x (map named (take i ys)))) (ap (λ z. bytes_eq z x) (sym e) ∙ t))
+
+-- the place of a name as the index has it
+same_first : (o here : Option ℕ) → locals.or_here o here ≡ first_of o here
+same_first (Some i) here = refl
+same_first None here = refl
+
+pub same_place : (x : List ℕ) (ys : List (List ℕ)) → locals.place x ys ≡ place x ys
+same_place x [] = refl
+same_place x (y ∷ ys) = ap (λ o. locals.or_here (option_map suc o) (cond (bytes_eq y x) (Some 0) None)) (same_place x ys) ∙ same_first (option_map suc (place x ys)) (cond (bytes_eq y x) (Some 0) None)
 
 -- what a name stands for, by its place
 
@@ -169,6 +179,16 @@ pub set_here : (bs : List (List ℕ × Data)) (i : ℕ) (b : List ℕ × Data) (
 set_here [] i b d h at = refl
 set_here (c ∷ bs) zero b d h at = ap (λ b. (b.0, tree d) ∷ named_trees bs) at
 set_here (c ∷ bs) (suc i) b d h at = ap (λ r. (c.0, tree c.1) ∷ r) (set_here bs i b d (omega arith) at)
+
+there_at : (bs : List (List ℕ × Data)) (i : ℕ) (d : List ℕ × Data) → i < length bs → get_or bs i d ≡ get_or bs i (get_or bs i d)
+there_at [] i d h = absurd (omega (arith, h))
+there_at (c ∷ bs) zero d h = refl
+there_at (c ∷ bs) (suc i) d h = there_at bs i d (omega (arith, h))
+
+pub set_in : (bs : List (List ℕ × Data)) (i : ℕ) (v : Data) (new : List (List ℕ × Data)) → i < length bs → ((d : List ℕ × Data) → new ≡ slice_set bs i ((slice_index_or bs i d).0, v)) → named_trees new ≡ set_value (named_trees bs) i (tree v)
+set_in bs i v new h e =
+    let d : List ℕ × Data = ([], v) in
+    ap named_trees (e d) ∙ set_here bs i (get_or bs i d) v h (there_at bs i d h)
 
 -- state variables
 

@@ -38,7 +38,7 @@ changes cs = map (λ c. option_map tree c) cs
 
 -- of a module with these state variables, which had these values
 abbrev pub state : List (List ℕ) → List Tree → Machine → State
-state names values m = record { locals = named_trees m.locals.items; globals = current names values (changes m.changed.items); meter = m.meter }
+state names values m = record { locals = named_trees m.locals; globals = current names values (changes m.changed.items); meter = m.meter }
 
 abbrev pub end_of : CodeEnd → End
 end_of Next = next

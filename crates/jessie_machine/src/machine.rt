@@ -14,6 +14,7 @@ ghost use Rattle.jessie_machine.specs.Machine.{state, end_of};
 use crate::host::Answer;
 use crate::stop::{Stop, Thrown};
 use host_text::text::Text;
+use jessie_locals::locals::Locals;
 use jessie_syntax::syntax::Literal;
 use jessie_tree::data::{Data, pay, pay_bytes, pay_items};
 use std::alloc::{AllocError, Global};
@@ -22,7 +23,7 @@ use std::alloc::{AllocError, Global};
 /// places, and what is left of the meter.
 #[derive(Drop)]
 pub struct Machine {
-    pub locals: Vec<(Text, Data)>,
+    pub locals: Locals<Data>,
     pub changed: Vec<Option<Data>>,
     pub meter: u64,
 }

@@ -14,24 +14,11 @@ ghost use Rattle.jessie_machine.specs.Machine.{state, place, current, changes, c
 use crate::machine::{Machine, take};
 use crate::stop::{Stop, bad};
 use host_text::text::Text;
+use jessie_locals::locals::Locals;
 use jessie_syntax::syntax::{Function, Module, Variable};
 use jessie_tree::data::{Data, pay};
 use jessie_values::reasons::Reason;
 use std::alloc::{AllocError, Global};
-
-/// The place of the innermost binding of the name.
-fn local_place(locals: &[(Text, Data)], name: &str) -> Option<usize>
-    ensures place { result ≡ place name.now (map (λ b. b.0) locals.now) }
-    ensures within { IfSome result (λ i. i < length locals.now) }
-{
-    let mut found = None;
-    for (i, binding) in locals.iter().enumerate() {
-        if binding.0.as_str() == name {
-            found = Some(i);
-        }
-    }
-    found
-}
 
 /// The place of the last state variable of the name.
 fn variable_place(variables: &[Variable], name: &str) -> Option<usize>
@@ -163,7 +150,7 @@ pub fn read_name(
     ensures kept { machine.new.meter ≤ machine.old.meter }
 {
     take(machine, 1)?;
-    if let Some(i) = local_place(machine.locals.as_slice(), name.as_str()) {
+    if let Some(i) = machine.locals.place(name.as_str()) {
         return pay_local(alloc, &mut machine.meter, machine.locals.as_slice(), i);
     }
     if let Some(i) = variable_place(module.variables.as_slice(), name.as_str()) {
@@ -175,12 +162,11 @@ pub fn read_name(
 }
 
 /// Gives the binding at a place another value.
-fn set_local(locals: &mut Vec<(Text, Data)>, i: usize, data: Data)
-    requires { i < length locals.old.items }
-    ensures { named_trees locals.new.items ≡ set_value (named_trees locals.old.items) i (tree «data») }
+fn set_local(locals: &mut Locals<Data>, i: usize, data: Data)
+    requires { i < length locals.old }
+    ensures { named_trees locals.new ≡ set_value (named_trees locals.old) i (tree «data») }
 {
-    let binding = &mut locals[i];
-    binding.1 = data;
+    locals.set(i, data);
 }
 
 /// Makes a place for each state variable up to this one.
@@ -212,7 +198,7 @@ pub fn assign_name(
     ensures does { (values : List Tree) → Computes (put_name (bad_step WrongKind) name.now (tree «data»)) (state (variable_names «module».now) values machine.old) (come (λ u. u) result) (state (variable_names «module».now) values machine.new) }
     ensures kept { machine.new.meter ≤ machine.old.meter }
 {
-    if let Some(i) = local_place(machine.locals.as_slice(), name.as_str()) {
+    if let Some(i) = machine.locals.place(name.as_str()) {
         set_local(&mut machine.locals, i, data);
         return Ok(());
     }
@@ -224,7 +210,7 @@ pub fn assign_name(
     Err(bad(Reason::WrongKind))
 }
 
-/// Puts a value behind the others, under a copy of the name.
+/// Puts the value of a field behind the others, under a copy of the name.
 pub fn bind_name(
     alloc: Global,
     locals: &mut Vec<(Text, Data)>,
@@ -243,14 +229,14 @@ pub fn bind_all(
     alloc: Global,
     names: &[Text],
     values: Vec<Data>,
-) -> Result<Vec<(Text, Data)>, AllocError>
-    ensures { IfOk result (λ bound. named_trees bound.items ≡ pairs names.now (trees values.items)) }
+) -> Result<Locals<Data>, AllocError>
+    ensures { IfOk result (λ bound. named_trees bound ≡ pairs names.now (trees values.items)) }
 {
     let mut values = values.into_iter();
-    let mut bound = Vec::new(alloc);
+    let mut bound = Locals::new(alloc);
     for name in names {
         let data = values.next().unwrap_or(Data::Null);
-        bind_name(alloc, &mut bound, name, data)?;
+        bound.bind(alloc, name, data)?;
     }
     Ok(bound)
 }

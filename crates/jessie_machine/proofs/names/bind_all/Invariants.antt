@@ -5,4 +5,4 @@ use Rattle.jessie_semantics.specs.Rules.{pairs}
 use Rattle.jessie_machine.proofs.names.bind_all.Given as goal
 
 abbrev pub invariant-loop-name : goal.invariant-loop-name
-invariant-loop-name l = named_trees l.bound.items ++ pairs (drop l.name-index l.names) (trees (into_iter_items l.values)) ≡ pairs l.names (trees l.fn.values.items)
+invariant-loop-name l = named_trees l.bound ++ pairs (drop l.name-index l.names) (trees (into_iter_items l.values)) ≡ pairs l.names (trees l.fn.values.items)

@@ -1,0 +1,100 @@
+//! The places of names in a list, found by name.
+ghost use Rattle.std.specs.Prelude.{◌≡◌, ◌++◌, ◌∷◌, ◌-◌, [], OnErr, OnOk, length, take};
+ghost use Rattle.jessie_locals.specs.Places.{place};
+
+use host_text::text::Text;
+use std::alloc::{AllocError, Global};
+use std::collections::BTreeMap;
+use std::marker::Model;
+
+/// Names in a list, with the place of the last of each name.
+#[derive(Drop)]
+pub struct NameIndex {
+    /// Each name, and the place of the one before it that it hides.
+    entries: Vec<(Text, Option<usize>)>,
+    places: BTreeMap<String, usize>,
+}
+
+impl Model for NameIndex {
+    ghost use Rattle.std.specs.Prelude.{ℕ, List};
+    ghost use Rattle.jessie_locals.specs.Places.{IsIndex, names_of};
+
+    ghost Value = { List (List ℕ) };
+
+    ghost view = { λ n. names_of n.entries.items };
+
+    ghost invariant = { λ n. IsIndex n.entries.items n.places };
+}
+
+impl NameIndex {
+    /// No names.
+    pub fn new(alloc: Global) -> NameIndex
+        ensures { result ≡ [] }
+    {
+        NameIndex {
+            entries: Vec::new(alloc),
+            places: BTreeMap::new(alloc),
+        }
+    }
+
+    /// How many names there are.
+    pub fn len(&self) -> usize
+        ensures { result ≡ length self.now }
+    {
+        self.entries.len()
+    }
+
+    /// The place of the last one that is the name.
+    pub fn place(&self, name: &str) -> Option<usize>
+        ensures { result ≡ place name.now self.now }
+    {
+        self.places.get(name).copied()
+    }
+
+    /// One name more. For want of memory they are as they were.
+    pub fn push(&mut self, alloc: Global, name: &Text) -> Result<(), AllocError>
+        ensures ok { OnOk result (self.new ≡ self.old ++ name.now ∷ []) }
+        ensures err { OnErr result (self.new ≡ self.old) }
+    {
+        let key = String::from_str(alloc, name.as_str())?;
+        let copy = name.copy(alloc)?;
+        let hidden = self.places.get(name.as_str()).copied();
+        let place = self.entries.len();
+        self.entries.push((copy, hidden))?;
+        match self.places.insert(key, place) {
+            Ok(_) => Ok(()),
+            Err(_) => {
+                drop(self.entries.pop());
+                Err(AllocError)
+            }
+        }
+    }
+
+    /// Lets the last name go.
+    pub fn pop(&mut self)
+        ensures { self.new ≡ take (length self.old - 1) self.old }
+    {
+        let Some((name, hidden)) = self.entries.pop() else {
+            return;
+        };
+        match hidden {
+            Some(place) => {
+                if let Some(at) = self.places.get_mut(name.as_str()) {
+                    *at = place;
+                }
+            }
+            None => {
+                drop(self.places.remove(name.as_str()));
+            }
+        }
+    }
+
+    /// Lets all names go but so many at the front.
+    pub fn truncate(&mut self, n: usize)
+        ensures { self.new ≡ take n self.old }
+    {
+        'last: while n < self.len() {
+            self.pop();
+        }
+    }
+}
