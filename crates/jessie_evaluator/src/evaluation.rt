@@ -11,6 +11,7 @@ ghost use Rattle.jessie_evaluator.specs.Outcomes.{outcome, kept, kept_at};
 
 use crate::run::invoke;
 use host_text::text::Text;
+use jessie_locals::locals::Locals;
 use jessie_machine::host::{NoMemory, Powers};
 use jessie_machine::machine::Machine;
 use jessie_machine::stop::Stop;
@@ -77,7 +78,7 @@ pub fn evaluate<P: Powers>(
     ensures memory { OnErr result (state.new ≡ state.old) }
     ensures count { length state.new.items ≡ length state.old.items }
 {
-    let locals = Vec::new(alloc);
+    let locals = Locals::new(alloc);
     let changed = Vec::new(alloc);
     let mut machine = Machine {
         locals,

@@ -198,6 +198,7 @@ fn run_named<P: Powers>(
 
 /// A call of a function of the module.
 #[cycle(run)]
+#[inline(never)]
 fn run_call<P: Powers>(
     alloc: Global,
     powers: &mut P,
@@ -219,6 +220,7 @@ fn run_call<P: Powers>(
 
 /// A call of a function of the language.
 #[cycle(run)]
+#[inline(never)]
 fn run_built_in<P: Powers>(
     alloc: Global,
     powers: &mut P,
@@ -240,6 +242,7 @@ fn run_built_in<P: Powers>(
 
 /// A call of a function of AmountMath.
 #[cycle(run)]
+#[inline(never)]
 fn run_amounts<P: Powers>(
     alloc: Global,
     powers: &mut P,
@@ -261,6 +264,7 @@ fn run_amounts<P: Powers>(
 
 /// A send to an object.
 #[cycle(run)]
+#[inline(never)]
 fn run_send<P: Powers>(
     alloc: Global,
     powers: &mut P,
@@ -284,6 +288,7 @@ fn run_send<P: Powers>(
 
 /// An array.
 #[cycle(run)]
+#[inline(never)]
 fn run_array<P: Powers>(
     alloc: Global,
     powers: &mut P,
@@ -304,6 +309,7 @@ fn run_array<P: Powers>(
 
 /// A record.
 #[cycle(run)]
+#[inline(never)]
 fn run_record<P: Powers>(
     alloc: Global,
     powers: &mut P,
@@ -324,6 +330,7 @@ fn run_record<P: Powers>(
 
 /// What the steps behind an expression come to, from left to right.
 #[cycle(run)]
+#[inline(never)]
 fn run_steps<P: Powers>(
     alloc: Global,
     powers: &mut P,
@@ -423,6 +430,7 @@ fn run_index<P: Powers>(
 
 /// An operator before an expression.
 #[cycle(run)]
+#[inline(never)]
 fn run_unary<P: Powers>(
     alloc: Global,
     powers: &mut P,
@@ -444,6 +452,7 @@ fn run_unary<P: Powers>(
 
 /// A chain of operators, from left to right.
 #[cycle(run)]
+#[inline(never)]
 fn run_chain<P: Powers>(
     alloc: Global,
     powers: &mut P,
@@ -495,6 +504,7 @@ fn run_operator<P: Powers>(
 
 /// A choice of two expressions.
 #[cycle(run)]
+#[inline(never)]
 fn run_choice<P: Powers>(
     alloc: Global,
     powers: &mut P,
@@ -649,7 +659,7 @@ fn run_declare<P: Powers>(
     ensures fits { machine.new.meter ≤ P.room powers.new }
 {
     let data = run_expr(alloc, powers, module, room, values, machine, value)?;
-    bind_name(alloc, &mut machine.locals, name, data)?;
+    machine.locals.bind(alloc, name, data)?;
     Ok(End::Next)
 }
 
@@ -901,7 +911,7 @@ fn run_with<P: Powers>(
     ensures fits { machine.new.meter ≤ P.room powers.new }
 {
     let names = machine.locals.len();
-    bind_name(alloc, &mut machine.locals, name, data)?;
+    machine.locals.bind(alloc, name, data)?;
     let end = run_block(alloc, powers, module, room, values, machine, body);
     machine.locals.truncate(names);
     end

@@ -19,7 +19,7 @@ returns-in-Ok g c =
     let vs = trees c.args.args.items in
     let old = c.args.state.now.items in
     let u = state xs (trees c.as_slice-values.result.now) c.invoke.new.machine in
-    let l = evaluated rs xs c.args.f.now vs _ _ old _ c.args.meter (came (tree c.in-Ok.data)) u c.new-locals.ensures.items c.as_slice-values.ensures.value c.new-changed.ensures.items tt (c.in-Ok.ensures.runs) in
+    let l = evaluated rs xs c.args.f.now vs _ _ old _ c.args.meter (came (tree c.in-Ok.data)) u c.new-locals.ensures c.as_slice-values.ensures.value c.new-changed.ensures.items tt (c.in-Ok.ensures.runs) in
     let e = leads_to l (ap (λ vs. Ends (returned (tree c.in-Ok.data)) vs) (ended_values xs _ old _ _ c.as_slice-values.ensures.value c.requires.variables c.keep_changes.ensures)) in
     record {
       follows = follows e;
@@ -37,7 +37,7 @@ returns-in_ok-data-in-Throws g c =
     let vs = trees c.args.args.items in
     let old = c.args.state.now.items in
     let u = state xs (trees c.as_slice-values.result.now) c.invoke.new.machine in
-    let l = evaluated rs xs c.args.f.now vs _ _ old _ c.args.meter (halted (throws (tree c.in_ok-data-in-Throws.data))) u c.new-locals.ensures.items c.as_slice-values.ensures.value c.new-changed.ensures.items tt (runs_to (ap (λ e. halted (halt e)) c.in-Throws.is ∙ ap (λ t. halted (throws t)) (sym c.in_ok-data-in-Throws.ensures)) c.in-Err.ensures.runs) in
+    let l = evaluated rs xs c.args.f.now vs _ _ old _ c.args.meter (halted (throws (tree c.in_ok-data-in-Throws.data))) u c.new-locals.ensures c.as_slice-values.ensures.value c.new-changed.ensures.items tt (runs_to (ap (λ e. halted (halt e)) c.in-Throws.is ∙ ap (λ t. halted (throws t)) (sym c.in_ok-data-in-Throws.ensures)) c.in-Err.ensures.runs) in
     let e = leads_to l (ap (λ vs. Ends (threw (tree c.in_ok-data-in-Throws.data)) vs) (ended_values xs _ old _ _ c.as_slice-values.ensures.value c.requires.variables c.keep_changes-in-Throws.ensures)) in
     record {
       follows = follows e;
@@ -55,7 +55,7 @@ returns-in-Spent g c =
     let vs = trees c.args.args.items in
     let old = c.args.state.now.items in
     let u = state xs (trees c.as_slice-values.result.now) c.invoke.new.machine in
-    let l = evaluated rs xs c.args.f.now vs _ _ old _ c.args.meter (halted spends) u c.new-locals.ensures.items c.as_slice-values.ensures.value c.new-changed.ensures.items tt (runs_to (ap (λ e. halted (halt e)) c.in-Spent.is) c.in-Err.ensures.runs) in
+    let l = evaluated rs xs c.args.f.now vs _ _ old _ c.args.meter (halted spends) u c.new-locals.ensures c.as_slice-values.ensures.value c.new-changed.ensures.items tt (runs_to (ap (λ e. halted (halt e)) c.in-Spent.is) c.in-Err.ensures.runs) in
     let e = l in
     record {
       follows = follows e;

@@ -467,7 +467,7 @@ run_declare-returns-in_err-data-clause-runs g t c =
 pub run_declare-returns-clause-runs : goal.run_declare-returns-clause-runs
 run_declare-returns-clause-runs g t c =
     then_runs _ c.in_ok-data.ensures.runs
-    (then_runs _ (computed (bind_as _ _ _ (one_name_more _ _ _ _ c.in_ok-bind_name.ensures)))
+    (then_runs _ (computed (bind_as _ _ _ (one_name_more _ _ _ _ c.in_ok-bind.ensures)))
     (computed (pure_computes _ _)))
 
 pub run_assign-returns-in_err-data-clause-runs : goal.run_assign-returns-in_err-data-clause-runs
@@ -680,11 +680,11 @@ run_value-returns-clause-runs g t c =
 
 pub run_scope-returns-clause-runs : goal.run_scope-returns-clause-runs
 run_scope-returns-clause-runs g t c =
-    scoped_as (names_left _ _ _ c.len-names.result (c.len-names.ensures ∙ c.args.machine.now.locals.ok.0) c.truncate.ensures.items) c.run_block-end.ensures.runs
+    scoped_as (names_left _ _ _ c.len-names.result c.len-names.ensures c.truncate.ensures) c.run_block-end.ensures.runs
 
 pub run_with-returns-clause-runs : goal.run_with-returns-clause-runs
 run_with-returns-clause-runs g t c =
-    scoped_as (names_left _ _ _ c.len-names.result (c.len-names.ensures ∙ c.args.machine.now.locals.ok.0) c.truncate.ensures.items) (then_runs _ (computed (bind_as _ _ _ (one_name_more _ _ _ _ c.in_ok-bind_name.ensures))) c.run_block-end.ensures.runs)
+    scoped_as (names_left _ _ _ c.len-names.result c.len-names.ensures c.truncate.ensures) (then_runs _ (computed (bind_as _ _ _ (one_name_more _ _ _ _ c.in_ok-bind.ensures))) c.run_block-end.ensures.runs)
 
 pub run_block-returns-in_err-run_stmt-clause-runs : goal.run_block-returns-in_err-run_stmt-clause-runs
 run_block-returns-in_err-run_stmt-clause-runs g t c =
@@ -734,8 +734,8 @@ invoke-returns-in-Ok-clause-runs g t c =
     let vs = trees c.args.args.items in
     let m = running c.args.module.now (c.args.room - 1) in
     let found = ap (λ l. find_routine c.args.f.now (map routine l)) (sym c.as_slice.ensures) ∙ (ap (λ y. find_routine y (map routine c.as_slice.result.now)) (sym c.as_str.ensures) ∙ sym c.in-Some.ensures) in
-    let own = sym (ap (λ v. named_trees v.items) c.replace-outer.ensures.after ∙ (c.in_ok-own-in-Some.ensures ∙ ap (λ l. pairs l vs) c.as_slice-in-Some.ensures)) in
-    let back = ap (λ v. named_trees v.items) c.replace-outer.ensures.value in
+    let own = sym (ap (λ v. named_trees v) c.replace-outer.ensures.after ∙ (c.in_ok-own-in-Some.ensures ∙ ap (λ l. pairs l vs) c.as_slice-in-Some.ensures)) in
+    let back = ap (λ v. named_trees v) c.replace-outer.ensures.value in
     let body = ap (λ l. block m (block_view l)) (sym c.as_slice-body.ensures) in
     runs_as (calls_more rs c.args.room (c.args.room - 1) c.args.f.now vs (omega arith) ∙ ap (λ o. enter m o vs) found)
     (within_as own back (then_runs _ (runs_as body c.in-Ok.ensures.runs) (computed (pure_as _ _ (sym c.into_data.ensures)))))
@@ -746,8 +746,8 @@ invoke-returns-in-Err-clause-runs g t c =
     let vs = trees c.args.args.items in
     let m = running c.args.module.now (c.args.room - 1) in
     let found = ap (λ l. find_routine c.args.f.now (map routine l)) (sym c.as_slice.ensures) ∙ (ap (λ y. find_routine y (map routine c.as_slice.result.now)) (sym c.as_str.ensures) ∙ sym c.in-Some.ensures) in
-    let own = sym (ap (λ v. named_trees v.items) c.replace-outer.ensures.after ∙ (c.in_ok-own-in-Some.ensures ∙ ap (λ l. pairs l vs) c.as_slice-in-Some.ensures)) in
-    let back = ap (λ v. named_trees v.items) c.replace-outer.ensures.value in
+    let own = sym (ap (λ v. named_trees v) c.replace-outer.ensures.after ∙ (c.in_ok-own-in-Some.ensures ∙ ap (λ l. pairs l vs) c.as_slice-in-Some.ensures)) in
+    let back = ap (λ v. named_trees v) c.replace-outer.ensures.value in
     let body = ap (λ l. block m (block_view l)) (sym c.as_slice-body.ensures) in
     runs_as (calls_more rs c.args.room (c.args.room - 1) c.args.f.now vs (omega arith) ∙ ap (λ o. enter m o vs) found)
     (within_as own back (stop_runs _ (runs_as body c.in-Err.ensures.runs)))
