@@ -1,0 +1,44 @@
+//! A host to which everything is known, and which answers null.
+ghost use Rattle.std.specs.Prelude.{◌≡◌};
+
+use host_text::text::Text;
+use jessie_machine::host::{Answer, NoMemory, Powers};
+use jessie_tree::data::{Data, Obj};
+
+#[derive(Drop)]
+pub struct NullHost {}
+
+impl Powers for NullHost {
+    ghost use Rattle.jessie_tree.specs.Tree.{null};
+    ghost use Rattle.jessie_semantics.specs.Play.{given};
+    ghost use Rattle.evaluator_tests.specs.NullHosts.{Everything, keeps_to_its_side, room};
+
+    ghost answers = { λ w x v. x.reply ≡ given null };
+
+    ghost known = { λ w. Everything };
+
+    ghost room = { λ w. room };
+
+    fn call(&mut self, _target: Obj, _method: &str, _args: Vec<Data>) -> Result<Answer, NoMemory> {
+        Ok(Answer::Value(Data::Null))
+    }
+
+    fn send(&mut self, _target: Obj, _method: &str, _args: Vec<Data>) -> Result<Answer, NoMemory> {
+        Ok(Answer::Value(Data::Null))
+    }
+
+    fn when(&mut self, _promise: Obj, _f: &str, _held: Data) -> Result<Answer, NoMemory> {
+        Ok(Answer::Value(Data::Null))
+    }
+
+    fn far(
+        &mut self,
+        _name: &str,
+        _methods: Vec<(Text, Text)>,
+        _held: Data,
+    ) -> Result<Answer, NoMemory> {
+        Ok(Answer::Value(Data::Null))
+    }
+
+    ghost keeps = { keeps_to_its_side };
+}
