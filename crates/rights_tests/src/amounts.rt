@@ -112,7 +112,7 @@ struct Case {
     greatest: Came,
 }
 
-const CASES: [Case; 5] = [
+const CASES: &[Case] = &[
     Case {
         brand: 1,
         left: 5,
@@ -160,15 +160,22 @@ const CASES: [Case; 5] = [
     },
 ];
 
+/// Whether the amounts of a case are worked as it says.
+fn is_worked(case: &Case) -> bool {
+    let (brand, left, right) = (case.brand, case.left, case.right);
+    if left > MOST || right > MOST {
+        return false;
+    }
+    added(amount(1, left), amount(brand, right)) == case.sum
+        && lessened(amount(1, left), amount(brand, right)) == case.rest
+        && least_of(amount(1, left), amount(brand, right)) == case.least
+        && greatest_of(amount(1, left), amount(brand, right)) == case.greatest
+}
+
 #[test]
 fn amounts_of_one_brand_are_worked_and_of_two_refused(rt: HostRuntime) {
-    for case in &CASES {
-        let (brand, left, right) = (case.brand, case.left, case.right);
-        assert!(rt; left <= MOST && right <= MOST);
-        assert!(rt; added(amount(1, left), amount(brand, right)) == case.sum);
-        assert!(rt; lessened(amount(1, left), amount(brand, right)) == case.rest);
-        assert!(rt; least_of(amount(1, left), amount(brand, right)) == case.least);
-        assert!(rt; greatest_of(amount(1, left), amount(brand, right)) == case.greatest);
+    for case in CASES {
+        assert!(rt; is_worked(case));
     }
 }
 
@@ -237,7 +244,7 @@ fn amounts_are_made_and_coerced(rt: HostRuntime) {
         (9_223_372_036_854_775_808, None),
         (-1, None),
     ] {
-        assert!(rt; made(number) == wanted, "{number}");
+        assert!(rt; made(number) == wanted);
     }
     assert!(rt; coerced(1, Kind::Nat, amount(1, 5)) == Came::Units(5));
     assert!(rt; coerced(2, Kind::Set, amount(1, 5)) == Came::WrongBrand(1));

@@ -17,7 +17,7 @@ fn texts_name_their_numbers(rt: HostRuntime) {
         (1_234_567_890, "inv:1234567890"),
         (4_294_967_295, "inv:4294967295"),
     ] {
-        assert!(rt; is_named(rt.alloc(), number, wanted), "{wanted}");
+        assert!(rt; is_named(rt.alloc(), number, wanted));
         assert!(rt; number_of_element(wanted.as_bytes()) == Some(number));
     }
 }
@@ -36,6 +36,6 @@ fn other_texts_name_none(rt: HostRuntime) {
         "inv:000000000a",
         "inv:4294967296",
     ] {
-        assert!(rt; number_of_element(bad.as_bytes()) == None, "{bad}");
+        assert!(rt; number_of_element(bad.as_bytes()) == None);
     }
 }

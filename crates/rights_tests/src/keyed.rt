@@ -8,6 +8,7 @@ use amount_math::{
     is_between, make,
 };
 use std::alloc::Global;
+use std::process::Abort;
 
 /// What is made of data.
 #[derive(Clone, Copy, PartialEq, Eq)]
@@ -72,7 +73,7 @@ struct SetCase {
     wanted: &'static [(&'static str, u64)],
 }
 
-const SETS: [SetCase; 4] = [
+const SETS: &[SetCase] = &[
     SetCase {
         given: &[],
         wanted: &[],
@@ -92,14 +93,14 @@ const SETS: [SetCase; 4] = [
 ];
 
 /// Keys of no set.
-const NO_SETS: [&[&str]; 3] = [&["a", "b", "a"], &[""], &[LONGER]];
+const NO_SETS: &[&[&str]] = &[&["a", "b", "a"], &[""], &[LONGER]];
 
 #[test]
 fn keys_are_made_a_set(rt: HostRuntime) {
-    for case in &SETS {
+    for case in SETS {
         assert!(rt; made_set(rt.alloc(), case.given, case.wanted) == Made::Wanted);
     }
-    for given in &NO_SETS {
+    for given in NO_SETS {
         assert!(rt; made_set(rt.alloc(), given, &[]) == Made::BadValue);
     }
     assert!(rt; made_many(rt.alloc(), 4096) == Some(4096));
@@ -112,7 +113,7 @@ struct BagCase {
     wanted: &'static [(&'static str, u64)],
 }
 
-const BAGS: [BagCase; 3] = [
+const BAGS: &[BagCase] = &[
     BagCase {
         given: &[],
         wanted: &[],
@@ -128,7 +129,7 @@ const BAGS: [BagCase; 3] = [
 ];
 
 /// Pairs of no bag.
-const NO_BAGS: [&[(&str, i128)]; 4] = [
+const NO_BAGS: &[&[(&str, i128)]] = &[
     &[("a", 9_223_372_036_854_775_808)],
     &[("a", 0)],
     &[("a", -1)],
@@ -137,10 +138,10 @@ const NO_BAGS: [&[(&str, i128)]; 4] = [
 
 #[test]
 fn pairs_are_made_a_bag(rt: HostRuntime) {
-    for case in &BAGS {
+    for case in BAGS {
         assert!(rt; made_bag(rt.alloc(), case.given, case.wanted) == Made::Wanted);
     }
-    for given in &NO_BAGS {
+    for given in NO_BAGS {
         assert!(rt; made_bag(rt.alloc(), given, &[]) == Made::BadValue);
     }
 }
@@ -192,7 +193,7 @@ struct Working {
     rest: &'static [(&'static str, u64)],
 }
 
-const WORKED: [Working; 4] = [
+const WORKED: &[Working] = &[
     Working {
         left: &[("a", 2), ("b", 1)],
         right: &[("a", 1)],
@@ -219,23 +220,27 @@ const WORKED: [Working; 4] = [
     },
 ];
 
+/// Whether two bags are worked as a case says.
+fn is_worked(rt: &impl Abort, alloc: Global, case: &Working) -> bool {
+    let right = bag(rt, alloc, case.right);
+    is_rest(bag(rt, alloc, case.left), &right, case.rest)
+        && is_sum(bag(rt, alloc, case.left), right, case.sum)
+}
+
 #[test]
 fn bags_are_worked_key_by_key(rt: HostRuntime) {
-    let alloc = rt.alloc();
-    for case in &WORKED {
-        let right = bag(&rt, alloc, case.right);
-        assert!(rt; is_rest(bag(&rt, alloc, case.left), &right, case.rest));
-        assert!(rt; is_sum(bag(&rt, alloc, case.left), right, case.sum));
+    for case in WORKED {
+        assert!(rt; is_worked(&rt, rt.alloc(), case));
     }
 }
 
 #[test]
 fn a_bag_lacks_what_it_has_not(rt: HostRuntime) {
-    let alloc = rt.alloc();
-    let right = bag(&rt, alloc, &[("a", 1), ("c", 1)]);
-    assert!(rt; is_less(bag(&rt, alloc, &[("b", 2)]), &right, &[("b", 2)]));
+    let right = bag(&rt, rt.alloc(), &[("a", 1), ("c", 1)]);
+    let is_less = is_less(bag(&rt, rt.alloc(), &[("b", 2)]), &right, &[("b", 2)]);
     let sum = &[("a", 1), ("b", 2), ("c", 1)];
-    assert!(rt; is_sum(bag(&rt, alloc, &[("b", 2)]), right, sum));
+    let is_sum = is_sum(bag(&rt, rt.alloc(), &[("b", 2)]), right, sum);
+    assert!(rt; is_less && is_sum);
 }
 
 /// Why a value doesn't grow by another.
@@ -269,19 +274,19 @@ fn refusal(mut held: Value, more: Value) -> Option<Why>
     refusal
 }
 
+const MOST: i128 = 9_223_372_036_854_775_807;
+
 #[test]
 fn a_sum_that_is_no_value_is_refused(rt: HostRuntime) {
     let alloc = rt.alloc();
     let right = set(&rt, alloc, &["b", "k", "m"]);
-    let refused = refusal(set(&rt, alloc, &["a", "k", "m"]), right);
-    assert!(rt; refused == Some(Why::OverlapAtK));
-    let most = 9_223_372_036_854_775_807;
+    let overlap = refusal(set(&rt, alloc, &["a", "k", "m"]), right);
     let right = bag(&rt, alloc, &[("b", 1), ("a", 1)]);
-    let refused = refusal(bag(&rt, alloc, &[("a", most), ("b", most)]), right);
-    let over = Why::TooMuch(9_223_372_036_854_775_808, 9_223_372_036_854_775_807);
-    assert!(rt; refused == Some(over));
-    let refused = refusal(set_of_many(&rt, alloc, 4096), set_of_one(&rt, alloc, "k"));
-    assert!(rt; refused == Some(Why::TooMuch(4097, 4096)));
+    let over = refusal(bag(&rt, alloc, &[("a", MOST), ("b", MOST)]), right);
+    let many = refusal(set_of_many(&rt, alloc, 4096), set_of_one(&rt, alloc, "k"));
+    assert!(rt; overlap == Some(Why::OverlapAtK) && many == Some(Why::TooMuch(4097, 4096)));
+    let wanted = Why::TooMuch(9_223_372_036_854_775_808, 9_223_372_036_854_775_807);
+    assert!(rt; over == Some(wanted));
 }
 
 /// Brings a value out, and tells whether it could.
@@ -295,19 +300,30 @@ fn bring(out: &mut Outstanding, value: Value) -> bool
     is_out
 }
 
+/// 4,096 keys and k, all out.
+fn many_out(rt: &impl Abort, alloc: Global) -> Outstanding
+    ensures { result.kind ≡ Kind.Set }
+{
+    let mut out = Outstanding::empty(Kind::Set);
+    let many = bring(&mut out, set_of_many(rt, alloc, 4096));
+    let further = bring(&mut out, set_of_one(rt, alloc, "k"));
+    assert!(rt; many && further);
+    out
+}
+
 #[test]
 fn more_keys_may_be_out_than_in_a_set(rt: HostRuntime) {
-    let mut out = Outstanding::empty(Kind::Set);
-    assert!(rt; bring(&mut out, set_of_many(&rt, rt.alloc(), 4096)));
-    assert!(rt; bring(&mut out, set_of_one(&rt, rt.alloc(), "k")));
+    let mut out = many_out(&rt, rt.alloc());
     let copy = out.copy().expect(&rt, "memory for a copy");
+    let total = copy.total();
+    drop(copy);
     let k = set_of_one(&rt, rt.alloc(), "k");
     assert!(rt; out.is_gte(&k));
     out.lessen(&k);
-    assert!(rt; copy.total() == 4097 && out.total() == 4096);
     drop(k);
-    drop(copy);
+    let left = out.total();
     drop(out);
+    assert!(rt; total == 4097 && left == 4096);
 }
 
 /// Whether the part is taken out of the value.
@@ -324,16 +340,24 @@ fn is_split(held: &mut Value, part: &Value) -> bool
     is_part
 }
 
+/// Whether a copy is what is held, has just these entries and isn't another value.
+fn is_copied(rt: &impl Abort, held: &Value, other: &Value, wanted: &[(&str, u64)]) -> bool
+    requires { held.now.kind ≡ other.now.kind }
+{
+    let copy = held.copy().expect(rt, "memory for a copy");
+    has(&copy, wanted) && copy.is_equal(held) && !copy.is_equal(other)
+}
+
 #[test]
 fn keyed_values_are_parted_and_copied(rt: HostRuntime) {
     let mut held = set(&rt, rt.alloc(), &["a", "b"]);
     let b = set_of_one(&rt, rt.alloc(), "b");
-    assert!(rt; is_split(&mut held, &b) && !is_split(&mut held, &b));
-    let copy = held.copy().expect(&rt, "memory for a copy");
-    assert!(rt; has(&copy, &[("a", 1)]) && copy.is_equal(&held) && !copy.is_equal(&b));
-    drop(copy);
+    let first = is_split(&mut held, &b);
+    let second = is_split(&mut held, &b);
+    let is_copied = is_copied(&rt, &held, &b, &[("a", 1)]);
     drop(b);
     drop(held);
+    assert!(rt; first && !second && is_copied);
 }
 
 /// How much the lesser of two values has.
@@ -383,12 +407,18 @@ const ALL: &[(&str, i128)] = &[("a", 2), ("b", 1)];
 #[test]
 fn laws_of_a_kind_serve_sets_and_bags(rt: HostRuntime) {
     let alloc = rt.alloc();
-    assert!(rt; least(bag(&rt, alloc, FEW), bag(&rt, alloc, ALL)) == Some(1));
-    assert!(rt; greatest(bag(&rt, alloc, FEW), bag(&rt, alloc, ALL)) == Some(3));
-    assert!(rt; least(set_of_one(&rt, alloc, "a"), set_of_one(&rt, alloc, "b")) == None);
-    assert!(rt; credited(set(&rt, alloc, &["a"]), set(&rt, alloc, &["b"])) == Some(2));
-    let (few, all) = (bag(&rt, alloc, FEW), bag(&rt, alloc, ALL));
-    assert!(rt; is_between::<BagKind>(&few, &few, &all));
+    let lesser = least(bag(&rt, alloc, FEW), bag(&rt, alloc, ALL));
+    let greater = greatest(bag(&rt, alloc, FEW), bag(&rt, alloc, ALL));
+    let none = least(set_of_one(&rt, alloc, "a"), set_of_one(&rt, alloc, "b"));
+    let both = credited(set(&rt, alloc, &["a"]), set(&rt, alloc, &["b"]));
+    assert!(rt; lesser == Some(1) && greater == Some(3) && none == None && both == Some(2));
+}
+
+#[test]
+fn a_bag_is_between_itself_and_a_greater_one(rt: HostRuntime) {
+    let (few, all) = (bag(&rt, rt.alloc(), FEW), bag(&rt, rt.alloc(), ALL));
+    let is_between = is_between::<BagKind>(&few, &few, &all);
     drop(all);
     drop(few);
+    assert!(rt; is_between);
 }

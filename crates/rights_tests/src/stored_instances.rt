@@ -127,7 +127,7 @@ fn is_shown(alloc: Global, instances: &Instances, wanted: &str) -> bool {
 }
 
 /// Steps, and what is shown after each.
-const STEPS: [(Step, &str); 23] = [
+const STEPS: &[(Step, &str)] = &[
     (Step::Install, "1"),
     (Step::Back, "0"),
     (Step::Install, "1"),
@@ -157,9 +157,9 @@ const STEPS: [(Step, &str); 23] = [
 fn a_turns_changes_are_undone_or_kept(rt: HostRuntime) {
     let alloc = rt.alloc();
     let mut instances = Instances::new(alloc);
-    for (step, wanted) in &STEPS {
+    for (step, wanted) in STEPS {
         take(alloc, &mut instances, *step);
-        assert!(rt; is_shown(alloc, &instances, wanted), "{wanted}");
+        assert!(rt; is_shown(alloc, &instances, wanted));
     }
     drop(instances);
 }
@@ -184,19 +184,38 @@ fn is_text(data: &Data, wanted: &str) -> bool {
     }
 }
 
+/// An instance of one installation, started with terms.
+fn started(rt: &impl Abort, alloc: Global) -> Instances
+    ensures installation { 0 < length (instances_of result).now.installations }
+    ensures instance { 0 < length (instances_of result).now.instances }
+{
+    let mut instances = Instances::new(alloc);
+    install(alloc, &mut instances);
+    assert!(rt; instances.installations() == 1);
+    start_with_terms(rt, alloc, &mut instances);
+    assert!(rt; instances.installations() == 1);
+    assert!(rt; instances.made() == 1);
+    instances
+}
+
+/// The brand under Price in the issuer record of the first instance.
+fn brand_under_price(rt: &impl Abort, alloc: Global, instances: &Instances) -> Option<u16>
+    requires { 0 < length (instances_of instances.now).now.instances }
+{
+    let price = keyword(rt, alloc, "Price");
+    instances.issuers(0).get(&price)
+}
+
 #[test]
 fn an_instance_has_what_it_was_started_with(rt: HostRuntime) {
-    let mut instances = Instances::new(rt.alloc());
-    install(rt.alloc(), &mut instances);
-    assert!(rt; instances.installations() == 1);
-    assert!(rt; instances.module(0).variables.len() == 2);
-    start_with_terms(&rt, rt.alloc(), &mut instances);
-    assert!(rt; instances.made() == 1);
-    assert!(rt; instances.installation(0) == 0 && !instances.is_halted(0));
-    let price = keyword(&rt, rt.alloc(), "Price");
-    assert!(rt; instances.issuers(0).get(&price) == Some(3));
-    drop(price);
-    assert!(rt; is_text(instances.terms(0), "terms"));
-    assert!(rt; instances.state(0).len() == 2);
+    let instances = started(&rt, rt.alloc());
+    let sizes = (
+        instances.module(0).variables.len(),
+        instances.state(0).len(),
+    );
+    let of_the_first = instances.installation(0) == 0 && !instances.is_halted(0);
+    let brand = brand_under_price(&rt, rt.alloc(), &instances);
+    let has_terms = is_text(instances.terms(0), "terms");
     drop(instances);
+    assert!(rt; sizes == (2, 2) && of_the_first && brand == Some(3) && has_terms);
 }

@@ -34,19 +34,31 @@ fn added(alloc: Global, invitations: &mut Invitations, description: &str) -> Opt
     number
 }
 
+/// Whether invitations are numbered as they are added, those of a turn that goes back not counted.
+fn are_numbered(alloc: Global, invitations: &mut Invitations) -> bool {
+    let first = added(alloc, invitations, "buy");
+    invitations.forget();
+    let second = added(alloc, invitations, "sell");
+    let made = invitations.made();
+    invitations.back();
+    let third = added(alloc, invitations, "swap");
+    first == Some(0) && second == Some(1) && made == 2 && third == Some(1)
+}
+
+/// Whether there are two, under these descriptions.
+fn are_described(invitations: &Invitations, first: &str, second: &str) -> bool {
+    if invitations.made() != 2 {
+        return false;
+    }
+    is_as_added(invitations.details(0), first) && is_as_added(invitations.details(1), second)
+}
+
 #[test]
 fn a_turns_invitations_are_undone_or_kept(rt: HostRuntime) {
     let mut invitations = Invitations::new(rt.alloc());
-    assert!(rt; invitations.made() == 0);
-    assert!(rt; added(rt.alloc(), &mut invitations, "buy") == Some(0));
-    invitations.forget();
-    assert!(rt; added(rt.alloc(), &mut invitations, "sell") == Some(1));
-    assert!(rt; invitations.made() == 2);
-    invitations.back();
-    assert!(rt; invitations.made() == 1);
-    assert!(rt; added(rt.alloc(), &mut invitations, "swap") == Some(1));
-    assert!(rt; invitations.made() == 2);
-    assert!(rt; is_as_added(invitations.details(0), "buy"));
-    assert!(rt; is_as_added(invitations.details(1), "swap"));
+    let first = invitations.made();
+    let are_numbered = are_numbered(rt.alloc(), &mut invitations);
+    let are_described = are_described(&invitations, "buy", "swap");
     drop(invitations);
+    assert!(rt; first == 0 && are_numbered && are_described);
 }

@@ -63,7 +63,7 @@ fn letter(state: &PromiseState) -> u8 {
 }
 
 /// Steps, and what is shown after each.
-const STEPS: [(Step, &str); 16] = [
+const STEPS: &[(Step, &str)] = &[
     (Step::Back, ""),
     (Step::Make, "p"),
     (Step::Make, "pp"),
@@ -85,9 +85,9 @@ const STEPS: [(Step, &str); 16] = [
 #[test]
 fn a_turns_promises_are_undone_or_kept(rt: HostRuntime) {
     let mut promises = Promises::new(rt.alloc());
-    for (step, wanted) in &STEPS {
+    for (step, wanted) in STEPS {
         take(&mut promises, *step);
-        assert!(rt; is_shown(&promises, wanted), "{wanted}");
+        assert!(rt; is_shown(&promises, wanted));
     }
     drop(promises);
 }

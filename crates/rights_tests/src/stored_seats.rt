@@ -192,38 +192,61 @@ fn two_seats(rt: &impl Abort, alloc: Global) -> Seats
     seats
 }
 
+const PUTS: &[(u32, &str, u32)] = &[
+    (1, "Bid", 5),
+    (1, "Extra", 3),
+    (0, "Bid", 1),
+    (1, "Extra", 4),
+];
+
+/// Two seats, of which the second has a further slot.
+fn filled(rt: &impl Abort, alloc: Global) -> Seats {
+    let mut seats = two_seats(rt, alloc);
+    for (seat, text, number) in PUTS {
+        put(rt, alloc, &mut seats, *seat, text, *number);
+    }
+    seats
+}
+
+/// The brand of a slot of the second seat.
+fn brand_of(rt: &impl Abort, alloc: Global, seats: &Seats, text: &str) -> Option<u16> {
+    let keyword = keyword(rt, alloc, text);
+    assert!(rt; seats.made() == 2);
+    seats.brand(1, &keyword)
+}
+
 #[test]
 fn a_further_slot_stands_last_and_is_counted(rt: HostRuntime) {
-    let mut seats = two_seats(&rt, rt.alloc());
-    assert!(rt; seats.instance(0) == 7 && seats.instance(1) == 8);
-    assert!(rt; seats.proposal(1).exit == Exit::Waived && seats.open_slots() == 4);
-    for (seat, text, number) in [
-        (1, "Bid", 5),
-        (1, "Extra", 3),
-        (0, "Bid", 1),
-        (1, "Extra", 4),
-    ] {
-        put(&rt, rt.alloc(), &mut seats, seat, text, number);
-    }
-    assert!(rt; seats.total(0) == 13 && seats.total(1) == 0 && seats.open_slots() == 5);
-    let wanted = [("Bid", 5), ("Asset", 0), ("Extra", 7)];
-    assert!(rt; has_rows(&rt, rt.alloc(), &seats, 1, wanted.as_slice()));
-    assert!(rt; seats.made() == 2);
-    assert!(rt; seats.brand(1, &keyword(&rt, rt.alloc(), "Asset")) == Some(1));
+    let seats = filled(&rt, rt.alloc());
+    let totals = (seats.total(0), seats.total(1), seats.open_slots());
+    let wanted = &[("Bid", 5), ("Asset", 0), ("Extra", 7)];
+    let has_rows = has_rows(&rt, rt.alloc(), &seats, 1, wanted);
+    let brand = brand_of(&rt, rt.alloc(), &seats, "Asset");
     drop(seats);
+    assert!(rt; totals == (13, 0, 5) && has_rows && brand == Some(1));
+}
+
+#[test]
+fn a_seat_is_opened_for_its_proposal(rt: HostRuntime) {
+    let seats = two_seats(&rt, rt.alloc());
+    let instances = (seats.instance(0), seats.instance(1));
+    let is_waived = seats.proposal(1).exit == Exit::Waived;
+    let slots = seats.open_slots();
+    drop(seats);
+    assert!(rt; instances == (7, 8) && is_waived && slots == 4);
 }
 
 #[test]
 fn a_part_of_a_slot_is_taken(rt: HostRuntime) {
-    let alloc = rt.alloc();
-    let mut seats = two_seats(&rt, alloc);
-    put(&rt, alloc, &mut seats, 0, "Bid", 5);
-    let twin = seats.twin(alloc).expect(&rt, "memory for a twin");
-    assert!(rt; take(&rt, alloc, &mut seats, 0, "Bid", 6) == None);
-    assert!(rt; take(&rt, alloc, &mut seats, 0, "Bid", 2) == Some(2));
-    assert!(rt; seats.total(0) == 3 && twin.total(0) == 5 && twin.made() == 2);
+    let mut seats = two_seats(&rt, rt.alloc());
+    put(&rt, rt.alloc(), &mut seats, 0, "Bid", 5);
+    let twin = seats.twin(rt.alloc()).expect(&rt, "memory for a twin");
+    let over = take(&rt, rt.alloc(), &mut seats, 0, "Bid", 6);
+    let taken = take(&rt, rt.alloc(), &mut seats, 0, "Bid", 2);
+    let totals = (seats.total(0), twin.total(0), twin.made());
     drop(twin);
     drop(seats);
+    assert!(rt; over == None && taken == Some(2) && totals == (3, 5, 2));
 }
 
 /// Whether a seat is refused to be closed, since it was closed before.
@@ -237,15 +260,13 @@ fn was_closed(rt: &impl Abort, alloc: Global, seats: &mut Seats, seat: u32) -> b
 
 #[test]
 fn a_closed_seat_keeps_its_allocation(rt: HostRuntime) {
-    let alloc = rt.alloc();
-    let mut seats = two_seats(&rt, alloc);
-    put(&rt, alloc, &mut seats, 0, "Bid", 3);
-    assert!(rt; close_and_take(&rt, alloc, &mut seats, 0, "Bid", 3) == Some(3));
-    let last = &[("Bid", 3), ("Asset", 0)];
-    assert!(rt; has_rows(&rt, alloc, &seats, 0, last));
-    assert!(rt; seats.total(0) == 0 && seats.open_slots() == 2 && seats.made() == 2);
-    assert!(rt; !seats.is_open(0) && seats.is_open(1));
-    assert_takes_nothing(&rt, alloc, &mut seats, 0);
-    assert!(rt; was_closed(&rt, alloc, &mut seats, 0));
+    let mut seats = two_seats(&rt, rt.alloc());
+    put(&rt, rt.alloc(), &mut seats, 0, "Bid", 3);
+    let taken = close_and_take(&rt, rt.alloc(), &mut seats, 0, "Bid", 3);
+    let has_last = has_rows(&rt, rt.alloc(), &seats, 0, &[("Bid", 3), ("Asset", 0)]);
+    let left = (seats.total(0), seats.open_slots(), seats.made());
+    assert_takes_nothing(&rt, rt.alloc(), &mut seats, 0);
+    let was_closed = was_closed(&rt, rt.alloc(), &mut seats, 0);
     drop(seats);
+    assert!(rt; taken == Some(3) && has_last && left == (0, 2, 2) && was_closed);
 }
