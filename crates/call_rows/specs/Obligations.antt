@@ -1,5 +1,5 @@
 -- What the row of each call owes, as one record; and what it may count on.
-use Rattle.std.specs.Prelude.{◌≡◌, ◌≤◌, ◌<◌, ◌+◌, ◌^◌, ℕ, List, length, Option, IfOk, IfSome}
+use Rattle.std.specs.Prelude.{◌≡◌, ◌≤◌, ◌<◌, ◌^◌, ℕ, List, length, Option, IfOk, IfSome}
 use Rattle.std.specs.List.{AllByRecursion}
 use Rattle.call_arguments.specs.Arguments.{arg}
 use Rattle.jessie_tree.specs.Tree.{Tree}

@@ -1,0 +1,2 @@
+pub mod Zcf
+pub mod Seats

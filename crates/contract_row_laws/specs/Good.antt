@@ -1,0 +1,18 @@
+-- That a call of an instance's functions is a good row.
+use Rattle.std.specs.Prelude.{ℕ, List, Some}
+use Rattle.jessie_tree.specs.Tree.{Tree}
+use Rattle.jessie_tree.specs.declared.data.Obj.{Obj}
+use Rattle.jessie_tree.specs.declared.data.ObjKind.{ObjKind}
+use Rattle.world_state.specs.Worlds.{State}
+use Rattle.call_rows.specs.Obligations.{CanCall, IsGoodOutcome}
+use Rattle.call_rows.specs.Rows.{Outcome}
+
+abbrev pub numbered : ObjKind → ℕ → Obj
+numbered kind n = record { kind = kind; number = n }
+
+-- what a call of a method owes, of an object of the kind that the instance may name
+abbrev pub IsGoodCall : ObjKind → List ℕ → (State → ℕ → List Tree → Outcome) → Type 0
+IsGoodCall kind m row =
+    (w : State) (i n : ℕ) (args : List Tree) →
+    CanCall w (Some i) (numbered kind n) args →
+    IsGoodOutcome w (Some i) (numbered kind n) m args (row w n args)
