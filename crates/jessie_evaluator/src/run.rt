@@ -198,7 +198,6 @@ fn run_named<P: Powers>(
 
 /// A call of a function of the module.
 #[cycle(run)]
-#[inline(never)]
 fn run_call<P: Powers>(
     alloc: Global,
     powers: &mut P,
@@ -220,7 +219,6 @@ fn run_call<P: Powers>(
 
 /// A call of a function of the language.
 #[cycle(run)]
-#[inline(never)]
 fn run_built_in<P: Powers>(
     alloc: Global,
     powers: &mut P,
@@ -242,7 +240,6 @@ fn run_built_in<P: Powers>(
 
 /// A call of a function of AmountMath.
 #[cycle(run)]
-#[inline(never)]
 fn run_amounts<P: Powers>(
     alloc: Global,
     powers: &mut P,
@@ -264,7 +261,6 @@ fn run_amounts<P: Powers>(
 
 /// A send to an object.
 #[cycle(run)]
-#[inline(never)]
 fn run_send<P: Powers>(
     alloc: Global,
     powers: &mut P,
@@ -288,7 +284,6 @@ fn run_send<P: Powers>(
 
 /// An array.
 #[cycle(run)]
-#[inline(never)]
 fn run_array<P: Powers>(
     alloc: Global,
     powers: &mut P,
@@ -309,7 +304,6 @@ fn run_array<P: Powers>(
 
 /// A record.
 #[cycle(run)]
-#[inline(never)]
 fn run_record<P: Powers>(
     alloc: Global,
     powers: &mut P,
@@ -330,7 +324,6 @@ fn run_record<P: Powers>(
 
 /// What the steps behind an expression come to, from left to right.
 #[cycle(run)]
-#[inline(never)]
 fn run_steps<P: Powers>(
     alloc: Global,
     powers: &mut P,
@@ -430,7 +423,6 @@ fn run_index<P: Powers>(
 
 /// An operator before an expression.
 #[cycle(run)]
-#[inline(never)]
 fn run_unary<P: Powers>(
     alloc: Global,
     powers: &mut P,
@@ -452,7 +444,6 @@ fn run_unary<P: Powers>(
 
 /// A chain of operators, from left to right.
 #[cycle(run)]
-#[inline(never)]
 fn run_chain<P: Powers>(
     alloc: Global,
     powers: &mut P,
@@ -504,7 +495,6 @@ fn run_operator<P: Powers>(
 
 /// A choice of two expressions.
 #[cycle(run)]
-#[inline(never)]
 fn run_choice<P: Powers>(
     alloc: Global,
     powers: &mut P,
