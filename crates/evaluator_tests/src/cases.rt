@@ -1,4 +1,4 @@
-//! A line of the table: a meter, a tab, and the body of a function `start`.
+//! A line of the table: a meter, a tab, and a text with a function `start`.
 use crate::host::NullHost;
 use crate::shown::outcome;
 use amount_math::Kind;

@@ -1,5 +1,5 @@
 //! Deliveries that wait for a time: functions that are to be woken, and deadlines of seats. It stands on the
-//! timer and on the queue of a turn. Its one contract: what is asked for a time waits in the timer, or in the
+//! timer, and on promise_table for the queue of a turn. Its one contract: what is asked for a time waits in the timer, or in the
 //! queue where the time has come; setting the timer queues what is due then, in its order; and what the turn's
 //! start was stays, so that all can be worked back, whatever a call came to.
 #![tactic(auto)]

@@ -1,6 +1,6 @@
 //! The whole sum of a list of values of one kind, as a value. It stands on amounts, the tests of their totals
 //! and the refusals. Its one contract: where the test of the whole sum passes, the sum is what the values have
-//! together, and nothing is wanted for it but memory.
+//! together, and nothing is wanted for it but memory; where it fails, that refusal is told.
 #![tactic(auto)]
 
 ghost use Rattle.std.specs.Prelude.{◌≡◌, All, map, IfOk, OnOk};
