@@ -1,3 +1,5 @@
+pub mod GivenUp
+pub mod HandLaws
 pub mod Steps
 pub mod Taking
 pub mod Made

@@ -1,5 +1,5 @@
 -- A draft after a purse was opened, and after a brand was taken in.
-use Rattle.std.proofs.Common.{◌≡◌, ◌≢◌, inl, inr, ℕ, zero, suc, ◌+◌, ◌-◌, ◌≤◌, Bool, false, List, [], ◌∷◌, ◌++◌, length, map, reverse, refl, sym, ◌∙◌, ap, subst, arith}
+use Rattle.std.proofs.Common.{◌≡◌, ◌≢◌, inl, inr, ℕ, zero, suc, ◌+◌, ◌-◌, ◌<◌, ◌≤◌, Bool, false, List, [], ◌∷◌, ◌++◌, length, map, reverse, refl, sym, ◌∙◌, ap, subst, arith}
 use Rattle.std.proofs.lemmas.Bool.{cases_eq}
 use Rattle.amount_math.specs.Content.{nothing}
 use Rattle.amount_math.specs.Held.{Held, HasRoom, keys_in, more_room}
@@ -24,10 +24,11 @@ use Rattle.right_steps.proofs.Undone.{all_grows, unadded, unopened}
 use Rattle.rights_model.specs.declared.Movement.{Movement}
 use Rattle.rights_model.specs.Table.{CanMoveAll, table_after}
 use Rattle.transit.specs.Transit.{TransitView, empty_hand, held_at}
-use Rattle.vault_stores.specs.Memory.{amount_in, content_in_store, given_up_in, kept_of, lists_of, rooms_of, staged_of, store_of, supply_of}
-use Rattle.vault_rights.specs.Drafts.{IsDraft, draft_of, opened, table_now, with_brand}
+use Rattle.vault_stores.specs.Memory.{amount_in, kept_of, lists_of, rooms_of, staged_of, store_of, supply_of}
+use Rattle.vault_rights.specs.Drafts.{IsDraft, by_number, draft_of, given_list, opened, table_now, with_brand}
 use Rattle.vault_stores.specs.declared.stores.Stores.{Stores}
-use Rattle.vault_rights.proofs.Steps.{brands_there, keys_none, last_first, room_for_none}
+use Rattle.vault_rights.proofs.GivenUp.{has_none, none_given, numbered_push}
+use Rattle.vault_rights.proofs.Steps.{brands_there, given_long, keys_none, last_first, room_for_none}
 
 -- ---- a purse
 
@@ -61,7 +62,7 @@ module _ (p : Stores) (ks : List Step) (ms : List Movement) (keys : ℕ) (spoile
       ∙ ap (λ (a : Amount). a.value.content) (read_pushed (lists_of p).purses (empty_amount b kind) no_amount _ (omega (arith, length_push (lists_of p).purses (empty_amount b kind))))
 
   pub opened_after : draft_of q (ks ++ OpensPurse ∷ []) ms spoiled ≡ opened (draft_of p ks ms spoiled) (with_new_purse (lists_of p) b kind)
-  opened_after = λ i. record { kept = kept_after i; now = lists i; staging = staged_of p; movements = ms; given_up = given_up_in p; is_spoiled = spoiled }
+  opened_after = λ i. record { kept = kept_after i; now = lists i; staging = staged_of p; movements = ms; given_up = given_list p; is_spoiled = spoiled }
 
   pub opened_keeps : IsDraft q (ks ++ OpensPurse ∷ []) ms keys spoiled
   opened_keeps = record {
@@ -82,6 +83,9 @@ module _ (p : Stores) (ks : List Step) (ms : List Movement) (keys : ℕ) (spoile
           (subst (λ (s : Lists). Agrees s (in_hand (reverse ms)) (table_now (draft_of p ks ms spoiled))) (sym lists) (agrees_new_purse (lists_of p) (in_hand (reverse ms)) (table_now (draft_of p ks ms spoiled)) b kind is.valid.agrees));
       moves = subst (λ (s : Lists). CanMoveAll (table_of s) ms) (sym kept_after) is.valid.moves;
       was_sound = subst (λ (s : Lists). IsSound s no_hand) (sym kept_after) is.valid.was_sound;
+      brands = given_long q;
+      given = is.valid.given;
+      clear = is.valid.clear;
     };
   }
 
@@ -145,8 +149,19 @@ module _ (p : Stores) (ks : List Step) (ms : List Movement) (keys : ℕ) (kind :
       ap (λ (s : Lists). (supply_at s.out (length s.out - 1)).minted) lists_too
       ∙ ap (λ (x : BrandSupply). x.minted) (read_pushed (lists_of p).out (new_supply kind) (new_supply Nat) _ (omega (arith, length_push (lists_of p).out (new_supply kind))))
 
+  store_none : (e : ℕ) → e < length t.out → store_of r e ≡ nothing
+  store_none e lt = store_same e ∙ elim (cases_eq (length (lists_of p).out) e) [
+    | inl at ↦ ap (λ (h : Held). h.value.content) (read_past p.transit.hand (empty_hand Nat) e (omega (arith, alike, at, brands_there p)))
+    | inr apart ↦ is.clear refl e (omega (arith, lt, long, apart, brands_there p))
+  ]
+
+  listed_too : given_list r ≡ given_list p ++ nothing ∷ []
+  listed_too =
+      numbered_push (length t.out) (length p.transit.out) (store_of r) long
+      ∙ (λ i. by_number (length p.transit.out) (λ e. store_same e i) ++ store_none (length p.transit.out) (omega (arith, long)) i ∷ [])
+
   pub added_after : draft_of r (ks ++ AddsBrand ∷ []) ms false ≡ with_brand (draft_of p ks ms false) kind
-  added_after = λ i. record { kept = kept_too i; now = lists_too i; staging = staged_of p; movements = ms; given_up = (ap (λ (u : TransitView). map content_in_store u.hand) new ∙ map_push content_in_store p.transit.hand (empty_hand kind)) i; is_spoiled = false }
+  added_after = λ i. record { kept = kept_too i; now = lists_too i; staging = staged_of p; movements = ms; given_up = listed_too i; is_spoiled = false }
 
   pub added_keeps : IsDraft r (ks ++ AddsBrand ∷ []) ms keys false
   added_keeps = record {
@@ -167,10 +182,7 @@ module _ (p : Stores) (ks : List Step) (ms : List Movement) (keys : ℕ) (kind :
       | inr apart ↦ subst (λ k. HasRoom k (keys_of (in_hand (reverse ms) e)) ((rooms_of r).hand e)) (sym (same_kind e apart))
           (more_room (kind_of (lists_of p) e) (keys_of (in_hand (reverse ms) e)) ((rooms_of p).hand e) ((rooms_of r).hand e) (hand_room e) (is.room e (omega (arith, lt, long, apart, brands_there p))))
     ];
-    clear = λ sound e lt. store_same e ∙ elim (cases_eq (length (lists_of p).out) e) [
-      | inl at ↦ ap (λ (h : Held). h.value.content) (read_past p.transit.hand (empty_hand Nat) e (omega (arith, alike, at, brands_there p)))
-      | inr apart ↦ is.clear sound e (omega (arith, lt, long, apart, brands_there p))
-    ];
+    clear = λ sound. store_none;
     retired = λ e. kept_same e ∙ is.retired e;
     valid = record {
       sound = subst (λ (s : Lists). IsSound s (in_hand (reverse ms))) (sym lists_too) (sound_new_brand (lists_of p) (in_hand (reverse ms)) kind is.valid.sound);
@@ -178,5 +190,8 @@ module _ (p : Stores) (ks : List Step) (ms : List Movement) (keys : ℕ) (kind :
           (subst (λ (s : Lists). Agrees s (in_hand (reverse ms)) (table_now (draft_of p ks ms false))) (sym lists_too) (agrees_new_brand (lists_of p) (in_hand (reverse ms)) (table_now (draft_of p ks ms false)) kind is.valid.agrees));
       moves = subst (λ (s : Lists). CanMoveAll (table_of s) ms) (sym kept_too) is.valid.moves;
       was_sound = subst (λ (s : Lists). IsSound s no_hand) (sym kept_too) is.valid.was_sound;
+      brands = given_long r;
+      given = λ e. has_none _ _ (none_given r store_none e);
+      clear = λ sound e. none_given r store_none e;
     };
   }

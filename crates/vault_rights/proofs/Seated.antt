@@ -1,7 +1,7 @@
 -- A draft after a seat was opened, after a further slot was, and after a seat was closed.
 use Rattle.std.proofs.Common.{◌≡◌, ℕ, ◌+◌, ◌-◌, ◌<◌, ◌≤◌, Bool, false, List, [], ◌∷◌, ◌++◌, length, reverse, Result, Ok, Err, Some, None, Option, refl, sym, ◌∙◌, ap, subst, arith}
-use Rattle.std.specs.Prelude.{OnErr, OnOk, IsNone, IsSome, is_some, slice_set, unwrap_or}
-use Rattle.amount_math.specs.Content.{nothing, sum}
+use Rattle.std.specs.Prelude.{OnErr, OnOk, IsNone, IsSome, is_some, slice_index_or, slice_set, unwrap_or}
+use Rattle.amount_math.specs.Content.{Contains, nothing, sum}
 use Rattle.amount_math.specs.Held.{HasRoom, keys_in, more_room}
 use Rattle.amount_math.specs.Worth.{IsValue, keys_of}
 use Rattle.amount_math.specs.declared.Amount.{Amount}
@@ -31,9 +31,9 @@ use Rattle.seat_store.specs.Store.{SeatsView}
 use Rattle.vault_stores.specs.Asked.{MayClose, MayOpenSlot, TakesIn}
 use Rattle.vault_stores.specs.Memory.{HasBecome, IsForward, IsGivenFurther, kept_of, lists_of, rooms_of, staged_of}
 use Rattle.vault_stores.specs.declared.stores.Stores.{Stores}
-use Rattle.vault_rights.specs.Drafts.{DraftState, HandKeeps, IsDraft, after, draft_of, opened, table_now, with_staging}
+use Rattle.vault_rights.specs.Drafts.{DraftState, HandKeeps, IsDraft, after, draft_of, given_list, opened, table_now, with_staging}
 use Rattle.vault_rights.proofs.Made.{put_after_so, put_keeps_so}
-use Rattle.vault_rights.proofs.Steps.{brands_there, last_first, same_store}
+use Rattle.vault_rights.proofs.Steps.{brands_there, given_long, last_first, same_given, same_store}
 
 -- ---- any step that moves nothing
 
@@ -42,8 +42,11 @@ module _ (p q : Stores) (k : Step) (s : Lists) (staged : List (ℕ × List Row))
   kept_after : all_back (lists_of q) (reverse (ks ++ k ∷ [])) (reverse ms) ≡ all_back (lists_of p) (reverse ks) (reverse ms)
   kept_after = ap (λ (r : List Step). all_back (lists_of q) r (reverse ms)) (last_first ks k) ∙ ap (λ (l : Lists). all_back l (k ∷ reverse ks) (reverse ms)) become.lists ∙ undone
 
-  pub stepped_after : draft_of q (ks ++ k ∷ []) ms spoiled ≡ with_staging (opened (draft_of p ks ms spoiled) s) staged
-  stepped_after = λ i. record { kept = kept_after i; now = become.lists i; staging = become.staging i; movements = ms; given_up = become.given_up i; is_spoiled = spoiled }
+  same_list : s.out ≡ (lists_of p).out → given_list q ≡ given_list p
+  same_list outs = same_given p q become.given_up (ap (λ (l : Lists). length l.out) become.lists ∙ ap length outs)
+
+  pub stepped_after : s.out ≡ (lists_of p).out → draft_of q (ks ++ k ∷ []) ms spoiled ≡ with_staging (opened (draft_of p ks ms spoiled) s) staged
+  stepped_after outs = λ i. record { kept = kept_after i; now = become.lists i; staging = become.staging i; movements = ms; given_up = same_list outs i; is_spoiled = spoiled }
 
   pub stepped_keeps : ((R : Rooms) → CanAllBack R (lists_of p) (reverse ks) (reverse ms) → CanAllBack R s (k ∷ reverse ks) (reverse ms)) → s.out ≡ (lists_of p).out → IsSound s (in_hand (reverse ms)) → ((t : Table) → Agrees (lists_of p) (in_hand (reverse ms)) t → Agrees s (in_hand (reverse ms)) t) → IsDraft q (ks ++ k ∷ []) ms keys spoiled
   stepped_keeps can outs sound agrees = record {
@@ -61,6 +64,9 @@ module _ (p q : Stores) (k : Step) (s : Lists) (staged : List (ℕ × List Row))
           (subst (λ (l : Lists). Agrees l (in_hand (reverse ms)) (table_now (draft_of p ks ms spoiled))) (sym become.lists) (agrees (table_now (draft_of p ks ms spoiled)) is.valid.agrees));
       moves = subst (λ (l : Lists). CanMoveAll (table_of l) ms) (sym kept_after) is.valid.moves;
       was_sound = subst (λ (l : Lists). IsSound l no_hand) (sym kept_after) is.valid.was_sound;
+      brands = given_long q;
+      given = λ b. subst (λ l. Contains (in_hand (reverse ms) b) (slice_index_or l b nothing)) (sym (same_list outs)) (is.valid.given b);
+      clear = λ clean b. ap (λ l. slice_index_or l b nothing) (same_list outs) ∙ is.valid.clear clean b;
     };
   }
     where
@@ -81,7 +87,7 @@ module _ (p q : Stores) (ks : List Step) (ms : List Movement) (keys : ℕ) (spoi
     new_last = read_pushed (lists_of p).seats (new_kept_seat instance proposal) no_kept_seat _ (omega (arith, length_push (lists_of p).seats (new_kept_seat instance proposal)))
 
     pub seat_after : draft_of q (ks ++ OpensSeat ∷ []) ms spoiled ≡ opened (draft_of p ks ms spoiled) (with_new_seat (lists_of p) instance proposal)
-    seat_after = stepped_after p q OpensSeat (with_new_seat (lists_of p) instance proposal) (staged_of p) ks ms keys spoiled is become seat_undone
+    seat_after = stepped_after p q OpensSeat (with_new_seat (lists_of p) instance proposal) (staged_of p) ks ms keys spoiled is become seat_undone refl
 
     pub seat_keeps : IsDraft q (ks ++ OpensSeat ∷ []) ms keys spoiled
     seat_keeps = stepped_keeps p q OpensSeat (with_new_seat (lists_of p) instance proposal) (staged_of p) ks ms keys spoiled is become seat_undone
@@ -117,7 +123,7 @@ module _ (p q : Stores) (ks : List Step) (ms : List Movement) (keys : ℕ) (spoi
       shut_there = read_set (lists_of p).seats n shut no_kept_seat made
 
       pub close_after : draft_of q (ks ++ ClosesSeat n ∷ []) ms spoiled ≡ with_staging (opened (draft_of p ks ms spoiled) (with_closed_seat (lists_of p) n)) (without_staged n (staged_of p))
-      close_after = stepped_after p q (ClosesSeat n) (with_closed_seat (lists_of p) n) (without_staged n (staged_of p)) ks ms keys spoiled is become close_undone
+      close_after = stepped_after p q (ClosesSeat n) (with_closed_seat (lists_of p) n) (without_staged n (staged_of p)) ks ms keys spoiled is become close_undone refl
 
       pub close_keeps : length (lists_of p).payments + (lists_of p).owed ≤ most_made → IsDraft q (ks ++ ClosesSeat n ∷ []) ms keys spoiled
       close_keeps few = stepped_keeps p q (ClosesSeat n) (with_closed_seat (lists_of p) n) (without_staged n (staged_of p)) ks ms keys spoiled is become close_undone
@@ -191,7 +197,7 @@ module _ (p q : Stores) (ks ls : List Step) (ms ns : List Movement) (keys : ℕ)
   slot_undone = ap (λ (l : Lists). all_back l (reverse ks) (reverse ms)) (unopened_slot (lists_of p) n may.made k a.brand a.value.kind)
 
   between_after : draft_of r (ks ++ OpensSlot n ∷ []) ms spoiled ≡ opened (draft_of p ks ms spoiled) wider
-  between_after = stepped_after p r (OpensSlot n) wider (staged_of p) ks ms keys spoiled is gave.slotted slot_undone
+  between_after = stepped_after p r (OpensSlot n) wider (staged_of p) ks ms keys spoiled is gave.slotted slot_undone refl
 
   between_keeps : IsDraft r (ks ++ OpensSlot n ∷ []) ms keys spoiled
   between_keeps = stepped_keeps p r (OpensSlot n) wider (staged_of p) ks ms keys spoiled is gave.slotted slot_undone
@@ -221,7 +227,15 @@ staged_keeps p ks ms keys spoiled staged l is new = subst (λ (v : SeatsView). I
   room = is.room;
   clear = is.clear;
   retired = is.retired;
-  valid = record { sound = is.valid.sound; agrees = is.valid.agrees; moves = is.valid.moves; was_sound = is.valid.was_sound };
+  valid = record {
+    sound = is.valid.sound;
+    agrees = is.valid.agrees;
+    moves = is.valid.moves;
+    was_sound = is.valid.was_sound;
+    brands = is.valid.brands;
+    given = is.valid.given;
+    clear = is.valid.clear;
+  };
 })
 
 pub same_keeps : (p : Stores) (ks : List Step) (ms : List Movement) (keys : ℕ) (spoiled : Bool) (l : SeatsView) → IsDraft p ks ms keys spoiled → l ≡ p.seats → IsDraft (record p { seats = l }) ks ms keys spoiled

@@ -1,7 +1,7 @@
 -- How a draft begins and ends, and what each step keeps.
-use Rattle.std.proofs.Common.{◌≡◌, ◌≢◌, ℕ, zero, suc, ◌+◌, ◌-◌, ◌<◌, ◌≤◌, ◌==◌, Bool, true, false, cond, List, [], ◌∷◌, ◌++◌, length, map, reverse, take, refl, sym, ◌∙◌, ap, subst, arith}
+use Rattle.std.proofs.Common.{◌≡◌, ◌≢◌, inl, inr, ℕ, zero, suc, ◌+◌, ◌-◌, ◌<◌, ◌≤◌, ◌==◌, Bool, true, false, cond, List, [], ◌∷◌, ◌++◌, length, map, reverse, take, refl, sym, ◌∙◌, ap, subst, arith}
 use Rattle.std.specs.Prelude.{slice_index_or, slice_set}
-use Rattle.std.proofs.lemmas.Bool.{eq-eqb}
+use Rattle.std.proofs.lemmas.Bool.{cases_eq, eq-eqb}
 use Rattle.std.proofs.lemmas.List.{length-reverse, reverse-append}
 use Rattle.amount_math.specs.Content.{Content, Contains, Contains-trans, count-difference, difference, nothing, sum, sum-difference}
 use Rattle.amount_math.specs.Held.{Held, HasRoom, keys_in, keys_of-sum, more_room, room_for_fewer, with_more}
@@ -13,7 +13,7 @@ use Rattle.amount_math.specs.declared.Kind.TheVariants.{Nat, Set, Bag}
 use Rattle.amount_math.proofs.Places.{keys_of-nothing}
 use Rattle.ertp_mint.specs.BrandSupply.{BrandSupply, issued, new_supply, retired, supply_at}
 use Rattle.ertp_mint.specs.Circulating.{CirculationView, circulation_at}
-use Rattle.list_edits.proofs.ListEdits.{keeps, length_map, length_set, map_set, read_map}
+use Rattle.list_edits.proofs.ListEdits.{keeps, length_map, length_set, read_map, read_other, read_set}
 use Rattle.right_steps.specs.declared.Step.{Step}
 use Rattle.right_steps.specs.declared.Step.TheVariants.{Moves, OpensPurse, AddsBrand, OpensSeat, OpensSlot, ClosesSeat}
 use Rattle.right_steps.specs.Backwards.{CanAllBack, CanBack, HandHas, Rooms, all_back, from_hand, in_hand, retired_by, to_outside}
@@ -31,10 +31,11 @@ use Rattle.rights_model.proofs.TableLaws.{CanMoveAll-push, table_after-push}
 use Rattle.transit.specs.Transit.{CanHold, TransitView, empty_hand, held_at, in_store, with_hand}
 use Rattle.vault_stores.specs.Memory.{IsForward, IsGiven, IsRoomed, IsTaken, content_in_store, given_up_in, kept_given, kept_of, lists_of, rooms_of, staged_of, store_of, supply_of}
 use Rattle.vault_stores.specs.Forgetting.{AreMade, IsForgetting, IsForgotten}
-use Rattle.vault_rights.specs.Drafts.{HandGoes, HandKeeps, IsClean, IsDraft, IsValid, IsVault, after, draft_of, given_up_too, table_now}
+use Rattle.vault_rights.specs.Drafts.{HandGoes, HandKeeps, IsClean, IsDraft, IsValid, IsVault, after, begun, by_number, draft_of, given_list, given_up_too, table_now}
 use Rattle.vault_rights.specs.Working.{IsWorking}
 use Rattle.vault_stores.specs.declared.stores.Stores.{Stores}
 use Rattle.vault_stores.proofs.Halves.{supply_read}
+use Rattle.vault_rights.proofs.GivenUp.{given_there, has_none, length_numbered, none_given, none_listed, numbered_set}
 
 -- ---- rooms by keys
 
@@ -80,6 +81,34 @@ same_store p q same b = sym (given_read q b) ∙ ap (λ (l : List Content). slic
 pub brands_there : (p : Stores) → length (lists_of p).out ≡ length p.transit.out
 brands_there p = length_map supply_of p.transit.out
 
+-- ---- brands stay
+
+long_taken : (s : Lists) (h : Holder) (b : ℕ) (w : Worth) → length (taken s h b w).out ≡ length s.out
+long_taken s (Purse n) b w = refl
+long_taken s (Payment n) b w = refl
+long_taken s (Slot v j) b w = refl
+long_taken s Hand b w = refl
+long_taken s Outside b w = length_set s.out b _
+
+long_given : (s : Lists) (h : Holder) (b : ℕ) (w : Worth) → length (given s h b w).out ≡ length s.out
+long_given s (Purse n) b w = refl
+long_given s (Payment n) b w = refl
+long_given s (Slot v j) b w = refl
+long_given s Hand b w = refl
+long_given s Outside b w = length_set s.out b _
+
+long_moved : (s : Lists) (m : Movement) → length (moved s m).out ≡ length s.out
+long_moved s m = long_given (taken s m.from m.brand m.value) m.to m.brand m.value ∙ long_taken s m.from m.brand m.value
+
+pub brands_alike : (p q : Stores) → length (lists_of q).out ≡ length (lists_of p).out → length q.transit.out ≡ length p.transit.out
+brands_alike p q same = omega (arith, same, brands_there p, brands_there q)
+
+pub same_given : (p q : Stores) → given_up_in q ≡ given_up_in p → length (lists_of q).out ≡ length (lists_of p).out → given_list q ≡ given_list p
+same_given p q same long = λ i. by_number (brands_alike p q long i) (λ b. same_store p q same b i)
+
+pub given_long : (p : Stores) → length (given_list p) ≡ length (lists_of p).out
+given_long p = length_numbered (length p.transit.out) (store_of p) ∙ sym (brands_there p)
+
 -- ---- beginning and end
 
 -- where nothing is kept of the brands that were made, nothing is of any
@@ -95,14 +124,30 @@ begins p ks ms is = subst (λ (l : List Step). IsDraft p l ms 0 false) (sym is.n
   room = λ b lt. room_for_none (kind_of (lists_of p) b) ((rooms_of p).hand b);
   clear = λ sound b lt. is.empty b lt;
   retired = none_kept p.transit.out is.kept;
-  valid = record { sound = is.sound; agrees = table_agrees (lists_of p); moves = tt; was_sound = is.sound };
+  valid = record {
+    sound = is.sound;
+    agrees = table_agrees (lists_of p);
+    moves = tt;
+    was_sound = is.sound;
+    brands = given_long p;
+    given = λ b. has_none nothing _ (none_given p is.empty b);
+    clear = λ sound b. none_given p is.empty b;
+  };
 }))
 
 pub kept_start : (p : Stores) (ks : List Step) (ms : List Movement) → IsVault p ks ms → all_back (lists_of p) (reverse ks) (reverse ms) ≡ lists_of p
 kept_start p ks ms is = ap (λ (l : List Step). all_back (lists_of p) (reverse l) (reverse ms)) is.no_steps
 
-pub clean_start : (p : Stores) (ks : List Step) (ms : List Movement) → IsVault p ks ms → IsClean (draft_of p ks ms false)
-clean_start p ks ms is = record { sound = refl; hand = λ b. ap (λ (l : List Movement). in_hand (reverse l) b) is.no_movements }
+-- the draft with which a turn begins
+pub begins_so : (p : Stores) (ks : List Step) (ms : List Movement) → IsVault p ks ms → draft_of p ks ms false ≡ begun (lists_of p)
+begins_so p ks ms is = λ i. record {
+  kept = kept_start p ks ms is i;
+  now = lists_of p;
+  staging = is.no_staging i;
+  movements = is.no_movements i;
+  given_up = (none_listed p is.empty ∙ ap (λ n. by_number n (λ b. nothing)) (sym (brands_there p))) i;
+  is_spoiled = false;
+}
 
 pub starts : (p : Stores) (ks : List Step) (ms : List Movement) (keys : ℕ) (spoiled : Bool) → IsDraft p ks ms keys spoiled → HandGoes (draft_of p ks ms spoiled)
     → IsWorking (rooms_of p) (all_back (lists_of p) (reverse ks) (reverse ms)) p (reverse ks) (reverse ms)
@@ -111,7 +156,7 @@ starts p ks ms keys spoiled is goes = record {
   can = is.can;
   rooms = record { purses = λ n lt. omega arith; slots = λ n k has. omega arith; capacity = omega arith; hand = λ b lt. omega arith };
   retired = λ b lt. is.retired b;
-  hand = λ b lt. sym (given_read p b) ∙ goes.each b (omega (arith, lt, brands_there p));
+  hand = λ b lt. sym (given_there p b lt) ∙ goes.each b (omega (arith, lt, brands_there p));
 }
 
 pub no_items : {X : Type 0} (xs : List X) → length xs ≡ 0 → xs ≡ []
@@ -202,7 +247,7 @@ committed_table p q r ks ms keys spoiled is gone lists clean =
 -- ---- room alone is made
 
 pub same_draft : (p q : Stores) (ks : List Step) (ms : List Movement) (spoiled : Bool) → IsRoomed p q → draft_of q ks ms spoiled ≡ draft_of p ks ms spoiled
-same_draft p q ks ms spoiled roomed = λ i. record { kept = all_back (roomed.lists i) (reverse ks) (reverse ms); now = roomed.lists i; staging = roomed.staging i; movements = ms; given_up = roomed.given_up i; is_spoiled = spoiled }
+same_draft p q ks ms spoiled roomed = λ i. record { kept = all_back (roomed.lists i) (reverse ks) (reverse ms); now = roomed.lists i; staging = roomed.staging i; movements = ms; given_up = same_given p q roomed.given_up (ap (λ (s : Lists). length s.out) roomed.lists) i; is_spoiled = spoiled }
 
 pub room_stays : (p q : Stores) (ks : List Step) (ms : List Movement) (keys : ℕ) (spoiled : Bool) → IsDraft p ks ms keys spoiled → IsRoomed p q → IsDraft q ks ms keys spoiled
 room_stays p q ks ms keys spoiled is roomed = record {
@@ -237,7 +282,7 @@ module _ (p q : Stores) (ks : List Step) (ms : List Movement) (m : Movement) (ke
   table_then = ap (λ (s : Lists). table_after (table_of s) (ms ++ m ∷ [])) kept_after ∙ table_after-push (table_of (all_back (lists_of p) (reverse ks) (reverse ms))) ms m
 
   pub draft_after : draft_of q (ks ++ Moves ∷ []) (ms ++ m ∷ []) false ≡ after (draft_of p ks ms false) m
-  draft_after = λ i. record { kept = kept_after i; now = step.lists i; staging = step.staging i; movements = ms ++ m ∷ []; given_up = step.given_up i; is_spoiled = false }
+  draft_after = λ i. record { kept = kept_after i; now = step.lists i; staging = step.staging i; movements = ms ++ m ∷ []; given_up = same_given p q step.given_up (ap (λ (s : Lists). length s.out) step.lists ∙ long_moved (lists_of p) m) i; is_spoiled = false }
 
   pub pushed : CanBack (rooms_of q) (lists_of q) m (reverse ms)
       → ((b : ℕ) → keys_in (kind_of (lists_of q) b) (in_hand (m ∷ reverse ms) b) ≤ more)
@@ -254,7 +299,7 @@ module _ (p q : Stores) (ks : List Step) (ms : List Movement) (m : Movement) (ke
         (can, subst (λ (s : Lists). CanAllBack (rooms_of q) s (reverse ks) (reverse ms)) (sym back_there) (all_grows (rooms_of p) (rooms_of q) step.rooms (lists_of p) (reverse ks) (reverse ms) is.can)));
     bounded = λ b. subst (λ (l : List Movement). keys_in (kind_of (lists_of q) b) (in_hand l b) ≤ more) (sym (last_first ms m)) (bounded b);
     room = λ b lt. subst (λ (l : List Movement). HasRoom (kind_of (lists_of q) b) (keys_of (in_hand l b)) ((rooms_of q).hand b)) (sym (last_first ms m)) (room b lt);
-    clear = λ sound b lt. same_store p q step.given_up b ∙ is.clear sound b (omega (arith, lt, brands));
+    clear = λ sound. none;
     retired = λ b. step.kept b ∙ retires b ∙ ap (λ (l : List Movement). retired_by l b) (sym (last_first ms m));
     valid = record {
       sound = subst (λ (l : List Movement). IsSound (lists_of q) (in_hand l)) (sym (last_first ms m)) sound;
@@ -262,10 +307,16 @@ module _ (p q : Stores) (ks : List Step) (ms : List Movement) (m : Movement) (ke
           (subst (λ (t : Table). Agrees (lists_of q) (in_hand (m ∷ reverse ms)) t) (sym table_then) agrees);
       moves = subst (λ (s : Lists). CanMoveAll (table_of s) (ms ++ m ∷ [])) (sym kept_after) (CanMoveAll-push (table_of (all_back (lists_of p) (reverse ks) (reverse ms))) ms m is.valid.moves moves);
       was_sound = subst (λ (s : Lists). IsSound s no_hand) (sym kept_after) is.valid.was_sound;
+      brands = given_long q;
+      given = λ b. has_none _ _ (none_given q none b);
+      clear = λ sound b. none_given q none b;
     };
   }
+    where
+      none : (b : ℕ) → b < length q.transit.out → store_of q b ≡ nothing
+      none b lt = same_store p q step.given_up b ∙ is.clear refl b (omega (arith, lt, brands))
 
--- ---- kinds and brands stay
+-- ---- kinds stay
 
 kind_taken : (s : Lists) (h : Holder) (b : ℕ) (w : Worth) (e : ℕ) → kind_of (taken s h b w) e ≡ kind_of s e
 kind_taken s (Purse n) b w e = refl
@@ -280,20 +331,6 @@ kind_given s (Payment n) b w e = refl
 kind_given s (Slot v j) b w e = refl
 kind_given s Hand b w e = refl
 kind_given s Outside b w e = keeps (λ (x : BrandSupply). x.outstanding.kind) s.out b (retired (supply_at s.out b) w.content) (new_supply Nat) refl e
-
-long_taken : (s : Lists) (h : Holder) (b : ℕ) (w : Worth) → length (taken s h b w).out ≡ length s.out
-long_taken s (Purse n) b w = refl
-long_taken s (Payment n) b w = refl
-long_taken s (Slot v j) b w = refl
-long_taken s Hand b w = refl
-long_taken s Outside b w = length_set s.out b _
-
-long_given : (s : Lists) (h : Holder) (b : ℕ) (w : Worth) → length (given s h b w).out ≡ length s.out
-long_given s (Purse n) b w = refl
-long_given s (Payment n) b w = refl
-long_given s (Slot v j) b w = refl
-long_given s Hand b w = refl
-long_given s Outside b w = length_set s.out b _
 
 -- ---- what is kept
 
@@ -465,7 +502,7 @@ module _ (p : Stores) (ks : List Step) (ms : List Movement) (keys : ℕ) (spoile
 
   -- with what was given up it is in the hand
   among : Contains (in_hand (reverse ms) a.brand) (sum (store_of p a.brand) a.value.content)
-  among = subst (λ x. Contains (in_hand (reverse ms) a.brand) (sum x a.value.content)) (given_read p a.brand) keep.has
+  among = subst (λ x. Contains (in_hand (reverse ms) a.brand) (sum x a.value.content)) (given_there p a.brand there) keep.has
 
   pub can_hold : CanHold p.transit a
   can_hold = record {
@@ -479,7 +516,7 @@ module _ (p : Stores) (ks : List Step) (ms : List Movement) (keys : ℕ) (spoile
         (room_for_fewer (kind_of (lists_of p) a.brand) (keys_of (sum (store_of p a.brand) a.value.content)) (keys_of (in_hand (reverse ms) a.brand)) ((rooms_of p).hand a.brand) (keys_within (in_hand (reverse ms) a.brand) (sum (store_of p a.brand) a.value.content) among) (is.room a.brand there));
   }
 
-  module _ (t : TransitView) (held : t ≡ with_hand p.transit a.brand (with_more (held_at p.transit.hand a.brand) a.value.content)) where
+  module _ (t : TransitView) (held : t ≡ with_hand p.transit a.brand (with_more (held_at p.transit.hand a.brand) a.value.content)) (inside : a.brand < length p.transit.hand) where
     abbrev q : Stores
     q = record p { transit = t }
 
@@ -492,10 +529,34 @@ module _ (p : Stores) (ks : List Step) (ms : List Movement) (keys : ℕ) (spoile
     out_same : t.out ≡ p.transit.out
     out_same = ap (λ (u : TransitView). u.out) held
 
+    abbrev more : Content
+    more = sum (slice_index_or (given_list p) a.brand nothing) a.value.content
+
+    store_more : store_of q a.brand ≡ more
+    store_more =
+        ap (λ (u : TransitView). in_store u a.brand) held
+        ∙ ap (λ (x : Held). x.value.content) (read_set p.transit.hand a.brand (with_more (held_at p.transit.hand a.brand) a.value.content) (empty_hand Nat) inside)
+        ∙ ap (λ x. sum x a.value.content) (sym (given_there p a.brand there))
+
+    store_other : (e : ℕ) → a.brand ≢ e → store_of q e ≡ store_of p e
+    store_other e apart =
+        ap (λ (u : TransitView). in_store u e) held
+        ∙ ap (λ (x : Held). x.value.content) (read_other p.transit.hand a.brand e (with_more (held_at p.transit.hand a.brand) a.value.content) (empty_hand Nat) apart)
+
+    listed_more : given_list q ≡ slice_set (given_list p) a.brand more
+    listed_more =
+        ap (λ n. by_number n (store_of q)) (ap length out_same)
+        ∙ sym (numbered_set (length p.transit.out) (store_of p) (store_of q) a.brand more there store_more store_other)
+
     pub up_after : draft_of q ks ms true ≡ given_up_too (draft_of p ks ms spoiled) a
-    up_after = (λ i. record { kept = all_back (lists_same i) (reverse ks) (reverse ms); now = lists_same i; staging = staged_of p; movements = ms; given_up = map content_in_store (held i).hand; is_spoiled = true })
-        ∙ ap (λ l. record { kept = all_back (lists_of p) (reverse ks) (reverse ms); now = lists_of p; staging = staged_of p; movements = ms; given_up = l; is_spoiled = true })
-        (map_set content_in_store p.transit.hand a.brand (with_more (held_at p.transit.hand a.brand) a.value.content) ∙ ap (λ x. slice_set (given_up_in p) a.brand (sum x a.value.content)) (sym (given_read p a.brand)))
+    up_after = λ i. record { kept = all_back (lists_same i) (reverse ks) (reverse ms); now = lists_same i; staging = staged_of p; movements = ms; given_up = listed_more i; is_spoiled = true }
+
+    given_inside : (b : ℕ) → Contains (in_hand (reverse ms) b) (slice_index_or (given_list q) b nothing)
+    given_inside b = subst (λ l. Contains (in_hand (reverse ms) b) (slice_index_or l b nothing)) (sym listed_more) (elim (cases_eq a.brand b) [
+      | inl at ↦ subst (λ e. Contains (in_hand (reverse ms) e) (slice_index_or (slice_set (given_list p) a.brand more) e nothing)) at
+          (subst (λ x. Contains (in_hand (reverse ms) a.brand) x) (sym (read_set (given_list p) a.brand more nothing (omega (arith, there, length_numbered (length p.transit.out) (store_of p))))) keep.has)
+      | inr apart ↦ subst (λ x. Contains (in_hand (reverse ms) b) x) (sym (read_other (given_list p) a.brand b more nothing apart)) (is.valid.given b)
+    ])
 
     pub up_keeps : IsDraft q ks ms keys true
     up_keeps = record {
@@ -510,8 +571,16 @@ module _ (p : Stores) (ks : List Step) (ms : List Movement) (keys : ℕ) (spoile
           (subst (λ r. HasRoom (kind_of (lists_of p) b) (keys_of (in_hand (reverse ms) b)) r) (sym (hand_rooms b)) (is.room b (omega (arith, lt, ap length out_same))));
       clear = λ sound. absurd (sound_not sound);
       retired = λ b. ap (λ l. (circulation_at l b).kept) out_same ∙ is.retired b;
-      valid = subst (λ (s : Lists). IsValid (record { kept = all_back s (reverse ks) (reverse ms); now = s; staging = staged_of p; movements = ms; given_up = given_up_in q; is_spoiled = true })) (sym lists_same)
-          (record { sound = is.valid.sound; agrees = is.valid.agrees; moves = is.valid.moves; was_sound = is.valid.was_sound });
+      valid = subst (λ (s : Lists). IsValid (record { kept = all_back s (reverse ks) (reverse ms); now = s; staging = staged_of p; movements = ms; given_up = given_list q; is_spoiled = true })) (sym lists_same)
+          (record {
+            sound = is.valid.sound;
+            agrees = is.valid.agrees;
+            moves = is.valid.moves;
+            was_sound = is.valid.was_sound;
+            brands = given_long q ∙ ap (λ (s : Lists). length s.out) lists_same;
+            given = given_inside;
+            clear = λ sound. absurd (sound_not sound);
+          });
     }
       where
         sound_not : true ≢ false

@@ -1,5 +1,5 @@
 -- A draft: the lists as they are, the movements so far, and what was given up. What is kept is told by the lists worked backwards.
-use Rattle.std.specs.Prelude.{◌≡◌, ℕ, ◌+◌, ◌<◌, ◌≤◌, List, [], ◌∷◌, ◌++◌, Bool, true, false, IsNone, if◌then◌else◌, is_some, length, slice_index_or, slice_set, refl}
+use Rattle.std.specs.Prelude.{◌≡◌, ℕ, zero, suc, ◌+◌, ◌<◌, ◌≤◌, List, [], ◌∷◌, ◌++◌, Bool, true, false, IsNone, if◌then◌else◌, is_some, length, slice_index_or, slice_set, refl}
 use Rattle.std.proofs.Common.{reverse}
 use Rattle.std.specs.Coded.{Coded, code_by, coded×, coded_bool, coded_list}
 use Rattle.amount_math.specs.Amount.{Meet}
@@ -22,7 +22,7 @@ use Rattle.right_steps.specs.Seats.{HasRow, IsOpenSeat, kept_seat_at}
 use Rattle.right_steps.specs.Tables.{Agrees, IsSound, no_hand, table_of}
 use Rattle.seat_store.specs.Staging.{coded_staging}
 use Rattle.vault_stores.specs.Asked.{IsTarget}
-use Rattle.vault_stores.specs.Memory.{given_up_in, kept_of, lists_of, rooms_of, staged_of, store_of}
+use Rattle.vault_stores.specs.Memory.{kept_of, lists_of, rooms_of, staged_of, store_of}
 use Rattle.vault_stores.specs.declared.stores.Stores.{Stores}
 
 -- what was kept at its beginning, what is now, what is staged of seats, the movements between, and what the hand's own store has of each brand
@@ -40,8 +40,21 @@ coded_draft =
     code_by (Lists × (Lists × (List (ℕ × List Row) × (List Movement × (List Content × Bool))))) (coded× coded_lists (coded× coded_lists (coded× coded_staging (coded× (coded_list coded_movement) (coded× (coded_list coded_content) coded_bool)))))
     (λ d. (d.kept, (d.now, (d.staging, (d.movements, (d.given_up, d.is_spoiled)))))) (λ p. record { kept = p.0; now = p.1.0; staging = p.1.1.0; movements = p.1.1.1.0; given_up = p.1.1.1.1.0; is_spoiled = p.1.1.1.1.1 }) (λ _. refl)
 
+-- what is told of each of so many brands, listed by number
+abbrev pub by_number : ℕ → (ℕ → Content) → List Content
+by_number zero of_brand = []
+by_number (suc n) of_brand = of_brand 0 ∷ by_number n (λ b. of_brand (suc b))
+
+-- what was given up of each brand that was made: what the hand's own store has
+abbrev pub given_list : Stores → List Content
+given_list p = by_number (length p.transit.out) (store_of p)
+
 abbrev pub draft_of : Stores → List Step → List Movement → Bool → DraftState
-draft_of p ks ms spoiled = record { kept = all_back (lists_of p) (reverse ks) (reverse ms); now = lists_of p; staging = staged_of p; movements = ms; given_up = given_up_in p; is_spoiled = spoiled }
+draft_of p ks ms spoiled = record { kept = all_back (lists_of p) (reverse ks) (reverse ms); now = lists_of p; staging = staged_of p; movements = ms; given_up = given_list p; is_spoiled = spoiled }
+
+-- the draft with which a turn begins: nothing has moved, and nothing was given up
+abbrev pub begun : Lists → DraftState
+begun s = record { kept = s; now = s; staging = []; movements = []; given_up = by_number (length s.out) (λ b. nothing); is_spoiled = false }
 
 -- what was given up of a brand
 abbrev pub given_at : DraftState → ℕ → Content
@@ -73,12 +86,15 @@ given_up_too d a = record d { given_up = slice_set d.given_up a.brand (sum (give
 
 -- ---- what a caller may know of a draft
 
--- all that is held was and is what is out, and its table follows the movements
+-- all that is held was and is what is out, its table follows the movements, and what was given up is in the hand: nothing, of an unspoiled draft
 pub record IsValid (d : DraftState) : Type 0 where
   pub sound : IsSound d.now (hand_now d)
   pub agrees : Agrees d.now (hand_now d) (table_now d)
   pub moves : CanMoveAll (table_of d.kept) d.movements
   pub was_sound : IsSound d.kept no_hand
+  pub brands : length d.given_up ≡ length d.now.out
+  pub given : (b : ℕ) → Contains (hand_now d b) (given_at d b)
+  pub clear : d.is_spoiled ≡ false → (b : ℕ) → given_at d b ≡ nothing
 
 -- ---- what the calls ask for
 

@@ -15,7 +15,7 @@ ghost use Rattle.right_steps.specs.Lists.{Lists, amount_of, kind_of, no_lists, w
 ghost use Rattle.right_steps.specs.Seats.{IsOpenSeat, kept_seat_at};
 ghost use Rattle.right_steps.specs.Tables.{table_of};
 ghost use Rattle.rights_model.specs.Table.{movement};
-ghost use Rattle.vault_rights.specs.Drafts.{HandGoes, HandKeeps, IsClean, IsOfBrand, IsValid, MayPut, MayPutInSlot, after, given_up_too, opened, slotted, table_now, with_brand, with_staging};
+ghost use Rattle.vault_rights.specs.Drafts.{HandGoes, HandKeeps, IsClean, IsOfBrand, IsValid, MayPut, MayPutInSlot, after, begun, given_up_too, opened, slotted, table_now, with_brand, with_staging};
 ghost use Rattle.vault_rights.specs.Working.{IsWorking};
 ghost use Rattle.vault_stores.specs.Asked.{IsPutFault, IsSeatTooMany, IsSource, IsTarget, MayOpenSlot, TakesIn, brand_of, held_by};
 ghost use Rattle.vault_stores.specs.Forgetting.{IsForgetting, IsForgotten};
@@ -36,8 +36,8 @@ use std::marker::Model;
 use transit::Transit;
 use vault_stores::stores::Stores;
 
-/// What all parties and seats have, between turns. Contracts see its lists: purses, payments, and what is
-/// out of each brand.
+/// What all parties and seats have, between turns. Contracts see its lists: purses, payments, seats with
+/// their slots, how many payments are owed to open seats, and what is out of each brand.
 #[derive(Drop)]
 pub struct Vault {
     stores: Stores,
@@ -93,13 +93,11 @@ impl Vault {
         }
     }
 
-    /// Starts a turn, which takes no memory.
+    /// Starts a turn, which takes no memory: nothing has moved yet, and nothing was given up.
     pub fn begin(self) -> Draft
-        ensures kept { result.kept ≡ self }
-        ensures now { result.now ≡ self }
-        ensures movements { result.movements ≡ [] }
-        ensures staging { result.staging ≡ [] }
+        ensures begun { result ≡ begun self }
         ensures clean { IsClean result }
+        ensures goes { HandGoes result }
     {
         let Vault {
             stores,
@@ -258,7 +256,8 @@ impl Draft {
         let _ = &self.stores;
     }
 
-    /// Takes a part of a purse, or a payment whole, in the hand: `NotEnough` exactly where a purse has less.
+    /// Takes a part of a purse or of a slot, or a payment whole, in the hand: `NotEnough` exactly where the purse
+    /// or the slot has less.
     /// The holder's brand was made, and its values are of the part's kind. On an error all is as before.
     pub fn take(&mut self, from: &Holder, part: &Value) -> Result<Parcel, TakeFault>
         requires sound { self.old.is_spoiled ≡ false }
@@ -282,7 +281,7 @@ impl Draft {
         }
     }
 
-    /// Takes a value that is there of a purse, or a payment whole. On an error all is as before.
+    /// Takes a value that is there of a purse or of a slot, or a payment whole. On an error all is as before.
     fn take_value(&mut self, from: &Holder, value: Value) -> Result<Parcel, AllocError>
         requires sound { self.old.is_spoiled ≡ false }
         requires source { IsSource self.old.now from.now value }
@@ -487,8 +486,8 @@ impl Draft {
     }
 
     /// Opens a seat of an instance for a proposal, with a slot for each of its rows and nothing in them, and
-    /// answers its number, or hands the proposal back: `Limit` exactly where there may be no more seats, or
-    /// not that many payments (Zoe's escrow seat). On an error all is as before.
+    /// answers its number, or hands the proposal back: `Limit` only where there may be no more seats, or not
+    /// that many payments (Zoe's escrow seat). On an error all is as before.
     pub fn open_seat(
         &mut self,
         instance: u32,

@@ -1,14 +1,16 @@
-use Rattle.std.proofs.Common.{◌∙◌, ap, List, [], ◌∷◌, ◌++◌}
+use Rattle.std.proofs.Common.{◌≡◌, ◌∙◌, ap, List, [], ◌∷◌, ◌++◌}
 use Rattle.right_steps.specs.declared.Step.{Step}
 use Rattle.right_steps.specs.declared.Step.TheVariants.{Moves}
 use Rattle.rights_model.specs.declared.Holder.TheVariants.{Hand}
 use Rattle.rights_model.specs.declared.Movement.{Movement}
 use Rattle.rights_model.specs.Table.{movement}
 use Rattle.vault_stores.specs.Memory.{lists_of}
+use Rattle.vault_rights.specs.Drafts.{draft_of}
 use Rattle.vault_rights.proofs.Made.{put_after_so, put_keeps_so}
-use Rattle.vault_rights.proofs.Steps.{room_stays}
+use Rattle.vault_rights.proofs.Steps.{room_stays, same_draft}
 use Rattle.vault_rights.proofs.Taking.{can_give}
 use Rattle.vault_rights.proofs.draft.Draft.put_there.Goals as goal
+use Rattle.vault_rights.proofs.draft.Draft.put_there.Goals.{in-Set+in-Some-1, in-Set+in-None-1, in-Bag+in-Some-1, in-Bag+in-None-1, in-Nat-1}
 
 pub invariant_of-self-in-Ok-give_to : goal.invariant_of-self-in-Ok-give_to
 invariant_of-self-in-Ok-give_to c =
@@ -48,3 +50,14 @@ returns-in-Ok-give_to-clause-ok c =
     (c.push_reserved.ensures.items ∙ ap (λ (l : List Movement). l ++ c.in-Ok.movement ∷ []) c.in-Ok.ensures.movements)
     (c.in-Ok.ensures.movement ∙ (λ i. movement (c.brand.ensures i) Hand c.args.to.now (c.value.ensures i)))
     can)
+
+pub returns-in-Err-clause-err : goal.returns-in-Err-clause-err
+returns-in-Err-clause-err c =
+    let same : draft_of c.give_to.new.self c.note_put.new.steps.items c.note_put.new.movements.items c.self.inside.is_spoiled ≡ draft_of c.self.inside.stores c.self.inside.steps.items c.self.inside.movements.items c.self.inside.is_spoiled = (λ i. draft_of c.give_to.new.self (c.in-Ok.ensures.steps i) (c.in-Ok.ensures.movements i) c.self.inside.is_spoiled) ∙ same_draft c.self.inside.stores c.give_to.new.self c.self.inside.steps.items c.self.inside.movements.items c.self.inside.is_spoiled c.in-Err.ensures.err in
+    rw (← c.self.view_is) (elim c.match-movement-3.branch [
+      | in-Set+in-Some-1 w ↦ w.self-is ∙ same
+      | in-Set+in-None-1 w ↦ w.self-is ∙ same
+      | in-Bag+in-Some-1 w ↦ w.self-is ∙ same
+      | in-Bag+in-None-1 w ↦ w.self-is ∙ same
+      | in-Nat-1 w ↦ w.self-is ∙ same
+    ])

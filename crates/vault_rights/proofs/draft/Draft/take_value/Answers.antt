@@ -5,8 +5,9 @@ use Rattle.rights_model.specs.declared.Movement.{Movement}
 use Rattle.vault_stores.specs.Memory.{IsTaken, lists_of}
 use Rattle.right_steps.specs.Lists.{Lists}
 use Rattle.vault_stores.specs.Asked.{brand_of}
+use Rattle.vault_rights.specs.Drafts.{draft_of}
 use Rattle.vault_rights.proofs.Made.{taken_after_so, taken_keeps_so}
-use Rattle.vault_rights.proofs.Steps.{room_stays}
+use Rattle.vault_rights.proofs.Steps.{room_stays, same_draft}
 use Rattle.vault_rights.proofs.Taking.{can_take}
 use Rattle.vault_rights.proofs.draft.Draft.take_value.Goals as goal
 
@@ -41,3 +42,6 @@ returns-clause-ok c =
     (c.push_reserved-2.ensures.items ∙ ap (λ (l : List Step). l ++ Moves ∷ []) c.in-Ok.ensures.steps)
     (c.push_reserved.ensures.items ∙ ap (λ (l : List Movement). l ++ c.in-Ok.noted.movement ∷ []) c.in-Ok.ensures.movements)
     c.in-Ok.ensures.movement)
+
+pub returns-in_default-clause-err : goal.returns-in_default-clause-err
+returns-in_default-clause-err c = rw (← c.self.view_is) ((λ i. draft_of c.note_take.new.stores (c.in_default.ensures.steps i) (c.in_default.ensures.movements i) c.self.inside.is_spoiled) ∙ same_draft c.self.inside.stores c.note_take.new.stores c.self.inside.steps.items c.self.inside.movements.items c.self.inside.is_spoiled c.in_default.ensures.roomed)
