@@ -1,6 +1,5 @@
 -- A transfer: a part of one holder that goes to another by way of the hand, and is one movement of the table.
-use Rattle.std.specs.Prelude.{◌≡◌, ℕ, ◌⊎◌}
-use Rattle.amount_math.specs.Content.{Contains}
+use Rattle.std.specs.Prelude.{◌≡◌}
 use Rattle.amount_math.specs.Worth.{IsTakeRefusal, Worth}
 use Rattle.amount_math.specs.declared.Amount.{Amount}
 use Rattle.rights_model.specs.declared.Holder.{Holder}
@@ -8,7 +7,7 @@ use Rattle.rights_model.specs.declared.Holder.TheVariants.{Hand}
 use Rattle.rights_model.specs.declared.Movement.{Movement}
 use Rattle.rights_model.specs.Table.{movement}
 use Rattle.right_steps.specs.Lists.{amount_of}
-use Rattle.vault_rights.specs.Drafts.{DraftState, after, given_at, given_up_too, hand_now, opened, slotted}
+use Rattle.vault_rights.specs.Drafts.{DraftState, after, given_up_too, opened, slotted}
 use Rattle.vault_stores.specs.Asked.{IsPutFault, brand_of, held_by}
 use Rattle.vault_transfers.specs.declared.TransferFault.{TransferFault}
 use Rattle.vault_transfers.specs.declared.TransferFault.TheVariants.{Take, Put}
@@ -29,13 +28,10 @@ transferred d from to w = after (opened (with_part_taken d from w) (slotted (wit
 abbrev pub transfer_of : DraftState → Holder → Holder → Worth → Movement
 transfer_of d from to w = movement (brand_of d.now from) from to w
 
--- what was given up is in the hand, which it always is
-pub record HandHoldsGiven (d : DraftState) : Type 0 where
-  pub each : (b : ℕ) → Contains (hand_now d b) (given_at d b)
-
--- where nothing is transferred, nothing changed, or the part was taken and then given up
-abbrev pub IsLeftOver : DraftState → DraftState → Holder → Worth → Type 0
-IsLeftOver old new from w = (new ≡ old) ⊎ (new ≡ given_up_too (with_part_taken old from w) (part_of old from w))
+-- what a refused transfer leaves: where the part isn't taken, the draft as it was; where it isn't put, what was taken is given up
+abbrev pub IsLeftOver : DraftState → DraftState → Holder → Worth → TransferFault → Type 0
+IsLeftOver old new from w (Take fault) = new ≡ old
+IsLeftOver old new from w (Put fault) = new ≡ given_up_too (with_part_taken old from w) (part_of old from w)
 
 -- why nothing is transferred: the part isn't taken, or it isn't put
 abbrev pub IsTransferRefusal : DraftState → Holder → Holder → Worth → TransferFault → Type 0

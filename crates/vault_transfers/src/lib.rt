@@ -1,13 +1,14 @@
 //! Transfers in a turn's draft, by way of the hand. It stands on the draft. Its one contract: a transfer is
-//! one movement of the draft's table, from the one holder to the other; where it is refused, nothing
-//! changed, or what was taken for it was given up, so that the draft can only be undone.
+//! one movement of the draft's table, from the one holder to the other, and leaves the hand as it was;
+//! where it is refused, nothing changed, or what was taken for it was given up, so that the draft can only
+//! be undone.
 #![tactic(auto)]
 
-ghost use Rattle.std.specs.Prelude.{◌≡◌, false, IfErr, OnErr, OnOk};
+ghost use Rattle.std.specs.Prelude.{◌≡◌, ℕ, false, IfErr, OnOk};
 ghost use Rattle.rights_model.specs.Table.{moved};
-ghost use Rattle.vault_rights.specs.Drafts.{IsOfBrand, MayPut, table_now};
+ghost use Rattle.vault_rights.specs.Drafts.{HandGoes, IsOfBrand, MayPut, hand_now, table_now};
 ghost use Rattle.vault_stores.specs.Asked.{IsSource, brand_of};
-ghost use Rattle.vault_transfers.specs.Transfers.{HandHoldsGiven, IsLeftOver, IsTransferRefusal, part_of, transfer_of, transferred, with_part_taken};
+ghost use Rattle.vault_transfers.specs.Transfers.{IsLeftOver, IsTransferRefusal, part_of, transfer_of, transferred, with_part_taken};
 
 use amount_math::{PutFault, TakeFault, Value};
 use rights_model::Holder;
@@ -23,7 +24,8 @@ pub enum TransferFault {
 }
 
 /// Transfers a part of a purse or a slot, or a payment whole, to a purse, to a slot of an open seat, where a
-/// further one is opened if there is none, or to the next payment.
+/// further one is opened if there is none, or to the next payment. A draft that could be undone before can
+/// be undone after it, whatever it answers; the hand is as it was where it answers no fault.
 pub fn transfer(
     draft: &mut Draft,
     from: &Holder,
@@ -34,12 +36,15 @@ pub fn transfer(
     requires source { IsSource draft.old.now from.now part.now }
     requires brand { IsOfBrand draft.old.now (brand_of draft.old.now from.now) part.now }
     requires target { MayPut (with_part_taken draft.old from.now part.now).now to.now (part_of draft.old from.now part.now) }
-    requires hand { HandHoldsGiven draft.old }
     ensures ok { OnOk result (draft.new ≡ transferred draft.old from.now to.now part.now) }
     ensures table { OnOk result (table_now draft.new ≡ moved (table_now draft.old) (transfer_of draft.old from.now to.now part.now)) }
-    ensures err { OnErr result (IsLeftOver draft.old draft.new from.now part.now) }
+    ensures hand { OnOk result ((b : ℕ) → hand_now draft.new b ≡ hand_now draft.old b) }
+    ensures kept { draft.new.kept ≡ draft.old.kept }
+    ensures goes { HandGoes draft.old → HandGoes draft.new }
+    ensures err { IfErr result (IsLeftOver draft.old draft.new from.now part.now) }
     ensures refused { IfErr result (IsTransferRefusal draft.old from.now to.now part.now) }
 {
+    draft.valid();
     match draft.take(from, part) {
         Ok(parcel) => match draft.put(to, parcel) {
             Ok(()) => Ok(()),
