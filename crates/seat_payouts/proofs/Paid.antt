@@ -1,26 +1,22 @@
 -- That the slots of a closed seat can all be paid out, each in its turn, and what the payouts are together.
-use Rattle.std.proofs.Common.{◌≡◌, ◌≢◌, ℕ, ◌+◌, ◌-◌, ◌<◌, ◌≤◌, ◌==◌, inl, Bool, true, false, cond, List, [], ◌∷◌, ◌++◌, length, Some, None, refl, sym, ◌∙◌, ap, subst, arith}
+use Rattle.std.proofs.Common.{◌≡◌, ◌≢◌, ℕ, ◌+◌, ◌-◌, ◌<◌, ◌≤◌, Bool, true, false, cond, List, [], ◌∷◌, ◌++◌, length, Some, None, refl, sym, ◌∙◌, ap, subst, arith}
 use Rattle.std.specs.Prelude.{is_some, unwrap_or}
 use Rattle.std.specs.Str.{bytes_eq}
 use Rattle.std.proofs.lemmas.Slice.Eq.{bytes_eq-Decides}
-use Rattle.std.proofs.lemmas.List.{reverse-append}
-use Rattle.amount_math.specs.Content.{Contains, difference, difference-sum, sum}
+use Rattle.amount_math.specs.Content.{Contains}
 use Rattle.amount_math.specs.declared.Amount.{Amount}
 use Rattle.ertp_mint.specs.Stocks.{most_made, no_amount}
 use Rattle.list_edits.proofs.ListEdits.{length_push, length_set, read_set}
 use Rattle.proposals.specs.Rows.{AreApart, AreRows, amount_under}
 use Rattle.proposals.specs.declared.allocations.Row.{Row}
-use Rattle.right_steps.specs.Backwards.{in_hand}
 use Rattle.payments.specs.Papers.{Paper, live_paper}
 use Rattle.right_steps.specs.Lists.{amount_of, less, slot_of}
 use Rattle.right_steps.specs.Seats.{HasRow, HasSlotOf, KeptSeat, kept_seat_at, no_kept_seat, with_amount, with_slots}
 use Rattle.right_steps.proofs.SlotRows.{slot_elsewhere, still_there}
-use Rattle.rights_model.specs.declared.Holder.TheVariants.{Hand, Slot}
-use Rattle.rights_model.specs.declared.Movement.{Movement}
-use Rattle.rights_model.specs.Table.{Table, movement, table_after}
-use Rattle.seat_payouts.specs.Payouts.{AreOfBrands, CanPay, CanPayAll, IsCutOff, closed, next_payment, paid, paid_all, payout_movements, slots_of_seat}
-use Rattle.vault_rights.specs.Drafts.{DraftState, IsOfBrand, given_at, hand_now, table_now}
-use Rattle.vault_transfers.specs.Transfers.{HandHoldsGiven}
+use Rattle.rights_model.specs.declared.Holder.TheVariants.{Slot}
+use Rattle.rights_model.specs.Table.{Table, table_after}
+use Rattle.seat_payouts.specs.Payouts.{AreOfBrands, CanPay, CanPayAll, closed, next_payment, paid, paid_all, payout_movements, slots_of_seat}
+use Rattle.vault_rights.specs.Drafts.{DraftState, IsOfBrand, table_now}
 use Rattle.vault_transfers.proofs.ByTheHand.{transferred_table}
 
 -- ---- the table
@@ -28,11 +24,6 @@ use Rattle.vault_transfers.proofs.ByTheHand.{transferred_table}
 pub paid_table : (d : DraftState) (n : ℕ) (rs : List Row) → table_now (paid_all d n rs) ≡ table_after (table_now d) (payout_movements d n rs)
 paid_table d n [] = refl
 paid_table d n (r ∷ rs) = paid_table (paid d n r) n rs ∙ ap (λ (t : Table). table_after t (payout_movements (paid d n r) n rs)) (transferred_table d (Slot n r.keyword) (next_payment d) r.amount.value)
-
--- where paying stopped
-pub cut_here : (d : DraftState) (n : ℕ) (rs : List Row) → IsCutOff d d n rs
-cut_here d n [] = refl
-cut_here d n (r ∷ rs) = inl (inl refl)
 
 -- ---- that they can be paid
 
@@ -79,43 +70,20 @@ module _ (d : DraftState) (n : ℕ) (r : Row) (first : IsSlotWith d n r) where
   all_still [] none with = tt
   all_still (z ∷ zs) none with = (still_with z (not_under r.keyword z zs none) with.0, all_still zs (later_under r.keyword z zs none) with.1)
 
-  -- the hand is as it was
-  hand_still : (b : ℕ) → hand_now (paid d n r) b ≡ hand_now d b
-  hand_still b =
-      ap (λ (l : List Movement). in_hand l b) (reverse-append (d.movements ++ taking ∷ []) (putting ∷ []) ∙ ap (λ (l : List Movement). putting ∷ l) (reverse-append d.movements (taking ∷ [])))
-      ∙ there (c == b)
-    where
-      c : ℕ
-      c = (slot_of d.now n r.keyword).brand
-
-      taking : Movement
-      taking = movement c (Slot n r.keyword) Hand r.amount.value
-
-      putting : Movement
-      putting = movement c Hand (next_payment d) r.amount.value
-
-      there : (t : Bool) → cond t (difference (cond t (sum (hand_now d b) r.amount.value.content) (hand_now d b)) r.amount.value.content) (cond t (sum (hand_now d b) r.amount.value.content) (hand_now d b)) ≡ hand_now d b
-      there true = difference-sum (hand_now d b) r.amount.value.content
-      there false = refl
-
-  holds_still : HandHoldsGiven d → HandHoldsGiven (paid d n r)
-  holds_still hand = record { each = λ b. subst (λ c. Contains c (given_at d b)) (sym (hand_still b)) (hand.each b) }
-
-  one_can : d.is_spoiled ≡ false → HandHoldsGiven d → length d.now.payments + d.now.owed < most_made → CanPay d n r
-  one_can sound hand left = record {
+  one_can : d.is_spoiled ≡ false → length d.now.payments + d.now.owed < most_made → CanPay d n r
+  one_can sound left = record {
     sound = sound;
     source = record { slot = first.slot; kind = ap (λ (a : Amount). a.value.kind) first.is };
     brand = subst (λ (a : Amount). IsOfBrand d.now a.brand r.amount.value) (sym first.is) first.brand;
     has = subst (λ (a : Amount). Contains a.value.content r.amount.value.content) (sym first.is) (record { each = λ k. omega arith });
     left = left;
-    hand = hand;
   }
 
-pub all_can : (d : DraftState) (n : ℕ) (rs : List Row) → AreApart rs → AreSlotsWith d n rs → d.is_spoiled ≡ false → HandHoldsGiven d → length d.now.payments + d.now.owed + length rs ≤ most_made → CanPayAll d n rs
-all_can d n [] apart with sound hand left = tt
-all_can d n (r ∷ rs) apart with sound hand left = (
-  one_can d n r with.0 sound hand (omega (arith, left)),
-  all_can (paid d n r) n rs apart.1 (all_still d n r with.0 rs apart.0 with.1) sound (holds_still d n r with.0 hand) (omega (arith, left, length_push d.now.payments (paper d n r))),
+pub all_can : (d : DraftState) (n : ℕ) (rs : List Row) → AreApart rs → AreSlotsWith d n rs → d.is_spoiled ≡ false → length d.now.payments + d.now.owed + length rs ≤ most_made → CanPayAll d n rs
+all_can d n [] apart with sound left = tt
+all_can d n (r ∷ rs) apart with sound left = (
+  one_can d n r with.0 sound (omega (arith, left)),
+  all_can (paid d n r) n rs apart.1 (all_still d n r with.0 rs apart.0 with.1) sound (omega (arith, left, length_push d.now.payments (paper d n r))),
 )
   where
     paper : DraftState → ℕ → Row → Paper
@@ -155,13 +123,12 @@ module _ (d : DraftState) (n : ℕ) (made : n < length d.now.seats) where
   of_brands [] brands = tt
   of_brands (r ∷ rs) brands = (record { made = brands.0.made; kind = brands.0.kind }, of_brands rs brands.1)
 
-  pub closed_can : (rows : List Row) → rows ≡ slots_of_seat d n → AreRows rows → AreOfBrands d (slots_of_seat d n) → d.is_spoiled ≡ false → HandHoldsGiven d → length d.now.payments + d.now.owed ≤ most_made → length (slots_of_seat d n) ≤ d.now.owed → CanPayAll (closed d n) n rows
-  closed_can rows is apart brands sound hand few owed = all_can (closed d n) n rows apart.apart
+  pub closed_can : (rows : List Row) → rows ≡ slots_of_seat d n → AreRows rows → AreOfBrands d (slots_of_seat d n) → d.is_spoiled ≡ false → length d.now.payments + d.now.owed ≤ most_made → length (slots_of_seat d n) ≤ d.now.owed → CanPayAll (closed d n) n rows
+  closed_can rows is apart brands sound few owed = all_can (closed d n) n rows apart.apart
       (slots_with (closed d n) n rows (subst (λ m. n < m) (sym closed_long) made)
       (subst (λ (x : KeptSeat). AreUnder x.slots rows) (sym (read_set d.now.seats n shut no_kept_seat made)) (subst (λ l. AreUnder l rows) is (are_under rows apart.apart)))
       (of_brands rows (subst (AreOfBrands d) (sym is) brands)))
       sound
-      (record { each = hand.each })
       (room (length d.now.payments) d.now.owed (length (slots_of_seat d n)) (length rows) few owed (ap length is))
     where
       room : (a o k m : ℕ) → a + o ≤ most_made → k ≤ o → m ≡ k → a + (o - k) + m ≤ most_made
@@ -172,3 +139,11 @@ pub closed_table : (d new other : DraftState) (n : ℕ) (rows : List Row) → ot
 closed_table d new other n rows shut_is same is =
     ap table_now (is ∙ (λ i. paid_all (shut_is i) n (same i)))
     ∙ paid_table (closed d n) n (slots_of_seat d n)
+
+-- paying out spoils nothing
+paid_sound : (d : DraftState) (n : ℕ) (rs : List Row) → (paid_all d n rs).is_spoiled ≡ d.is_spoiled
+paid_sound d n [] = refl
+paid_sound d n (r ∷ rs) = paid_sound (paid d n r) n rs
+
+pub closed_sound : (d new other : DraftState) (n : ℕ) (rows : List Row) → other ≡ closed d n → d.is_spoiled ≡ false → new ≡ paid_all other n rows → new.is_spoiled ≡ false
+closed_sound d new other n rows shut_is sound is = ap (λ (x : DraftState). x.is_spoiled) is ∙ paid_sound other n rows ∙ ap (λ (x : DraftState). x.is_spoiled) shut_is ∙ sound

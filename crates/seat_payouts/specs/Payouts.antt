@@ -1,5 +1,5 @@
 -- A seat that is closed and paid out: each slot, in slot order, goes whole to a payment of its own (Zoe).
-use Rattle.std.specs.Prelude.{◌≡◌, ℕ, ◌+◌, ◌<◌, List, [], ◌∷◌, ◌++◌, ◌⊎◌, false, length}
+use Rattle.std.specs.Prelude.{◌≡◌, ℕ, ◌+◌, ◌<◌, List, [], ◌∷◌, ◌++◌, false, length}
 use Rattle.amount_math.specs.Content.{Contains}
 use Rattle.ertp_mint.specs.Stocks.{most_made}
 use Rattle.proposals.specs.declared.allocations.Row.{Row}
@@ -10,9 +10,9 @@ use Rattle.right_steps.specs.Lists.{slot_of, with_closed_seat}
 use Rattle.right_steps.specs.Seats.{kept_seat_at}
 use Rattle.seat_payouts.specs.declared.Payout.{Payout}
 use Rattle.seat_store.specs.Staging.{without_staged}
-use Rattle.vault_rights.specs.Drafts.{DraftState, IsOfBrand, opened, with_staging}
+use Rattle.vault_rights.specs.Drafts.{DraftState, HandGoes, IsOfBrand, hand_now, opened, with_staging}
 use Rattle.vault_stores.specs.Asked.{IsSlotOf}
-use Rattle.vault_transfers.specs.Transfers.{HandHoldsGiven, IsLeftOver, transfer_of, transferred}
+use Rattle.vault_transfers.specs.Transfers.{transfer_of, transferred}
 
 -- the draft once a seat is closed, and the slots that it had
 abbrev pub closed : DraftState → ℕ → DraftState
@@ -53,26 +53,22 @@ pub record CanPay (d : DraftState) (n : ℕ) (r : Row) : Type 0 where
   pub brand : IsOfBrand d.now (slot_of d.now n r.keyword).brand r.amount.value
   pub has : Contains (slot_of d.now n r.keyword).value.content r.amount.value.content
   pub left : length d.now.payments + d.now.owed < most_made
-  pub hand : HandHoldsGiven d
 
 -- each can be in its turn
 abbrev pub CanPayAll : DraftState → ℕ → List Row → Type 0
 CanPayAll d n [] = Unit {0}
 CanPayAll d n (r ∷ rs) = CanPay d n r × CanPayAll (paid d n r) n rs
 
--- slots were paid out up to one, of which nothing was paid, or what was taken of it was given up
-abbrev pub IsCutOff : DraftState → DraftState → ℕ → List Row → Type 0
-IsCutOff d new n [] = new ≡ d
-IsCutOff d new n (r ∷ rs) = IsLeftOver d new (Slot n r.keyword) r.amount.value ⊎ IsCutOff (paid d n r) new n rs
-
 -- the amounts of rows are of brands that were made, and of their kinds
 abbrev pub AreOfBrands : DraftState → List Row → Type 0
 AreOfBrands d [] = Unit {0}
 AreOfBrands d (r ∷ rs) = IsOfBrand d.now r.amount.brand r.amount.value × AreOfBrands d rs
 
--- what is left of paying out: what was paid so far is the beginning of all
+-- what is left of paying out: what was paid so far is the beginning of all, the hand is as it was, and the draft can be undone as it could
 pub record IsPaying (old d : DraftState) (n : ℕ) (rows rest : List Row) (payouts : List Payout) : Type 0 where
   pub can : CanPayAll d n rest
   pub done : paid_all d n rest ≡ paid_all old n rows
   pub listed : payouts ++ payouts_of d n rest ≡ payouts_of old n rows
-  pub cut : (new : DraftState) → IsCutOff d new n rest → IsCutOff old new n rows
+  pub kept : d.kept ≡ old.kept
+  pub hand : (b : ℕ) → hand_now d b ≡ hand_now old b
+  pub goes : HandGoes old → HandGoes d
