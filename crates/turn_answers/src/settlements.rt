@@ -4,13 +4,15 @@ ghost use Rattle.std.specs.Prelude.{◌≡◌, IfOk};
 ghost use Rattle.jessie_tree.specs.View.{tree};
 ghost use Rattle.promise_store.specs.States.{broken, ok, settlement_view};
 ghost use Rattle.refusals.specs.Codes.{refusal_tree, spent};
-ghost use Rattle.turn_records.specs.Endings.{settled_by};
-ghost use Rattle.turn_events.specs.Views.{answer_view};
+ghost use Rattle.turn_events.specs.Views.{answer_view, delivery_view};
+ghost use Rattle.turn_answers.specs.Settlements.{fulfilled_by, settled_after};
 
+use crate::start_records::start_record;
 use jessie_tree::data::Data;
 use promise_store::Settlement;
 use refusals::codes::{NumberCode, Refusal};
 use std::alloc::{AllocError, Global};
+use turn_events::deliveries::Delivery;
 use turn_events::events::Answer;
 
 /// A refusal breaks it with the refusal's data (our own).
@@ -20,10 +22,22 @@ fn broken_by(alloc: Global, refusal: &Refusal) -> Result<Settlement, AllocError>
     Ok(Settlement::Broken(refusal.data(alloc)?))
 }
 
-fn fulfilled_by(alloc: Global, value: &Data) -> Result<Settlement, AllocError>
-    ensures { IfOk result (λ made. settlement_view made ≡ ok (tree value.now)) }
+/// What was answered; of a start, the record with its parts.
+fn brought_by(alloc: Global, delivery: &Delivery, value: &Data) -> Result<Data, AllocError>
+    ensures { IfOk result
+        (λ made. ok (tree made) ≡ fulfilled_by (delivery_view delivery.now) (tree value.now)) }
 {
-    Ok(Settlement::Ok(value.copy(alloc)?))
+    match delivery {
+        Delivery::Start(start) => start_record(alloc, start.instance, value),
+        _ => value.copy(alloc),
+    }
+}
+
+fn fulfilled_by(alloc: Global, delivery: &Delivery, value: &Data) -> Result<Settlement, AllocError>
+    ensures { IfOk result
+        (λ made. settlement_view made ≡ fulfilled_by (delivery_view delivery.now) (tree value.now)) }
+{
+    Ok(Settlement::Ok(brought_by(alloc, delivery, value)?))
 }
 
 fn thrown_by(alloc: Global, reason: &Data) -> Result<Settlement, AllocError>
@@ -47,14 +61,20 @@ fn spent_by(alloc: Global, meter: u32) -> Result<Settlement, AllocError>
     Ok(Settlement::Broken(spent_data(alloc, meter)?))
 }
 
-/// An answer settles it; a refusal, what was thrown and a spent meter break it (the meter as the refusal
-/// Spent shows it; our own). An answer that is a promise is to be followed in its place. Its data is a copy:
+/// An answer settles it, and the answer of a start by the record of its instance (Zoe's startInstance); a
+/// refusal, what was thrown and a spent meter break it (the meter as the refusal Spent shows it; our own). An
+/// answer that is a promise is to be followed in its place; that of a start never is one. Its data is a copy:
 /// the answer stands in the turn's record too.
-pub fn settlement_of(alloc: Global, answer: &Answer) -> Result<Settlement, AllocError>
-    ensures { IfOk result (λ made. settlement_view made ≡ settled_by (answer_view answer.now)) }
+pub fn settlement_of(
+    alloc: Global,
+    delivery: &Delivery,
+    answer: &Answer,
+) -> Result<Settlement, AllocError>
+    ensures { IfOk result (λ made. settlement_view made
+        ≡ settled_after (delivery_view delivery.now) (answer_view answer.now)) }
 {
     match answer {
-        Answer::Given(value) => fulfilled_by(alloc, value),
+        Answer::Given(value) => fulfilled_by(alloc, delivery, value),
         Answer::Refused(refusal) => broken_by(alloc, refusal),
         Answer::Threw(reason) => thrown_by(alloc, reason),
         Answer::Spent(meter) => spent_by(alloc, *meter),

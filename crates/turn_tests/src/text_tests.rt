@@ -47,9 +47,21 @@ fn log_settled(log: &mut Log, settlement: Settlement) -> bool {
     is_logged
 }
 
+/// The start of instance 0, whose promise is promise 0.
+fn first_start() -> Delivery {
+    Delivery::Start(Start {
+        instance: 0,
+        private_arguments: Data::Null,
+        promise: 0,
+    })
+}
+
 /// Logs that promise 0 was settled with what a spent meter of 1 brings.
 fn log_spent(alloc: Global, log: &mut Log) -> bool {
-    match settlement_of(alloc, &Answer::Spent(1)) {
+    let start = first_start();
+    let made = settlement_of(alloc, &start, &Answer::Spent(1));
+    drop(start);
+    match made {
         Ok(settlement) => log_settled(log, settlement),
         Err(_) => false,
     }
@@ -57,13 +69,8 @@ fn log_spent(alloc: Global, log: &mut Log) -> bool {
 
 /// The fifth turn, the start of an instance that spends its meter of 1.
 fn spent_turn(alloc: Global, log: &mut Log) -> TurnRecord {
-    let start = Start {
-        instance: 0,
-        private_arguments: Data::Null,
-        promise: 0,
-    };
     let delivered = Delivered {
-        delivery: Delivery::Start(start),
+        delivery: first_start(),
         reading: Reading::Nothing,
     };
     turn_of(alloc, 5, delivered, Answer::Spent(1), log, Vec::new(alloc))
