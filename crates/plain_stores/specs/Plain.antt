@@ -1,6 +1,7 @@
 -- The parts of the world that touch no rights.
-use Rattle.std.specs.Prelude.{List}
+use Rattle.std.specs.Prelude.{◌≡◌, List, [], ◌∷◌}
 use Rattle.actors.specs.Labels.{Bound}
+use Rattle.brands.specs.Brands as brands
 use Rattle.brands.specs.declared.Brand.{Brand}
 use Rattle.instance_store.specs.Facets.{FacetView}
 use Rattle.instance_store.specs.Tables.{Tables}
@@ -10,11 +11,12 @@ use Rattle.timer.specs.Schedules.{Schedule}
 use Rattle.turn_records.specs.Deliveries.{Delivery}
 use Rattle.turn_records.specs.Events.{Event}
 use Rattle.world_state.specs.Promises.{PromiseBook}
-use Rattle.world_state.specs.Worlds.{State}
+use Rattle.world_state.specs.Worlds.{Maker, State, in_front, of_host}
 
 -- as the world's state has them
 pub record PlainState : Type 0 where
   pub brands : List Brand
+  pub makers : List Maker
   pub invitations : List DetailsView
   pub schedule : Schedule Delivery
   pub promises : PromiseBook
@@ -29,6 +31,7 @@ pub record PlainState : Type 0 where
 abbrev pub plain_of : State → PlainState
 plain_of w = record {
   brands = w.brands;
+  makers = w.makers;
   invitations = w.invitations;
   schedule = w.schedule;
   promises = w.promises;
@@ -38,4 +41,24 @@ plain_of w = record {
   labels = w.labels;
   waiting = w.waiting;
   log = w.log;
+}
+
+-- those of the world of a turn: the delivery that the turn is about still waits, in front
+abbrev pub AreOfTurn : PlainState → Delivery → State → Type 0
+AreOfTurn s d w = s ≡ plain_of (in_front d w)
+
+-- those of a new host: brand 0 is its own, and there is nothing else
+abbrev pub new_plain : PlainState
+new_plain = record {
+  brands = brands.started.now;
+  makers = of_host ∷ [];
+  invitations = [];
+  schedule = record { time = 0; made = 0; waiting = [] };
+  promises = record { settled = []; follows = []; requests = [] };
+  tables = record { installations = []; instances = [] };
+  facets = [];
+  pairs = [];
+  labels = [];
+  waiting = [];
+  log = [];
 }

@@ -1,6 +1,7 @@
 -- What the plain stores are to the world, now and at the turn's start.
 use Rattle.std.specs.Prelude.{[]}
 use Rattle.actors.specs.Turns.{parties_of}
+use Rattle.brand_makers.specs.Makers.{makers_of}
 use Rattle.instance_store.specs.Facets.{facets_of}
 use Rattle.instance_store.specs.SeatPromises.{seat_promises_of}
 use Rattle.instance_store.specs.Turns.{instances_of}
@@ -15,6 +16,7 @@ use Rattle.plain_stores.specs.declared.PlainStores.{PlainStores}
 abbrev pub plain_now : PlainStores → PlainState
 plain_now s = record {
   brands = s.brands.now;
+  makers = makers_of s.makers.now;
   invitations = (invitations_of s.invitations).now;
   schedule = schedule_of s.timer.now;
   promises = book s.promises;
@@ -30,6 +32,7 @@ plain_now s = record {
 abbrev pub plain_at_start : PlainStores → PlainState
 plain_at_start s = record {
   brands = s.brands.start;
+  makers = makers_of s.makers.start;
   invitations = (invitations_of s.invitations).start;
   schedule = schedule_of s.timer.start;
   promises = book_at_start s.promises;

@@ -1,18 +1,21 @@
-//! The stores of the world that touch no rights, together: brands, invitations, the timer, promises, instances,
-//! facets, the promises of seats, labels, what waits, and the turn's log. It stands on these stores. Its one
-//! contract: a turn that goes back leaves all of them as they were at its start, and a turn that is kept makes
-//! what they are now the next turn's start; neither takes memory.
+//! The stores of the world that touch no rights, together: brands and who made them, invitations, the timer,
+//! promises, instances, facets, the promises of seats, labels, what waits, and the turn's log. It stands on
+//! these stores. Its one contract: a turn that goes back leaves all of them as they were at its start, and a
+//! turn that is kept makes what they are now the next turn's start; neither takes memory.
 #![tactic(auto)]
 
-ghost use Rattle.std.specs.Prelude.{◌≡◌, []};
+ghost use Rattle.std.specs.Prelude.{◌≡◌, [], IfOk};
+ghost use Rattle.plain_stores.specs.Plain.{new_plain};
 
 use actors::Parties;
+use brand_makers::BrandMakers;
 use brands::Brands;
 use instance_store::Instances;
 use instance_store::facets::Facets;
 use instance_store::seat_promises::SeatPromises;
 use invitations::Invitations;
 use promise_table::PromiseTable;
+use std::alloc::{AllocError, Global};
 use time_effects::Timed;
 use timer::Timer;
 use turn_events::deliveries::Delivery;
@@ -23,6 +26,8 @@ use turn_queue::TurnQueue;
 #[derive(Drop)]
 pub struct PlainStores {
     pub brands: Brands,
+    /// Who made each brand, by its number.
+    pub makers: BrandMakers,
     pub invitations: Invitations,
     pub timer: Timer<Timed>,
     pub promises: PromiseTable,
@@ -38,12 +43,35 @@ pub struct PlainStores {
 impl PlainStores {
     ghost use Rattle.plain_stores.specs.Stores.{plain_at_start, plain_now};
 
+    /// The stores of a new host: brand 0, that of invitations, is its own, and there is nothing else.
+    pub fn new(alloc: Global) -> Result<PlainStores, AllocError>
+        ensures now { IfOk result (λ stores. plain_now stores ≡ new_plain) }
+        ensures start { IfOk result (λ stores. plain_at_start stores ≡ new_plain) }
+    {
+        let makers = BrandMakers::new(alloc)?;
+        let brands = Brands::new(alloc)?;
+        Ok(PlainStores {
+            brands,
+            makers,
+            invitations: Invitations::new(alloc),
+            timer: Timer::new(alloc),
+            promises: PromiseTable::new(alloc),
+            instances: Instances::new(alloc),
+            facets: Facets::new(alloc),
+            pairs: SeatPromises::new(alloc),
+            parties: Parties::new(alloc),
+            queue: TurnQueue::new(alloc),
+            log: Log::new(alloc),
+        })
+    }
+
     /// Goes back to the turn's start, in which nothing has happened yet. It takes no memory.
     pub fn back(&mut self)
         ensures now { plain_now self.new ≡ plain_at_start self.old }
         ensures start { plain_at_start self.new ≡ plain_at_start self.old }
     {
         self.brands.back();
+        self.makers.back();
         self.invitations.back();
         self.instances.back();
         self.facets.back();
@@ -62,6 +90,7 @@ impl PlainStores {
         ensures start { plain_at_start self.new ≡ plain_now self.old }
     {
         self.brands.forget();
+        self.makers.forget();
         self.invitations.forget();
         self.instances.forget();
         self.facets.forget();
