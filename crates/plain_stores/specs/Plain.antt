@@ -1,5 +1,5 @@
 -- The parts of the world that touch no rights.
-use Rattle.std.specs.Prelude.{◌≡◌, List, [], ◌∷◌}
+use Rattle.std.specs.Prelude.{◌≡◌, ℕ, List, [], ◌∷◌, drop}
 use Rattle.actors.specs.Labels.{Bound}
 use Rattle.brands.specs.Brands as brands
 use Rattle.brands.specs.declared.Brand.{Brand}
@@ -7,9 +7,11 @@ use Rattle.instance_store.specs.Facets.{FacetView}
 use Rattle.instance_store.specs.Tables.{Tables}
 use Rattle.instance_store.specs.declared.seat_promises.SeatPair.{SeatPair}
 use Rattle.invitations.specs.Details.{DetailsView}
+use Rattle.rights_model.specs.declared.Sum.{Sum}
 use Rattle.timer.specs.Schedules.{Schedule}
-use Rattle.turn_records.specs.Deliveries.{Delivery}
-use Rattle.turn_records.specs.Events.{Event}
+use Rattle.turn_records.specs.Deliveries.{Delivery, Reading, tick}
+use Rattle.turn_records.specs.Events.{Answer, Event}
+use Rattle.turn_records.specs.Turns.{Turn}
 use Rattle.world_state.specs.Promises.{PromiseBook}
 use Rattle.world_state.specs.Worlds.{Maker, State, in_front, of_host}
 
@@ -62,3 +64,28 @@ new_plain = record {
   waiting = [];
   log = [];
 }
+
+-- ---- the end of a turn that is kept
+
+-- what is read where nothing waits
+abbrev pub no_delivery : Delivery
+no_delivery = tick 0
+
+abbrev pub front_of : List Delivery → Delivery
+front_of [] = no_delivery
+front_of (d ∷ ds) = d
+
+-- the turn of the delivery in front, with all that happened
+abbrev pub turn_ended : ℕ → Reading → Answer → List Sum → PlainState → Turn
+turn_ended number reading answer sums s = record {
+  number = number;
+  delivery = front_of s.waiting;
+  reading = reading;
+  answer = answer;
+  events = s.log;
+  sums = sums;
+}
+
+-- the delivery in front is gone, and nothing has happened yet
+abbrev pub after_turn : PlainState → PlainState
+after_turn s = record s { waiting = drop 1 s.waiting; log = [] }

@@ -1,11 +1,14 @@
 //! The stores of the world that touch no rights, together: brands and who made them, invitations, the timer,
 //! promises, instances, facets, the promises of seats, labels, what waits, and the turn's log. It stands on
-//! these stores. Its one contract: a turn that goes back leaves all of them as they were at its start, and a
-//! turn that is kept makes what they are now the next turn's start; neither takes memory.
+//! these stores, and on what makes the record of a turn (turn_answers). Its one contract: a turn that goes back
+//! leaves all of them as they were at its start, and a turn that is kept makes what they are now, less its
+//! delivery and what happened in it, the next turn's start; neither takes memory.
 #![tactic(auto)]
 
-ghost use Rattle.std.specs.Prelude.{◌≡◌, [], IfOk};
-ghost use Rattle.plain_stores.specs.Plain.{new_plain};
+ghost use Rattle.std.specs.Prelude.{◌≡◌, ◌<◌, [], IfOk, drop, length};
+ghost use Rattle.promise_table.specs.Stores.{waiting_of};
+ghost use Rattle.turn_events.specs.Views.{answer_view, delivery_view, reading_view, turn_view};
+ghost use Rattle.plain_stores.specs.Plain.{after_turn, front_of, new_plain, turn_ended};
 
 use actors::Parties;
 use brand_makers::BrandMakers;
@@ -15,11 +18,15 @@ use instance_store::facets::Facets;
 use instance_store::seat_promises::SeatPromises;
 use invitations::Invitations;
 use promise_table::PromiseTable;
+use rights_model::Sum;
 use std::alloc::{AllocError, Global};
 use time_effects::Timed;
 use timer::Timer;
-use turn_events::deliveries::Delivery;
+use turn_answers::records::{Delivered, turn_of};
+use turn_events::deliveries::{Delivery, Reading};
+use turn_events::events::Answer;
 use turn_events::log::Log;
+use turn_events::turns::TurnRecord;
 use turn_queue::TurnQueue;
 
 /// The stores. Each call of one of them says what it makes of its part of the world's state (`plain_now`).
@@ -99,5 +106,44 @@ impl PlainStores {
         self.promises.forget();
         self.parties.forget();
         self.queue.forget();
+    }
+    /// Ends a turn that is kept, and answers its record: the delivery in front is taken out of the queue, and what
+    /// happened out of the log; what is now is the next turn's start. It comes after the rights of the turn are
+    /// kept, and takes no memory.
+    pub fn end_turn(
+        &mut self,
+        alloc: Global,
+        number: u32,
+        reading: Reading,
+        answer: Answer,
+        sums: Vec<Sum>,
+    ) -> TurnRecord
+        requires { 0 < length self.old.queue.now }
+        ensures turn { turn_view result ≡ turn_ended number (reading_view reading) (answer_view answer)
+            sums.items (plain_now self.old) }
+        ensures now { plain_now self.new ≡ after_turn (plain_now self.old) }
+        ensures start { plain_at_start self.new ≡ after_turn (plain_now self.old) }
+    {
+        self.queue.forget();
+        let delivery = take_front(&mut self.queue);
+        let delivered = Delivered { delivery, reading };
+        let ended = turn_of(alloc, number, delivered, answer, &mut self.log, sums);
+        self.forget();
+        ended
+    }
+}
+
+/// Takes out the delivery in front, between turns.
+#[tactic(auto, using(crate::proofs::Front::front_view, crate::proofs::Front::behind_view))]
+fn take_front(queue: &mut TurnQueue<Delivery>) -> Delivery
+    requires waits { 0 < length queue.old.now }
+    requires between_turns { queue.old.start ≡ queue.old.now }
+    ensures front { delivery_view result ≡ front_of (waiting_of queue.old.now) }
+    ensures behind { waiting_of queue.new.now ≡ drop 1 (waiting_of queue.old.now) }
+    ensures start { queue.new.start ≡ queue.new.now }
+{
+    match queue.pop() {
+        Some(delivery) => delivery,
+        None => unreachable!(),
     }
 }
