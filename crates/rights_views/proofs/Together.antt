@@ -1,0 +1,1 @@
+-- Movements by way of the hand.

@@ -1,0 +1,45 @@
+//! The laws. The bodies are empty: what they state is proved of the definitions.
+
+ghost use Rattle.std.specs.Prelude.{◌≡◌, ◌<◌, ◌++◌, ℕ, List, [], ◌∷◌, length, map};
+ghost use Rattle.amount_math.specs.Content.{nothing};
+ghost use Rattle.amount_math.specs.declared.Amount.{Amount};
+ghost use Rattle.amount_math.specs.declared.Kind.{Kind as AmountKind};
+ghost use Rattle.ertp_mint.specs.BrandSupply.{new_supply};
+ghost use Rattle.ertp_mint.specs.Stocks.{empty_amount};
+ghost use Rattle.proposals.specs.declared.offers.Proposal.{Proposal};
+ghost use Rattle.right_steps.specs.Lists.{Lists, kind_of, taken, with_closed_seat, with_new_brand};
+ghost use Rattle.right_steps.specs.Lists.{with_new_purse, with_new_seat};
+ghost use Rattle.rights_model.specs.declared.Holder.TheVariants.{Outside, Payment};
+ghost use Rattle.rights_model.specs.declared.Movement.{Movement};
+ghost use Rattle.rights_model.specs.Table.{movement};
+ghost use Rattle.rights_views.specs.Views.{CanAllByHand, all_by_hand, by_hand, rights_of, seats_of};
+ghost use Rattle.world_state.specs.Rights.{moved_together, slots_at, with_payment, with_purse};
+ghost use Rattle.world_state.specs.Rights.{with_slots, with_supply};
+ghost use Rattle.world_state.specs.Worlds.{empty_slots, new_seat, seats_left};
+
+/// What a draft opens is in the world what the effects open: an empty purse, a brand of which
+/// nothing was issued, a seat with slots of nothing. A payment of nothing is issued.
+pub fn what_is_opened_is_in_the_world()
+    ensures purse { (s : Lists) (b : ℕ) (kind : AmountKind)
+        → rights_of (with_new_purse s b kind) ≡ with_purse (rights_of s) (empty_amount b kind) }
+    ensures brand { (s : Lists) (kind : AmountKind)
+        → rights_of (with_new_brand s kind) ≡ with_supply (rights_of s) (new_supply kind) }
+    ensures slots { (s : Lists) (instance : ℕ) (proposal : Proposal)
+        → rights_of (with_new_seat s instance proposal)
+        ≡ with_slots (rights_of s) (empty_slots proposal) }
+    ensures seat { (s : Lists) (instance : ℕ) (proposal : Proposal)
+        → seats_of (with_new_seat s instance proposal)
+        ≡ seats_of s ++ new_seat instance proposal ∷ [] }
+    ensures payment { (s : Lists) (b : ℕ) (kind : AmountKind)
+        → let a = empty_amount b kind in
+        rights_of (by_hand s (movement b Outside (Payment (length s.payments)) a.value))
+        ≡ with_payment (rights_of s) a }
+{}
+
+/// A seat that is closed keeps what its slots have, as one that is left, and nothing moves yet.
+pub fn what_is_closed_is_left()
+    ensures rights { (s : Lists) (n : ℕ) → rights_of (with_closed_seat s n) ≡ rights_of s }
+    ensures seats { (s : Lists) (n : ℕ) → n < length s.seats
+        → seats_of (with_closed_seat s n)
+        ≡ seats_left (seats_of s) n (slots_at (rights_of s).slots n) }
+{}
