@@ -1,18 +1,17 @@
 //! The laws. The bodies are empty: what they state is proved of the definitions.
 
-ghost use Rattle.std.specs.Prelude.{◌≡◌, ◌<◌, ◌++◌, ℕ, List, [], ◌∷◌, length, map};
-ghost use Rattle.amount_math.specs.Content.{nothing};
-ghost use Rattle.amount_math.specs.declared.Amount.{Amount};
+ghost use Rattle.std.specs.Prelude.{◌≡◌, ◌<◌, ◌++◌, ℕ, List, [], ◌∷◌, length};
 ghost use Rattle.amount_math.specs.declared.Kind.{Kind as AmountKind};
 ghost use Rattle.ertp_mint.specs.BrandSupply.{new_supply};
 ghost use Rattle.ertp_mint.specs.Stocks.{empty_amount};
 ghost use Rattle.proposals.specs.declared.offers.Proposal.{Proposal};
-ghost use Rattle.right_steps.specs.Lists.{Lists, kind_of, taken, with_closed_seat, with_new_brand};
+ghost use Rattle.right_steps.specs.Lists.{Lists, with_closed_seat, with_new_brand};
 ghost use Rattle.right_steps.specs.Lists.{with_new_purse, with_new_seat};
 ghost use Rattle.rights_model.specs.declared.Holder.TheVariants.{Outside, Payment};
 ghost use Rattle.rights_model.specs.declared.Movement.{Movement};
 ghost use Rattle.rights_model.specs.Table.{movement};
-ghost use Rattle.rights_views.specs.Views.{CanAllByHand, all_by_hand, by_hand, rights_of, seats_of};
+ghost use Rattle.rights_views.specs.Views.{CanAllByHand, CanByHand, all_by_hand, by_hand};
+ghost use Rattle.rights_views.specs.Views.{rights_of, seats_of};
 ghost use Rattle.world_state.specs.Rights.{moved_together, slots_at, with_payment, with_purse};
 ghost use Rattle.world_state.specs.Rights.{with_slots, with_supply};
 ghost use Rattle.world_state.specs.Worlds.{empty_slots, new_seat, seats_left};
@@ -42,4 +41,14 @@ pub fn what_is_closed_is_left()
     ensures seats { (s : Lists) (n : ℕ) → n < length s.seats
         → seats_of (with_closed_seat s n)
         ≡ seats_left (seats_of s) n (slots_at (rights_of s).slots n) }
+{}
+
+/// Movements that a draft makes by way of the hand, one after another, make of the world's rights
+/// what the movements make together: payments that were taken from are spent, and a slot that
+/// wasn't there stands last.
+pub fn what_goes_by_the_hand_moves_together()
+    ensures one { (s : Lists) (m : Movement) → CanByHand s m
+        → rights_of (by_hand s m) ≡ moved_together (rights_of s) (m ∷ []) }
+    ensures all { (s : Lists) (ms : List Movement) → CanAllByHand s ms
+        → rights_of (all_by_hand s ms) ≡ moved_together (rights_of s) ms }
 {}
