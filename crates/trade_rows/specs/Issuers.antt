@@ -1,0 +1,125 @@
+-- The issuers that an instance keeps under keywords: what is kept, and what is asked of it (Zoe).
+use Rattle.std.specs.Prelude.{ℕ, nat_lt, is_none, List, [], ◌∷◌, length, Result, Ok, codes}
+use Rattle.amount_math.specs.declared.Kind.{Kind}
+use Rattle.amount_math.specs.declared.Kind.TheVariants.{Bag, Nat, Set}
+use Rattle.brands.specs.Brands.{brand_at, brand_of, most_brands}
+use Rattle.brands.specs.IssuerRecords.{brand_under, issuer_of, most_issuers}
+use Rattle.brands.specs.declared.issuer_record.Issuer.{Issuer}
+use Rattle.call_arguments.specs.Arguments.{kind_at, object_at}
+use Rattle.call_data.specs.Values.{object_tree}
+use Rattle.instance_store.specs.Tables.{instance_at}
+use Rattle.jessie_tree.specs.Tree.{Fields, Tree, field, fields, no_fields, null, text}
+use Rattle.jessie_tree.specs.declared.data.ObjKind.TheVariants as kinds
+use Rattle.refusals.specs.Codes.{keyword_taken, limit, wrong_brand}
+use Rattle.refusals.specs.Outcomes.{◌>>=◌, ◌>>◌, need}
+use Rattle.refusals.specs.declared.codes.Refusal.{Refusal}
+use Rattle.service_rows.specs.ErtpRows.{brand_object}
+use Rattle.service_rows.specs.Proposals.{is_known}
+use Rattle.world_state.specs.Worlds.{State, add_issuer, new_brand, of_instance, placed_field}
+use Rattle.call_rows.specs.Rows.{Outcome}
+use Rattle.call_rows.specs.Words.{keyword_at, next_of, runs}
+use Rattle.trade_rows.specs.Given.{issuers_of}
+
+-- ---- keywords
+
+-- no issuer of the instance stands under the keyword
+unfoldable pub is_free : State → ℕ → List ℕ → Result (Unit {0}) Refusal
+is_free w i keyword = need (is_none (brand_under keyword (issuers_of w i))) (keyword_taken keyword)
+
+-- there is room for one more
+unfoldable pub keeps_more : State → ℕ → Result (Unit {0}) Refusal
+keeps_more w i = need (nat_lt (length (issuers_of w i)) most_issuers) (limit most_issuers)
+
+-- zcf.assertUniqueKeyword(keyword)
+unfoldable pub assert_unique_keyword : State → ℕ → List Tree → Result Tree Refusal
+assert_unique_keyword w i args = do
+  keyword ← keyword_at 1 args
+  is_free w i keyword
+  Ok null
+
+-- ---- what is kept
+
+-- zcf.makeZCFMint(keyword, kind): the brand is named by the keyword
+unfoldable pub make_zcf_mint : State → ℕ → List Tree → Outcome
+make_zcf_mint w i args = do
+  runs w i
+  keyword ← keyword_at 1 args
+  is_free w i keyword
+  kind ← kind_at 2 args
+  keeps_more w i
+  brand ← next_of (length w.brands) most_brands
+  let made = new_brand (brand_of keyword kind) (of_instance i)
+  Ok (object_tree kinds.Zmint brand, made ∷ add_issuer i (issuer_of keyword brand) ∷ [])
+
+abbrev pub issuer_object : ℕ → Tree
+issuer_object brand = object_tree kinds.Issuer brand
+
+-- a brand with its issuer
+abbrev pub issuer_record : State → ℕ → Tree
+issuer_record w brand = fields (
+    field (codes "brand") (brand_object w brand)
+    (field (codes "issuer") (issuer_object brand) no_fields))
+
+-- zcf.saveIssuer(issuer, keyword)
+unfoldable pub save_issuer : State → ℕ → List Tree → Outcome
+save_issuer w i args = do
+  runs w i
+  brand ← object_at kinds.Issuer 1 args
+  keyword ← keyword_at 2 args
+  is_free w i keyword
+  keeps_more w i
+  Ok (issuer_record w brand, add_issuer i (issuer_of keyword brand) ∷ [])
+
+-- ---- zcf.getTerms()
+
+-- a record of what the brands have, each under its keyword, in byte order
+abbrev pub under_keywords : (ℕ → Tree) → List Issuer → Fields
+under_keywords made [] = no_fields
+under_keywords made (x ∷ xs) = placed_field x.keyword (made x.brand) (under_keywords made xs)
+
+abbrev pub brands_record : State → List Issuer → Tree
+brands_record w issuers = fields (under_keywords (brand_object w) issuers)
+
+abbrev pub issuers_record : List Issuer → Tree
+issuers_record issuers = fields (under_keywords issuer_object issuers)
+
+-- terms with the brands and the issuers that the instance keeps now
+abbrev pub with_issuers : State → List Issuer → Tree → Tree
+with_issuers w issuers (fields fs) = fields (
+    placed_field (codes "brands") (brands_record w issuers)
+    (placed_field (codes "issuers") (issuers_record issuers) fs))
+with_issuers w issuers t = t
+
+unfoldable pub get_terms : State → ℕ → Result Tree Refusal
+get_terms w i = Ok (with_issuers w (issuers_of w i) (instance_at w.tables.instances i).terms)
+
+-- ---- brands and issuers of the record
+
+abbrev pub is_kept : State → ℕ → ℕ → Result (Unit {0}) Refusal
+is_kept w i brand = need (is_known (issuers_of w i) brand) (wrong_brand brand)
+
+-- zcf.getBrandForIssuer(issuer)
+unfoldable pub get_brand_for_issuer : State → ℕ → List Tree → Result Tree Refusal
+get_brand_for_issuer w i args = do
+  brand ← object_at kinds.Issuer 1 args
+  is_kept w i brand
+  Ok (brand_object w brand)
+
+-- zcf.getIssuerForBrand(brand)
+unfoldable pub get_issuer_for_brand : State → ℕ → List Tree → Result Tree Refusal
+get_issuer_for_brand w i args = do
+  brand ← object_at (kinds.Brand Nat) 1 args
+  is_kept w i brand
+  Ok (issuer_object brand)
+
+-- ---- zcf.getAssetKind(brand)
+
+abbrev pub kind_word : Kind → List ℕ
+kind_word Nat = codes "nat"
+kind_word Set = codes "set"
+kind_word Bag = codes "bag"
+
+unfoldable pub get_asset_kind : State → List Tree → Result Tree Refusal
+get_asset_kind w args = do
+  brand ← object_at (kinds.Brand Nat) 1 args
+  Ok (text (kind_word (brand_at w.brands brand).kind))
