@@ -1,0 +1,5 @@
+pub mod Lists
+pub mod BrandRows
+pub mod IssuerRows
+pub mod PaymentRows
+pub mod Ertp
