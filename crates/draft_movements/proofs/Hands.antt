@@ -17,8 +17,7 @@ use Rattle.right_steps.specs.Flows.{IsApart, Part, combined, content_of, gathere
 use Rattle.right_steps.specs.Lists.{Lists, given, taken}
 use Rattle.right_steps.specs.Tables.{no_hand}
 use Rattle.vault_rights.specs.Drafts.{DraftState, HandGoes, after, given_at, given_up_too, hand_now}
-use Rattle.vault_transfers.specs.Transfers.{HandHoldsGiven}
-use Rattle.draft_movements.specs.Together.{AreTogether, HandStays, HasMore, IsListed, after_all, only}
+use Rattle.draft_movements.specs.Together.{AreTogether, HandHoldsGiven, HandStays, HasMore, IsListed, after_all, only}
 use Rattle.draft_movements.proofs.Tables.{after_append}
 
 -- ---- hands

@@ -1,9 +1,13 @@
 -- Movements that are made together in a draft, and what the hand has of two drafts.
 use Rattle.std.specs.Prelude.{◌≡◌, ℕ, ◌+◌, ◌==◌, if◌then◌else◌, List, [], ◌∷◌, length}
-use Rattle.amount_math.specs.Content.{Content, count, nothing}
+use Rattle.amount_math.specs.Content.{Contains, Content, count, nothing}
 use Rattle.rights_model.specs.declared.Movement.{Movement}
 use Rattle.right_steps.specs.Tables.{no_hand}
 use Rattle.vault_rights.specs.Drafts.{DraftState, after, given_at, hand_now}
+
+-- what was given up is in the hand, as in each valid draft
+pub record HandHoldsGiven (d : DraftState) : Type 0 where
+  pub each : (b : ℕ) → Contains (hand_now d b) (given_at d b)
 
 -- the draft after movements, each in its turn
 abbrev pub after_all : DraftState → List Movement → DraftState

@@ -6,11 +6,10 @@
 
 ghost use Rattle.std.specs.Prelude.{◌≡◌, ◌≢◌, ℕ, List};
 ghost use Rattle.amount_math.specs.declared.Kind.{Kind as AmountKind};
-ghost use Rattle.draft_movements.specs.Together.{HandStays, after_all};
+ghost use Rattle.draft_movements.specs.Together.{HandHoldsGiven, HandStays, after_all};
 ghost use Rattle.right_steps.specs.Flows.{AreInside, IsApart, Part, combined, gathered, split_up, spread};
 ghost use Rattle.rights_model.specs.Table.{CanMoveAll, table_after};
 ghost use Rattle.vault_rights.specs.Drafts.{DraftState, HandGoes, IsValid, table_now};
-ghost use Rattle.vault_transfers.specs.Transfers.{HandHoldsGiven};
 
 use rights_model::{Holder, Movement};
 

@@ -7,8 +7,7 @@ use Rattle.rights_model.specs.declared.Holder.{Holder}
 use Rattle.rights_model.specs.declared.Holder.TheVariants.{Purse, Payment, Slot, Hand, Outside}
 use Rattle.rights_model.specs.Table.{movement, table_after}
 use Rattle.vault_rights.specs.Drafts.{DraftState, IsValid, after, table_now}
-use Rattle.vault_transfers.specs.Transfers.{HandHoldsGiven}
-use Rattle.draft_movements.specs.Together.{HandStays, after_all}
+use Rattle.draft_movements.specs.Together.{HandHoldsGiven, HandStays, after_all}
 use Rattle.draft_movements.proofs.Hands.{combined_stays}
 use Rattle.draft_movements.proofs.Tables.{after_append, combined_table}
 use Rattle.payment_parts.specs.Combinations.{AreLive, brand_of_all, combination_done, combination_written, combined_lists, next_payment, parts_at, with_spent, worth_at, worth_of_all}

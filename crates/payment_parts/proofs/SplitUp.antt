@@ -7,8 +7,7 @@ use Rattle.right_steps.specs.Lists.{amount_of, kind_of, with_payments}
 use Rattle.rights_model.specs.declared.Holder.TheVariants.{Payment, Hand}
 use Rattle.rights_model.specs.Table.{movement, table_after}
 use Rattle.vault_rights.specs.Drafts.{DraftState, IsValid, after, table_now}
-use Rattle.vault_transfers.specs.Transfers.{HandHoldsGiven}
-use Rattle.draft_movements.specs.Together.{HandStays, after_all}
+use Rattle.draft_movements.specs.Together.{HandHoldsGiven, HandStays, after_all}
 use Rattle.draft_movements.proofs.Hands.{split_stays}
 use Rattle.draft_movements.proofs.Tables.{split_table}
 use Rattle.payment_parts.specs.Combinations.{brand_at}

@@ -6,12 +6,11 @@
 #![tactic(auto)]
 
 ghost use Rattle.std.specs.Prelude.{◌≡◌, ◌<◌, length};
-ghost use Rattle.draft_movements.specs.Together.{HandStays, after_all};
+ghost use Rattle.draft_movements.specs.Together.{HandHoldsGiven, HandStays, after_all};
 ghost use Rattle.payment_parts.specs.Combinations.{AreLive, brand_of_all, combination_done, combination_written, combined_lists};
 ghost use Rattle.payment_parts.specs.Splits.{split_done, split_lists, split_written};
 ghost use Rattle.rights_model.specs.Table.{table_after};
 ghost use Rattle.vault_rights.specs.Drafts.{DraftState, IsValid, table_now};
-ghost use Rattle.vault_transfers.specs.Transfers.{HandHoldsGiven};
 
 use amount_math::Value;
 
