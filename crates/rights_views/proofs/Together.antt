@@ -183,8 +183,8 @@ put_apart s n Outside lt may = tt
 take_spends : (s : Lists) (n : ℕ) (h : Holder) (b : ℕ) (w : Worth) → IsSpent s n → CanTake s h b w → IsSpent (lists.taken s h b w) n
 take_spends s n (Purse k) b w spent can = spent
 take_spends s n (Payment k) b w spent can = (
-    omega (arith, spent.0, length_set s.payments k (spent_paper b)),
-    ap (λ (p : Paper). p.held) (read_other s.payments k n (spent_paper b) (spent_paper 0) (live_apart s.payments n k (amount_of b w) spent.1 can.is)) ∙ spent.1,
+  omega (arith, spent.0, length_set s.payments k (spent_paper b)),
+  ap (λ (p : Paper). p.held) (read_other s.payments k n (spent_paper b) (spent_paper 0) (live_apart s.payments n k (amount_of b w) spent.1 can.is)) ∙ spent.1,
 )
 take_spends s n (Slot k keyword) b w spent can = spent
 take_spends s n Hand b w spent can = spent
@@ -193,8 +193,8 @@ take_spends s n Outside b w spent can = spent
 put_spends : (s : Lists) (n : ℕ) (h : Holder) (b : ℕ) (w : Worth) → IsSpent s n → IsSpent (put_to s h (amount_of b w)) n
 put_spends s n (Purse k) b w spent = spent
 put_spends s n (Payment k) b w spent = (
-    omega (arith, spent.0, length_push s.payments (live_paper (amount_of b w))),
-    ap (λ (p : Paper). p.held) (read_before s.payments (live_paper (amount_of b w)) (spent_paper 0) n (λ (e : length s.payments ≡ n). absurd (omega (arith, spent.0, e)))) ∙ spent.1,
+  omega (arith, spent.0, length_push s.payments (live_paper (amount_of b w))),
+  ap (λ (p : Paper). p.held) (read_before s.payments (live_paper (amount_of b w)) (spent_paper 0) n (λ (e : length s.payments ≡ n). absurd (omega (arith, spent.0, e)))) ∙ spent.1,
 )
 put_spends s n (Slot k keyword) b w spent = by (is_some (amount_under keyword (kept_seat_at s.seats k).slots))
   where
@@ -207,17 +207,16 @@ put_spends s n Outside b w spent = spent
 left_alone : (s : Lists) (n : ℕ) (ms : List Movement) → IsSpent s n → CanAllByHand s ms → AllApart n ms
 left_alone s n [] spent can = tt
 left_alone s n (m ∷ ms) spent can =
-    let t = take_spends s n m.from m.brand m.value spent can.0.take in
-    (
-        (take_apart s n m.from m.brand m.value spent can.0.take, put_apart (lists.taken s m.from m.brand m.value) n m.to t.0 can.0.put),
-        left_alone (by_hand s m) n ms (put_spends (lists.taken s m.from m.brand m.value) n m.to m.brand m.value t) can.1,
+    let t = take_spends s n m.from m.brand m.value spent can.0.take in (
+      (take_apart s n m.from m.brand m.value spent can.0.take, put_apart (lists.taken s m.from m.brand m.value) n m.to t.0 can.0.put),
+      left_alone (by_hand s m) n ms (put_spends (lists.taken s m.from m.brand m.value) n m.to m.brand m.value t) can.1,
     )
 
 -- what was taken from is spent
 spent_now : (s : Lists) (n b : ℕ) (w : Worth) → CanTake s (Payment n) b w → IsSpent (lists.taken s (Payment n) b w) n
 spent_now s n b w can = (
-    omega (arith, can.made, length_set s.payments n (spent_paper b)),
-    ap (λ (p : Paper). p.held) (read_set s.payments n (spent_paper b) (spent_paper 0) can.made),
+  omega (arith, can.made, length_set s.payments n (spent_paper b)),
+  ap (λ (p : Paper). p.held) (read_set s.payments n (spent_paper b) (spent_paper 0) can.made),
 )
 
 -- ---- a movement, and movements

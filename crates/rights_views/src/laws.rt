@@ -4,6 +4,7 @@ ghost use Rattle.std.specs.Prelude.{◌≡◌, ◌<◌, ◌++◌, ℕ, List, [],
 ghost use Rattle.amount_math.specs.declared.Kind.{Kind as AmountKind};
 ghost use Rattle.ertp_mint.specs.BrandSupply.{new_supply};
 ghost use Rattle.ertp_mint.specs.Stocks.{empty_amount};
+ghost use Rattle.proposals.specs.Rows.{AreApart};
 ghost use Rattle.proposals.specs.declared.offers.Proposal.{Proposal};
 ghost use Rattle.right_steps.specs.Lists.{Lists, with_closed_seat, with_new_brand};
 ghost use Rattle.right_steps.specs.Lists.{with_new_purse, with_new_seat};
@@ -14,7 +15,7 @@ ghost use Rattle.rights_views.specs.Views.{CanAllByHand, CanByHand, all_by_hand,
 ghost use Rattle.rights_views.specs.Views.{rights_of, seats_of};
 ghost use Rattle.world_state.specs.Rights.{moved_together, slots_at, with_payment, with_purse};
 ghost use Rattle.world_state.specs.Rights.{with_slots, with_supply};
-ghost use Rattle.world_state.specs.Worlds.{empty_slots, new_seat, seats_left};
+ghost use Rattle.world_state.specs.Worlds.{empty_slots, new_seat, payout_moves, rights_left, seats_left};
 
 /// What a draft opens is in the world what the effects open: an empty purse, a brand of which
 /// nothing was issued, a seat with slots of nothing. A payment of nothing is issued.
@@ -51,4 +52,14 @@ pub fn what_goes_by_the_hand_moves_together()
         → rights_of (by_hand s m) ≡ moved_together (rights_of s) (m ∷ []) }
     ensures all { (s : Lists) (ms : List Movement) → CanAllByHand s ms
         → rights_of (all_by_hand s ms) ≡ moved_together (rights_of s) ms }
+{}
+
+/// A seat that is closed, and of which each slot in slot order goes whole to the next payment, is
+/// one that is left.
+pub fn a_closed_seat_that_is_paid_out_is_left()
+    ensures rights { (s : Lists) (n : ℕ) → n < length s.seats
+        → let slots = slots_at (rights_of s).slots n in
+        let out = payout_moves n (length s.payments) slots in
+        AreApart slots
+        → rights_of (all_by_hand (with_closed_seat s n) out) ≡ rights_left (rights_of s) n }
 {}
