@@ -15,7 +15,8 @@ ghost use Rattle.rights_views.specs.Views.{CanAllByHand, CanByHand, all_by_hand,
 ghost use Rattle.rights_views.specs.Views.{rights_of, seats_of};
 ghost use Rattle.world_state.specs.Rights.{moved_together, slots_at, with_payment, with_purse};
 ghost use Rattle.world_state.specs.Rights.{with_slots, with_supply};
-ghost use Rattle.world_state.specs.Worlds.{empty_slots, new_seat, payout_moves, rights_left, seats_left};
+ghost use Rattle.world_state.specs.Worlds.{empty_slots, new_seat, payout_moves, rights_left};
+ghost use Rattle.world_state.specs.Worlds.{seats_left};
 
 /// What a draft opens is in the world what the effects open: an empty purse, a brand of which
 /// nothing was issued, a seat with slots of nothing. A payment of nothing is issued.
