@@ -1,3 +1,4 @@
 pub mod Views
 pub mod Together
 pub mod Left
+pub mod Combined

@@ -29,7 +29,7 @@ set_apart (z ∷ zs) zero (suc k) x y apart = refl
 set_apart (z ∷ zs) (suc n) zero x y apart = refl
 set_apart (z ∷ zs) (suc n) (suc k) x y apart = ap (λ l. z ∷ l) (set_apart zs n k x y (λ e. apart (ap suc e)))
 
-set_before : {X : Type 0} (xs : List X) (y x : X) (n : ℕ) → n < length xs → slice_set (xs ++ y ∷ []) n x ≡ slice_set xs n x ++ y ∷ []
+pub set_before : {X : Type 0} (xs : List X) (y x : X) (n : ℕ) → n < length xs → slice_set (xs ++ y ∷ []) n x ≡ slice_set xs n x ++ y ∷ []
 set_before [] y x n lt = absurd (omega (arith, lt))
 set_before (z ∷ zs) y x zero lt = refl
 set_before (z ∷ zs) y x (suc n) lt = ap (λ l. z ∷ l) (set_before zs y x n (omega (arith, lt)))
@@ -37,7 +37,7 @@ set_before (z ∷ zs) y x (suc n) lt = ap (λ l. z ∷ l) (set_before zs y x n (
 -- ---- payments of which one is spent
 
 -- it isn't that payment
-abbrev Apart : ℕ → Holder → Type 0
+abbrev pub Apart : ℕ → Holder → Type 0
 Apart n (Payment k) = k ≢ n
 Apart n (Purse k) = Unit {0}
 Apart n (Slot k keyword) = Unit {0}
@@ -48,13 +48,13 @@ abbrev AllApart : ℕ → List Movement → Type 0
 AllApart n [] = Unit {0}
 AllApart n (m ∷ ms) = (Apart n m.from × Apart n m.to) × AllApart n ms
 
-abbrev spent_at : List Paper → ℕ → List Paper
+abbrev pub spent_at : List Paper → ℕ → List Paper
 spent_at ps n = slice_set ps n (spent_paper (paper_at ps n).brand)
 
-abbrev with_papers : Rights → List Paper → Rights
+abbrev pub with_papers : Rights → List Paper → Rights
 with_papers r l = record r { payments = l }
 
-abbrev marked : Holder → Rights → Rights
+abbrev pub marked : Holder → Rights → Rights
 marked h r = with_papers r (spent_from h r.payments)
 
 written_apart : (ps : List Paper) (n k : ℕ) (f : Paper → Paper) → k ≢ n → slice_set (spent_at ps n) k (f (paper_at (spent_at ps n) k)) ≡ spent_at (slice_set ps k (f (paper_at ps k))) n
@@ -63,7 +63,7 @@ written_apart ps n k f apart =
     ∙ set_apart ps n k (spent_paper (paper_at ps n).brand) (f (paper_at ps k)) (λ e. apart (sym e))
     ∙ ap (λ (p : Paper). slice_set (slice_set ps k (f (paper_at ps k))) n (spent_paper p.brand)) (sym (read_other ps k n (f (paper_at ps k)) (spent_paper 0) apart))
 
-pushed_apart : (ps : List Paper) (n : ℕ) (p : Paper) → n < length ps → spent_at ps n ++ p ∷ [] ≡ spent_at (ps ++ p ∷ []) n
+pub pushed_apart : (ps : List Paper) (n : ℕ) (p : Paper) → n < length ps → spent_at ps n ++ p ∷ [] ≡ spent_at (ps ++ p ∷ []) n
 pushed_apart ps n p lt =
     sym (set_before ps p (spent_paper (paper_at ps n).brand) n lt)
     ∙ ap (λ (x : Paper). slice_set (ps ++ p ∷ []) n (spent_paper x.brand)) (sym (read_before ps p (spent_paper 0) n (λ (e : length ps ≡ n). absurd (omega (arith, lt, e)))))
@@ -79,7 +79,7 @@ paid_apart ps n k a lt apart =
 
 -- ---- what a movement makes of the other rights it makes of them where a payment is spent
 
-taken_marked : (n : ℕ) (r : Rights) (h : Holder) (b : ℕ) (w : Worth) → Apart n h → taken (marked (Payment n) r) h b w ≡ marked (Payment n) (taken r h b w)
+pub taken_marked : (n : ℕ) (r : Rights) (h : Holder) (b : ℕ) (w : Worth) → Apart n h → taken (marked (Payment n) r) h b w ≡ marked (Payment n) (taken r h b w)
 taken_marked n r (Purse k) b w apart = refl
 taken_marked n r (Payment k) b w apart = ap (with_papers r) (written_apart r.payments n k (λ p. paper_less p w.content) apart)
 taken_marked n r (Slot k keyword) b w apart = refl
@@ -93,7 +93,7 @@ given_marked n r (Slot k keyword) b w lt apart = refl
 given_marked n r Hand b w lt apart = refl
 given_marked n r Outside b w lt apart = refl
 
-taken_made : (n : ℕ) (r : Rights) (h : Holder) (b : ℕ) (w : Worth) → n < length r.payments → n < length (taken r h b w).payments
+pub taken_made : (n : ℕ) (r : Rights) (h : Holder) (b : ℕ) (w : Worth) → n < length r.payments → n < length (taken r h b w).payments
 taken_made n r (Purse k) b w lt = lt
 taken_made n r (Payment k) b w lt = omega (arith, lt, length_set r.payments k (paper_less (paper_at r.payments k) w.content))
 taken_made n r (Slot k keyword) b w lt = lt
@@ -127,7 +127,7 @@ all_marked n r (m ∷ ms) lt apart =
 
 -- ---- the halves of a movement, as the lists have them
 
-taken_views : (s : Lists) (h : Holder) (b : ℕ) (w : Worth) → CanTake s h b w → rights_of (lists.taken s h b w) ≡ marked h (taken (rights_of s) h b w)
+pub taken_views : (s : Lists) (h : Holder) (b : ℕ) (w : Worth) → CanTake s h b w → rights_of (lists.taken s h b w) ≡ marked h (taken (rights_of s) h b w)
 taken_views s (Purse n) b w can = refl
 taken_views s (Payment n) b w can = ap (with_papers (rights_of s)) (sym (
     ap (λ (p : Paper). slice_set (slice_set s.payments n less_now) n (spent_paper p.brand)) (read_set s.payments n less_now (spent_paper 0) can.made)
@@ -160,13 +160,13 @@ given_views s Outside b w may = refl
 
 -- ---- what is spent stays so, and is left alone
 
-abbrev IsSpent : Lists → ℕ → Type 0
+abbrev pub IsSpent : Lists → ℕ → Type 0
 IsSpent s n = (n < length s.payments) × ((paper_at s.payments n).held ≡ None)
 
 live_apart : (ps : List Paper) (n k : ℕ) (a : Amount) → (paper_at ps n).held ≡ None → paper_at ps k ≡ live_paper a → k ≢ n
 live_apart ps n k a none live = λ e. (let clash : None ≡ Some a.value = sym none ∙ ap (λ q. (paper_at ps q).held) (sym e) ∙ ap (λ (p : Paper). p.held) live in absurd cc)
 
-take_apart : (s : Lists) (n : ℕ) (h : Holder) (b : ℕ) (w : Worth) → IsSpent s n → CanTake s h b w → Apart n h
+pub take_apart : (s : Lists) (n : ℕ) (h : Holder) (b : ℕ) (w : Worth) → IsSpent s n → CanTake s h b w → Apart n h
 take_apart s n (Purse k) b w spent can = tt
 take_apart s n (Payment k) b w spent can = live_apart s.payments n k (amount_of b w) spent.1 can.is
 take_apart s n (Slot k keyword) b w spent can = tt
@@ -180,7 +180,7 @@ put_apart s n (Slot k keyword) lt may = tt
 put_apart s n Hand lt may = tt
 put_apart s n Outside lt may = tt
 
-take_spends : (s : Lists) (n : ℕ) (h : Holder) (b : ℕ) (w : Worth) → IsSpent s n → CanTake s h b w → IsSpent (lists.taken s h b w) n
+pub take_spends : (s : Lists) (n : ℕ) (h : Holder) (b : ℕ) (w : Worth) → IsSpent s n → CanTake s h b w → IsSpent (lists.taken s h b w) n
 take_spends s n (Purse k) b w spent can = spent
 take_spends s n (Payment k) b w spent can = (
   omega (arith, spent.0, length_set s.payments k (spent_paper b)),
@@ -213,7 +213,7 @@ left_alone s n (m ∷ ms) spent can =
     )
 
 -- what was taken from is spent
-spent_now : (s : Lists) (n b : ℕ) (w : Worth) → CanTake s (Payment n) b w → IsSpent (lists.taken s (Payment n) b w) n
+pub spent_now : (s : Lists) (n b : ℕ) (w : Worth) → CanTake s (Payment n) b w → IsSpent (lists.taken s (Payment n) b w) n
 spent_now s n b w can = (
   omega (arith, can.made, length_set s.payments n (spent_paper b)),
   ap (λ (p : Paper). p.held) (read_set s.payments n (spent_paper b) (spent_paper 0) can.made),

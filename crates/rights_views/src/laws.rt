@@ -6,11 +6,13 @@ ghost use Rattle.ertp_mint.specs.BrandSupply.{new_supply};
 ghost use Rattle.ertp_mint.specs.Stocks.{empty_amount};
 ghost use Rattle.proposals.specs.Rows.{AreApart};
 ghost use Rattle.proposals.specs.declared.offers.Proposal.{Proposal};
+ghost use Rattle.right_steps.specs.Flows.{Part, gathered};
 ghost use Rattle.right_steps.specs.Lists.{Lists, with_closed_seat, with_new_brand};
 ghost use Rattle.right_steps.specs.Lists.{with_new_purse, with_new_seat};
 ghost use Rattle.rights_model.specs.declared.Holder.TheVariants.{Outside, Payment};
 ghost use Rattle.rights_model.specs.declared.Movement.{Movement};
 ghost use Rattle.rights_model.specs.Table.{movement};
+ghost use Rattle.rights_views.specs.Combinations.{CanTakeAll, combined_by_hand};
 ghost use Rattle.rights_views.specs.Views.{CanAllByHand, CanByHand, all_by_hand, by_hand};
 ghost use Rattle.rights_views.specs.Views.{rights_of, seats_of};
 ghost use Rattle.world_state.specs.Rights.{moved_together, slots_at, with_payment, with_purse};
@@ -63,4 +65,14 @@ pub fn a_closed_seat_that_is_paid_out_is_left()
         let out = payout_moves n (length s.payments) slots in
         AreApart slots
         → rights_of (all_by_hand (with_closed_seat s n) out) ≡ rights_left (rights_of s) n }
+{}
+
+/// Parts that are all taken to the hand, and put from there as one value to the next payment, make
+/// what the movements from each part's holder to that payment make together.
+pub fn what_is_combined_moves_together()
+    ensures payment { (s : Lists) (b : ℕ) (part : Part) (parts : List Part)
+        → CanTakeAll s b (part ∷ parts)
+        → rights_of (combined_by_hand s b part parts)
+        ≡ moved_together (rights_of s)
+        (gathered b (Payment (length s.payments)) (part ∷ parts)) }
 {}
