@@ -1,6 +1,6 @@
 -- The movements that a rearrangement is written as (our own order): by the seats' numbers and the order of
 -- their slots, first what each slot loses goes to the hand, then what each gains comes from it.
-use Rattle.std.specs.Prelude.{ℕ, ◌+◌, ◌-◌, nat_le, List, [], ◌∷◌, ◌++◌, length, flat_map, sum_by, if◌then◌else◌}
+use Rattle.std.specs.Prelude.{ℕ, ◌-◌, nat_le, List, [], ◌∷◌, ◌++◌, length, flat_map, sum_by, if◌then◌else◌}
 use Rattle.amount_math.specs.Content.{Content, difference}
 use Rattle.amount_math.specs.Worth.{with_content}
 use Rattle.proposals.specs.Rows.{content_under}

@@ -16,7 +16,7 @@ use Rattle.rearrange.specs.Staged.{staged_plan}
 use Rattle.rearrange.specs.Sums.{count_after, count_before}
 use Rattle.rearrange.specs.Transfers.{gains_of, losses_of, lowered_by, transfers_plan, worked_by}
 use Rattle.refusals.specs.Codes.{limit, not_offer_safe, one_seat, repeated_seat, seat_exited, staged_left_out, wrong_instance}
-use Rattle.refusals.specs.Outcomes.{◌>>=◌, ◌>>◌, need, none_such}
+use Rattle.refusals.specs.Outcomes.{◌>>◌, need, none_such}
 use Rattle.refusals.specs.declared.codes.Refusal.{Refusal}
 use Rattle.refusals.specs.declared.codes.Refusal.TheVariants.{NotConserved}
 use Rattle.refusals.specs.declared.codes.Unkept.{Unkept}
