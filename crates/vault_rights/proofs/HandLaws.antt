@@ -1,7 +1,6 @@
 -- What the hand has after one movement more, and in a draft that was just begun.
 use Rattle.std.proofs.Common.{◌≡◌, ℕ, ◌==◌, cond, List, [], ◌∷◌, length, refl, ap}
 use Rattle.std.proofs.lemmas.List.{reverse-append}
-use Rattle.amount_math.specs.Content.{Content}
 use Rattle.right_steps.specs.Backwards.{from_hand, in_hand, to_hand}
 use Rattle.right_steps.specs.Lists.{Lists}
 use Rattle.rights_model.specs.declared.Movement.{Movement}

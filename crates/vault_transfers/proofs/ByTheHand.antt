@@ -1,5 +1,5 @@
 -- What was taken in the hand can be put or given up, which leave the hand as it was or given up; and both movements together are one of the table.
-use Rattle.std.proofs.Common.{◌≡◌, ℕ, ◌<◌, ◌==◌, Bool, true, false, cond, List, [], ◌∷◌, ◌++◌, length, reverse, refl, sym, ◌∙◌, ap, subst, arith}
+use Rattle.std.proofs.Common.{◌≡◌, ℕ, ◌<◌, ◌==◌, Bool, true, false, cond, List, [], ◌∷◌, ◌++◌, length, refl, sym, ◌∙◌, ap, subst, arith}
 use Rattle.std.specs.Prelude.{is_some, slice_index_or, slice_set}
 use Rattle.std.proofs.lemmas.Bool.{eq-eqb}
 use Rattle.amount_math.specs.Content.{Content, Contains, count-sum, difference, difference-sum, nothing, sum}
@@ -14,8 +14,7 @@ use Rattle.right_steps.specs.Seats.{kept_seat_at}
 use Rattle.right_steps.proofs.Sound.{at_or_else}
 use Rattle.rights_model.specs.declared.Holder.{Holder}
 use Rattle.rights_model.specs.declared.Holder.TheVariants.{Purse, Payment, Slot, Hand, Outside}
-use Rattle.rights_model.specs.declared.Movement.{Movement}
-use Rattle.rights_model.specs.Table.{Table, moved, movement, table_after}
+use Rattle.rights_model.specs.Table.{Table, moved, movement}
 use Rattle.rights_model.proofs.TableLaws.{table_after-push, through_hand}
 use Rattle.right_steps.specs.Tables.{table_of}
 use Rattle.vault_rights.specs.Drafts.{DraftState, HandGoes, HandKeeps, IsOfBrand, IsValid, MayPut, given_at, given_up_too, hand_now, opened, slotted, table_now}
@@ -90,7 +89,7 @@ module _ (d : DraftState) (from : Holder) (w : Worth) (source : IsSource d.now f
           (λ made. read_set d.given_up b (sum (given_at d b) c) nothing (omega (arith, made, valid.brands)) ∙ ap (λ x. sum x c) (goes.each b made))
           (λ apart made. read_other d.given_up b e (sum (given_at d b) c) nothing apart ∙ goes.each e made)
           (subst (λ (l : List BrandSupply). e < length l) (out_taken d.now from w b source) lt)
-        ∙ sym (hand_taken e);
+          ∙ sym (hand_taken e);
     }
 
   -- what was taken and put: the hand is as it was
