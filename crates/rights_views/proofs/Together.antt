@@ -141,7 +141,7 @@ taken_views s (Slot n keyword) b w can = slot_changed s n keyword (λ had. less 
 taken_views s Hand b w can = absurd can
 taken_views s Outside b w can = refl
 
-given_views : (s : Lists) (h : Holder) (b : ℕ) (w : Worth) → MayPut s h → rights_of (put_to s h (amount_of b w)) ≡ given (rights_of s) h b w
+pub given_views : (s : Lists) (h : Holder) (b : ℕ) (w : Worth) → MayPut s h → rights_of (put_to s h (amount_of b w)) ≡ given (rights_of s) h b w
 given_views s (Purse n) b w may = refl
 given_views s (Payment n) b w may = ap (λ t. with_papers (rights_of s) (cond t (s.payments ++ live_paper (amount_of b w) ∷ []) (slice_set s.payments n (paper_paid s.payments n (amount_of b w))))) (sym (eq-eqb n (length s.payments) may))
 given_views s (Slot n keyword) b w may = by (is_some (amount_under keyword (kept_seat_at s.seats n).slots)) refl

@@ -1,20 +1,26 @@
 //! The laws. The bodies are empty: what they state is proved of the definitions.
 
 ghost use Rattle.std.specs.Prelude.{◌≡◌, ◌<◌, ◌++◌, ℕ, List, [], ◌∷◌, length};
+ghost use Rattle.amount_math.specs.Worth.{Worth};
 ghost use Rattle.amount_math.specs.declared.Kind.{Kind as AmountKind};
 ghost use Rattle.ertp_mint.specs.BrandSupply.{new_supply};
 ghost use Rattle.ertp_mint.specs.Stocks.{empty_amount};
 ghost use Rattle.proposals.specs.Rows.{AreApart};
 ghost use Rattle.proposals.specs.declared.offers.Proposal.{Proposal};
 ghost use Rattle.right_steps.specs.Flows.{Part, gathered};
+ghost use Rattle.right_steps.specs.Lists.{CanTake, amount_of, taken};
 ghost use Rattle.right_steps.specs.Lists.{Lists, with_closed_seat, with_new_brand};
 ghost use Rattle.right_steps.specs.Lists.{with_new_purse, with_new_seat};
+ghost use Rattle.rights_model.specs.declared.Holder.{Holder};
 ghost use Rattle.rights_model.specs.declared.Holder.TheVariants.{Outside, Payment};
 ghost use Rattle.rights_model.specs.declared.Movement.{Movement};
 ghost use Rattle.rights_model.specs.Table.{movement};
 ghost use Rattle.rights_views.specs.Combinations.{CanTakeAll, combined_by_hand};
 ghost use Rattle.rights_views.specs.Views.{CanAllByHand, CanByHand, all_by_hand, by_hand};
+ghost use Rattle.rights_views.specs.Views.{MayPut, put_to};
 ghost use Rattle.rights_views.specs.Views.{rights_of, seats_of};
+ghost use Rattle.world_state.specs.Rights as world;
+ghost use Rattle.world_state.specs.Rights.{spent_from};
 ghost use Rattle.world_state.specs.Rights.{moved_together, slots_at, with_payment, with_purse};
 ghost use Rattle.world_state.specs.Rights.{with_slots, with_supply};
 ghost use Rattle.world_state.specs.Worlds.{empty_slots, new_seat, payout_moves, rights_left};
@@ -45,6 +51,16 @@ pub fn what_is_closed_is_left()
     ensures seats { (s : Lists) (n : ℕ) → n < length s.seats
         → seats_of (with_closed_seat s n)
         ≡ seats_left (seats_of s) n (slots_at (rights_of s).slots n) }
+{}
+
+/// What a draft takes of a holder is taken in the world, and a payment is then spent; what it puts
+/// to a holder is given, and a slot that wasn't there stands last, as in `rows_more`.
+pub fn what_is_taken_and_put_is_so_in_the_world()
+    ensures take { (s : Lists) (from : Holder) (b : ℕ) (w : Worth) → CanTake s from b w
+        → let r = world.taken (rights_of s) from b w in
+        rights_of (taken s from b w) ≡ record r { payments = spent_from from r.payments } }
+    ensures put { (s : Lists) (to : Holder) (b : ℕ) (w : Worth) → MayPut s to
+        → rights_of (put_to s to (amount_of b w)) ≡ world.given (rights_of s) to b w }
 {}
 
 /// Movements that a draft makes by way of the hand, one after another, make of the world's rights
