@@ -195,7 +195,8 @@ impl PromiseTable {
     }
 
     /// An instance sends a call (eventual send): the promise of its answer, which is the next, is made, and the call
-    /// waits in the queue. What an error leaves can be worked back.
+    /// waits in the queue. Where no promise can be made (Limit), all is as before; for want of memory
+    /// what is left can be worked back.
     pub fn send(&mut self, call: Send, queue: &mut TurnQueue<Delivery>) -> Result<(), MakeFault>
         requires { call.promise ≡ made_in self.old }
         ensures promises { OnOk result (book self.new ≡ with_promise None (book self.old)) }
@@ -203,6 +204,8 @@ impl PromiseTable {
             ≡ waiting_of queue.old.now ++ send (send_view call) ∷ []) }
         ensures limit { IfErr result
             (λ fault. (fault ≡ make_faults.Limit) ↔ (made_in self.old ≡ most_made)) }
+        ensures refused { result ≡ Err make_faults.Limit → turn_of self.new ≡ turn_of self.old }
+        ensures queue_refused { result ≡ Err make_faults.Limit → queue.new ≡ queue.old }
         ensures start { start_of self.new ≡ start_of self.old }
         ensures queue_start { queue.new.start ≡ queue.old.start }
     {
