@@ -82,25 +82,25 @@ pub save_is : IsGoodCall kinds.Zcf (codes "saveIssuer") save_issuer
 unfolding save_issuer
 save_is w i n args can =
     after_check _ _ _ (after_step _ _ _ (λ brand at. after_step _ _ _ (λ keyword is. after_known _ _ _ (λ free. after_known _ _ _ (λ more.
-      let made : brand < length w.brands = issuer_made w i 1 args brand (can.arguments 1) at in
-      record {
-        good = (
-          record {
-            made = omega (arith, can.hosted, can.target);
-            issuer_is = record { made = made; named = keyword_given 2 args keyword is };
-            free = free_there w n keyword free;
-            few = more_there w n more;
-          },
-          tt,
-        );
-        known = record_formed _ i _ brand (record { made = made; kind_is = refl });
-        leaves = refl;
-        opens = refl;
-        licensed = tt;
-        invites = tt;
-        mints = λ b. omega arith;
-        calls = omega arith;
-      })))))
+    let made : brand < length w.brands = issuer_made w i 1 args brand (can.arguments 1) at in
+    record {
+      good = (
+        record {
+          made = omega (arith, can.hosted, can.target);
+          issuer_is = record { made = made; named = keyword_given 2 args keyword is };
+          free = free_there w n keyword free;
+          few = more_there w n more;
+        },
+        tt,
+      );
+      known = record_formed _ i _ brand (record { made = made; kind_is = refl });
+      leaves = refl;
+      opens = refl;
+      licensed = tt;
+      invites = tt;
+      mints = λ b. omega arith;
+      calls = omega arith;
+    })))))
 
 -- ---- what is asked
 
