@@ -2,7 +2,6 @@
 use Rattle.std.proofs.Common.{◌≡◌, ℕ, List, [], ◌∷◌, Option, Some, None, length, ◌++◌, refl, ap, ◌∙◌}
 use Rattle.instance_store.specs.SeatPromises.{pair_at}
 use Rattle.promise_store.specs.States.{SettlementView, ok}
-use Rattle.promise_store.specs.declared.links.Following.{Following}
 use Rattle.turn_records.specs.Deliveries.{Delivery}
 use Rattle.turn_records.specs.Events.{Event}
 use Rattle.turn_rows.specs.Causes.{Cause}
