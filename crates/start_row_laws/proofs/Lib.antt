@@ -1,0 +1,4 @@
+pub mod Records
+pub mod Issuers
+pub mod Terms
+pub mod Zoe
