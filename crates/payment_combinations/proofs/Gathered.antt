@@ -16,8 +16,7 @@ use Rattle.right_steps.specs.Tables.{content_held}
 use Rattle.rights_model.specs.declared.Holder.TheVariants.{Payment, Hand}
 use Rattle.rights_model.specs.Table.{movement, table_after}
 use Rattle.vault_rights.specs.Drafts.{DraftState, HandKeeps, IsOfBrand, IsValid, after, given_at, given_up_too, table_now}
-use Rattle.vault_transfers.specs.Transfers.{HandHoldsGiven}
-use Rattle.draft_movements.specs.Together.{HandStays, IsListed, after_all, only}
+use Rattle.draft_movements.specs.Together.{HandHoldsGiven, HandStays, IsListed, after_all, only}
 use Rattle.draft_movements.proofs.Hands.{flipped, keeps_first, keeps_more, less_by, listed_after, listed_given_up, more_and_more, more_given_up, more_put, more_taken, only_here, stays, together}
 use Rattle.draft_movements.proofs.Tables.{after_append}
 use Rattle.payment_parts.proofs.Combined.{combined_now, now_gathered, written_table}

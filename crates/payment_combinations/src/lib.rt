@@ -6,7 +6,7 @@
 
 ghost use Rattle.std.specs.Prelude.{◌≡◌, ◌+◌, ◌<◌, false, length, IfOk, OnErr, OnOk};
 ghost use Rattle.amount_math.specs.Worth.{IsValue};
-ghost use Rattle.draft_movements.specs.Together.{HandStays, IsListed, after_all};
+ghost use Rattle.draft_movements.specs.Together.{HandHoldsGiven, HandStays, IsListed, after_all};
 ghost use Rattle.ertp_mint.specs.Stocks.{most_made};
 ghost use Rattle.payment_parts.specs.Combinations.{AreLive, AreOnce, brand_at, brand_of_all, combination_done, combination_written, combined_lists, parts_at, worth_at, worth_of_all};
 ghost use Rattle.payment_combinations.specs.Gathering.{CanAdd, CanGather, CanSpend, IsWithout, spent};
@@ -16,7 +16,6 @@ ghost use Rattle.rights_model.specs.declared.Holder.TheVariants.{Hand, Payment};
 ghost use Rattle.rights_model.specs.Table.{movement, table_after};
 ghost use Rattle.vault_rights.specs.Drafts.{DraftState, HandKeeps, after, table_now};
 ghost use Rattle.vault_stores.specs.Asked.{IsPaymentOf};
-ghost use Rattle.vault_transfers.specs.Transfers.{HandHoldsGiven};
 
 use amount_math::{TakeFault, Value};
 use ertp_mint::Parcel;
