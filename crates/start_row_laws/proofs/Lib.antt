@@ -1,4 +1,0 @@
-pub mod Records
-pub mod Issuers
-pub mod Terms
-pub mod Zoe
