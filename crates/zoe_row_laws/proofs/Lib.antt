@@ -1,0 +1,4 @@
+pub mod Fields
+pub mod Amounts
+pub mod Seats
+pub mod Zoe
