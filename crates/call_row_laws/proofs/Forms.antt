@@ -78,7 +78,7 @@ module _ (F : NodeFact) (lower : (n : ℕ) (t : Tree) → F (n + 1) t → F n t)
     raised_fields n trees.no_fields h = tt
     raised_fields n (trees.field name t fs) h = (raised n t h.0, raised_fields n fs h.1)
 
-got : (F : NodeFact) (n : ℕ) (name : List ℕ) (fs : Fields) (t : Tree) → EachField F n fs → trees.get name fs ≡ Some t → EachNode F n t
+pub got : (F : NodeFact) (n : ℕ) (name : List ℕ) (fs : Fields) (t : Tree) → EachField F n fs → trees.get name fs ≡ Some t → EachNode F n t
 got F n name trees.no_fields t all is = absurd (cc)
 got F n name (trees.field next u fs) t all is = by (bytes_eq next name) (got F n name fs t all.1) is
   where

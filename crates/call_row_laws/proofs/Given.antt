@@ -59,7 +59,7 @@ data_names kind (array ts) n e = absurd (cc)
 data_names kind (fields fs) n e = absurd (cc)
 data_names kind (function name) n e = absurd (cc)
 
-read_named : (args : List Tree) (k n : ℕ) → SomeObject (IsObject kinds.Payment n) (slice_index_or args k null) → NamesPayment args n
+pub read_named : (args : List Tree) (k n : ℕ) → SomeObject (IsObject kinds.Payment n) (slice_index_or args k null) → NamesPayment args n
 read_named [] k n some = absurd some
 read_named (t ∷ ts) zero n some = inl some
 read_named (t ∷ ts) (suc k) n some = inr (read_named ts k n some)
@@ -78,7 +78,7 @@ known_payment : (w : State) (i : ℕ) (k : ObjKind) (n : ℕ) → is_kind kinds.
 known_payment w i kinds.Payment n is made = made
 known_payment w i _ n is made = absurd (false≢true is)
 
-payment_below : (w : State) (h : Option ℕ) (o : Obj) → is_kind kinds.Payment o.kind ≡ true → ObjectKnown h w o → o.number < length w.rights.payments
+pub payment_below : (w : State) (h : Option ℕ) (o : Obj) → is_kind kinds.Payment o.kind ≡ true → ObjectKnown h w o → o.number < length w.rights.payments
 payment_below w None o is known = made_payment w o.kind o.number is known
 payment_below w (Some i) o is known = known_payment w i o.kind o.number is known
 

@@ -4,3 +4,13 @@ pub mod Sums
 pub mod Given
 pub mod Moving
 pub mod Next
+pub mod Fields
+pub mod Amounts
+pub mod Shown
+pub mod SlotLists
+pub mod Spending
+pub mod SlotMoves
+pub mod Records
+pub mod RowsRead
+pub mod Rules
+pub mod PaidRows

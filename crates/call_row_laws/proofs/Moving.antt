@@ -24,7 +24,7 @@ use Rattle.call_rows.specs.Words.{one_move}
 
 -- ---- the next payment
 
-next_takes : (r : Rights) (b : ℕ) (v : Worth) → IsValue v.kind v.content → PaymentTakes r (length r.payments) b v
+pub next_takes : (r : Rights) (b : ℕ) (v : Worth) → IsValue v.kind v.content → PaymentTakes r (length r.payments) b v
 next_takes r b v is = subst (λ t. IsNextOr t r (length r.payments) b v) (sym (eq-eqb (length r.payments) (length r.payments) refl)) is
 
 pub paid_next : (ps : List Paper) (a : Amount) → length (paid ps (length ps) a) ≡ length ps + 1
@@ -43,10 +43,10 @@ pub record Holds (ps : List Paper) (p b : ℕ) (v : Worth) : Type 0 where
   pub brand : (paper_at ps p).brand ≡ b
   pub held : (paper_at ps p).held ≡ Some v
 
-contains_itself : (c : Content) → Contains c c
+pub contains_itself : (c : Content) → Contains c c
 contains_itself c = record { each = λ k. omega arith }
 
-emptied_paper : (ps : List Paper) (p : ℕ) (v : Worth) → p < length ps → (paper_at ps p).held ≡ Some v → IfSome (paper_at (slice_set ps p (paper_less (paper_at ps p) v.content)) p).held (λ (x : Worth). (k : List ℕ) → count x.content k ≡ 0)
+pub emptied_paper : (ps : List Paper) (p : ℕ) (v : Worth) → p < length ps → (paper_at ps p).held ≡ Some v → IfSome (paper_at (slice_set ps p (paper_less (paper_at ps p) v.content)) p).held (λ (x : Worth). (k : List ℕ) → count x.content k ≡ 0)
 emptied_paper ps p v made held =
     subst (λ (x : Paper). IfSome x.held (λ (y : Worth). (k : List ℕ) → count y.content k ≡ 0)) (sym (read_set ps p (paper_less (paper_at ps p) v.content) (spent_paper 0) made))
     (subst (λ (o : Option Worth). IfSome (option_map (λ (x : Worth). record { kind = x.kind; content = difference x.content v.content }) o) (λ (y : Worth). (k : List ℕ) → count y.content k ≡ 0)) (sym held)
@@ -77,7 +77,7 @@ module _ (w : State) (good : IsGoodWorld w) where
   pub held_brand : (p b : ℕ) (v : Worth) → Holds w.rights.payments p b v → b < length w.rights.out
   held_brand p b v is = subst (λ e. e < length w.rights.out) is.brand (paper_is p is.made).made
 
-  is_out : (p b : ℕ) (v : Worth) → Holds w.rights.payments p b v → Contains (supply_at w.rights.out b).outstanding.content v.content
+  pub is_out : (p b : ℕ) (v : Worth) → Holds w.rights.payments p b v → Contains (supply_at w.rights.out b).outstanding.content v.content
   is_out p b v is = record {
     each = λ k. omega (
       arith,

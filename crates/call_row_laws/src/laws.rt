@@ -1,21 +1,40 @@
 //! The laws. The bodies are empty: what they state is proved of the definitions.
 
-ghost use Rattle.std.specs.Prelude.{◌≡◌, ℕ, List, [], Option, Result, IfOk};
-ghost use Rattle.call_rows.specs.Obligations.{IsGoodOutcome, IsRow};
+ghost use Rattle.std.specs.Prelude.{◌≡◌, ◌+◌, ℕ, List, [], Option, Result, IfOk};
+ghost use Rattle.call_rows.specs.Obligations.{IsGoodOutcome, IsRow, most_issued_by};
 ghost use Rattle.call_rows.specs.Traces.{departures_by, openings_by};
 ghost use Rattle.jessie_tree.specs.Tree.{Tree};
 ghost use Rattle.jessie_tree.specs.declared.data.Obj.{Obj};
 ghost use Rattle.refusals.specs.Outcomes.{reading};
 ghost use Rattle.refusals.specs.declared.codes.Refusal.{Refusal};
+ghost use Rattle.turn_records.specs.Deliveries.{Delivery};
 ghost use Rattle.world_state.specs.Good.{IsGoodWorld};
 ghost use Rattle.world_state.specs.Known.{IsFormed};
-ghost use Rattle.world_state.specs.Worlds.{Effect, State, after_all};
+ghost use Rattle.world_state.specs.Rights.{IsRoomy};
+ghost use Rattle.world_state.specs.Worlds.{Effect, State, after_all, in_front};
 
 /// What a row has its effects do keeps the world good.
 pub fn rows_keep_the_world_good()
     ensures kept { (w : State) (caller : Option ℕ) (o : Obj) (m : List ℕ) (args : List Tree)
         (answer : Tree) (effects : List Effect) →
         IsRow w caller o m args answer effects → IsGoodWorld w → IsGoodWorld (after_all w effects) }
+{}
+
+/// With the delivery that the turn is about in front it stays good too: no row settles what the delivery settles.
+pub fn rows_keep_the_turns_delivery()
+    ensures kept { (w : State) (d : Delivery) (caller : Option ℕ) (o : Obj) (m : List ℕ)
+        (args : List Tree) (answer : Tree) (effects : List Effect) →
+        IsRow w caller o m args answer effects → IsGoodWorld (in_front d w) →
+        IsGoodWorld (in_front d (after_all w effects)) }
+{}
+
+/// A row issues no more than its call may, so what further calls may issue can still be issued.
+pub fn rows_leave_room()
+    ensures room { (w : State) (caller : Option ℕ) (o : Obj) (m : List ℕ) (args : List Tree)
+        (answer : Tree) (effects : List Effect) (n : ℕ) →
+        IsRow w caller o m args answer effects →
+        IsRoomy w.rights.out (most_issued_by caller args + n) →
+        IsRoomy (after_all w effects).rights.out n }
 {}
 
 /// A row that only reads owes an answer that its caller may hold, and nothing else.

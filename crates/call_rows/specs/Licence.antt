@@ -1,9 +1,8 @@
--- Where the movements of a call may take from and go to, by who calls, what is called, and what the arguments
+-- Where the movements of a call may take from and go to, by who calls, of what which method, and what the arguments
 -- name. Who calls is none for a party's line and for a call that was sent, or the instance whose function calls.
-use Rattle.std.specs.Prelude.{◌≡◌, ◌⊎◌, ℕ, ◌≤◌, List, [], ◌∷◌, length, Option, Some, None}
+use Rattle.std.specs.Prelude.{◌≡◌, ◌⊎◌, ℕ, ◌≤◌, List, [], ◌∷◌, length, Option, Some, None, codes, true}
 use Rattle.std.specs.List.{AllByRecursion}
 use Rattle.call_arguments.specs.Arguments.{is_kind}
-use Rattle.invitations.specs.Details.{DetailsView}
 use Rattle.jessie_tree.specs.Tree.{Tree, Items, Fields, array, fields, object, no_items, item, no_fields, field}
 use Rattle.jessie_tree.specs.declared.data.Obj.{Obj}
 use Rattle.jessie_tree.specs.declared.data.ObjKind.{ObjKind}
@@ -11,7 +10,6 @@ use Rattle.jessie_tree.specs.declared.data.ObjKind.TheVariants as kinds
 use Rattle.rights_model.specs.declared.Holder.{Holder}
 use Rattle.rights_model.specs.declared.Holder.TheVariants.{Purse, Payment, Slot, Hand, Outside}
 use Rattle.rights_model.specs.declared.Movement.{Movement}
-use Rattle.std.specs.Prelude.{true}
 use Rattle.world_state.specs.Known.{IsMadeBy, IsSeatOf}
 use Rattle.world_state.specs.Worlds.{State, of_instance}
 
@@ -41,51 +39,53 @@ abbrev pub NamesPayment : List Tree → ℕ → Type 0
 NamesPayment [] n = ⊥
 NamesPayment (t ∷ ts) n = SomeObject (IsObject kinds.Payment n) t ⊎ NamesPayment ts n
 
+-- the call is of a method of this object
+pub record IsCall (kind : ObjKind) (n : ℕ) (method : List ℕ) (o : Obj) (m : List ℕ) : Type 0 where
+  pub target : IsObject kind n o
+  pub method_is : m ≡ method
+
 -- ---- calls from outside instances
 
--- a movement takes from the purse that is called, from a payment that the arguments name, or from outside
--- where the mint of its brand is called
-abbrev pub ServiceTakes : Obj → List Tree → ℕ → Holder → Type 0
-ServiceTakes o args b (Purse n) = IsObject kinds.Purse n o
-ServiceTakes o args b (Payment n) = NamesPayment args n
-ServiceTakes o args b Outside = IsObject kinds.Mint b o
-ServiceTakes o args b (Slot s k) = ⊥
-ServiceTakes o args b Hand = ⊥
+-- a movement takes from the purse of which is withdrawn, from a payment that the arguments name, or from outside
+-- where the mint of its brand is asked for a payment
+abbrev pub ServiceTakes : Obj → List ℕ → List Tree → ℕ → Holder → Type 0
+ServiceTakes o m args b (Purse n) = IsCall kinds.Purse n (codes "withdraw") o m
+ServiceTakes o m args b (Payment n) = NamesPayment args n
+ServiceTakes o m args b Outside = IsCall kinds.Mint b (codes "mintPayment") o m
+ServiceTakes o m args b (Slot s k) = ⊥
+ServiceTakes o m args b Hand = ⊥
 
 -- ---- calls of an instance's functions
 
--- from a slot of the instance, from the hand, from a payment that the arguments name, or from outside in a
--- brand that the instance made
-abbrev pub ContractTakes : State → ℕ → List Tree → ℕ → Holder → Type 0
-ContractTakes w i args b (Slot s k) = IsSeatOf w.seats i s
-ContractTakes w i args b Hand = Unit {0}
-ContractTakes w i args b (Payment n) = NamesPayment args n
-ContractTakes w i args b Outside = IsMadeBy w.makers (of_instance i) b
-ContractTakes w i args b (Purse n) = ⊥
+-- from a slot of the instance, from the hand, from a payment that the arguments name, or from outside where the
+-- mint of the brand, which the instance made, is asked for gains
+abbrev pub ContractTakes : State → ℕ → Obj → List ℕ → List Tree → ℕ → Holder → Type 0
+ContractTakes w i o m args b (Slot s k) = IsSeatOf w.seats i s
+ContractTakes w i o m args b Hand = Unit {0}
+ContractTakes w i o m args b (Payment n) = NamesPayment args n
+ContractTakes w i o m args b Outside =
+    IsMadeBy w.makers (of_instance i) b × IsCall kinds.Zmint b (codes "mintGains") o m
+ContractTakes w i o m args b (Purse n) = ⊥
 
--- to a slot of the instance, to the hand, to a payment that the call makes, or to outside where the mint of
--- the brand is called, which the instance made
-abbrev pub ContractGives : State → ℕ → Obj → ℕ → Holder → Type 0
-ContractGives w i o b (Slot s k) = IsSeatOf w.seats i s
-ContractGives w i o b Hand = Unit {0}
-ContractGives w i o b (Payment n) = length w.rights.payments ≤ n
-ContractGives w i o b Outside = IsMadeBy w.makers (of_instance i) b × IsObject kinds.Zmint b o
-ContractGives w i o b (Purse n) = ⊥
+-- to a slot of the instance, to the hand, to a payment that the call makes, or to outside where losses are burned
+-- on the mint of the brand, which the instance made
+abbrev pub ContractGives : State → ℕ → Obj → List ℕ → ℕ → Holder → Type 0
+ContractGives w i o m b (Slot s k) = IsSeatOf w.seats i s
+ContractGives w i o m b Hand = Unit {0}
+ContractGives w i o m b (Payment n) = length w.rights.payments ≤ n
+ContractGives w i o m b Outside =
+    IsMadeBy w.makers (of_instance i) b × IsCall kinds.Zmint b (codes "burnLosses") o m
+ContractGives w i o m b (Purse n) = ⊥
 
-pub record IsContractMove (w : State) (i : ℕ) (o : Obj) (args : List Tree) (m : Movement) : Type 0 where
-  pub takes : ContractTakes w i args m.brand m.from
-  pub gives : ContractGives w i o m.brand m.to
+pub record IsContractMove (w : State) (i : ℕ) (o : Obj) (m : List ℕ) (args : List Tree) (move : Movement) : Type 0 where
+  pub takes : ContractTakes w i o m args move.brand move.from
+  pub gives : ContractGives w i o m move.brand move.to
 
 -- ---- all movements of a call
 
-abbrev pub IsLicensed : State → Option ℕ → Obj → List Tree → Movement → Type 0
-IsLicensed w None o args m = ServiceTakes o args m.brand m.from
-IsLicensed w (Some i) o args m = IsContractMove w i o args m
+abbrev pub IsLicensed : State → Option ℕ → Obj → List ℕ → List Tree → Movement → Type 0
+IsLicensed w None o m args move = ServiceTakes o m args move.brand move.from
+IsLicensed w (Some i) o m args move = IsContractMove w i o m args move
 
-abbrev pub AreLicensed : State → Option ℕ → Obj → List Tree → List Movement → Type 0
-AreLicensed w caller o args ms = AllByRecursion (IsLicensed w caller o args) ms
-
--- only an instance makes invitations, each to itself
-abbrev pub MayInvite : Option ℕ → DetailsView → Type 0
-MayInvite None d = ⊥
-MayInvite (Some i) d = d.instance ≡ i
+abbrev pub AreLicensed : State → Option ℕ → Obj → List ℕ → List Tree → List Movement → Type 0
+AreLicensed w caller o m args ms = AllByRecursion (IsLicensed w caller o m args) ms

@@ -1,19 +1,15 @@
 -- What effects leave behind that others see: the seats that are left and opened, the movements that are
--- written, the invitations that are made, what is minted, and the functions that are to be called. And which
--- seats a call leaves and opens, by its target and its method alone.
-use Rattle.std.specs.Prelude.{ℕ, suc, ◌+◌, ◌==◌, ◌&&◌, ◌||◌, if◌then◌else◌, is_none, List, [], ◌∷◌, ◌++◌, map, codes}
+-- written, and the functions that are to be called. And which seats a call leaves and opens, by its target and its
+-- method alone.
+use Rattle.std.specs.Prelude.{ℕ, suc, ◌==◌, ◌&&◌, ◌||◌, if◌then◌else◌, is_none, List, [], ◌∷◌, ◌++◌, map, codes}
 use Rattle.std.specs.Str.{bytes_eq}
-use Rattle.amount_math.specs.Counted.{counted}
-use Rattle.invitations.specs.Details.{DetailsView}
 use Rattle.jessie_tree.specs.declared.data.Obj.{Obj}
 use Rattle.jessie_tree.specs.declared.data.ObjKind.{ObjKind}
 use Rattle.jessie_tree.specs.declared.data.ObjKind.TheVariants as kinds
-use Rattle.rights_model.specs.declared.Holder.{Holder}
-use Rattle.rights_model.specs.declared.Holder.TheVariants.{Purse, Payment, Slot, Hand, Outside}
 use Rattle.rights_model.specs.declared.Movement.{Movement}
 use Rattle.turn_rows.specs.Causes as causes
 use Rattle.turn_rows.specs.Causes.{Cause}
-use Rattle.world_state.specs.Worlds.{Effect, Seat, State, burn_and_escrows, empty_seat, exit, invite, moves, offer, send, start, wake, when}
+use Rattle.world_state.specs.Worlds.{Effect, Seat, State, burn_and_escrows, empty_seat, exit, moves, offer, send, start, wake, when}
 
 -- ---- seats that are left
 
@@ -82,26 +78,6 @@ movements_in [] = []
 movements_in (moves ms ∷ es) = ms ++ movements_in es
 movements_in (offer o ∷ es) = burn_and_escrows o ++ movements_in es
 movements_in (_ ∷ es) = movements_in es
-
-abbrev pub invitations_in : List Effect → List DetailsView
-invitations_in [] = []
-invitations_in (invite d ∷ es) = d ∷ invitations_in es
-invitations_in (_ ∷ es) = invitations_in es
-
--- how much comes out of a brand, all elements together
-abbrev pub coming_from : Holder → ℕ → ℕ
-coming_from Outside n = n
-coming_from (Purse p) n = 0
-coming_from (Payment p) n = 0
-coming_from (Slot s k) n = 0
-coming_from Hand n = 0
-
-abbrev pub minted_by : ℕ → Movement → ℕ
-minted_by b m = coming_from m.from (if m.brand == b then counted m.value.content else 0)
-
-abbrev pub minted_in : ℕ → List Movement → ℕ
-minted_in b [] = 0
-minted_in b (m ∷ ms) = minted_by b m + minted_in b ms
 
 -- ---- functions that are to be called because of the effects, notices of promises aside
 

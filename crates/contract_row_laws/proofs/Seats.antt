@@ -19,7 +19,7 @@ none_there : (o : Option (List Row)) → is_none o ≡ true → o ≡ None
 none_there None is = refl
 none_there (Some x) is = cc
 
-open_there : (w : State) (n : ℕ) → is_open w n ≡ Ok tt → IsOpen (seat_of w n)
+pub open_there : (w : State) (n : ℕ) → is_open w n ≡ Ok tt → IsOpen (seat_of w n)
 unfolding is_open
 open_there w n is = none_there (seat_of w n).last (need_holds (is_none (seat_of w n).last) _ tt is)
 
@@ -31,8 +31,8 @@ leave_is w i n args can = after_known _ _ _ (λ stays. record {
   leaves = refl;
   opens = refl;
   licensed = tt;
-  invites = tt;
-  mints = λ b. omega arith;
+  acts = (can.target, tt);
+  issues = omega arith;
   calls = omega arith;
 })
 
@@ -44,8 +44,8 @@ fail_is w i n args can = after_known _ _ _ (λ stays. after_check _ _ _ (record 
   leaves = refl;
   opens = refl;
   licensed = tt;
-  invites = tt;
-  mints = λ b. omega arith;
+  acts = (can.target, tt);
+  issues = omega arith;
   calls = omega arith;
 }))
 
@@ -61,7 +61,7 @@ clear_is w i n args can = after_check _ _ _ (record {
   leaves = refl;
   opens = refl;
   licensed = tt;
-  invites = tt;
-  mints = λ b. omega arith;
+  acts = (can.target, tt);
+  issues = omega arith;
   calls = omega arith;
 })

@@ -1,6 +1,9 @@
 -- Calls of zcf are good rows.
-use Rattle.std.proofs.Common.{◌≡◌, ℕ, List, length, Some, Ok, IfOk, codes, refl, sym, subst, arith}
-use Rattle.std.proofs.lemmas.Option.{same_Some}
+use Rattle.std.proofs.Common.{◌≡◌, ℕ, List, length, Some, Ok, IfOk, codes, refl, sym, ap, arith}
+use Rattle.amount_math.specs.Content.{count-nothing, counts, nothing, one_of}
+use Rattle.amount_math.specs.Counted.{counted, counted-nothing}
+use Rattle.amount_math.specs.Totals.{total-put}
+use Rattle.invitations.specs.Elements.{element}
 use Rattle.call_arguments.specs.Arguments.{arg, function_at}
 use Rattle.data_nodes.specs.Nodes.{EachNode, FunctionIs}
 use Rattle.jessie_tree.specs.Tree.{Tree, array, boolean, fields, function, function_of, null, number, object, text}
@@ -18,25 +21,15 @@ use Rattle.call_row_laws.proofs.Next.{after_next_of, after_next_payment}
 use Rattle.call_row_laws.proofs.Reading.{reads}
 use Rattle.contract_rows.specs.ZcfRows.{get_instance, get_invitation_issuer, get_zoe_service, make_invitation, stop_accepting_offers}
 use Rattle.contract_row_laws.specs.Good.{IsGoodCall, numbered}
+use Rattle.contract_row_laws.proofs.Read.{function_given, of_caller}
 
--- a function that data is has what all its functions have
-function_has : (P : List ℕ → Type 0) (t : Tree) (f : List ℕ) → EachNode (FunctionIs P) 0 t → function_of t ≡ Some f → P f
-function_has P (function g) f all is = subst P (same_Some g f is) all
-function_has P null f all is = absurd (cc)
-function_has P (boolean b) f all is = absurd (cc)
-function_has P (number z) f all is = absurd (cc)
-function_has P (text s) f all is = absurd (cc)
-function_has P (array ts) f all is = absurd (cc)
-function_has P (fields fs) f all is = absurd (cc)
-function_has P (object o) f all is = absurd (cc)
+-- an invitation is one count
+abbrev as_counted : List ℕ → ℕ → ℕ
+as_counted k n = n
 
-function_given : (w : State) (i place : ℕ) (args : List Tree) (f : List ℕ) → IsFormed w (Some i) (arg place args) → function_at place args ≡ Ok f → HasFunction w.tables i f
-unfolding function_at
-function_given w i place args f formed is = function_has (λ g. HasFunction w.tables i g) (arg place args) f formed.functions (wanted_there (function_of (arg place args)) _ f is)
-
--- a zcf is that of the instance that calls
-of_caller : (w : State) (i n : ℕ) (m : List ℕ) (args : List Tree) (row : ℕ → Outcome) → n ≡ i → IsGoodOutcome w (Some i) (numbered kinds.Zcf i) m args (row i) → IsGoodOutcome w (Some i) (numbered kinds.Zcf n) m args (row n)
-of_caller w i n m args row own is = subst (λ k. IsGoodOutcome w (Some i) (numbered kinds.Zcf k) m args (row k)) (sym own) is
+counted_one : (k : List ℕ) → counted (one_of k) ≡ 1
+unfolding one_of
+counted_one k = omega (arith, total-put as_counted counts (λ _. refl) nothing k 1, count-nothing k, counted-nothing)
 
 invited : (w : State) (i n : ℕ) (args : List Tree) → CanCall w (Some i) (numbered kinds.Zcf n) args → IsGoodOutcome w (Some i) (numbered kinds.Zcf i) (codes "makeInvitation") args (make_invitation w i args)
 unfolding make_invitation
@@ -53,8 +46,8 @@ invited w i n args can = after_check _ _ _ (after_step _ _ _ (λ f is. after_ste
   leaves = refl;
   opens = refl;
   licensed = tt;
-  invites = (refl, tt);
-  mints = λ b. omega arith;
+  acts = (record { by = refl; target = record { kind_is = refl; number_is = refl }; method = refl }, tt);
+  issues = omega (arith, counted_one (element (length w.invitations)));
   calls = omega arith;
 })))))
 
@@ -90,7 +83,7 @@ stop_is w i n args can = record {
   leaves = refl;
   opens = refl;
   licensed = tt;
-  invites = tt;
-  mints = λ b. omega arith;
+  acts = (ap Some (sym can.target), tt);
+  issues = omega arith;
   calls = omega arith;
 }

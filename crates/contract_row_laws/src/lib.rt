@@ -1,6 +1,6 @@
-//! Laws of the calls that a contract's functions make of zcf and of their seats: each is a good row. It stands
-//! on the definitions of contract_rows and on the lemmas of call_row_laws. Its one contract: the laws that the
-//! functions of `laws` state.
+//! Laws of a contract's calls of the host: each but two is a good row. It stands on the definitions of trade_rows,
+//! where the table of their methods is, and on the lemmas of call_row_laws. Its one contract: the law that
+//! `laws` states of the whole table.
 #![tactic(auto)]
 
 pub mod laws;

@@ -10,11 +10,11 @@ use Rattle.undo_map.specs.Turns.{Turn, value_at}
 use Rattle.jessie_tree.specs.Tree.{Tree}
 use Rattle.jessie_tree.specs.View.{tree, trees}
 use Rattle.jessie_tree.specs.declared.data.Data.{Data}
-use Rattle.jessie_tree.specs.declared.syntax.Module.{Module}
+use Rattle.jessie_syntax.specs.declared.syntax.Module.{Module}
 use Rattle.brands.specs.declared.issuer_record.Issuer.{Issuer}
 use Rattle.instance_store.specs.Changes.{AreBelow, ChangesView, IsBelow, changes_at_start, changes_now, instance_view, instances_view, numbered, tables_seen}
 use Rattle.instance_store.specs.Tables.{InstanceView, initial_state, instance_at, is_whole, module_at, new_instance, no_instance, started, with_changed}
-use Rattle.jessie_tree.specs.Syntax.{constant_tree}
+use Rattle.jessie_values.specs.Literals.{constant_tree}
 use Rattle.instance_store.specs.Turns.{back_at, instances_of, seen}
 use Rattle.instance_store.specs.declared.Instances.{Instances}
 use Rattle.instance_store.specs.declared.instance.Instance.{Instance}

@@ -5,7 +5,7 @@ use Rattle.std.specs.Option.{option_map_or}
 use Rattle.std.specs.Ordering.{nat_cmp}
 use Rattle.undo_map.specs.Turns.{value_at}
 use Rattle.jessie_tree.specs.View.{tree, trees}
-use Rattle.jessie_tree.specs.declared.syntax.Module.{Module}
+use Rattle.jessie_syntax.specs.declared.syntax.Module.{Module}
 use Rattle.instance_store.specs.Changes.{AreBelow, ChangesView, instance_view, instances_view, tables_seen}
 use Rattle.instance_store.specs.Tables.{InstanceView, changed_at, initial_state, installed, module_at, new_instance, started, with_changed}
 use Rattle.instance_store.specs.Turns.{back_at, kept_at, seen}

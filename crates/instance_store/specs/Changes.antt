@@ -7,7 +7,7 @@ use Rattle.undo_map.specs.Turns.{value_at}
 use Rattle.jessie_tree.specs.View.{tree, trees}
 use Rattle.jessie_tree.specs.declared.data.Data.{Data}
 use Rattle.brands.specs.declared.issuer_record.Issuer.{Issuer}
-use Rattle.jessie_tree.specs.declared.syntax.Module.{Module}
+use Rattle.jessie_syntax.specs.declared.syntax.Module.{Module}
 use Rattle.instance_store.specs.Tables.{InstanceView, Tables}
 use Rattle.instance_store.specs.declared.changes.Changes.{Changes}
 use Rattle.instance_store.specs.declared.instance.Instance.{Instance}

@@ -2,8 +2,8 @@
 use Rattle.std.specs.Prelude.{◌≡◌, ◌↔◌, ℕ, Bool, ◌&&◌, ◌==◌, IsSome, nat_lt, List, [], ◌∷◌, ◌++◌, length, map, Option, None, Some, slice_index_or, slice_set}
 use Rattle.std.specs.List.{list_all}
 use Rattle.jessie_tree.specs.Tree.{Tree, null}
-use Rattle.jessie_tree.specs.Syntax.{constant_tree}
-use Rattle.jessie_tree.specs.declared.syntax.Module.{Module}
+use Rattle.jessie_values.specs.Literals.{constant_tree}
+use Rattle.jessie_syntax.specs.declared.syntax.Module.{Module}
 use Rattle.brands.specs.declared.issuer_record.Issuer.{Issuer}
 use Rattle.brands.specs.IssuerRecords.{brand_under, most_issuers}
 use Rattle.brands.specs.declared.issuer_record.IssuerFault.{IssuerFault}

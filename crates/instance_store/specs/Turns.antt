@@ -1,6 +1,6 @@
 -- What contracts see of installations and instances: those at the turn's start, and those of now.
 use Rattle.std.specs.Prelude.{ℕ, List, [], length, map, take}
-use Rattle.jessie_tree.specs.declared.syntax.Module.{Module}
+use Rattle.jessie_syntax.specs.declared.syntax.Module.{Module}
 use Rattle.instance_store.specs.Tables.{InstanceView, Tables, instance_at, module_at}
 use Rattle.instance_store.specs.Changes.{ChangesView, changes_at_start, changes_now, tables_seen}
 use Rattle.instance_store.specs.declared.instance.Instance.{Instance}

@@ -4,8 +4,9 @@ ghost use Rattle.jessie_tree.specs.View.{trees};
 ghost use Rattle.instance_store.specs.Tables.{initial_state, stopped};
 
 use brands::issuer_record::IssuerRecord;
+use jessie_syntax::syntax::Module;
 use jessie_tree::data::Data;
-use jessie_tree::syntax::Module;
+use jessie_values::literals::constant_data;
 use std::alloc::{AllocError, Global};
 
 /// An instance of an installation, as it was when it was started.
@@ -47,7 +48,7 @@ pub(crate) fn initial_state(alloc: Global, module: &Module) -> Result<Vec<Data>,
 {
     let mut state = Vec::new(alloc);
     for variable in module.variables.as_slice() {
-        state.push(variable.initial.data(alloc)?)?;
+        state.push(constant_data(alloc, &variable.initial)?)?;
     }
     Ok(state)
 }

@@ -22,8 +22,8 @@ pub use crate::instance::Standing;
 use crate::instance::{Instance, initial_state};
 use brands::issuer_record::{IssuerFault, IssuerRecord, MOST_ISSUERS};
 use host_text::keyword::Keyword;
+use jessie_syntax::syntax::Module;
 use jessie_tree::data::Data;
-use jessie_tree::syntax::Module;
 use std::alloc::{AllocError, Global};
 use std::rc::Rc;
 

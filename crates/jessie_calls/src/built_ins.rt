@@ -41,6 +41,7 @@ fn value_or_fault(given: Result<Data, ValueFault>) -> Result<Data, Stop>
 }
 
 /// Calls a function of the language. A missing argument is null, a surplus one is dropped.
+#[inline(never)]
 pub fn call_built_in<P: Powers>(
     alloc: Global,
     powers: &mut P,

@@ -8,6 +8,7 @@ use jessie_machine::stop::{Stop, bad};
 use jessie_values::reasons::Reason;
 
 /// A truth value, or a bad step.
+#[inline(never)]
 pub fn condition_value(given: Result<bool, Reason>) -> Result<bool, Stop>
     ensures { (s : State) → Computes (worked given) s (come (λ b. b) result) s }
 {

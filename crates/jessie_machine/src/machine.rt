@@ -1,8 +1,8 @@
 // Where an evaluation stands, and what is taken off the meter.
-ghost use Rattle.std.specs.Prelude.{◌≡◌, ◌≤◌, ◌+◌, ◌-◌, List, ℕ, length, IsOk, IfOk};
+ghost use Rattle.std.specs.Prelude.{◌≡◌, ◌≤◌, ◌+◌, ◌-◌, List, ℕ, length, IsOk};
 ghost use Rattle.jessie_tree.specs.Tree.{Tree, size, items_size};
 ghost use Rattle.jessie_tree.specs.View.{tree, trees, items_of};
-ghost use Rattle.jessie_semantics.specs.Literals.{literal_tree};
+ghost use Rattle.jessie_values.specs.Literals.{literal_tree};
 ghost use Rattle.jessie_semantics.specs.Play.{reply_size};
 ghost use Rattle.jessie_semantics.specs.Actions.{charge};
 ghost use Rattle.jessie_semantics.specs.Rules.{heard, literal_rule, given_back};
@@ -17,7 +17,8 @@ use host_text::text::Text;
 use jessie_locals::locals::Locals;
 use jessie_syntax::syntax::Literal;
 use jessie_tree::data::{Data, pay, pay_bytes, pay_items};
-use std::alloc::{AllocError, Global};
+use jessie_values::literals::literal_data;
+use std::alloc::Global;
 
 /// The function's own names from the outermost, the state variables that were given a value, by their
 /// places, and what is left of the meter.
@@ -83,6 +84,7 @@ pub fn take_call(machine: &mut Machine, shown: &[Data]) -> Result<(), Stop>
 }
 
 /// Takes the size of the answer, which is a value or is thrown.
+#[inline(never)]
 pub fn settle(machine: &mut Machine, answer: Answer) -> Result<Data, Stop>
     ensures does { (names : List (List ℕ)) (values : List Tree) → Computes (heard (reply_of answer)) (state names values machine.old) (come tree result) (state names values machine.new) }
     ensures left { machine.new.meter ≤ machine.old.meter - reply_size (reply_of answer) }
@@ -96,18 +98,6 @@ pub fn settle(machine: &mut Machine, answer: Answer) -> Result<Data, Stop>
             take_size(machine, &data)?;
             Err(Stop::Throws(Thrown::Data(data)))
         }
-    }
-}
-
-/// The data that a literal stands for.
-pub fn literal_data(alloc: Global, literal: &Literal) -> Result<Data, AllocError>
-    ensures { IfOk result (λ made. tree made ≡ literal_tree literal.now) }
-{
-    match literal {
-        Literal::Number(number) => Ok(Data::Number(*number)),
-        Literal::Text(text) => Ok(Data::Text(text.copy(alloc)?)),
-        Literal::Bool(truth) => Ok(Data::Bool(*truth)),
-        Literal::Null => Ok(Data::Null),
     }
 }
 
@@ -141,6 +131,7 @@ fn take_literal(machine: &mut Machine, literal: &Literal) -> Result<(), Stop>
 }
 
 /// The value of a literal, which is paid before it is made.
+#[inline(never)]
 pub fn read_literal(alloc: Global, machine: &mut Machine, literal: &Literal) -> Result<Data, Stop>
     ensures does { (names : List (List ℕ)) (values : List Tree) → Computes (literal_rule (literal_tree literal.now)) (state names values machine.old) (come tree result) (state names values machine.new) }
     ensures kept { machine.new.meter ≤ machine.old.meter }

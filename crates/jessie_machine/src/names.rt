@@ -34,6 +34,7 @@ fn variable_place(variables: &[Variable], name: &str) -> Option<usize>
 }
 
 /// The first function of the name.
+#[inline(never)]
 pub fn find_function<'a>(functions: &'a [Function], name: &str) -> Option<&'a Function>
     ensures { option_map (λ f. routine f.now) result ≡ find_routine name.now (map routine functions.now) }
 {
@@ -139,6 +140,7 @@ fn pay_local(
 
 /// What the name stands for: the innermost of the function's own, else a state variable's value, else
 /// the function of the name. It is paid before it is copied.
+#[inline(never)]
 pub fn read_name(
     alloc: Global,
     module: &Module,
@@ -189,6 +191,7 @@ fn set_variable(changed: &mut Vec<Option<Data>>, i: usize, data: Data)
 }
 
 /// Gives the innermost of the function's own names, else a state variable, another value.
+#[inline(never)]
 pub fn assign_name(
     module: &Module,
     machine: &mut Machine,
@@ -211,6 +214,7 @@ pub fn assign_name(
 }
 
 /// Puts the value of a field behind the others, under a copy of the name.
+#[inline(never)]
 pub fn bind_name(
     alloc: Global,
     locals: &mut Vec<(Text, Data)>,
@@ -225,6 +229,7 @@ pub fn bind_name(
 }
 
 /// The names with their values: a missing value is null, surplus ones are dropped.
+#[inline(never)]
 pub fn bind_all(
     alloc: Global,
     names: &[Text],

@@ -29,6 +29,7 @@ use jessie_values::steps::{field_at, index_at, list_items};
 use std::alloc::Global;
 
 /// The truth value that it is.
+#[inline(never)]
 pub fn check(data: &Data) -> Result<bool, Stop>
     ensures { (s : State) → Computes (worked (truth (tree «data».now))) s (come (λ b. b) result) s }
 {
@@ -39,6 +40,7 @@ pub fn check(data: &Data) -> Result<bool, Stop>
 }
 
 /// Whether the left side alone decides.
+#[inline(never)]
 pub fn decide(operator: Operator, left: &Data) -> Result<bool, Stop>
     ensures { (s : State) → Computes (worked (skips operator (tree left.now))) s (come (λ b. b) result) s }
 {
@@ -49,6 +51,7 @@ pub fn decide(operator: Operator, left: &Data) -> Result<bool, Stop>
 }
 
 /// What the operator makes of both sides.
+#[inline(never)]
 pub fn apply(alloc: Global, operator: Operator, left: Data, right: &Data) -> Result<Data, Stop>
     ensures { (s : State) → Computes (worked (operate operator (tree left) (tree right.now))) s (come tree result) s }
 {
@@ -59,6 +62,7 @@ pub fn apply(alloc: Global, operator: Operator, left: Data, right: &Data) -> Res
 }
 
 /// What the operator makes of the value behind it.
+#[inline(never)]
 pub fn apply_unary(operator: Unary, data: &Data) -> Result<Data, Stop>
     ensures { (s : State) → Computes (worked (unary operator (tree «data».now))) s (come tree result) s }
 {
@@ -79,6 +83,7 @@ fn read_field(data: Data, name: &str) -> Result<Data, Stop>
 }
 
 /// The step to a field of a record.
+#[inline(never)]
 pub fn run_field(machine: &mut Machine, target: Data, name: &Text) -> Result<Data, Stop>
     ensures does { (names : List (List ℕ)) (values : List Tree) → Computes (field_rule name.now (tree target)) (state names values machine.old) (come tree result) (state names values machine.new) }
     ensures kept { machine.new.meter ≤ machine.old.meter }
@@ -88,6 +93,7 @@ pub fn run_field(machine: &mut Machine, target: Data, name: &Text) -> Result<Dat
 }
 
 /// The part at an index.
+#[inline(never)]
 pub fn read_index(data: Data, index: &Data) -> Result<Data, Stop>
     ensures { (s : State) → Computes (worked (index_at (tree «data») (tree index.now))) s (come tree result) s }
 {
@@ -98,6 +104,7 @@ pub fn read_index(data: Data, index: &Data) -> Result<Data, Stop>
 }
 
 /// The parts of an array.
+#[inline(never)]
 pub fn parts(data: Data) -> Result<Vec<Data>, Stop>
     ensures { (s : State) → Computes (worked (list_items (tree «data»))) s (come all_seen result) s }
 {
@@ -108,6 +115,7 @@ pub fn parts(data: Data) -> Result<Vec<Data>, Stop>
 }
 
 /// The array of these parts.
+#[inline(never)]
 pub fn make_array(items: Vec<Data>) -> Result<Data, Stop>
     ensures { (s : State) → Computes (worked (made_array (trees items.items))) s (come tree result) s }
 {
@@ -118,6 +126,7 @@ pub fn make_array(items: Vec<Data>) -> Result<Data, Stop>
 }
 
 /// The record of these fields, in the text's order.
+#[inline(never)]
 pub fn make_record(alloc: Global, fields: Vec<(Text, Data)>) -> Result<Data, Stop>
     ensures { (s : State) → Computes (worked (made_record (named_trees «fields».items))) s (come tree result) s }
 {
@@ -143,6 +152,7 @@ fn amount_stop(alloc: Global, fault: &AmountFault) -> Stop
 fn let_go<T: Drop>(_value: T) {}
 
 /// What a function of AmountMath answers.
+#[inline(never)]
 pub fn call_amounts(alloc: Global, name: &Text, args: &[Data]) -> Result<Data, Stop>
     ensures { (s : State) → Computes (counted (amount_call name.now (trees args.now))) s (come tree result) s }
 {

@@ -15,6 +15,7 @@ use jessie_tree::data::Data;
 use jessie_values::reasons::Reason;
 
 /// Calls a method of an object of the host.
+#[inline(never)]
 pub fn call_method<P: Powers>(
     powers: &mut P,
     machine: &mut Machine,
@@ -35,6 +36,7 @@ pub fn call_method<P: Powers>(
 }
 
 /// Sends an object of the host a method's call.
+#[inline(never)]
 pub fn send_method<P: Powers>(
     powers: &mut P,
     machine: &mut Machine,

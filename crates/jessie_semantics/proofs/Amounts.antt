@@ -29,6 +29,7 @@ use Rattle.amount_calls.specs.declared.functions.AmountFunction.{AmountFunction}
 use Rattle.amount_calls.specs.declared.functions.AmountFunction.TheVariants as f
 use Rattle.jessie_semantics.specs.Keeping.{Known, Within, ItemsWithin, AllHave}
 use Rattle.jessie_semantics.specs.Form.{InForm}
+use Rattle.jessie_semantics.specs.Naming.{FieldNamesAre, HasFieldNames, IsFieldName, ItemNamesAre, NamesAre}
 use Rattle.jessie_semantics.proofs.Safe.{ResultHas, AmountHas}
 
 abbrev Any : {A : Type 0} → A → Type 0
@@ -462,4 +463,89 @@ amounts_in_form = amounts_have InForm (record {
   values = λ w. within_form 2 _ (omega arith) (value_form w);
   amount_trees = λ n w h. amount_form n w;
   refusals = refusal_form;
+})
+
+-- ---- names
+
+abbrev NamedItems : List Tree → Type 0
+NamedItems vs = ItemNamesAre IsFieldName (items_of vs)
+
+keys_named : (es : List (List ℕ × ℕ)) → NamedItems (map key_tree es)
+keys_named [] = tt
+keys_named (e ∷ es) = (tt, keys_named es)
+
+counted_named : (es : List (List ℕ × ℕ)) → NamedItems (map counted_tree es)
+counted_named [] = tt
+counted_named (e ∷ es) = ((tt, (tt, tt)), counted_named es)
+
+content_named : (kind : Kind) (c : Content) → HasFieldNames (content_tree kind c)
+content_named Nat c = tt
+content_named Set c = keys_named (entries c)
+content_named Bag c = counted_named (entries c)
+
+value_named : (w : Worth) → HasFieldNames (value_tree w)
+unfolding value_tree
+value_named w = content_named w.kind w.content
+
+amount_named : (n : ℕ) (w : Worth) → HasFieldNames (amount_tree (record { brand = n; value = w }))
+unfolding amount_tree
+amount_named n w = (refl, tt, (refl, value_named w, tt))
+
+shown_named : (r : Refusal) → NamedItems (shown_by r)
+shown_named q.BadLine = tt
+shown_named (q.BadField x) = (tt, tt)
+shown_named (q.BadLabel x) = (tt, tt)
+shown_named (q.BadKeyword x) = (tt, tt)
+shown_named (q.UnknownName x) = (tt, tt)
+shown_named (q.NameTaken x) = (tt, tt)
+shown_named q.Pending = tt
+shown_named (q.Broken x) = (tt, tt)
+shown_named (q.WrongObject x) = (tt, tt)
+shown_named (q.NoMethod x) = (tt, tt)
+shown_named (q.BadArgs x) = (tt, tt)
+shown_named q.LocalOnly = tt
+shown_named q.BadValue = tt
+shown_named (q.WrongBrand x) = (tt, tt)
+shown_named (q.NotEnough x y) = (value_named x, (value_named y, tt))
+shown_named (q.TooMuch x y) = (tt, (tt, tt))
+shown_named (q.DeadPayment x) = (tt, tt)
+shown_named (q.RepeatedPayment x) = (tt, tt)
+shown_named (q.WrongAmount x y) = (value_named x, (value_named y, tt))
+shown_named (q.NotInvitation x) = (tt, tt)
+shown_named (q.Closed x) = (tt, tt)
+shown_named (q.KeywordMismatch x) = (tt, tt)
+shown_named q.BadExit = tt
+shown_named (q.NotOnDemand x) = (tt, tt)
+shown_named (q.SeatExited x) = (tt, tt)
+shown_named (q.Limit x) = (tt, tt)
+shown_named (q.TextRefused x y) = (tt, (tt, tt))
+shown_named (q.Spent x) = (tt, tt)
+
+refusal_named : (r : AmountRefusal) → HasFieldNames (amount_refusal_tree r)
+unfolding amount_refusal_tree refusal_tree
+refusal_named (Refused r) = (refl, tt, (refl, shown_named r, tt))
+refusal_named (Overlap x) = (refl, tt, (refl, (tt, tt), tt))
+
+get_named : (x : List ℕ) (fs : Fields) → FieldNamesAre IsFieldName fs → OptionHas HasFieldNames (get x fs)
+get_named x no_fields h = tt
+get_named x (field y v fs) h = chosen HasFieldNames _ (Some v) _ h.1 (get_named x fs h.2)
+
+field_named : (x : List ℕ) (t : Tree) → HasFieldNames t → OptionHas HasFieldNames (field_of x t)
+field_named x null h = tt
+field_named x (boolean b) h = tt
+field_named x (number z) h = tt
+field_named x (text t) h = tt
+field_named x (array ts) h = tt
+field_named x (fields fs) h = get_named x fs h
+field_named x (object o) h = tt
+field_named x (function g) h = tt
+
+pub amounts_named : (x : List ℕ) (vs : List Tree) → AllHave HasFieldNames vs → AmountHas HasFieldNames (amount_call x vs)
+amounts_named = amounts_have HasFieldNames (record {
+  nothing_given = tt;
+  truths = λ b. tt;
+  fields_have = field_named;
+  values = value_named;
+  amount_trees = λ n w h. amount_named n w;
+  refusals = refusal_named;
 })

@@ -17,6 +17,7 @@ use Rattle.jessie_semantics.specs.Keeping.{AllHave}
 use Rattle.jessie_semantics.specs.Form.{InForm}
 use Rattle.jessie_semantics.proofs.Safe.{BoundHave, Closed}
 use Rattle.jessie_semantics.proofs.Kept.{made_has, closed}
+use Rattle.jessie_semantics.proofs.Writes.{AnyName}
 use Rattle.jessie_semantics.proofs.Amounts.{amounts_in_form}
 
 -- a field before these stays so where one is added that it stands before
@@ -106,8 +107,8 @@ words_shallow (m ∷ ms) = most_both 0 (items_nesting (items_of (map (λ m. text
 words_form : (ms : Bindings) → InForm (array (items_of (map (λ m. text m.0) ms)))
 words_form ms = (words_ordered ms, let h = words_shallow ms in omega (arith, h))
 
-pub closed_form : (rs : List Routine) → Closed InForm rs
-closed_form rs = closed InForm rs (record {
+pub closed_form : (rs : List Routine) → Closed InForm AnyName rs
+closed_form rs = closed InForm AnyName rs (record {
   nothing = (tt, omega arith);
   booleans = λ b. (tt, omega arith);
   numbers = λ z. (tt, omega arith);
@@ -118,7 +119,7 @@ closed_form rs = closed InForm rs (record {
   listed_have = λ ts h. listed_form ts h.0 (one_less _ h.1);
   paired_have = λ fs h. paired_form fs h.0 (one_less _ h.1);
   arrays = λ vs h. made_has InForm (array (items_of vs)) (λ e. (items_ordered vs h, shallow _ e));
-  records = λ fs h. made_has InForm (fields (record_of fs)) (λ e. (with_fields_ordered no_fields fs tt h, shallow _ e));
+  records = λ fs h n. made_has InForm (fields (record_of fs)) (λ e. (with_fields_ordered no_fields fs tt h, shallow _ e));
   changes = λ x w fs h i. made_has InForm (fields (changed x w fs)) (λ e. (changed_ordered x w fs h.0 i.0, shallow _ e));
   amounts = amounts_in_form;
 })

@@ -9,6 +9,7 @@ use Rattle.jessie_semantics.specs.Runs.{Path, Leads}
 use Rattle.jessie_semantics.specs.Hosts.{Keeps, Allowed, Granted}
 use Rattle.jessie_semantics.proofs.Safe.{safe_after, play_safe}
 use Rattle.jessie_semantics.proofs.Within.{closed_within}
+use Rattle.jessie_semantics.proofs.Writes.{AnyName, any_names}
 use Rattle.jessie_semantics.proofs.Licence.{room_fits}
 
 mutual
@@ -93,6 +94,6 @@ pub granted : {W : Type 0} (step : W → Exchange → W → Type 0) (known : W �
 granted step known room keeps old new rs variables f vs values meter r g h i q l =
     let p = play rs variables f vs values meter in
     let came = going step known room keeps old p (length variables)
-    (λ K k answers w. safe_after (Within K) (length variables) meter p answers (play_safe (Within K) (length variables) rs (closed_within K rs (functions_more _ K k rs g)) variables f vs values meter meter (all_more _ K k vs h) (all_more _ K k values i) refl (omega arith)) w)
+    (λ K k answers w. safe_after (Within K) (length variables) meter p answers (play_safe (Within K) (length variables) AnyName rs (closed_within K rs (functions_more _ K k rs g)) (any_names rs) variables f vs values meter meter (all_more _ K k vs h) (all_more _ K k values i) refl (omega arith)) w)
     l.since old new p r [] meter refl (room_fits rs variables f vs values meter meter (omega arith)) q (λ o k. k) tt l.answered l.path in
     record { since = l.since; answered = l.answered; allowed = came.allowed; keeps = came.grown; ends = came.ends }

@@ -1,5 +1,5 @@
 -- What a fact about trees must be so that all that functions of values make keeps to it.
-use Rattle.std.proofs.Common.{◌≡◌, ℕ, ℤ, zero, suc, ◌+◌, ◌≤◌, ◌*ℤ◌, ◌+ℤ◌, ◌-ℤ◌, List, [], ◌∷◌, ◌++◌, Bool, true, false, cond, Option, Some, None, refl, ap, length, take, map, arith}
+use Rattle.std.proofs.Common.{◌≡◌, ℕ, ℤ, zero, suc, ◌+◌, ◌≤◌, ◌*ℤ◌, ◌+ℤ◌, ◌-ℤ◌, List, [], ◌∷◌, ◌++◌, Bool, true, false, cond, Option, Some, None, refl, ap, sym, subst, length, take, map, arith}
 use Rattle.std.specs.Prelude.{Result, Ok, Err, slice_get, slice_set, option_map, option_and_then, neg_ℤ, int_div, int_rem, not, pos}
 use Rattle.std.specs.Prelude.{nat_le}
 use Rattle.std.specs.Ordering.{int_eq}
@@ -26,15 +26,15 @@ use Rattle.jessie_values.specs.Records.{deepest, made, made_array, made_record}
 use Rattle.jessie_values.specs.BuiltIns.{first, second, third, keys_in, length_in, pushed, changed, replaced}
 use Rattle.jessie_values.specs.Requests.{is_promise, promise_of, facet_name, functions_in, methods_of, when_call, far_call}
 use Rattle.amount_calls.specs.AmountMath.{amount_call}
-use Rattle.jessie_semantics.specs.Literals.{literal_tree}
+use Rattle.jessie_values.specs.Literals.{literal_tree}
 use Rattle.jessie_semantics.specs.Play.{cost, held_size, methods_size}
 use Rattle.jessie_semantics.specs.Actions.{Bindings}
 use Rattle.jessie_semantics.specs.Rules.{find_routine, when_asks, far_asks}
-use Rattle.jessie_semantics.specs.Keeping.{AllHave, MethodsHave, CallHas}
-use Rattle.jessie_semantics.proofs.Safe.{BoundHave, ResultHas, AmountHas, Payable, Closed}
+use Rattle.jessie_semantics.specs.Keeping.{AllHave, CallHas, method_fields}
+use Rattle.jessie_semantics.proofs.Safe.{BoundHave, NamedBy, ResultHas, AmountHas, Payable, Closed}
 
 -- values without parts have it, and with their parts arrays and records do, as far as they may be made
-pub record Kept (W : Tree → Type 0) (rs : List Routine) : Type 0 where
+pub record Kept (W : Tree → Type 0) (X : List ℕ → Type 0) (rs : List Routine) : Type 0 where
   pub nothing : W null
   pub booleans : (b : Bool) → W (boolean b)
   pub numbers : (z : ℤ) → W (number z)
@@ -45,7 +45,7 @@ pub record Kept (W : Tree → Type 0) (rs : List Routine) : Type 0 where
   pub listed_have : (ts : Items) → W (array ts) → AllHave W (listed ts)
   pub paired_have : (fs : Fields) → W (fields fs) → BoundHave W (paired fs)
   pub arrays : (vs : List Tree) → AllHave W vs → ResultHas W (made_array vs)
-  pub records : (fs : Bindings) → BoundHave W fs → ResultHas W (made_record fs)
+  pub records : (fs : Bindings) → BoundHave W fs → NamedBy X fs → ResultHas W (made_record fs)
   pub changes : (x : List ℕ) (w : Tree) (fs : Fields) → W (fields fs) → W w → ResultHas W (made (fields (changed x w fs)))
   pub amounts : (x : List ℕ) (vs : List Tree) → AllHave W vs → AmountHas W (amount_call x vs)
 
@@ -109,7 +109,7 @@ held_least (function f) = omega arith
 no_data : (x : ℕ) → x + 0 ≤ x + (0 + 0)
 no_data x = omega arith
 
-module _ (W : Tree → Type 0) (rs : List Routine) (k : Kept W rs) where
+module _ (W : Tree → Type 0) (X : List ℕ → Type 0) (rs : List Routine) (k : Kept W X rs) where
   -- parts
 
   slice_has : (vs : List Tree) (i : ℕ) → AllHave W vs → OptionHas W (slice_get vs i)
@@ -252,14 +252,18 @@ module _ (W : Tree → Type 0) (rs : List Routine) (k : Kept W rs) where
 
   -- requests
 
-  promise_has : (v : Tree) → W v → OptionHas (λ p. W (object p) × (size v ≡ 1)) (promise_of v)
+  promise_chosen : (b : Bool) (p : Obj) → (b ≡ true → is_promise p.kind ≡ true) → W (object p) → OptionHas (λ q. (is_promise q.kind ≡ true) × W (object q) × (size (object p) ≡ 1)) (cond b (Some p) None)
+  promise_chosen true p e h = (e refl, h, refl)
+  promise_chosen false p e h = tt
+
+  promise_has : (v : Tree) → W v → OptionHas (λ p. (is_promise p.kind ≡ true) × W (object p) × (size v ≡ 1)) (promise_of v)
   promise_has null h = tt
   promise_has (boolean b) h = tt
   promise_has (number z) h = tt
   promise_has (text t) h = tt
   promise_has (array ts) h = tt
   promise_has (fields fs) h = tt
-  promise_has (object p) h = chosen (λ q. W (object q) × (1 ≡ 1)) (is_promise p.kind) (Some p) None (h, refl) tt
+  promise_has (object p) h = promise_chosen (is_promise p.kind) p (λ e. e) h
   promise_has (function f) h = tt
 
   function_has : (v : Tree) → W v → OptionHas (λ f. W (function f) × (size v ≡ 1)) (function_of v)
@@ -282,43 +286,44 @@ module _ (W : Tree → Type 0) (rs : List Routine) (k : Kept W rs) where
   name_has (object p) = tt
   name_has (function f) = tt
 
-  functions_have : (fs : Fields) → BoundHave W (paired fs) → OptionHas (λ ms. MethodsHave W ms × (methods_size ms ≡ fields_size fs)) (functions_in (paired fs))
-  functions_have no_fields h = (tt, refl)
-  functions_have (field x null fs) h = tt
-  functions_have (field x (boolean b) fs) h = tt
-  functions_have (field x (number z) fs) h = tt
-  functions_have (field x (text t) fs) h = tt
-  functions_have (field x (array ts) fs) h = tt
-  functions_have (field x (fields gs) fs) h = tt
-  functions_have (field x (object p) fs) h = tt
-  functions_have (field x (function f) fs) h = mapped _ (λ ms. MethodsHave W ms × (methods_size ms ≡ length x + 1 + fields_size fs)) (λ ms. (x, f) ∷ ms) (functions_in (paired fs)) (functions_have fs h.1) (λ ms q. ((h.0, q.0), ap (λ n. length x + 1 + n) q.1))
+  -- a record of functions is that of the methods that are read of it
+  functions_have : (fs : Fields) → OptionHas (λ ms. (method_fields ms ≡ fs) × (methods_size ms ≡ fields_size fs)) (functions_in (paired fs))
+  functions_have no_fields = (refl, refl)
+  functions_have (field x null fs) = tt
+  functions_have (field x (boolean b) fs) = tt
+  functions_have (field x (number z) fs) = tt
+  functions_have (field x (text t) fs) = tt
+  functions_have (field x (array ts) fs) = tt
+  functions_have (field x (fields gs) fs) = tt
+  functions_have (field x (object p) fs) = tt
+  functions_have (field x (function f) fs) = mapped _ (λ ms. (method_fields ms ≡ field x (function f) fs) × (methods_size ms ≡ length x + 1 + fields_size fs)) (λ ms. (x, f) ∷ ms) (functions_in (paired fs)) (functions_have fs) (λ ms q. (ap (λ gs. field x (function f) gs) q.0, ap (λ n. length x + 1 + n) q.1))
 
-  methods_have : (v : Tree) → W v → OptionHas (λ ms. MethodsHave W ms × (1 + methods_size ms ≡ size v)) (methods_of v)
+  methods_have : (v : Tree) → W v → OptionHas (λ ms. W (fields (method_fields ms)) × (1 + methods_size ms ≡ size v)) (methods_of v)
   methods_have null h = tt
   methods_have (boolean b) h = tt
   methods_have (number z) h = tt
   methods_have (text t) h = tt
   methods_have (array ts) h = tt
-  methods_have (fields fs) h = more (functions_in (paired fs)) (functions_have fs (k.paired_have fs h))
+  methods_have (fields fs) h = more (functions_in (paired fs)) (functions_have fs)
     where
-      more : (x : Option (List (List ℕ × List ℕ))) → OptionHas (λ ms. MethodsHave W ms × (methods_size ms ≡ fields_size fs)) x → OptionHas (λ ms. MethodsHave W ms × (1 + methods_size ms ≡ 1 + fields_size fs)) x
+      more : (x : Option (List (List ℕ × List ℕ))) → OptionHas (λ ms. (method_fields ms ≡ fs) × (methods_size ms ≡ fields_size fs)) x → OptionHas (λ ms. W (fields (method_fields ms)) × (1 + methods_size ms ≡ 1 + fields_size fs)) x
       more None q = tt
-      more (Some ms) q = (q.0, ap (λ n. 1 + n) q.1)
+      more (Some ms) q = (subst (λ gs. W (fields gs)) (sym q.0) h, ap (λ n. 1 + n) q.1)
   methods_have (object p) h = tt
   methods_have (function f) h = tt
 
   when_parts : (a b v : Tree) (n : ℕ) → W a → W b → W v → size a + (size b + held_size v) ≤ n
       → ResultHas (λ w. CallHas W (when_asks w) × (cost (when_asks w) ≤ 100 + n)) (of_kind (promise_of a) >>= λ p. (of_kind (function_of b) >>= λ f. Ok (record { promise = p; function = f; held = v })))
   when_parts a b v n h i j q =
-      chained (λ p. W (object p) × (size a ≡ 1)) _ (of_kind (promise_of a)) _ (kind_has _ (promise_of a) (promise_has a h))
+      chained (λ p. (is_promise p.kind ≡ true) × W (object p) × (size a ≡ 1)) _ (of_kind (promise_of a)) _ (kind_has _ (promise_of a) (promise_has a h))
       (λ p x. chained (λ f. W (function f) × (size b ≡ 1)) _ (of_kind (function_of b)) _ (kind_has _ (function_of b) (function_has b i))
-      (λ f y. ((x.0, y.0, j), omega (arith, x.1, y.1, q))))
+      (λ f y. ((x.0, x.1, y.0, j), omega (arith, x.2, y.1, q))))
 
   far_parts : (a b v : Tree) (n : ℕ) → W a → W b → W v → size a + (size b + held_size v) ≤ n
       → ResultHas (λ f. CallHas W (far_asks f) × (cost (far_asks f) ≤ 100 + n)) (of_kind (facet_name a) >>= λ x. (of_kind (methods_of b) >>= λ ms. Ok (record { name = x; methods = ms; held = v })))
   far_parts a b v n h i j q =
       chained (λ x. 1 + length x ≡ size a) _ (of_kind (facet_name a)) _ (kind_has _ (facet_name a) (name_has a))
-      (λ x e. chained (λ ms. MethodsHave W ms × (1 + methods_size ms ≡ size b)) _ (of_kind (methods_of b)) _ (kind_has _ (methods_of b) (methods_have b i))
+      (λ x e. chained (λ ms. W (fields (method_fields ms)) × (1 + methods_size ms ≡ size b)) _ (of_kind (methods_of b)) _ (kind_has _ (methods_of b) (methods_have b i))
       (λ ms y. ((y.0, j), omega (arith, e, y.1, q))))
 
   shown_two : (a b : Tree) → size a + (size b + held_size null) ≤ items_size (items_of (a ∷ b ∷ []))
@@ -347,7 +352,7 @@ module _ (W : Tree → Type 0) (rs : List Routine) (k : Kept W rs) where
   far_has (a ∷ b ∷ []) h = far_parts a b null _ h.0 h.1.0 k.nothing (shown_two a b)
   far_has (a ∷ b ∷ v ∷ vs) h = far_parts a b v _ h.0 h.1.0 h.1.1.0 (shown_three a b v vs)
 
-  pub closed : Closed W rs
+  pub closed : Closed W X rs
   closed = record {
     nothing = k.nothing;
     bad_steps = k.bad_steps;

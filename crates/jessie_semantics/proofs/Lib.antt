@@ -1,9 +1,11 @@
 pub mod Plays
 pub mod Runs
 pub mod Safe
+pub mod Writes
 pub mod Kept
 pub mod Amounts
 pub mod Within
 pub mod FormKept
+pub mod NamesKept
 pub mod Licence
 pub mod Hosts

@@ -9,6 +9,7 @@ use Rattle.jessie_semantics.specs.Rules.{play}
 use Rattle.jessie_semantics.specs.Keeping.{Known, to_object, to_function, Within, ItemsWithin, FieldsWithin, AllHave, ReplyHas, RepliesHave, NextHas, FunctionsKnown, Occurs, OccursItems, OccursFields, OccursAny, Handed, reply_tree, handed, Licensed, Fits}
 use Rattle.jessie_semantics.proofs.Safe.{Safe, safe_after, play_safe}
 use Rattle.jessie_semantics.proofs.Within.{closed_within}
+use Rattle.jessie_semantics.proofs.Writes.{AnyName, any_names}
 
 -- what a tree holds stands in it
 
@@ -61,7 +62,7 @@ licence rs variables f vs values meter answers =
     let rest = parted (Within K) values (map reply_tree answers) parts.1 in
     let p = play rs variables f vs values meter in
     safe_after (Within K) (length variables) meter p answers
-    (play_safe (Within K) (length variables) rs (closed_within K rs (all_functions K (λ f. tt) rs)) variables f vs values meter meter parts.0 rest.0 refl (omega arith)) (replies_held (Within K) answers rest.1)
+    (play_safe (Within K) (length variables) AnyName rs (closed_within K rs (all_functions K (λ f. tt) rs)) (any_names rs) variables f vs values meter meter parts.0 rest.0 refl (omega arith)) (replies_held (Within K) answers rest.1)
 
 fits : (W : Tree → Type 0) (N m : ℕ) (p : Play) → ((t : Tree) → W t) → Safe W N m p → Fits m p
 fits W N m (Ends e vs) all h = tt
@@ -73,7 +74,7 @@ room_fits rs variables f vs values meter room q =
     let K : Known = λ r. Unit {0} in
     let all : (t : Tree) → Within K t = λ t. held K t (λ o i. tt) (λ f. tt) in
     fits (Within K) (length variables) room (play rs variables f vs values meter) all
-    (play_safe (Within K) (length variables) rs (closed_within K rs (all_functions K (λ f. tt) rs)) variables f vs values meter room (held_all K vs (λ o i. tt) (λ f. tt)) (held_all K values (λ o i. tt) (λ f. tt)) refl q)
+    (play_safe (Within K) (length variables) AnyName rs (closed_within K rs (all_functions K (λ f. tt) rs)) (any_names rs) variables f vs values meter room (held_all K vs (λ o i. tt) (λ f. tt)) (held_all K values (λ o i. tt) (λ f. tt)) refl q)
 
 pub licensed : {W : Type 0} {step : W → Exchange → W → Type 0} {old new : W} {r : Play} (rs : List Routine) (variables : List (List ℕ)) (f : List ℕ) (vs values : List Tree) (meter : ℕ)
     → Follows step (play rs variables f vs values meter) old new r → Licensed step old new vs values (length variables) r

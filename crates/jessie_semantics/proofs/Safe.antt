@@ -28,15 +28,21 @@ use Rattle.jessie_values.specs.Requests.{when_call, far_call}
 use Rattle.amount_calls.specs.AmountMath.{amount_call}
 use Rattle.amount_calls.specs.Refusals.{amount_refusal_tree}
 use Rattle.amount_calls.specs.declared.refusals.AmountRefusal.{AmountRefusal}
-use Rattle.jessie_semantics.specs.Literals.{literal_tree}
+use Rattle.jessie_values.specs.Literals.{literal_tree}
 use Rattle.jessie_semantics.specs.Play.{Call, cost, Reply, given, refused, reply_size, Play, Ends, Spends, Asks, after}
 use Rattle.jessie_semantics.specs.Actions.{Bindings, State, Flow, went, fails, Then, Action, pure, throw, spend, onward, ◌>>=◌, otherwise, caught, charge, ask, metered, first_of, look, is_bound, rebind, bind, paid, named, put, scoped, within}
 use Rattle.jessie_semantics.specs.Rules.{worked, counted, Program, find_routine, function_named, heard, host, host_call, host_send, when_asks, far_asks, host_when, host_far, apply_built_in, right_side, operator_rule, either, expr, exprs, named_exprs, links, one_link, operands, End, next, leaves, going_on, test, one_round, rounds, walk, with_name, form, branches, block, pairs, given_back, enter, calls_of, values_in, finish, play}
 use Rattle.jessie_semantics.specs.Keeping.{AllHave, CallHas, ReplyHas, RepliesHave, EndingHas, NextHas}
+use Rattle.jessie_semantics.specs.Naming.{BlockWrites, BranchesWrite, LinksWrite, LinkWrites, NamedTermsWrite, OperandsWrite, RoutinesWrite, StatementWrites, TermsWrite, TermWrites}
 
 abbrev pub BoundHave : (Tree → Type 0) → Bindings → Type 0
 BoundHave W [] = Unit {0}
 BoundHave W (x ∷ bs) = W x.1 × BoundHave W bs
+
+-- each name is one that may be written
+abbrev pub NamedBy : (List ℕ → Type 0) → Bindings → Type 0
+NamedBy X [] = Unit {0}
+NamedBy X (b ∷ bs) = X b.0 × NamedBy X bs
 
 -- what it gave, where it gave something, has P
 abbrev pub ResultHas : {A E : Type 0} → (A → Type 0) → Result A E → Type 0
@@ -52,13 +58,13 @@ abbrev pub Payable : (Tree → Type 0) → List Tree → Call → Type 0
 Payable W vs c = CallHas W c × (cost c ≤ 100 + items_size (items_of (take 3 vs)))
 
 -- What the rules make by themselves, and what they make of what has W, has W.
-pub record Closed (W : Tree → Type 0) (rs : List Routine) : Type 0 where
+pub record Closed (W : Tree → Type 0) (X : List ℕ → Type 0) (rs : List Routine) : Type 0 where
   pub nothing : W null
   pub bad_steps : (r : Reason) → W (bad_step r)
   pub literals : (l : Literal) → W (literal_tree l)
   pub functions : (f : List ℕ) (r : Routine) → find_routine f rs ≡ Some r → W (function r.name)
   pub arrays : (vs : List Tree) → AllHave W vs → ResultHas W (made_array vs)
-  pub records : (fs : Bindings) → BoundHave W fs → ResultHas W (made_record fs)
+  pub records : (fs : Bindings) → BoundHave W fs → NamedBy X fs → ResultHas W (made_record fs)
   pub parts : (v : Tree) → W v → ResultHas (AllHave W) (list_items v)
   pub at_fields : (x : List ℕ) (v : Tree) → W v → ResultHas W (field_at x v)
   pub at_indices : (v i : Tree) → W v → W i → ResultHas W (index_at v i)
@@ -298,7 +304,11 @@ module _ (W : Tree → Type 0) (N : ℕ) where
   right_safe true op a v z o h w = pure_safe W v w
   right_safe false op a v z o h w = bind_safe _ h (λ u x. worked_safe W _ z (o u x))
 
-  module _ (rs : List Routine) (c : Closed W rs) where
+  named_both : (X : List ℕ → Type 0) (bs cs : Bindings) → NamedBy X bs → NamedBy X cs → NamedBy X (bs ++ cs)
+  named_both X [] cs h i = i
+  named_both X (x ∷ bs) cs h i = (h.0, named_both X bs cs h.1 i)
+
+  module _ (X : List ℕ → Type 0) (rs : List Routine) (c : Closed W X rs) (written : RoutinesWrite X rs) where
     step_safe : {A : Type 0} (P : A → Type 0) (r : Result A Reason) → ResultHas P r → SafeAction P (worked r)
     step_safe P r h = worked_safe P r c.bad_steps h
 
@@ -334,45 +344,45 @@ module _ (W : Tree → Type 0) (N : ℕ) where
       m = record { routines = rs; calls = calls }
 
       mutual
-        expr_safe : (t : Term) → SafeAction W (expr (record { routines = rs; calls = calls }) t)
-        expr_safe (literal l) = bind_safe _ (charge_safe 1) (λ _ _. bind_safe _ (charge_safe _) (λ _ _. pure_safe W _ (c.literals l)))
-        expr_safe (name x) = bind_safe _ (charge_safe 1) (λ _ _. bind_safe _ (named_safe x _ (function_has (find_routine x rs) (c.functions x))) (λ o w. paid_safe _ o (c.bad_steps WrongKind) w))
-        expr_safe (call f ts) = bind_safe _ (charge_safe 1) (λ _ _. bind_safe _ (exprs_safe ts [] tt) (λ vs h. calls_are_safe f vs h))
-        expr_safe (built_in f ts) = bind_safe _ (charge_safe 1) (λ _ _. bind_safe _ (exprs_safe ts [] tt) (λ vs h. built_in_safe f vs h))
-        expr_safe (amount_math x ts) = bind_safe _ (charge_safe 1) (λ _ _. bind_safe _ (exprs_safe ts [] tt) (λ vs h. counted_safe _ (c.amounts x vs h)))
-        expr_safe (send t x ts) = bind_safe _ (charge_safe 1) (λ _ _. bind_safe _ (expr_safe t) (λ v h. bind_safe _ (exprs_safe ts [] tt) (λ vs i. host_send_safe v x vs h i)))
-        expr_safe (listing ts) = bind_safe _ (charge_safe 1) (λ _ _. bind_safe _ (exprs_safe ts [] tt) (λ vs h. step_safe W _ (c.arrays vs h)))
-        expr_safe (composed ts) = bind_safe _ (charge_safe 1) (λ _ _. bind_safe _ (named_exprs_safe ts [] tt) (λ fs h. step_safe W _ (c.records fs h)))
-        expr_safe (linked t ks) = bind_safe _ (expr_safe t) (λ v h. links_safe ks v h)
-        expr_safe (unary u t) = bind_safe _ (charge_safe 1) (λ _ _. bind_safe _ (expr_safe t) (λ v h. step_safe W _ (c.unaries u v h)))
-        expr_safe (chain t ts) = bind_safe _ (expr_safe t) (λ v h. operands_safe ts v h)
-        expr_safe (choice t x y) = bind_safe _ (expr_safe t) (λ v h. bind_safe _ (charge_safe 1) (λ _ _. bind_safe _ (step_safe Anything _ (any_result (truth v))) (λ z _. either_safe W z _ _ (expr_safe x) (expr_safe y))))
+        expr_safe : (t : Term) → TermWrites X t → SafeAction W (expr (record { routines = rs; calls = calls }) t)
+        expr_safe (literal l) n = bind_safe _ (charge_safe 1) (λ _ _. bind_safe _ (charge_safe _) (λ _ _. pure_safe W _ (c.literals l)))
+        expr_safe (name x) n = bind_safe _ (charge_safe 1) (λ _ _. bind_safe _ (named_safe x _ (function_has (find_routine x rs) (c.functions x))) (λ o w. paid_safe _ o (c.bad_steps WrongKind) w))
+        expr_safe (call f ts) n = bind_safe _ (charge_safe 1) (λ _ _. bind_safe _ (exprs_safe ts [] n tt) (λ vs h. calls_are_safe f vs h))
+        expr_safe (built_in f ts) n = bind_safe _ (charge_safe 1) (λ _ _. bind_safe _ (exprs_safe ts [] n tt) (λ vs h. built_in_safe f vs h))
+        expr_safe (amount_math x ts) n = bind_safe _ (charge_safe 1) (λ _ _. bind_safe _ (exprs_safe ts [] n tt) (λ vs h. counted_safe _ (c.amounts x vs h)))
+        expr_safe (send t x ts) n = bind_safe _ (charge_safe 1) (λ _ _. bind_safe _ (expr_safe t n.0) (λ v h. bind_safe _ (exprs_safe ts [] n.1 tt) (λ vs i. host_send_safe v x vs h i)))
+        expr_safe (listing ts) n = bind_safe _ (charge_safe 1) (λ _ _. bind_safe _ (exprs_safe ts [] n tt) (λ vs h. step_safe W _ (c.arrays vs h)))
+        expr_safe (composed ts) n = bind_safe _ (charge_safe 1) (λ _ _. bind_safe _ (named_exprs_safe ts [] n tt tt) (λ fs h. step_safe W _ (c.records fs h.0 h.1)))
+        expr_safe (linked t ks) n = bind_safe _ (expr_safe t n.0) (λ v h. links_safe ks v n.1 h)
+        expr_safe (unary u t) n = bind_safe _ (charge_safe 1) (λ _ _. bind_safe _ (expr_safe t n) (λ v h. step_safe W _ (c.unaries u v h)))
+        expr_safe (chain t ts) n = bind_safe _ (expr_safe t n.0) (λ v h. operands_safe ts v n.1 h)
+        expr_safe (choice t x y) n = bind_safe _ (expr_safe t n.0) (λ v h. bind_safe _ (charge_safe 1) (λ _ _. bind_safe _ (step_safe Anything _ (any_result (truth v))) (λ z _. either_safe W z _ _ (expr_safe x n.1) (expr_safe y n.2))))
 
-        exprs_safe : (ts : Terms) (vs : List Tree) → AllHave W vs → SafeAction (AllHave W) (exprs (record { routines = rs; calls = calls }) ts vs)
-        exprs_safe no_terms vs h = pure_safe (AllHave W) vs h
-        exprs_safe (term t ts) vs h = bind_safe _ (expr_safe t) (λ v i. exprs_safe ts _ (all_both vs (v ∷ []) h (i, tt)))
+        exprs_safe : (ts : Terms) (vs : List Tree) → TermsWrite X ts → AllHave W vs → SafeAction (AllHave W) (exprs (record { routines = rs; calls = calls }) ts vs)
+        exprs_safe no_terms vs n h = pure_safe (AllHave W) vs h
+        exprs_safe (term t ts) vs n h = bind_safe _ (expr_safe t n.0) (λ v i. exprs_safe ts _ n.1 (all_both vs (v ∷ []) h (i, tt)))
 
-        named_exprs_safe : (ts : NamedTerms) (fs : Bindings) → BoundHave W fs → SafeAction (BoundHave W) (named_exprs (record { routines = rs; calls = calls }) ts fs)
-        named_exprs_safe no_named fs h = pure_safe (BoundHave W) fs h
-        named_exprs_safe (named_term x t ts) fs h = bind_safe _ (expr_safe t) (λ v i. named_exprs_safe ts _ (bound_both fs ((x, v) ∷ []) h (i, tt)))
+        named_exprs_safe : (ts : NamedTerms) (fs : Bindings) → NamedTermsWrite X ts → BoundHave W fs → NamedBy X fs → SafeAction (λ gs. BoundHave W gs × NamedBy X gs) (named_exprs (record { routines = rs; calls = calls }) ts fs)
+        named_exprs_safe no_named fs n h k = pure_safe (λ gs. BoundHave W gs × NamedBy X gs) fs (h, k)
+        named_exprs_safe (named_term x t ts) fs n h k = bind_safe _ (expr_safe t n.1) (λ v i. named_exprs_safe ts _ n.2 (bound_both fs ((x, v) ∷ []) h (i, tt)) (named_both X fs ((x, v) ∷ []) k (n.0, tt)))
 
-        links_safe : (ks : Links) (v : Tree) → W v → SafeAction W (links (record { routines = rs; calls = calls }) ks v)
-        links_safe no_links v h = pure_safe W v h
-        links_safe (link k ks) v h = bind_safe _ (link_safe k v h) (λ w i. links_safe ks w i)
+        links_safe : (ks : Links) (v : Tree) → LinksWrite X ks → W v → SafeAction W (links (record { routines = rs; calls = calls }) ks v)
+        links_safe no_links v n h = pure_safe W v h
+        links_safe (link k ks) v n h = bind_safe _ (link_safe k v n.0 h) (λ w i. links_safe ks w n.1 i)
 
-        link_safe : (k : Link) (v : Tree) → W v → SafeAction W (one_link (record { routines = rs; calls = calls }) k v)
-        link_safe (at_field x) v h = bind_safe _ (charge_safe 1) (λ _ _. step_safe W _ (c.at_fields x v h))
-        link_safe (method x ts) v h = bind_safe _ (charge_safe 1) (λ _ _. bind_safe _ (exprs_safe ts [] tt) (λ vs i. host_call_safe v x vs h i))
-        link_safe (at_index t) v h = bind_safe _ (charge_safe 1) (λ _ _. bind_safe _ (expr_safe t) (λ i w. step_safe W _ (c.at_indices v i h w)))
+        link_safe : (k : Link) (v : Tree) → LinkWrites X k → W v → SafeAction W (one_link (record { routines = rs; calls = calls }) k v)
+        link_safe (at_field x) v n h = bind_safe _ (charge_safe 1) (λ _ _. step_safe W _ (c.at_fields x v h))
+        link_safe (method x ts) v n h = bind_safe _ (charge_safe 1) (λ _ _. bind_safe _ (exprs_safe ts [] n tt) (λ vs i. host_call_safe v x vs h i))
+        link_safe (at_index t) v n h = bind_safe _ (charge_safe 1) (λ _ _. bind_safe _ (expr_safe t n) (λ i w. step_safe W _ (c.at_indices v i h w)))
 
-        operands_safe : (ts : Operands) (v : Tree) → W v → SafeAction W (operands (record { routines = rs; calls = calls }) ts v)
-        operands_safe no_operands v h = pure_safe W v h
-        operands_safe (operand op t ts) v h = bind_safe _ (operator_safe op _ v (expr_safe t) h) (λ w i. operands_safe ts w i)
+        operands_safe : (ts : Operands) (v : Tree) → OperandsWrite X ts → W v → SafeAction W (operands (record { routines = rs; calls = calls }) ts v)
+        operands_safe no_operands v n h = pure_safe W v h
+        operands_safe (operand op t ts) v n h = bind_safe _ (operator_safe op _ v (expr_safe t n.0) h) (λ w i. operands_safe ts w n.1 i)
 
       -- statements
 
-      test_safe : (t : Term) → SafeAction Anything (test (record { routines = rs; calls = calls }) t)
-      test_safe t = bind_safe _ (expr_safe t) (λ v h. step_safe Anything _ (any_result (truth v)))
+      test_safe : (t : Term) → TermWrites X t → SafeAction Anything (test (record { routines = rs; calls = calls }) t)
+      test_safe t n = bind_safe _ (expr_safe t n) (λ v h. step_safe Anything _ (any_result (truth v)))
 
       going_on_safe : (e : End) (rest : Action End) → EndHas e → SafeAction EndHas rest → SafeAction EndHas (going_on e rest)
       going_on_safe next rest h i = i
@@ -394,26 +404,26 @@ module _ (W : Tree → Type 0) (N : ℕ) where
       with_name_safe x a v h w = scoped_safe (bind_safe _ (declared_safe x v w) (λ _ _. h))
 
       mutual
-        form_safe : (a : Statement) → SafeAction EndHas (form (record { routines = rs; calls = calls }) a)
-        form_safe (declare_const x t) = bind_safe _ (expr_safe t) (λ v h. bind_safe _ (declared_safe x v h) (λ _ _. pure_safe EndHas next tt))
-        form_safe (declare_let x t) = bind_safe _ (expr_safe t) (λ v h. bind_safe _ (declared_safe x v h) (λ _ _. pure_safe EndHas next tt))
-        form_safe (assign x t) = bind_safe _ (expr_safe t) (λ v h. bind_safe _ (put_safe _ x v (c.bad_steps WrongKind) h) (λ _ _. pure_safe EndHas next tt))
-        form_safe (choose bs b) = branches_safe bs _ (scoped_safe (block_safe b))
-        form_safe (repeat t a) = metered_safe _ (λ n. rounds_safe n _ _ (test_safe t) (scoped_safe (block_safe a)))
-        form_safe (each x t a) = bind_safe _ (expr_safe t) (λ v h. bind_safe _ (step_safe (AllHave W) _ (c.parts v h)) (λ vs i. walk_safe vs _ i (λ w j. with_name_safe x _ w (block_safe a) j)))
-        form_safe (give t) = bind_safe _ (expr_safe t) (λ v h. pure_safe EndHas (leaves v) h)
-        form_safe give_nothing = pure_safe EndHas (leaves null) c.nothing
-        form_safe (raise t) = bind_safe _ (expr_safe t) (λ v h. throw_safe EndHas v h)
-        form_safe (attempt a x b) = caught_safe _ (scoped_safe (block_safe a)) (λ v h. with_name_safe x _ v (block_safe b) h)
-        form_safe (run t) = bind_safe _ (expr_safe t) (λ v h. pure_safe EndHas next tt)
+        form_safe : (a : Statement) → StatementWrites X a → SafeAction EndHas (form (record { routines = rs; calls = calls }) a)
+        form_safe (declare_const x t) n = bind_safe _ (expr_safe t n) (λ v h. bind_safe _ (declared_safe x v h) (λ _ _. pure_safe EndHas next tt))
+        form_safe (declare_let x t) n = bind_safe _ (expr_safe t n) (λ v h. bind_safe _ (declared_safe x v h) (λ _ _. pure_safe EndHas next tt))
+        form_safe (assign x t) n = bind_safe _ (expr_safe t n) (λ v h. bind_safe _ (put_safe _ x v (c.bad_steps WrongKind) h) (λ _ _. pure_safe EndHas next tt))
+        form_safe (choose bs b) n = branches_safe bs _ n.0 (scoped_safe (block_safe b n.1))
+        form_safe (repeat t a) n = metered_safe _ (λ k. rounds_safe k _ _ (test_safe t n.0) (scoped_safe (block_safe a n.1)))
+        form_safe (each x t a) n = bind_safe _ (expr_safe t n.0) (λ v h. bind_safe _ (step_safe (AllHave W) _ (c.parts v h)) (λ vs i. walk_safe vs _ i (λ w j. with_name_safe x _ w (block_safe a n.1) j)))
+        form_safe (give t) n = bind_safe _ (expr_safe t n) (λ v h. pure_safe EndHas (leaves v) h)
+        form_safe give_nothing n = pure_safe EndHas (leaves null) c.nothing
+        form_safe (raise t) n = bind_safe _ (expr_safe t n) (λ v h. throw_safe EndHas v h)
+        form_safe (attempt a x b) n = caught_safe _ (scoped_safe (block_safe a n.0)) (λ v h. with_name_safe x _ v (block_safe b n.1) h)
+        form_safe (run t) n = bind_safe _ (expr_safe t n) (λ v h. pure_safe EndHas next tt)
 
-        branches_safe : (bs : Branches) (other : Action End) → SafeAction EndHas other → SafeAction EndHas (branches (record { routines = rs; calls = calls }) bs other)
-        branches_safe no_branches other h = h
-        branches_safe (branch t a bs) other h = bind_safe _ (test_safe t) (λ z _. either_safe EndHas z _ _ (scoped_safe (block_safe a)) (branches_safe bs other h))
+        branches_safe : (bs : Branches) (other : Action End) → BranchesWrite X bs → SafeAction EndHas other → SafeAction EndHas (branches (record { routines = rs; calls = calls }) bs other)
+        branches_safe no_branches other n h = h
+        branches_safe (branch t a bs) other n h = bind_safe _ (test_safe t n.0) (λ z _. either_safe EndHas z _ _ (scoped_safe (block_safe a n.1)) (branches_safe bs other n.2 h))
 
-        block_safe : (b : Block) → SafeAction EndHas (block (record { routines = rs; calls = calls }) b)
-        block_safe done = pure_safe EndHas next tt
-        block_safe (step a b) = bind_safe _ (bind_safe _ (charge_safe 1) (λ _ _. form_safe a)) (λ e h. going_on_safe e _ h (block_safe b))
+        block_safe : (b : Block) → BlockWrites X b → SafeAction EndHas (block (record { routines = rs; calls = calls }) b)
+        block_safe done n = pure_safe EndHas next tt
+        block_safe (step a b) n = bind_safe _ (bind_safe _ (charge_safe 1) (λ _ _. form_safe a n.0)) (λ e h. going_on_safe e _ h (block_safe b n.1))
 
     -- functions
 
@@ -426,14 +436,27 @@ module _ (W : Tree → Type 0) (N : ℕ) where
     back_has next h = c.nothing
     back_has (leaves v) h = h
 
-    enter_safe : (calls : List ℕ → List Tree → Action Tree) → CallsSafe calls → (o : Option Routine) (vs : List Tree) → AllHave W vs → SafeAction W (enter (record { routines = rs; calls = calls }) o vs)
-    enter_safe calls g None vs h = throw_safe W _ (c.bad_steps WrongKind)
-    enter_safe calls g (Some r) vs h = within_safe _ (pairs_have r.params vs h) (bind_safe _ (block_safe calls g r.body) (λ e i. pure_safe W _ (back_has e i)))
+    -- what a function that is found writes
+    abbrev FoundWrites : Option Routine → Type 0
+    FoundWrites None = Unit {0}
+    FoundWrites (Some r) = BlockWrites X r.body
+
+    chosen_writes : (b : Bool) (r : Routine) (o : Option Routine) → BlockWrites X r.body → FoundWrites o → FoundWrites (cond b (Some r) o)
+    chosen_writes true r o h i = h
+    chosen_writes false r o h i = i
+
+    found_writes : (f : List ℕ) (qs : List Routine) → RoutinesWrite X qs → FoundWrites (find_routine f qs)
+    found_writes f [] h = tt
+    found_writes f (r ∷ qs) h = chosen_writes (bytes_eq r.name f) r _ h.0 (found_writes f qs h.1)
+
+    enter_safe : (calls : List ℕ → List Tree → Action Tree) → CallsSafe calls → (o : Option Routine) (vs : List Tree) → FoundWrites o → AllHave W vs → SafeAction W (enter (record { routines = rs; calls = calls }) o vs)
+    enter_safe calls g None vs n h = throw_safe W _ (c.bad_steps WrongKind)
+    enter_safe calls g (Some r) vs n h = within_safe _ (pairs_have r.params vs h) (bind_safe _ (block_safe calls g r.body n) (λ e i. pure_safe W _ (back_has e i)))
 
     calls_safe : (room : ℕ) (f : List ℕ) (vs : List Tree) → AllHave W vs → SafeAction W (calls_of rs room f vs)
     unfolding calls_of
     calls_safe zero f vs h = throw_safe W _ (c.bad_steps TooDeep)
-    calls_safe (suc room) f vs h = enter_safe (calls_of rs room) (λ f vs h. calls_safe room f vs h) (find_routine f rs) vs h
+    calls_safe (suc room) f vs h = enter_safe (calls_of rs room) (λ f vs h. calls_safe room f vs h) (find_routine f rs) vs (found_writes f rs written) h
 
     values_have : (bs : Bindings) → BoundHave W bs → AllHave W (values_in bs)
     values_have [] h = tt

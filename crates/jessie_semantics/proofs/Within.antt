@@ -15,6 +15,7 @@ use Rattle.jessie_semantics.specs.Rules.{find_routine}
 use Rattle.jessie_semantics.specs.Keeping.{Known, to_function, Within, ItemsWithin, FieldsWithin, AllHave, FunctionsKnown}
 use Rattle.jessie_semantics.proofs.Safe.{BoundHave, Closed}
 use Rattle.jessie_semantics.proofs.Kept.{made_has, closed}
+use Rattle.jessie_semantics.proofs.Writes.{AnyName}
 use Rattle.jessie_semantics.proofs.Amounts.{amounts_within}
 
 placed_within : (V : Fields → Type 0) (o : Ordering) (before here behind : Fields) → V before → V here → V behind → V (placed o before here behind)
@@ -67,8 +68,8 @@ module _ (K : Known) where
   found_known f [] h = tt
   found_known f (r ∷ rs) h = chosen_known (bytes_eq r.name f) r _ h.0 (found_known f rs h.1)
 
-  pub closed_within : (rs : List Routine) → FunctionsKnown K rs → Closed (Within K) rs
-  closed_within rs h = closed (Within K) rs (record {
+  pub closed_within : (rs : List Routine) → FunctionsKnown K rs → Closed (Within K) AnyName rs
+  closed_within rs h = closed (Within K) AnyName rs (record {
     nothing = tt;
     booleans = λ b. tt;
     numbers = λ z. tt;
@@ -79,7 +80,7 @@ module _ (K : Known) where
     listed_have = listed_within;
     paired_have = paired_within;
     arrays = λ vs i. made_has (Within K) (array (items_of vs)) (λ e. items_within vs i);
-    records = λ fs i. made_has (Within K) (fields (record_of fs)) (λ e. with_fields_within no_fields fs tt i);
+    records = λ fs i n. made_has (Within K) (fields (record_of fs)) (λ e. with_fields_within no_fields fs tt i);
     changes = λ x w fs i j. made_has (Within K) (fields (changed x w fs)) (λ e. changed_within x w fs i j);
     amounts = amounts_within K;
   })

@@ -1,26 +1,27 @@
 -- What holds of each value that an evaluation works with: a fact W about trees, said of all that a
 -- call, an answer, a state or an outcome holds.
-use Rattle.std.specs.Prelude.{◌≡◌, ℕ, ◌≤◌, ◌+◌, ◌-◌, List, [], ◌∷◌, ◌++◌, ◌⊎◌, map, length}
+use Rattle.std.specs.Prelude.{◌≡◌, ℕ, true, ◌≤◌, ◌+◌, ◌-◌, List, [], ◌∷◌, ◌++◌, ◌⊎◌, map, length}
 use Rattle.jessie_tree.specs.Tree.{Tree, null, boolean, number, text, array, fields, object, function, Items, no_items, item, Fields, no_fields, field}
 use Rattle.jessie_tree.specs.declared.data.Obj.{Obj}
 use Rattle.jessie_syntax.specs.Syntax.{Routine}
+use Rattle.jessie_values.specs.Requests.{is_promise}
 use Rattle.jessie_semantics.specs.Play.{Call, call, send, when, far, cost, reply_size, Reply, given, refused, Exchange, Answered, Ending, returned, threw, Play, Ends, Spends, Asks, replies}
 
 abbrev pub AllHave : (Tree → Type 0) → List Tree → Type 0
 AllHave W [] = Unit {0}
 AllHave W (v ∷ vs) = W v × AllHave W vs
 
--- the functions of a facet's methods
-abbrev pub MethodsHave : (Tree → Type 0) → List (List ℕ × List ℕ) → Type 0
-MethodsHave W [] = Unit {0}
-MethodsHave W (m ∷ ms) = W (function m.1) × MethodsHave W ms
+-- the methods of a facet, each with its function, as the record that they were given as
+abbrev pub method_fields : List (List ℕ × List ℕ) → Fields
+method_fields [] = no_fields
+method_fields (m ∷ ms) = field m.0 (function m.1) (method_fields ms)
 
--- its target or promise, the functions that it names, and its arguments
+-- its target or promise, the functions that it names, and its arguments. What is asked of `when` is a promise
 abbrev pub CallHas : (Tree → Type 0) → Call → Type 0
 CallHas W (call o x vs) = W (object o) × AllHave W vs
 CallHas W (send o x vs) = W (object o) × AllHave W vs
-CallHas W (when o f v) = W (object o) × W (function f) × W v
-CallHas W (far x ms v) = MethodsHave W ms × W v
+CallHas W (when o f v) = (is_promise o.kind ≡ true) × W (object o) × W (function f) × W v
+CallHas W (far x ms v) = W (fields (method_fields ms)) × W v
 
 abbrev pub ReplyHas : (Tree → Type 0) → Reply → Type 0
 ReplyHas W (given v) = W v

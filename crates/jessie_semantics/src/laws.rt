@@ -7,6 +7,7 @@ ghost use Rattle.jessie_semantics.specs.Play.{Reply, after};
 ghost use Rattle.jessie_semantics.specs.Rules.{play};
 ghost use Rattle.jessie_semantics.specs.Keeping.{AllHave, RepliesHave, NextHas, Within, Fits, Handed, handed};
 ghost use Rattle.jessie_semantics.specs.Form.{InForm};
+ghost use Rattle.jessie_semantics.specs.Naming.{HasFieldNames, IsFieldName, RoutinesNamed, RoutinesWrite};
 
 /// Each object in the next call of the host, or in the outcome and the new state values, stands in the
 /// arguments, the old state values or an earlier answer; and there is one state value for each variable.
@@ -27,4 +28,13 @@ pub fn calls_fit_the_room()
 pub fn data_stays_in_form()
     ensures { (rs : List Routine) (variables : List (List ℕ)) (f : List ℕ) (vs values : List Tree) (meter : ℕ) (answers : List Reply)
         → AllHave InForm vs → AllHave InForm values → RepliesHave InForm answers → NextHas InForm (length variables) (after (play rs variables f vs values meter) answers) }
+{}
+
+/// Where the text names the fields of its records, and its functions, as fields can be named, and arguments, state
+/// values and answers have such names, so has all that the host is asked next, or the outcome and the new state
+/// values.
+pub fn names_stay_in_form()
+    ensures { (rs : List Routine) (variables : List (List ℕ)) (f : List ℕ) (vs values : List Tree) (meter : ℕ) (answers : List Reply)
+        → RoutinesWrite IsFieldName rs → RoutinesNamed IsFieldName rs → AllHave HasFieldNames vs → AllHave HasFieldNames values → RepliesHave HasFieldNames answers
+        → NextHas HasFieldNames (length variables) (after (play rs variables f vs values meter) answers) }
 {}

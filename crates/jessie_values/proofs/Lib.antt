@@ -2,3 +2,4 @@ pub mod NamedFields
 pub mod ReadFunctions
 mod Rows
 pub mod SortedNames
+pub mod Constants

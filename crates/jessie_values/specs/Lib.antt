@@ -4,6 +4,7 @@ pub mod Operators
 pub mod Named
 pub mod Records
 pub mod Steps
+pub mod Literals
 pub mod BuiltIns
 pub mod Requests
 pub mod Dispatch

@@ -1,5 +1,5 @@
 -- A seat that is closed and paid out, slot by slot.
-use Rattle.std.specs.Prelude.{cond, slice_set, unwrap_or}
+use Rattle.std.specs.Prelude.{cond, is_some, slice_set, unwrap_or}
 use Rattle.std.specs.List.{AllByRecursion}
 use Rattle.std.specs.Str.{bytes_eq}
 use Rattle.std.proofs.Common.{◌≡◌, ℕ, suc, ◌<◌, Bool, true, false, List, [], ◌∷◌, ◌++◌, None, Some, length, map, refl, sym, ◌∙◌, ap, arith}
@@ -14,11 +14,10 @@ use Rattle.payments.specs.Papers.{Paper, live_paper}
 use Rattle.proposals.specs.Rows.{AreApart, amount_under, row_of}
 use Rattle.proposals.specs.Slots.{emptied}
 use Rattle.proposals.specs.declared.allocations.Row.{Row}
-use Rattle.rights_model.specs.Table.{movement}
 use Rattle.rights_model.specs.declared.Holder.TheVariants.{Payment, Slot}
-use Rattle.right_steps.specs.Lists.{Lists, less, with_closed_seat}
+use Rattle.right_steps.specs.Lists.{Lists, amount_of, less, taken, with_closed_seat, with_new_slot}
 use Rattle.right_steps.specs.Seats.{KeptSeat, amount_at, kept_seat_at, no_kept_seat, with_amount, with_slots}
-use Rattle.rights_views.specs.Views.{all_by_hand, by_hand, rights_of, slots_held}
+use Rattle.rights_views.specs.Views.{all_by_hand, put_to, rights_of, slots_held}
 use Rattle.rights_views.proofs.Views.{slots_closed, slots_read, slots_set}
 use Rattle.world_state.specs.Rights.{Rights, slots_at}
 use Rattle.world_state.specs.Worlds.{paid_out, payout_moves, rights_left}
@@ -33,10 +32,10 @@ other_way k q e = by (bytes_eq q k) refl
     by true is = let clash : true ≡ false = sym ((bytes_eq-Decides k q).1 (sym ((bytes_eq-Decides q k).0 is))) ∙ e in clash
 
 -- the row's keyword isn't one of these
-abbrev IsFree : List Row → Row → Type 0
+abbrev pub IsFree : List Row → Row → Type 0
 IsFree done q = amount_under q.keyword done ≡ None
 
-abbrev AreFree : List Row → List Row → Type 0
+abbrev pub AreFree : List Row → List Row → Type 0
 AreFree done rest = AllByRecursion (IsFree done) rest
 
 free_both : (k : List ℕ) (done : List Row) (r : Row) → amount_under k done ≡ None → bytes_eq k r.keyword ≡ false → amount_under k (done ++ emptied r ∷ []) ≡ None
@@ -47,7 +46,7 @@ free_both k (x ∷ xs) r none e = by (bytes_eq k x.keyword) (free_both k xs r) n
     by true later here = here
     by false later here = later here e
 
-free_more : (done : List Row) (r : Row) (rs : List Row) → amount_under r.keyword rs ≡ None → AreFree done rs → AreFree (done ++ emptied r ∷ []) rs
+pub free_more : (done : List Row) (r : Row) (rs : List Row) → amount_under r.keyword rs ≡ None → AreFree done rs → AreFree (done ++ emptied r ∷ []) rs
 free_more done r [] none all = tt
 free_more done r (q ∷ qs) none all = by (bytes_eq r.keyword q.keyword) refl none (λ here. free_more done r qs here all.1)
   where
@@ -55,7 +54,7 @@ free_more done r (q ∷ qs) none all = by (bytes_eq r.keyword q.keyword) refl no
     by true is here later = absurd cc
     by false is here later = (free_both q.keyword done r all.0 (other_way r.keyword q.keyword is), later here)
 
-free_of_none : (rs : List Row) → AreFree [] rs
+pub free_of_none : (rs : List Row) → AreFree [] rs
 free_of_none [] = tt
 free_of_none (r ∷ rs) = (refl, free_of_none rs)
 
@@ -75,6 +74,14 @@ read_among (x ∷ xs) r rs free = by (bytes_eq r.keyword x.keyword) free (read_a
     by true here later = absurd cc
     by false here later = later here
 
+pub found_among : (done : List Row) (r : Row) (rs : List Row) → IsFree done r → amount_under r.keyword (done ++ r ∷ rs) ≡ Some r.amount
+found_among [] r rs free = ap (λ b. cond b (Some r.amount) (amount_under r.keyword rs)) ((bytes_eq-Decides r.keyword r.keyword).1 refl)
+found_among (x ∷ xs) r rs free = by (bytes_eq r.keyword x.keyword) free (found_among xs r rs)
+  where
+    by : (b : Bool) → cond b (Some x.amount) (amount_under r.keyword xs) ≡ None → (amount_under r.keyword xs ≡ None → amount_under r.keyword (xs ++ r ∷ rs) ≡ Some r.amount) → cond b (Some x.amount) (amount_under r.keyword (xs ++ r ∷ rs)) ≡ Some r.amount
+    by true here later = absurd cc
+    by false here later = later here
+
 written_among : (done : List Row) (r : Row) (rs : List Row) (a : Amount) → IsFree done r → with_amount r.keyword a (done ++ r ∷ rs) ≡ done ++ row_of r.keyword a ∷ rs
 written_among [] r rs a free = ap (λ b. cond b (row_of r.keyword a ∷ rs) (r ∷ with_amount r.keyword a rs)) ((bytes_eq-Decides r.keyword r.keyword).1 refl)
 written_among (x ∷ xs) r rs a free = by (bytes_eq r.keyword x.keyword) free (written_among xs r rs a)
@@ -83,7 +90,7 @@ written_among (x ∷ xs) r rs a free = by (bytes_eq r.keyword x.keyword) free (w
     by true here later = absurd cc
     by false here later = ap (λ l. x ∷ l) (later here)
 
-emptied_among : (done : List Row) (r : Row) (rs : List Row) → IsFree done r → with_amount r.keyword (less (amount_at r.keyword (done ++ r ∷ rs)) r.amount.value.content) (done ++ r ∷ rs) ≡ (done ++ emptied r ∷ []) ++ rs
+pub emptied_among : (done : List Row) (r : Row) (rs : List Row) → IsFree done r → with_amount r.keyword (less (amount_at r.keyword (done ++ r ∷ rs)) r.amount.value.content) (done ++ r ∷ rs) ≡ (done ++ emptied r ∷ []) ++ rs
 emptied_among done r rs free =
     ap (λ a. with_amount r.keyword (less a r.amount.value.content) (done ++ r ∷ rs)) (read_among done r rs free)
     ∙ ap (λ a. with_amount r.keyword a (done ++ r ∷ rs)) (less_all r.amount)
@@ -106,7 +113,8 @@ paid_rows s n p done [] made rows free apart = λ i. record {
     same : map slots_held s.seats ≡ slice_set (map slots_held s.seats) n (done ++ [])
     same = sym (set_same (map slots_held s.seats) n []) ∙ ap (slice_set (map slots_held s.seats) n) (slots_read s.seats n ∙ rows)
 paid_rows s n p done (r ∷ rs) made rows free apart =
-    paid_rows next n (suc p) (done ++ emptied r ∷ []) rs
+    ap (λ t. rights_of (all_by_hand (from_slot (cond t s wide)) (payout_moves n (suc p) rs))) there
+    ∙ paid_rows next n (suc p) (done ++ emptied r ∷ []) rs
     (omega (arith, made, length_set s.seats n now))
     (ap slots_held (read_set s.seats n now no_kept_seat made) ∙ now_is)
     (free_more done r rs apart.0 free.1)
@@ -118,8 +126,17 @@ paid_rows s n p done (r ∷ rs) made rows free apart =
       out = s.out;
     })
   where
+    wide : Lists
+    wide = with_new_slot s n r.keyword r.amount.brand r.amount.value.kind
+
+    from_slot : Lists → Lists
+    from_slot x = put_to (taken x (Slot n r.keyword) r.amount.brand r.amount.value) (Payment p) (amount_of r.amount.brand r.amount.value)
+
     next : Lists
-    next = by_hand s (movement r.amount.brand (Slot n r.keyword) (Payment p) r.amount.value)
+    next = from_slot s
+
+    there : is_some (amount_under r.keyword (kept_seat_at s.seats n).slots) ≡ true
+    there = ap (λ l. is_some (amount_under r.keyword l)) rows ∙ ap is_some (found_among done r rs free.0)
 
     now : KeptSeat
     now = with_slots (kept_seat_at s.seats n) (with_amount r.keyword (less (amount_at r.keyword (kept_seat_at s.seats n).slots) r.amount.value.content) (kept_seat_at s.seats n).slots)

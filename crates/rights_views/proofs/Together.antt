@@ -3,20 +3,20 @@ use Rattle.std.specs.Prelude.{cond, is_some, slice_set}
 use Rattle.std.proofs.Common.{◌≡◌, ◌≢◌, ℕ, zero, suc, ◌<◌, ◌==◌, Bool, true, false, List, [], ◌∷◌, ◌++◌, None, Some, length, refl, sym, ◌∙◌, ap, arith}
 use Rattle.std.proofs.lemmas.Bool.{eq-eqb}
 use Rattle.amount_math.specs.Amount.{holding}
-use Rattle.amount_math.specs.Content.{nothing, nothing-sum}
+use Rattle.amount_math.specs.Content.{nothing, nothing-difference, nothing-sum}
 use Rattle.amount_math.specs.Worth.{Worth, with_content}
 use Rattle.amount_math.specs.declared.Amount.{Amount}
 use Rattle.ertp_mint.specs.Stocks.{empty_amount}
 use Rattle.list_edits.proofs.ListEdits.{length_push, length_set, read_before, read_other, read_set, set_set}
 use Rattle.payments.specs.Papers.{Paper, live_paper, paper_at, spent_paper}
-use Rattle.proposals.specs.Rows.{amount_under}
+use Rattle.proposals.specs.Rows.{amount_under, row_of}
 use Rattle.rights_model.specs.declared.Holder.{Holder}
 use Rattle.rights_model.specs.declared.Holder.TheVariants.{Purse, Payment, Slot, Hand, Outside}
 use Rattle.rights_model.specs.declared.Movement.{Movement}
 use Rattle.right_steps.specs.Lists.{CanTake, Lists, amount_of, less, more, slot_of}
 use Rattle.right_steps.specs.Lists as lists
-use Rattle.right_steps.specs.Seats.{kept_seat_at}
-use Rattle.rights_views.specs.Views.{CanAllByHand, CanByHand, MayPut, all_by_hand, by_hand, put_to, rights_of}
+use Rattle.right_steps.specs.Seats.{kept_seat_at, with_slots}
+use Rattle.rights_views.specs.Views.{CanAllByHand, CanByHand, MayPut, all_by_hand, by_hand, put_to, rights_of, source_of, taken_by_hand, with_slot_for}
 use Rattle.rights_views.proofs.Views.{slot_changed, slot_opened}
 use Rattle.world_state.specs.Rights.{Rights, all_moved, all_spent, given, moved, moved_together, paid, paper_less, paper_more, paper_paid, spent_from, taken}
 
@@ -204,12 +204,25 @@ put_spends s n (Slot k keyword) b w spent = by (is_some (amount_under keyword (k
 put_spends s n Hand b w spent = spent
 put_spends s n Outside b w spent = spent
 
+-- so it does where a slot is opened
+source_spends : (s : Lists) (n : ℕ) (h : Holder) (a : Amount) → IsSpent s n → IsSpent (with_slot_for s h a) n
+source_spends s n (Purse k) a spent = spent
+source_spends s n (Payment k) a spent = spent
+source_spends s n (Slot k keyword) a spent = by (is_some (amount_under keyword (kept_seat_at s.seats k).slots))
+  where
+    by : (t : Bool) → IsSpent (cond t s (lists.with_new_slot s k keyword a.brand a.value.kind)) n
+    by true = spent
+    by false = spent
+source_spends s n Hand a spent = spent
+source_spends s n Outside a spent = spent
+
 left_alone : (s : Lists) (n : ℕ) (ms : List Movement) → IsSpent s n → CanAllByHand s ms → AllApart n ms
 left_alone s n [] spent can = tt
 left_alone s n (m ∷ ms) spent can =
-    let t = take_spends s n m.from m.brand m.value spent can.0.take in (
-      (take_apart s n m.from m.brand m.value spent can.0.take, put_apart (lists.taken s m.from m.brand m.value) n m.to t.0 can.0.put),
-      left_alone (by_hand s m) n ms (put_spends (lists.taken s m.from m.brand m.value) n m.to m.brand m.value t) can.1,
+    let from = source_spends s n m.from (amount_of m.brand m.value) spent in
+    let t = take_spends (source_of s m) n m.from m.brand m.value from can.0.take in (
+      (take_apart (source_of s m) n m.from m.brand m.value from can.0.take, put_apart (taken_by_hand s m) n m.to t.0 can.0.put),
+      left_alone (by_hand s m) n ms (put_spends (taken_by_hand s m) n m.to m.brand m.value t) can.1,
     )
 
 -- what was taken from is spent
@@ -221,7 +234,22 @@ spent_now s n b w can = (
 
 -- ---- a movement, and movements
 
-put_marked : (s : Lists) (from to : Holder) (b : ℕ) (w : Worth) → CanTake s from b w → MayPut (lists.taken s from b w) to → given (marked from (taken (rights_of s) from b w)) to b w ≡ marked from (given (taken (rights_of s) from b w) to b w)
+-- what is taken of a slot that wasn't there is taken of one that was opened with nothing
+pub source_views : (s : Lists) (h : Holder) (b : ℕ) (w : Worth) → CanTake (with_slot_for s h (amount_of b w)) h b w → rights_of (lists.taken (with_slot_for s h (amount_of b w)) h b w) ≡ marked h (taken (rights_of s) h b w)
+source_views s (Purse n) b w can = taken_views s (Purse n) b w can
+source_views s (Payment n) b w can = taken_views s (Payment n) b w can
+source_views s (Slot n keyword) b w can = by (is_some (amount_under keyword (kept_seat_at s.seats n).slots)) refl can
+  where
+    first : less (empty_amount b w.kind) w.content ≡ holding (amount_of b w) nothing
+    first = ap (λ c. holding (amount_of b w) c) (nothing-difference w.content)
+
+    by : (t : Bool) → is_some (amount_under keyword (kept_seat_at s.seats n).slots) ≡ t → CanTake (cond t s (lists.with_new_slot s n keyword b w.kind)) (Slot n keyword) b w → rights_of (lists.taken (cond t s (lists.with_new_slot s n keyword b w.kind)) (Slot n keyword) b w) ≡ taken (rights_of s) (Slot n keyword) b w
+    by true is may = taken_views s (Slot n keyword) b w may
+    by false is may = slot_opened s n keyword (λ had. less had w.content) (holding (amount_of b w) nothing) b w.kind (omega (arith, may.slot.made, length_set s.seats n (with_slots (kept_seat_at s.seats n) ((kept_seat_at s.seats n).slots ++ row_of keyword (empty_amount b w.kind) ∷ [])))) is first
+source_views s Hand b w can = absurd can
+source_views s Outside b w can = taken_views s Outside b w can
+
+put_marked : (s : Lists) (from to : Holder) (b : ℕ) (w : Worth) → CanTake (with_slot_for s from (amount_of b w)) from b w → MayPut (lists.taken (with_slot_for s from (amount_of b w)) from b w) to → given (marked from (taken (rights_of s) from b w)) to b w ≡ marked from (given (taken (rights_of s) from b w) to b w)
 put_marked s (Purse n) to b w can may = refl
 put_marked s (Payment n) to b w can may =
     given_marked n (taken (rights_of s) (Payment n) b w) to b w
@@ -233,12 +261,12 @@ put_marked s Outside to b w can may = refl
 
 pub one_together : (s : Lists) (m : Movement) → CanByHand s m → rights_of (by_hand s m) ≡ marked m.from (moved (rights_of s) m)
 one_together s m can =
-    given_views (lists.taken s m.from m.brand m.value) m.to m.brand m.value can.put
-    ∙ ap (λ r. given r m.to m.brand m.value) (taken_views s m.from m.brand m.value can.take)
+    given_views (taken_by_hand s m) m.to m.brand m.value can.put
+    ∙ ap (λ r. given r m.to m.brand m.value) (source_views s m.from m.brand m.value can.take)
     ∙ put_marked s m.from m.to m.brand m.value can.take can.put
 
 -- those that come after leave alone what is spent
-after_marked : (s : Lists) (r : Rights) (from to : Holder) (b : ℕ) (w : Worth) (ms : List Movement) → length r.payments ≡ length (put_to (lists.taken s from b w) to (amount_of b w)).payments → CanTake s from b w → CanAllByHand (put_to (lists.taken s from b w) to (amount_of b w)) ms → all_moved (marked from r) ms ≡ marked from (all_moved r ms)
+after_marked : (s : Lists) (r : Rights) (from to : Holder) (b : ℕ) (w : Worth) (ms : List Movement) → let next = put_to (lists.taken (with_slot_for s from (amount_of b w)) from b w) to (amount_of b w) in length r.payments ≡ length next.payments → CanTake (with_slot_for s from (amount_of b w)) from b w → CanAllByHand next ms → all_moved (marked from r) ms ≡ marked from (all_moved r ms)
 after_marked s r (Purse n) to b w ms same take can = refl
 after_marked s r (Payment n) to b w ms same take can =
     let spent = put_spends (lists.taken s (Payment n) b w) n to b w (spent_now s n b w take) in

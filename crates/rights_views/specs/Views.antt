@@ -53,9 +53,16 @@ with_slot_for s Outside a = s
 abbrev pub put_to : Lists → Holder → Amount → Lists
 put_to s to a = given (with_slot_for s to a) to a.brand a.value
 
--- what a movement moves is taken to the hand, and put from there
+-- what a movement moves is taken to the hand, from a slot of nothing that is opened first where there
+-- is none, and put from there
+abbrev pub source_of : Lists → Movement → Lists
+source_of s m = with_slot_for s m.from (amount_of m.brand m.value)
+
+abbrev pub taken_by_hand : Lists → Movement → Lists
+taken_by_hand s m = taken (source_of s m) m.from m.brand m.value
+
 abbrev pub by_hand : Lists → Movement → Lists
-by_hand s m = put_to (taken s m.from m.brand m.value) m.to (amount_of m.brand m.value)
+by_hand s m = put_to (taken_by_hand s m) m.to (amount_of m.brand m.value)
 
 abbrev pub all_by_hand : Lists → List Movement → Lists
 all_by_hand s [] = s
@@ -72,8 +79,8 @@ MayPut s Outside = Unit {0}
 
 -- what a movement moves can be taken, and may be put where it goes
 pub record CanByHand (s : Lists) (m : Movement) : Type 0 where
-  pub take : CanTake s m.from m.brand m.value
-  pub put : MayPut (taken s m.from m.brand m.value) m.to
+  pub take : CanTake (source_of s m) m.from m.brand m.value
+  pub put : MayPut (taken_by_hand s m) m.to
 
 -- each, after those before it
 abbrev pub CanAllByHand : Lists → List Movement → Type 0

@@ -1,7 +1,7 @@
 //! Seats by number (Zoe). An opened seat stays for good. Once it is closed it keeps the allocation that
 //! it had, while its slots are paid out.
 
-ghost use Rattle.std.specs.Prelude.{◌≡◌, ℕ, List, ◌<◌, ◌≤◌, ◌↔◌, ◌++◌, ◌∷◌, ◌-◌, [], None, length, is_none, IfErr, IfOk, IsErr, IsOk, IsSome, IsTrue, OnErr, OnOk};
+ghost use Rattle.std.specs.Prelude.{◌≡◌, ℕ, List, ◌<◌, ◌≤◌, ◌↔◌, ◌++◌, ◌∷◌, ◌-◌, ◌==◌, [], None, if◌then◌else◌, length, is_none, IfErr, IfOk, IsErr, IsOk, IsSome, IsTrue, OnErr, OnOk};
 ghost use Rattle.std.specs.Map.{keys_of};
 ghost use Rattle.std.specs.Option.{option_copied};
 ghost use Rattle.amount_math.specs.Amount.{Meet};
@@ -480,6 +480,8 @@ impl Seats {
         requires { seat < length self.old.seats }
         ensures ok { OnOk result (self.new
             ≡ record self.old { staging = without_staged seat self.old.staging }) }
+        ensures looks { OnOk result ((n : ℕ) → staged_at n self.new.staging
+            ≡ (if seat == n then None else staged_at n self.old.staging)) }
         ensures exited { IsErr result ↔ IsSome (seat_in seat self.old).last }
         ensures err { OnErr result (self.new ≡ self.old) }
     {
@@ -510,6 +512,13 @@ impl Seats {
     {
         let alloc = *self.seats.allocator();
         self.staging.seats(alloc)
+    }
+
+    /// That what is staged is of open seats, for a caller's proof: it does nothing.
+    pub fn staged_are_open(&self)
+        ensures { AreOpen self.now.seats self.now.staging }
+    {
+        let _ = &self.staging;
     }
 
     /// Lets go of all that is staged (own: staging ends with the turn). It takes no memory, and costs what

@@ -37,8 +37,8 @@ module _ (w : State) (n : ℕ) (args : List Tree) (can : CanCall w None (numbere
     leaves = refl;
     opens = refl;
     licensed = tt;
-    invites = tt;
-    mints = λ b. omega arith;
+    acts = (refl, tt);
+    issues = omega arith;
     calls = omega arith;
   })
 
@@ -52,8 +52,8 @@ module _ (w : State) (n : ℕ) (args : List Tree) (can : CanCall w None (numbere
         leaves = refl;
         opens = refl;
         licensed = (given.named, tt);
-        invites = tt;
-        mints = λ e. omega arith;
+        acts = (tt, tt);
+        issues = omega arith;
         calls = omega arith;
       }))
 

@@ -43,8 +43,8 @@ module _ (w : State) (n : ℕ) (args : List Tree) (can : CanCall w None (numbere
         leaves = refl;
         opens = refl;
         licensed = tt;
-        invites = tt;
-        mints = λ e. omega arith;
+        acts = (refl, tt);
+        issues = omega arith;
         calls = omega arith;
       })))
 

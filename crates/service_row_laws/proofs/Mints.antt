@@ -1,6 +1,5 @@
 -- The methods of mints, and of ERTP's service, are good rows.
-use Rattle.std.specs.Prelude.{◌==◌, if◌then◌else◌}
-use Rattle.std.proofs.Common.{ℕ, ◌+◌, ◌≤◌, Bool, true, false, List, None, codes, refl, arith}
+use Rattle.std.proofs.Common.{ℕ, ◌+◌, ◌≤◌, ◌^◌, List, None, codes, refl, arith}
 use Rattle.amount_math.specs.Counted.{counted}
 use Rattle.amount_math.specs.KindLaws.{counted_value}
 use Rattle.amount_math.specs.Worth.{Worth, most_counted}
@@ -14,7 +13,7 @@ use Rattle.refusals.proofs.Steps.{after_known, after_step, ok_has}
 use Rattle.right_steps.specs.Lists.{amount_of}
 use Rattle.world_state.specs.Rights.{kind_at}
 use Rattle.world_state.specs.Worlds.{State}
-use Rattle.call_rows.specs.Obligations.{CanCall, IsGoodOutcome, most_minted}
+use Rattle.call_rows.specs.Obligations.{CanCall, IsGoodOutcome}
 use Rattle.call_rows.specs.Rows.{Outcome}
 use Rattle.call_row_laws.proofs.Forms.{object_formed}
 use Rattle.call_row_laws.proofs.Given.{amount_is}
@@ -26,18 +25,17 @@ use Rattle.service_rows.specs.ErtpRows.{mint_payment}
 use Rattle.service_rows.specs.Services.{of_mint}
 use Rattle.service_row_laws.specs.Good.{AreGoodRows, numbered}
 
--- a value counts no more than a call may mint
-kind_counts : (kind : Kind) → most_counted kind ≤ most_minted
+-- a value counts no more than a call from outside instances may issue
+abbrev most_valued : ℕ
+most_valued = 2 ^ 75
+
+kind_counts : (kind : Kind) → most_counted kind ≤ most_valued
 kind_counts Nat = omega arith
 kind_counts Set = omega arith
 kind_counts Bag = omega arith
 
-value_counts : (kind : Kind) (v : Worth) → IsValueOf kind v → counted v.content ≤ most_minted
+value_counts : (kind : Kind) (v : Worth) → IsValueOf kind v → counted v.content ≤ most_valued
 value_counts kind v is = omega (arith, counted_value kind v.content is.value, kind_counts kind)
-
-if_small : (b : Bool) (n most : ℕ) → n ≤ most → (if b then n else 0) + 0 ≤ most
-if_small true n most is = omega (arith, is)
-if_small false n most is = omega arith
 
 module _ (w : State) (n : ℕ) (args : List Tree) where
   module _ (can : CanCall w None (numbered kinds.Mint n) args) where
@@ -51,9 +49,9 @@ module _ (w : State) (n : ℕ) (args : List Tree) where
           known = object_formed _ None _ (omega (arith, paid_next w.rights.payments (amount_of n v)));
           leaves = refl;
           opens = refl;
-          licensed = (record { kind_is = refl; number_is = refl }, tt);
-          invites = tt;
-          mints = λ b. if_small (n == b) (counted v.content) most_minted few;
+          licensed = (record { target = record { kind_is = refl; number_is = refl }; method_is = refl }, tt);
+          acts = (tt, tt);
+          issues = omega (arith, few);
           calls = omega arith;
         })))
 

@@ -52,9 +52,9 @@ module _ (w : State) (n : ℕ) (args : List Tree) (can : CanCall w None (numbere
         known = object_formed _ None _ (omega (arith, paid_next w.rights.payments (amount_of (purse_of w n).brand v)));
         leaves = refl;
         opens = refl;
-        licensed = (record { kind_is = refl; number_is = refl }, tt);
-        invites = tt;
-        mints = λ b. omega arith;
+        licensed = (record { target = record { kind_is = refl; number_is = refl }; method_is = refl }, tt);
+        acts = (tt, tt);
+        issues = omega arith;
         calls = omega arith;
       })))
 
@@ -71,8 +71,8 @@ module _ (w : State) (n : ℕ) (args : List Tree) (can : CanCall w None (numbere
         leaves = refl;
         opens = refl;
         licensed = (given.named, tt);
-        invites = tt;
-        mints = λ e. omega arith;
+        acts = (tt, tt);
+        issues = omega arith;
         calls = omega arith;
       })))
 

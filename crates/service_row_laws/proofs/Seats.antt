@@ -62,8 +62,8 @@ module _ (w : State) (n : ℕ) (args : List Tree) (can : CanCall w None (numbere
     leaves = refl;
     opens = refl;
     licensed = tt;
-    invites = tt;
-    mints = λ b. omega arith;
+    acts = (tt, tt);
+    issues = omega arith;
     calls = omega arith;
   }))
 

@@ -1,6 +1,6 @@
-//! Laws of the methods of the host's own objects: each is a good row. It stands on the definitions of
-//! service_rows and on the lemmas of call_row_laws. Its one contract: the laws that the functions of `laws`
-//! state, one for each kind of object.
+//! Laws of the host's own objects: each call of one is a good row. It stands on the definitions of
+//! zoe_rows, where the table of their methods is, and on the lemmas of call_row_laws. Its one contract: the
+//! law that `laws` states of the whole table.
 #![tactic(auto)]
 
 pub mod laws;

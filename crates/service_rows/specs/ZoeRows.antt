@@ -1,5 +1,5 @@
 -- The methods of the Zoe service that make installations and instances (Zoe; the text of a contract is our own).
-use Rattle.std.specs.Prelude.{ℕ, ◌||◌, nat_le, not, List, [], ◌∷◌, length, Bool, false, Option, Some, option_map, Result, Ok, if◌then◌else◌, codes}
+use Rattle.std.specs.Prelude.{◌≡◌, ℕ, ◌||◌, nat_le, not, List, [], ◌∷◌, length, Bool, false, Option, Some, option_map, Result, Ok, Err, if◌then◌else◌, codes}
 use Rattle.std.specs.List.{list_all}
 use Rattle.std.specs.Option.{option_map_or}
 use Rattle.std.specs.Str.{bytes_eq}
@@ -12,10 +12,12 @@ use Rattle.call_data.specs.Values.{object_tree}
 use Rattle.ertp_mint.specs.Stocks.{most_made}
 use Rattle.jessie_tree.specs.Tree.{Tree, fields, is_null, no_fields, pairs_of, text_of}
 use Rattle.jessie_tree.specs.declared.data.ObjKind.TheVariants as kinds
-use Rattle.jessie_tree.specs.declared.syntax.Module.{Module}
+use Rattle.jessie_syntax.specs.declared.syntax.Module.{Module}
 use Rattle.refusals.specs.Codes.{bad_args, bad_keyword, limit, wrong_object}
 use Rattle.refusals.specs.Outcomes.{◌>>=◌, ◌>>◌, need, none_such, wanted}
 use Rattle.refusals.specs.declared.codes.Refusal.{Refusal}
+use Rattle.refusals.specs.declared.codes.Refusal.TheVariants.{TextRefused}
+use Rattle.world_state.specs.Good.{IsModule}
 use Rattle.world_state.specs.Worlds as worlds
 use Rattle.world_state.specs.Worlds.{Starting, State, promises_made}
 use Rattle.call_rows.specs.Rows.{Outcome}
@@ -23,14 +25,24 @@ use Rattle.call_rows.specs.Words.{next_of}
 
 -- ---- zoe.install(text)
 
--- what the text of a contract is read as: its module, or why it is refused. Rows are over any such reader
+-- what the text of a contract is read as: its module, or where and why it is refused. Rows are over any such
+-- reader
 abbrev pub TextReader : Type 0
-TextReader = List ℕ → Result Module Refusal
+TextReader = List ℕ → Result Module (ℕ × List ℕ)
+
+-- what a reader reads are modules as they are to be
+pub record ReadsModules (read : TextReader) : Type 0 where
+  pub each : (bytes : List ℕ) (m : Module) → read bytes ≡ Ok m → IsModule m
+
+-- a text that isn't read is refused
+abbrev pub module_in : Result Module (ℕ × List ℕ) → Result Module Refusal
+module_in (Ok m) = Ok m
+module_in (Err f) = Err (TextRefused f.0 f.1)
 
 unfoldable pub install : TextReader → State → List Tree → Outcome
 install read w args = do
   bytes ← wanted (text_of (arg 1 args)) (bad_args 1)
-  m ← read bytes
+  m ← module_in (read bytes)
   installation ← next_of (length w.tables.installations) most_made
   Ok (object_tree kinds.Installation installation, worlds.install m ∷ [])
 

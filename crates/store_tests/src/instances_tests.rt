@@ -8,7 +8,7 @@ use instance_store::facets::{Facet, Facets};
 use instance_store::seat_promises::{SeatPair, SeatPromises};
 use instance_store::{Instances, Standing};
 use jessie_tree::data::Data;
-use jessie_tree::syntax::{Constant, Literal, Module, Variable};
+use jessie_syntax::syntax::{Constant, Literal, Module, Variable};
 use sqlite_items::Items;
 use std::alloc::Global;
 use std::process::Abort;

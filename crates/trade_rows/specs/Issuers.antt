@@ -1,23 +1,23 @@
 -- The issuers that an instance keeps under keywords: what is kept, and what is asked of it (Zoe).
 use Rattle.std.specs.Prelude.{ℕ, nat_lt, is_none, List, [], ◌∷◌, length, Result, Ok, codes}
-use Rattle.amount_math.specs.declared.Kind.{Kind}
-use Rattle.amount_math.specs.declared.Kind.TheVariants.{Bag, Nat, Set}
+use Rattle.amount_math.specs.declared.Kind.TheVariants.{Nat}
 use Rattle.brands.specs.Brands.{brand_at, brand_of, most_brands}
 use Rattle.brands.specs.IssuerRecords.{brand_under, issuer_of, most_issuers}
-use Rattle.brands.specs.declared.issuer_record.Issuer.{Issuer}
 use Rattle.call_arguments.specs.Arguments.{kind_at, object_at}
 use Rattle.call_data.specs.Values.{object_tree}
 use Rattle.instance_store.specs.Tables.{instance_at}
-use Rattle.jessie_tree.specs.Tree.{Fields, Tree, field, fields, no_fields, null, text}
+use Rattle.jessie_tree.specs.Tree.{Tree, field, fields, no_fields, null, text}
 use Rattle.jessie_tree.specs.declared.data.ObjKind.TheVariants as kinds
 use Rattle.refusals.specs.Codes.{keyword_taken, limit, wrong_brand}
 use Rattle.refusals.specs.Outcomes.{◌>>=◌, ◌>>◌, need}
 use Rattle.refusals.specs.declared.codes.Refusal.{Refusal}
 use Rattle.service_rows.specs.ErtpRows.{brand_object}
 use Rattle.service_rows.specs.Proposals.{is_known}
-use Rattle.world_state.specs.Worlds.{State, add_issuer, new_brand, of_instance, placed_field}
+use Rattle.world_state.specs.Worlds.{State, add_issuer, new_brand, of_instance}
 use Rattle.call_rows.specs.Rows.{Outcome}
 use Rattle.call_rows.specs.Words.{keyword_at, next_of, runs}
+use Rattle.ertp_rows.specs.BrandRows.{kind_word}
+use Rattle.zoe_rows.specs.Records.{terms_tree}
 use Rattle.trade_rows.specs.Given.{issuers_of}
 
 -- ---- keywords
@@ -70,28 +70,9 @@ save_issuer w i args = do
   keeps_more w i
   Ok (issuer_record w brand, add_issuer i (issuer_of keyword brand) ∷ [])
 
--- ---- zcf.getTerms()
-
--- a record of what the brands have, each under its keyword, in byte order
-abbrev pub under_keywords : (ℕ → Tree) → List Issuer → Fields
-under_keywords made [] = no_fields
-under_keywords made (x ∷ xs) = placed_field x.keyword (made x.brand) (under_keywords made xs)
-
-abbrev pub brands_record : State → List Issuer → Tree
-brands_record w issuers = fields (under_keywords (brand_object w) issuers)
-
-abbrev pub issuers_record : List Issuer → Tree
-issuers_record issuers = fields (under_keywords issuer_object issuers)
-
--- terms with the brands and the issuers that the instance keeps now
-abbrev pub with_issuers : State → List Issuer → Tree → Tree
-with_issuers w issuers (fields fs) = fields (
-    placed_field (codes "brands") (brands_record w issuers)
-    (placed_field (codes "issuers") (issuers_record issuers) fs))
-with_issuers w issuers t = t
-
+-- zcf.getTerms()
 unfoldable pub get_terms : State → ℕ → Result Tree Refusal
-get_terms w i = Ok (with_issuers w (issuers_of w i) (instance_at w.tables.instances i).terms)
+get_terms w i = Ok (terms_tree w (instance_at w.tables.instances i))
 
 -- ---- brands and issuers of the record
 
@@ -112,13 +93,7 @@ get_issuer_for_brand w i args = do
   is_kept w i brand
   Ok (issuer_object brand)
 
--- ---- zcf.getAssetKind(brand)
-
-abbrev pub kind_word : Kind → List ℕ
-kind_word Nat = codes "nat"
-kind_word Set = codes "set"
-kind_word Bag = codes "bag"
-
+-- zcf.getAssetKind(brand)
 unfoldable pub get_asset_kind : State → List Tree → Result Tree Refusal
 get_asset_kind w args = do
   brand ← object_at (kinds.Brand Nat) 1 args

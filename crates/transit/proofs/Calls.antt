@@ -167,7 +167,7 @@ module _ (out : List CirculationView) (hand : List Held) (are : AreKept out hand
 
     -- an issue, where the hand's store has nothing
     module _ (w : Worth) (empty : h.value.content ≡ nothing) where
-      out_same : whole.supply.outstanding.content ≡ x.supply.outstanding.content
+      pub out_same : whole.supply.outstanding.content ≡ x.supply.outstanding.content
       out_same = ap (λ (y : CirculationView). y.supply.outstanding.content) reads ∙ ap (sum x.supply.outstanding.content) empty ∙ sum-nothing x.supply.outstanding.content
 
       pub small_there : whole.supply.minted + counted w.content < 2 ^ 128 → x.supply.minted + counted w.content < 2 ^ 128

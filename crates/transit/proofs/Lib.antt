@@ -1,3 +1,4 @@
 pub mod Wholes
 pub mod Keeping
 pub mod Calls
+pub mod ReadOff

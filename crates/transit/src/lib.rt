@@ -5,11 +5,12 @@
 //! memory.
 #![tactic(auto)]
 
-ghost use Rattle.std.specs.Prelude.{◌≡◌, ◌<◌, ◌≤◌, ◌+◌, ◌-◌, ◌^◌, ◌++◌, ◌∷◌, [], length, take, IfErr, IfOk, OnErr, OnOk};
+ghost use Rattle.std.specs.Prelude.{◌≡◌, ◌<◌, ◌≤◌, ◌+◌, ◌-◌, ◌^◌, ◌++◌, ◌∷◌, [], length, take, IfErr, IfOk, IsOk, OnErr, OnOk};
 ghost use Rattle.amount_math.specs.Content.{Contains, nothing, sum};
 ghost use Rattle.amount_math.specs.Counted.{counted};
 ghost use Rattle.amount_math.specs.Held.{HasRoom, with_less, with_more};
 ghost use Rattle.amount_math.specs.Worth.{Fits, IsIssueRefusal, keys_of};
+ghost use Rattle.ertp_mint.specs.BrandSupply.{AddsUp};
 ghost use Rattle.ertp_mint.specs.Circulating.{CanReturn, circulation_at, new_circulation, with_forgotten, with_issued, with_retired, with_unissued, with_unretired};
 ghost use Rattle.transit.specs.Transit.{CanHold, IsInStore, IsOnItsWay, empty_hand, held_at, in_store, kind_in, supply_in, with_hand, with_out};
 
@@ -81,6 +82,49 @@ impl Transit {
     {
         let _ = &self.hand;
         self.out.minted(brand)
+    }
+
+    /// The counts of all that was ever retired of a brand, together.
+    pub fn burned(&self, brand: u16) -> u128
+        requires { brand < length self.now.out }
+        ensures { result ≡ (supply_in self.now brand).burned }
+    {
+        self.out.burned(brand) - self.hand[brand as usize].total()
+    }
+
+    /// The counts of all that is out of a brand, together: minted less burned.
+    pub fn total(&self, brand: u16) -> u128
+        requires { brand < length self.now.out }
+        ensures { result ≡ counted (supply_in self.now brand).outstanding.content }
+    {
+        let _kind = self.kind(brand);
+        self.minted(brand) - self.burned(brand)
+    }
+
+    /// The kind of a brand's values, and that no count of what is out passes its bound.
+    pub fn kind(&self, brand: u16) -> Kind
+        requires { brand < length self.now.out }
+        ensures kind { result ≡ kind_in self.now brand }
+        ensures fits { Fits (kind_in self.now brand) (supply_in self.now brand).outstanding.content }
+        ensures adds_up { AddsUp (supply_in self.now brand) }
+    {
+        let _ = &self.hand;
+        self.out.kind(brand)
+    }
+
+    /// That a value may come out too of a brand of which the hand's store has nothing, or why it mayn't, as
+    /// `issue` says it. Nothing changes. To show a key that is out already takes memory, and nothing else
+    /// does.
+    pub fn can_issue(&self, brand: u16, value: &Value) -> Result<(), PutFault>
+        requires made { brand < length self.now.out }
+        requires kind { kind_in self.now brand ≡ value.now.kind }
+        requires empty { in_store self.now brand ≡ nothing }
+        ensures ok { IsOk result → Fits value.now.kind (sum (supply_in self.now brand).outstanding.content value.now.content) }
+        ensures sure { Fits value.now.kind (sum (supply_in self.now brand).outstanding.content value.now.content) → IsOk result }
+        ensures refused { IfErr result (IsIssueRefusal value.now.kind (sum (supply_in self.now brand).outstanding.content value.now.content)) }
+    {
+        let _ = &self.hand;
+        self.out.can_issue(brand, value)
     }
 
     /// Takes room in the hand's store for so many keys more of a brand.

@@ -14,9 +14,10 @@ use Rattle.rights_model.specs.declared.Movement.{Movement}
 use Rattle.rights_model.specs.Table.{movement}
 use Rattle.transit.specs.Transit.{in_store, supply_in}
 use Rattle.vault_stores.specs.Memory.{IsGiven, IsRoomed, IsTaken, lists_of, rooms_of, store_of}
-use Rattle.vault_rights.specs.Drafts.{HandKeeps, IsDraft, IsOfBrand, after, draft_of}
+use Rattle.vault_rights.specs.Drafts.{HandKeeps, IsDraft, IsOfBrand, after, draft_of, given_at}
 use Rattle.vault_stores.specs.declared.stores.Stores.{Stores}
 use Rattle.vault_stores.proofs.Halves.{supply_read}
+use Rattle.vault_rights.proofs.GivenUp.{given_there}
 use Rattle.vault_rights.proofs.Steps.{brands_there, same_store}
 use Rattle.vault_rights.proofs.Taking.{can_retire, draft_put, draft_put_after, draft_taken, draft_taken_after}
 
@@ -62,10 +63,10 @@ module _ (p r q : Stores) (ks ls : List Step) (ms ns : List Movement) (keys more
   taken_keeps_so brand counted room = subst (λ t. IsDraft q ls ns more t) (sym sound) (subst (λ l. IsDraft q l ns more false) (sym steps) (subst (λ l. IsDraft q (ks ++ Moves ∷ []) l more false) (sym moves_so)
       (draft_taken p r q ks ms keys more from b w was_sound roomed took can brand counted (subst (λ x. HasRoom (kind_of (lists_of p) x) (keys_of (store_of p x) + more) ((rooms_of r).hand x)) at room))))
 
--- what may come out, and that the hand's store has nothing then
+-- what may come out, and that the hand's store has nothing then, where it had nothing
 module _ (p r : Stores) (ks : List Step) (ms : List Movement) (keys : ℕ) (spoiled : Bool) (b : ℕ) (w : Worth) (roomed : IsRoomed p r) (brand : IsOfBrand (lists_of p) b w) where
-  pub none_in_store : spoiled ≡ false → IsDraft p ks ms keys spoiled → in_store r.transit b ≡ nothing
-  none_in_store sound is = same_store p r roomed.given_up b ∙ is.clear sound b (omega (arith, brand.made, brands_there p))
+  pub none_in_store : given_at (draft_of p ks ms spoiled) b ≡ nothing → in_store r.transit b ≡ nothing
+  none_in_store none = same_store p r roomed.given_up b ∙ sym (given_there p b (omega (arith, brand.made, brands_there p))) ∙ none
 
   pub may_come : Fits w.kind (sum (supply_in r.transit b).outstanding.content w.content) → MayCome (lists_of p) b w
   may_come fits = record {

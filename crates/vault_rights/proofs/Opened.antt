@@ -1,7 +1,8 @@
 -- A draft after a purse was opened, and after a brand was taken in.
 use Rattle.std.proofs.Common.{◌≡◌, ◌≢◌, inl, inr, ℕ, zero, suc, ◌+◌, ◌-◌, ◌<◌, ◌≤◌, Bool, false, List, [], ◌∷◌, ◌++◌, length, map, reverse, refl, sym, ◌∙◌, ap, subst, arith}
+use Rattle.std.specs.Prelude.{slice_index_or}
 use Rattle.std.proofs.lemmas.Bool.{cases_eq}
-use Rattle.amount_math.specs.Content.{nothing}
+use Rattle.amount_math.specs.Content.{Contains, Content, nothing}
 use Rattle.amount_math.specs.Held.{Held, HasRoom, keys_in, more_room}
 use Rattle.amount_math.specs.Worth.{keys_of}
 use Rattle.amount_math.specs.declared.Amount.{Amount}
@@ -75,7 +76,6 @@ module _ (p : Stores) (ks : List Step) (ms : List Movement) (keys : ℕ) (spoile
     );
     bounded = is.bounded;
     room = is.room;
-    clear = is.clear;
     retired = is.retired;
     valid = record {
       sound = subst (λ (s : Lists). IsSound s (in_hand (reverse ms))) (sym lists) (sound_new_purse (lists_of p) (in_hand (reverse ms)) b kind is.valid.sound);
@@ -85,7 +85,6 @@ module _ (p : Stores) (ks : List Step) (ms : List Movement) (keys : ℕ) (spoile
       was_sound = subst (λ (s : Lists). IsSound s no_hand) (sym kept_after) is.valid.was_sound;
       brands = given_long q;
       given = is.valid.given;
-      clear = is.valid.clear;
     };
   }
 
@@ -149,16 +148,20 @@ module _ (p : Stores) (ks : List Step) (ms : List Movement) (keys : ℕ) (kind :
       ap (λ (s : Lists). (supply_at s.out (length s.out - 1)).minted) lists_too
       ∙ ap (λ (x : BrandSupply). x.minted) (read_pushed (lists_of p).out (new_supply kind) (new_supply Nat) _ (omega (arith, length_push (lists_of p).out (new_supply kind))))
 
-  store_none : (e : ℕ) → e < length t.out → store_of r e ≡ nothing
-  store_none e lt = store_same e ∙ elim (cases_eq (length (lists_of p).out) e) [
-    | inl at ↦ ap (λ (h : Held). h.value.content) (read_past p.transit.hand (empty_hand Nat) e (omega (arith, alike, at, brands_there p)))
-    | inr apart ↦ is.clear refl e (omega (arith, lt, long, apart, brands_there p))
-  ]
+  -- of the new one it has nothing
+  store_none : store_of r (length p.transit.out) ≡ nothing
+  store_none = store_same (length p.transit.out) ∙ ap (λ (h : Held). h.value.content) (read_past p.transit.hand (empty_hand Nat) (length p.transit.out) (omega (arith, alike)))
+
+  none_more : (l : List Content) (n : ℕ) → slice_index_or l n nothing ≡ slice_index_or (l ++ nothing ∷ []) n nothing
+  none_more [] zero = refl
+  none_more [] (suc n) = refl
+  none_more (x ∷ xs) zero = refl
+  none_more (x ∷ xs) (suc n) = none_more xs n
 
   listed_too : given_list r ≡ given_list p ++ nothing ∷ []
   listed_too =
       numbered_push (length t.out) (length p.transit.out) (store_of r) long
-      ∙ (λ i. by_number (length p.transit.out) (λ e. store_same e i) ++ store_none (length p.transit.out) (omega (arith, long)) i ∷ [])
+      ∙ (λ i. by_number (length p.transit.out) (λ e. store_same e i) ++ store_none i ∷ [])
 
   pub added_after : draft_of r (ks ++ AddsBrand ∷ []) ms false ≡ with_brand (draft_of p ks ms false) kind
   added_after = λ i. record { kept = kept_too i; now = lists_too i; staging = staged_of p; movements = ms; given_up = listed_too i; is_spoiled = false }
@@ -182,7 +185,6 @@ module _ (p : Stores) (ks : List Step) (ms : List Movement) (keys : ℕ) (kind :
       | inr apart ↦ subst (λ k. HasRoom k (keys_of (in_hand (reverse ms) e)) ((rooms_of r).hand e)) (sym (same_kind e apart))
           (more_room (kind_of (lists_of p) e) (keys_of (in_hand (reverse ms) e)) ((rooms_of p).hand e) ((rooms_of r).hand e) (hand_room e) (is.room e (omega (arith, lt, long, apart, brands_there p))))
     ];
-    clear = λ sound. store_none;
     retired = λ e. kept_same e ∙ is.retired e;
     valid = record {
       sound = subst (λ (s : Lists). IsSound s (in_hand (reverse ms))) (sym lists_too) (sound_new_brand (lists_of p) (in_hand (reverse ms)) kind is.valid.sound);
@@ -191,7 +193,6 @@ module _ (p : Stores) (ks : List Step) (ms : List Movement) (keys : ℕ) (kind :
       moves = subst (λ (s : Lists). CanMoveAll (table_of s) ms) (sym kept_too) is.valid.moves;
       was_sound = subst (λ (s : Lists). IsSound s no_hand) (sym kept_too) is.valid.was_sound;
       brands = given_long r;
-      given = λ e. has_none _ _ (none_given r store_none e);
-      clear = λ sound e. none_given r store_none e;
+      given = λ e. subst (λ x. Contains (in_hand (reverse ms) e) x) (none_more (given_list p) e ∙ sym (ap (λ l. slice_index_or l e nothing) listed_too)) (is.valid.given e);
     };
   }

@@ -56,7 +56,6 @@ module _ (p q : Stores) (k : Step) (s : Lists) (staged : List (ℕ × List Row))
     bounded = λ b. subst (λ (l : List BrandSupply). keys_in (supply_at l b).outstanding.kind (in_hand (reverse ms) b) ≤ keys) (sym out_same) (is.bounded b);
     room = λ b lt. subst (λ (l : List BrandSupply). HasRoom (supply_at l b).outstanding.kind (keys_of (in_hand (reverse ms) b)) ((rooms_of q).hand b)) (sym out_same)
         (more_room (kind_of (lists_of p) b) (keys_of (in_hand (reverse ms) b)) ((rooms_of p).hand b) ((rooms_of q).hand b) (become.rooms.hand b) (is.room b (before b lt)));
-    clear = λ clean b lt. same_store p q become.given_up b ∙ is.clear clean b (before b lt);
     retired = λ b. become.kept b ∙ is.retired b;
     valid = record {
       sound = subst (λ (l : Lists). IsSound l (in_hand (reverse ms))) (sym become.lists) sound;
@@ -66,7 +65,6 @@ module _ (p q : Stores) (k : Step) (s : Lists) (staged : List (ℕ × List Row))
       was_sound = subst (λ (l : Lists). IsSound l no_hand) (sym kept_after) is.valid.was_sound;
       brands = given_long q;
       given = λ b. subst (λ l. Contains (in_hand (reverse ms) b) (slice_index_or l b nothing)) (sym (same_list outs)) (is.valid.given b);
-      clear = λ clean b. ap (λ l. slice_index_or l b nothing) (same_list outs) ∙ is.valid.clear clean b;
     };
   }
     where
@@ -225,7 +223,6 @@ staged_keeps p ks ms keys spoiled staged l is new = subst (λ (v : SeatsView). I
   can = is.can;
   bounded = is.bounded;
   room = is.room;
-  clear = is.clear;
   retired = is.retired;
   valid = record {
     sound = is.valid.sound;
@@ -234,7 +231,6 @@ staged_keeps p ks ms keys spoiled staged l is new = subst (λ (v : SeatsView). I
     was_sound = is.valid.was_sound;
     brands = is.valid.brands;
     given = is.valid.given;
-    clear = is.valid.clear;
   };
 })
 

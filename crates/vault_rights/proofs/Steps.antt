@@ -3,8 +3,8 @@ use Rattle.std.proofs.Common.{◌≡◌, ◌≢◌, inl, inr, ℕ, zero, suc, �
 use Rattle.std.specs.Prelude.{slice_index_or, slice_set}
 use Rattle.std.proofs.lemmas.Bool.{cases_eq, eq-eqb}
 use Rattle.std.proofs.lemmas.List.{length-reverse, reverse-append}
-use Rattle.amount_math.specs.Content.{Content, Contains, Contains-trans, count-difference, difference, nothing, sum, sum-difference}
-use Rattle.amount_math.specs.Held.{Held, HasRoom, keys_in, keys_of-sum, more_room, room_for_fewer, with_more}
+use Rattle.amount_math.specs.Content.{Content, Contains, Contains-trans, count, count-difference, count-nothing, count-sum, difference, nothing, same_content, sum, sum-difference}
+use Rattle.amount_math.specs.Held.{Held, HasRoom, keys_in, keys_of-sum, more_room, room_for_fewer, with_less, with_more}
 use Rattle.amount_math.specs.KindLaws.{keys_within}
 use Rattle.amount_math.specs.Worth.{Worth, keys_of}
 use Rattle.amount_math.specs.declared.Amount.{Amount}
@@ -28,10 +28,10 @@ use Rattle.rights_model.specs.declared.Movement.{Movement}
 use Rattle.rights_model.specs.Table as table
 use Rattle.rights_model.specs.Table.{Table, CanMove, CanMoveAll, movement, table_after}
 use Rattle.rights_model.proofs.TableLaws.{CanMoveAll-push, table_after-push}
-use Rattle.transit.specs.Transit.{CanHold, TransitView, empty_hand, held_at, in_store, with_hand}
+use Rattle.transit.specs.Transit.{CanHold, IsInStore, TransitView, empty_hand, held_at, in_store, with_hand}
 use Rattle.vault_stores.specs.Memory.{IsForward, IsGiven, IsRoomed, IsTaken, content_in_store, given_up_in, kept_given, kept_of, lists_of, rooms_of, staged_of, store_of, supply_of}
 use Rattle.vault_stores.specs.Forgetting.{AreMade, IsForgetting, IsForgotten}
-use Rattle.vault_rights.specs.Drafts.{HandGoes, HandKeeps, IsClean, IsDraft, IsValid, IsVault, after, begun, by_number, draft_of, given_list, given_up_too, table_now}
+use Rattle.vault_rights.specs.Drafts.{DraftState, HandGoes, HandKeeps, IsClean, IsDraft, IsStored, IsValid, IsVault, after, begun, by_number, draft_of, given_at, given_list, given_up_too, held_too, let_out, table_now}
 use Rattle.vault_rights.specs.Working.{IsWorking}
 use Rattle.vault_stores.specs.declared.stores.Stores.{Stores}
 use Rattle.vault_stores.proofs.Halves.{supply_read}
@@ -122,7 +122,6 @@ begins p ks ms is = subst (λ (l : List Step). IsDraft p l ms 0 false) (sym is.n
   can = refl;
   bounded = λ b. no_keys (kind_of (lists_of p) b);
   room = λ b lt. room_for_none (kind_of (lists_of p) b) ((rooms_of p).hand b);
-  clear = λ sound b lt. is.empty b lt;
   retired = none_kept p.transit.out is.kept;
   valid = record {
     sound = is.sound;
@@ -131,7 +130,6 @@ begins p ks ms is = subst (λ (l : List Step). IsDraft p l ms 0 false) (sym is.n
     was_sound = is.sound;
     brands = given_long p;
     given = λ b. has_none nothing _ (none_given p is.empty b);
-    clear = λ sound b. none_given p is.empty b;
   };
 }))
 
@@ -228,6 +226,10 @@ forget_starts p ks ms keys spoiled is = record {
 pub forget_ends : (p q : Stores) (ms : List Movement) → ms ≡ [] → IsForgetting p q (reverse ms) → IsForgotten p q
 forget_ends p q ms none is = record { lists = is.lists; staging = is.staging; given_up = is.given_up; kept = λ b. is.kept b ∙ ap (λ (l : List Movement). retired_by (reverse l) b) none }
 
+-- what is within nothing is nothing
+pub none_within : (x y : Content) → x ≡ nothing → Contains x y → y ≡ nothing
+none_within x y none has = same_content y nothing (λ k. omega (arith, has.each k, ap (λ c. count c k) none, count-nothing k))
+
 pub committed : (p q r : Stores) (ks ls : List Step) (ms ns : List Movement) (keys : ℕ) (spoiled : Bool) → IsDraft p ks ms keys spoiled → IsForgotten p q → lists_of r ≡ lists_of q → staged_of r ≡ [] → r.transit ≡ q.transit → ls ≡ [] → ns ≡ [] → IsClean (draft_of p ks ms spoiled) → IsVault r ls ns
 committed p q r ks ls ms ns keys spoiled is gone lists staging transit no_steps no_movements clean =
     let there : (b : ℕ) → b < length r.transit.out → b < length p.transit.out = λ b lt. omega (arith, lt, ap (λ (t : TransitView). length t.out) transit, brands_there p, brands_there q, ap (λ (s : Lists). length s.out) gone.lists) in
@@ -235,7 +237,7 @@ committed p q r ks ls ms ns keys spoiled is gone lists staging transit no_steps 
       no_steps = no_steps;
       no_movements = no_movements;
       no_staging = staging;
-      empty = λ b lt. ap (λ (t : TransitView). in_store t b) transit ∙ same_store p q gone.given_up b ∙ is.clear clean.sound b (there b lt);
+      empty = λ b lt. ap (λ (t : TransitView). in_store t b) transit ∙ same_store p q gone.given_up b ∙ sym (given_there p b (there b lt)) ∙ none_within (in_hand (reverse ms) b) _ (clean.hand b) (is.valid.given b);
       kept = λ b lt. ap (λ (t : TransitView). (circulation_at t.out b).kept) transit ∙ gone.kept b;
       sound = subst (λ (s : Lists). IsSound s no_hand) (sym (lists ∙ gone.lists)) (sound_alike (lists_of p) (in_hand (reverse ms)) no_hand clean.hand is.valid.sound);
     }
@@ -255,7 +257,6 @@ room_stays p q ks ms keys spoiled is roomed = record {
   bounded = λ b. subst (λ (s : Lists). keys_in (kind_of s b) (in_hand (reverse ms) b) ≤ keys) (sym roomed.lists) (is.bounded b);
   room = λ b lt. subst (λ (s : Lists). HasRoom (kind_of s b) (keys_of (in_hand (reverse ms) b)) ((rooms_of q).hand b)) (sym roomed.lists)
       (more_room (kind_of (lists_of p) b) (keys_of (in_hand (reverse ms) b)) ((rooms_of p).hand b) ((rooms_of q).hand b) (roomed.rooms.hand b) (is.room b (before b lt)));
-  clear = λ sound b lt. same_store p q roomed.given_up b ∙ is.clear sound b (before b lt);
   retired = λ b. roomed.kept b ∙ is.retired b;
   valid = subst IsValid (sym (same_draft p q ks ms spoiled roomed)) is.valid;
 }
@@ -292,14 +293,14 @@ module _ (p q : Stores) (ks : List Step) (ms : List Movement) (m : Movement) (ke
       → IsSound (lists_of q) (in_hand (m ∷ reverse ms))
       → Agrees (lists_of q) (in_hand (m ∷ reverse ms)) (table.moved (table_now (draft_of p ks ms false)) m)
       → CanMove (table_now (draft_of p ks ms false)) m
+      → ((b : ℕ) → Contains (in_hand (m ∷ reverse ms) b) (given_at (draft_of p ks ms false) b))
       → IsDraft q (ks ++ Moves ∷ []) (ms ++ m ∷ []) more false
-  pushed can bounded room brands retires sound agrees moves = record {
+  pushed can bounded room brands retires sound agrees moves inside = record {
     can = subst (λ (l : List Movement). CanAllBack (rooms_of q) (lists_of q) (reverse (ks ++ Moves ∷ [])) l) (sym (last_first ms m))
         (subst (λ (l : List Step). CanAllBack (rooms_of q) (lists_of q) l (m ∷ reverse ms)) (sym (last_first ks Moves))
         (can, subst (λ (s : Lists). CanAllBack (rooms_of q) s (reverse ks) (reverse ms)) (sym back_there) (all_grows (rooms_of p) (rooms_of q) step.rooms (lists_of p) (reverse ks) (reverse ms) is.can)));
     bounded = λ b. subst (λ (l : List Movement). keys_in (kind_of (lists_of q) b) (in_hand l b) ≤ more) (sym (last_first ms m)) (bounded b);
     room = λ b lt. subst (λ (l : List Movement). HasRoom (kind_of (lists_of q) b) (keys_of (in_hand l b)) ((rooms_of q).hand b)) (sym (last_first ms m)) (room b lt);
-    clear = λ sound. none;
     retired = λ b. step.kept b ∙ retires b ∙ ap (λ (l : List Movement). retired_by l b) (sym (last_first ms m));
     valid = record {
       sound = subst (λ (l : List Movement). IsSound (lists_of q) (in_hand l)) (sym (last_first ms m)) sound;
@@ -308,13 +309,13 @@ module _ (p q : Stores) (ks : List Step) (ms : List Movement) (m : Movement) (ke
       moves = subst (λ (s : Lists). CanMoveAll (table_of s) (ms ++ m ∷ [])) (sym kept_after) (CanMoveAll-push (table_of (all_back (lists_of p) (reverse ks) (reverse ms))) ms m is.valid.moves moves);
       was_sound = subst (λ (s : Lists). IsSound s no_hand) (sym kept_after) is.valid.was_sound;
       brands = given_long q;
-      given = λ b. has_none _ _ (none_given q none b);
-      clear = λ sound b. none_given q none b;
+      given = λ b. subst (λ (l : List Movement). Contains (in_hand l b) (slice_index_or (given_list q) b nothing)) (sym (last_first ms m))
+          (subst (λ l. Contains (in_hand (m ∷ reverse ms) b) (slice_index_or l b nothing)) (sym same_list) (inside b));
     };
   }
     where
-      none : (b : ℕ) → b < length q.transit.out → store_of q b ≡ nothing
-      none b lt = same_store p q step.given_up b ∙ is.clear refl b (omega (arith, lt, brands))
+      same_list : given_list q ≡ given_list p
+      same_list = same_given p q step.given_up (ap (λ (s : Lists). length s.out) step.lists ∙ long_moved (lists_of p) m)
 
 -- ---- kinds stay
 
@@ -346,6 +347,11 @@ kept_after_give b c (Slot v j) S X e is = is ∙ sym (either_way (b == e) (X e))
 kept_after_give b c Hand S X e is = is ∙ sym (either_way (b == e) (X e))
 
 -- ---- a take into the hand
+
+-- what was there is there beside what came
+still_has : (t : Bool) (x c y : Content) → Contains x y → Contains (cond t (sum x c) x) y
+still_has true x c y has = record { each = λ k. omega (arith, has.each k, count-sum x c k) }
+still_has false x c y has = has
 
 in_hand_plus : (s : Lists) (h : Holder) (b : ℕ) (w : Worth) (ms : List Movement) → CanTake s h b w → in_hand (movement b h Hand w ∷ ms) ≡ hand_plus (in_hand ms) b w.content
 in_hand_plus s (Purse n) b w ms can = refl
@@ -428,6 +434,7 @@ module _ (p q : Stores) (ks : List Step) (ms : List Movement) (keys more : ℕ) 
         (agrees_in_hand (taken (lists_of p) from b w) h (table.taken (table_now (draft_of p ks ms false)) from b w.content) b w
         (agrees_taken (lists_of p) h (table_now (draft_of p ks ms false)) b w is.valid.agrees from can))))
         (can_move_in (lists_of p) h (table_now (draft_of p ks ms false)) b w is.valid.agrees from can Hand)
+        (λ e. subst (λ (g : ℕ → Content). Contains (g e) (given_at (draft_of p ks ms false) e)) (sym plus) (still_has (b == e) (h e) w.content (given_at (draft_of p ks ms false) e) (is.valid.given e)))
 
 -- ---- a put from the hand
 
@@ -466,7 +473,15 @@ module _ (p q : Stores) (ks : List Step) (ms : List Movement) (keys : ℕ) (to :
     | false ↦ record { each = λ k. omega arith }
   ]
 
-  module _ (brand : b < length p.transit.out) (kind : kind_of (lists_of p) b ≡ w.kind) (has : Contains (g b) w.content) where
+  module _ (brand : b < length p.transit.out) (kind : kind_of (lists_of p) b ≡ w.kind) (keep : Contains (g b) (sum (given_at (draft_of p ks ms false) b) w.content)) where
+    has : Contains (g b) w.content
+    has = record { each = λ k. omega (arith, keep.each k, count-sum (given_at (draft_of p ks ms false) b) w.content k) }
+
+    inside : (e : ℕ) → Contains (hand_minus g b w.content e) (given_at (draft_of p ks ms false) e)
+    inside e = at_or_else (λ x t. Contains (cond t (difference (g x) w.content) (g x)) (given_at (draft_of p ks ms false) x)) b e
+        (record { each = λ k. omega (arith, keep.each k, count-sum (given_at (draft_of p ks ms false) b) w.content k, count-difference (g b) w.content k) })
+        (λ differs. is.valid.given e)
+
     pub put_keeps : IsDraft q (ks ++ Moves ∷ []) (ms ++ n ∷ []) keys false
     put_keeps = pushed p q ks ms n keys keys (kept_given (kept_of p) to b w.content) is gave.half undone_put
         (record {
@@ -493,14 +508,79 @@ module _ (p q : Stores) (ks : List Step) (ms : List Movement) (keys : ℕ) (to :
         (agrees_given (lists_of p) (hand_minus g b w.content) (table.taken (table_now (draft_of p ks ms false)) Hand b w.content) b w
         (agrees_from_hand (lists_of p) g (table_now (draft_of p ks ms false)) b w is.valid.agrees) to can)))
         (can_move_out (lists_of p) g (table_now (draft_of p ks ms false)) b w is.valid.agrees has to)
+        (λ e. subst (λ (x : ℕ → Content). Contains (x e) (given_at (draft_of p ks ms false) e)) (sym minus) (inside e))
 
--- ---- a parcel given up
+-- ---- the hand's own store, which takes a parcel in and lets a value go
+
+module _ (p : Stores) (ks : List Step) (ms : List Movement) (keys : ℕ) (spoiled now_spoiled : Bool) (is : IsDraft p ks ms keys spoiled) (b : ℕ) (there : b < length p.transit.out) (x : Held) (roomy : x.room ≡ (held_at p.transit.hand b).room)
+    (within : Contains (in_hand (reverse ms) b) x.value.content) (t : TransitView) (new : t ≡ with_hand p.transit b x) (inside : b < length p.transit.hand) where
+  abbrev q : Stores
+  q = record p { transit = t }
+
+  lists_same : lists_of q ≡ lists_of p
+  lists_same = ap (λ (u : TransitView). lists_of (record p { transit = u })) new
+
+  hand_rooms : (e : ℕ) → (held_at t.hand e).room ≡ (held_at p.transit.hand e).room
+  hand_rooms e = ap (λ (u : TransitView). (held_at u.hand e).room) new ∙ keeps (λ (h : Held). h.room) p.transit.hand b x (empty_hand Nat) roomy e
+
+  out_same : t.out ≡ p.transit.out
+  out_same = ap (λ (u : TransitView). u.out) new
+
+  store_here : store_of q b ≡ x.value.content
+  store_here =
+      ap (λ (u : TransitView). in_store u b) new
+      ∙ ap (λ (h : Held). h.value.content) (read_set p.transit.hand b x (empty_hand Nat) inside)
+
+  store_other : (e : ℕ) → b ≢ e → store_of q e ≡ store_of p e
+  store_other e apart =
+      ap (λ (u : TransitView). in_store u e) new
+      ∙ ap (λ (h : Held). h.value.content) (read_other p.transit.hand b e x (empty_hand Nat) apart)
+
+  listed : given_list q ≡ slice_set (given_list p) b x.value.content
+  listed =
+      ap (λ n. by_number n (store_of q)) (ap length out_same)
+      ∙ sym (numbered_set (length p.transit.out) (store_of p) (store_of q) b x.value.content there store_here store_other)
+
+  pub restored_after : draft_of q ks ms now_spoiled ≡ record (draft_of p ks ms spoiled) { given_up = slice_set (given_list p) b x.value.content; is_spoiled = now_spoiled }
+  restored_after = λ i. record { kept = all_back (lists_same i) (reverse ks) (reverse ms); now = lists_same i; staging = staged_of p; movements = ms; given_up = listed i; is_spoiled = now_spoiled }
+
+  given_inside : (e : ℕ) → Contains (in_hand (reverse ms) e) (slice_index_or (given_list q) e nothing)
+  given_inside e = subst (λ l. Contains (in_hand (reverse ms) e) (slice_index_or l e nothing)) (sym listed) (elim (cases_eq b e) [
+    | inl at ↦ subst (λ n. Contains (in_hand (reverse ms) n) (slice_index_or (slice_set (given_list p) b x.value.content) n nothing)) at
+        (subst (λ c. Contains (in_hand (reverse ms) b) c) (sym (read_set (given_list p) b x.value.content nothing (omega (arith, there, length_numbered (length p.transit.out) (store_of p))))) within)
+    | inr apart ↦ subst (λ c. Contains (in_hand (reverse ms) e) c) (sym (read_other (given_list p) b e x.value.content nothing apart)) (is.valid.given e)
+  ])
+
+  pub restored_keeps : IsDraft q ks ms keys now_spoiled
+  restored_keeps = record {
+    can = subst (λ (s : Lists). CanAllBack (rooms_of q) s (reverse ks) (reverse ms)) (sym lists_same) (all_grows (rooms_of p) (rooms_of q) (record {
+      purses = λ n. omega arith;
+      slots = λ n k. omega arith;
+      capacity = omega arith;
+      hand = λ e. omega (arith, hand_rooms e);
+    }) (lists_of p) (reverse ks) (reverse ms) is.can);
+    bounded = λ e. subst (λ (s : Lists). keys_in (kind_of s e) (in_hand (reverse ms) e) ≤ keys) (sym lists_same) (is.bounded e);
+    room = λ e lt. subst (λ (s : Lists). HasRoom (kind_of s e) (keys_of (in_hand (reverse ms) e)) ((rooms_of q).hand e)) (sym lists_same)
+        (subst (λ r. HasRoom (kind_of (lists_of p) e) (keys_of (in_hand (reverse ms) e)) r) (sym (hand_rooms e)) (is.room e (omega (arith, lt, ap length out_same))));
+    retired = λ e. ap (λ l. (circulation_at l e).kept) out_same ∙ is.retired e;
+    valid = subst (λ (s : Lists). IsValid (record { kept = all_back s (reverse ks) (reverse ms); now = s; staging = staged_of p; movements = ms; given_up = given_list q; is_spoiled = now_spoiled })) (sym lists_same)
+        (record {
+          sound = is.valid.sound;
+          agrees = is.valid.agrees;
+          moves = is.valid.moves;
+          was_sound = is.valid.was_sound;
+          brands = given_long q ∙ ap (λ (s : Lists). length s.out) lists_same;
+          given = given_inside;
+        });
+  }
+
+-- ---- a parcel that is held there
 
 module _ (p : Stores) (ks : List Step) (ms : List Movement) (keys : ℕ) (spoiled : Bool) (a : Amount) (is : IsDraft p ks ms keys spoiled) (keep : HandKeeps (draft_of p ks ms spoiled) a) where
   there : a.brand < length p.transit.out
   there = omega (arith, keep.brand.made, brands_there p)
 
-  -- with what was given up it is in the hand
+  -- with what is there it is in the hand
   among : Contains (in_hand (reverse ms) a.brand) (sum (store_of p a.brand) a.value.content)
   among = subst (λ x. Contains (in_hand (reverse ms) a.brand) (sum x a.value.content)) (given_there p a.brand there) keep.has
 
@@ -516,75 +596,56 @@ module _ (p : Stores) (ks : List Step) (ms : List Movement) (keys : ℕ) (spoile
         (room_for_fewer (kind_of (lists_of p) a.brand) (keys_of (sum (store_of p a.brand) a.value.content)) (keys_of (in_hand (reverse ms) a.brand)) ((rooms_of p).hand a.brand) (keys_within (in_hand (reverse ms) a.brand) (sum (store_of p a.brand) a.value.content) among) (is.room a.brand there));
   }
 
-  module _ (t : TransitView) (held : t ≡ with_hand p.transit a.brand (with_more (held_at p.transit.hand a.brand) a.value.content)) (inside : a.brand < length p.transit.hand) where
-    abbrev q : Stores
-    q = record p { transit = t }
+  abbrev fuller : Held
+  fuller = with_more (held_at p.transit.hand a.brand) a.value.content
 
-    lists_same : lists_of q ≡ lists_of p
-    lists_same = ap (λ (u : TransitView). lists_of (record p { transit = u })) held
+  module _ (t : TransitView) (held : t ≡ with_hand p.transit a.brand fuller) (inside : a.brand < length p.transit.hand) where
+    more_is : fuller.value.content ≡ sum (slice_index_or (given_list p) a.brand nothing) a.value.content
+    more_is = ap (λ x. sum x a.value.content) (sym (given_there p a.brand there))
 
-    hand_rooms : (b : ℕ) → (held_at t.hand b).room ≡ (held_at p.transit.hand b).room
-    hand_rooms b = ap (λ (u : TransitView). (held_at u.hand b).room) held ∙ keeps (λ (x : Held). x.room) p.transit.hand a.brand (with_more (held_at p.transit.hand a.brand) a.value.content) (empty_hand Nat) refl b
+    abbrev with_this : Bool → Content → DraftState
+    with_this now x = record (draft_of p ks ms spoiled) { given_up = slice_set (given_list p) a.brand x; is_spoiled = now }
 
-    out_same : t.out ≡ p.transit.out
-    out_same = ap (λ (u : TransitView). u.out) held
+    pub up_after : draft_of (record p { transit = t }) ks ms true ≡ given_up_too (draft_of p ks ms spoiled) a
+    up_after = restored_after p ks ms keys spoiled true is a.brand there fuller refl among t held inside ∙ ap (with_this true) more_is
 
-    abbrev more : Content
-    more = sum (slice_index_or (given_list p) a.brand nothing) a.value.content
+    pub up_keeps : IsDraft (record p { transit = t }) ks ms keys true
+    up_keeps = restored_keeps p ks ms keys spoiled true is a.brand there fuller refl among t held inside
 
-    store_more : store_of q a.brand ≡ more
-    store_more =
-        ap (λ (u : TransitView). in_store u a.brand) held
-        ∙ ap (λ (x : Held). x.value.content) (read_set p.transit.hand a.brand (with_more (held_at p.transit.hand a.brand) a.value.content) (empty_hand Nat) inside)
-        ∙ ap (λ x. sum x a.value.content) (sym (given_there p a.brand there))
+    pub held_after : draft_of (record p { transit = t }) ks ms spoiled ≡ held_too (draft_of p ks ms spoiled) a
+    held_after = restored_after p ks ms keys spoiled spoiled is a.brand there fuller refl among t held inside ∙ ap (with_this spoiled) more_is
 
-    store_other : (e : ℕ) → a.brand ≢ e → store_of q e ≡ store_of p e
-    store_other e apart =
-        ap (λ (u : TransitView). in_store u e) held
-        ∙ ap (λ (x : Held). x.value.content) (read_other p.transit.hand a.brand e (with_more (held_at p.transit.hand a.brand) a.value.content) (empty_hand Nat) apart)
+    pub held_keeps : IsDraft (record p { transit = t }) ks ms keys spoiled
+    held_keeps = restored_keeps p ks ms keys spoiled spoiled is a.brand there fuller refl among t held inside
 
-    listed_more : given_list q ≡ slice_set (given_list p) a.brand more
-    listed_more =
-        ap (λ n. by_number n (store_of q)) (ap length out_same)
-        ∙ sym (numbered_set (length p.transit.out) (store_of p) (store_of q) a.brand more there store_more store_other)
+-- ---- a value that is let go from there
 
-    pub up_after : draft_of q ks ms true ≡ given_up_too (draft_of p ks ms spoiled) a
-    up_after = λ i. record { kept = all_back (lists_same i) (reverse ks) (reverse ms); now = lists_same i; staging = staged_of p; movements = ms; given_up = listed_more i; is_spoiled = true }
+module _ (p : Stores) (ks : List Step) (ms : List Movement) (keys : ℕ) (spoiled : Bool) (b : ℕ) (w : Worth) (is : IsDraft p ks ms keys spoiled) (stored : IsStored (draft_of p ks ms spoiled) b w) where
+  here : b < length p.transit.out
+  here = omega (arith, stored.brand.made, brands_there p)
 
-    given_inside : (b : ℕ) → Contains (in_hand (reverse ms) b) (slice_index_or (given_list q) b nothing)
-    given_inside b = subst (λ l. Contains (in_hand (reverse ms) b) (slice_index_or l b nothing)) (sym listed_more) (elim (cases_eq a.brand b) [
-      | inl at ↦ subst (λ e. Contains (in_hand (reverse ms) e) (slice_index_or (slice_set (given_list p) a.brand more) e nothing)) at
-          (subst (λ x. Contains (in_hand (reverse ms) a.brand) x) (sym (read_set (given_list p) a.brand more nothing (omega (arith, there, length_numbered (length p.transit.out) (store_of p))))) keep.has)
-      | inr apart ↦ subst (λ x. Contains (in_hand (reverse ms) b) x) (sym (read_other (given_list p) a.brand b more nothing apart)) (is.valid.given b)
-    ])
+  pub can_let_go : IsInStore p.transit b w
+  can_let_go = record {
+    made = here;
+    kind = ap (λ (x : BrandSupply). x.outstanding.kind) (sym (supply_read p.transit.out b)) ∙ stored.brand.kind;
+    has = subst (λ x. Contains x w.content) (given_there p b here) stored.has;
+  }
 
-    pub up_keeps : IsDraft q ks ms keys true
-    up_keeps = record {
-      can = subst (λ (s : Lists). CanAllBack (rooms_of q) s (reverse ks) (reverse ms)) (sym lists_same) (all_grows (rooms_of p) (rooms_of q) (record {
-        purses = λ n. omega arith;
-        slots = λ n k. omega arith;
-        capacity = omega arith;
-        hand = λ b. omega (arith, hand_rooms b);
-      }) (lists_of p) (reverse ks) (reverse ms) is.can);
-      bounded = λ b. subst (λ (s : Lists). keys_in (kind_of s b) (in_hand (reverse ms) b) ≤ keys) (sym lists_same) (is.bounded b);
-      room = λ b lt. subst (λ (s : Lists). HasRoom (kind_of s b) (keys_of (in_hand (reverse ms) b)) ((rooms_of q).hand b)) (sym lists_same)
-          (subst (λ r. HasRoom (kind_of (lists_of p) b) (keys_of (in_hand (reverse ms) b)) r) (sym (hand_rooms b)) (is.room b (omega (arith, lt, ap length out_same))));
-      clear = λ sound. absurd (sound_not sound);
-      retired = λ b. ap (λ l. (circulation_at l b).kept) out_same ∙ is.retired b;
-      valid = subst (λ (s : Lists). IsValid (record { kept = all_back s (reverse ks) (reverse ms); now = s; staging = staged_of p; movements = ms; given_up = given_list q; is_spoiled = true })) (sym lists_same)
-          (record {
-            sound = is.valid.sound;
-            agrees = is.valid.agrees;
-            moves = is.valid.moves;
-            was_sound = is.valid.was_sound;
-            brands = given_long q ∙ ap (λ (s : Lists). length s.out) lists_same;
-            given = given_inside;
-            clear = λ sound. absurd (sound_not sound);
-          });
-    }
-      where
-        sound_not : true ≢ false
-        sound_not e = cc
+  abbrev emptier : Held
+  emptier = with_less (held_at p.transit.hand b) w.content
+
+  module _ (t : TransitView) (less : t ≡ with_hand p.transit b emptier) (inside : b < length p.transit.hand) where
+    within : Contains (in_hand (reverse ms) b) emptier.value.content
+    within = Contains-trans (in_hand (reverse ms) b) (store_of p b) emptier.value.content
+        (subst (λ x. Contains (in_hand (reverse ms) b) x) (given_there p b here) (is.valid.given b))
+        (less_has (store_of p b) w.content)
+
+    pub let_after : draft_of (record p { transit = t }) ks ms spoiled ≡ let_out (draft_of p ks ms spoiled) b w
+    let_after = restored_after p ks ms keys spoiled spoiled is b here emptier refl within t less inside
+        ∙ ap (λ x. record (draft_of p ks ms spoiled) { given_up = slice_set (given_list p) b (difference x w.content) }) (sym (given_there p b here))
+
+    pub let_keeps : IsDraft (record p { transit = t }) ks ms keys spoiled
+    let_keeps = restored_keeps p ks ms keys spoiled spoiled is b here emptier refl within t less inside
 
 -- ---- a vault in which nothing was made
 
@@ -600,3 +661,14 @@ nothing_made p ks ms lists staging out steps movements = record {
   where
     none : (b : ℕ) → b < length p.transit.out → ⊥
     none b lt = omega (arith, lt, ap length out)
+
+-- ---- keys counted anew, where the hand has nothing
+
+pub counted_anew : (p : Stores) (ks : List Step) (ms : List Movement) (keys : ℕ) (spoiled : Bool) → IsDraft p ks ms keys spoiled → IsClean (draft_of p ks ms spoiled) → IsDraft p ks ms 0 spoiled
+counted_anew p ks ms keys spoiled is clean = record {
+  can = is.can;
+  bounded = λ b. subst (λ (x : Content). keys_in (kind_of (lists_of p) b) x ≤ 0) (sym (clean.hand b)) (no_keys (kind_of (lists_of p) b));
+  room = is.room;
+  retired = is.retired;
+  valid = is.valid;
+}

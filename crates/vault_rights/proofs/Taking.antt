@@ -74,4 +74,4 @@ module _ (p q : Stores) (ks : List Step) (ms : List Movement) (keys : ℕ) (to :
 
   pub draft_put : HandKeeps (draft_of p ks ms false) a → IsDraft q (ks ++ Moves ∷ []) (ms ++ movement a.brand Hand to a.value ∷ []) keys false
   draft_put keep = put_keeps p q ks ms keys to a.brand a.value is gave can
-      (omega (arith, keep.brand.made, brands_there p)) keep.brand.kind (carried (draft_of p ks ms false) a keep)
+      (omega (arith, keep.brand.made, brands_there p)) keep.brand.kind keep.has

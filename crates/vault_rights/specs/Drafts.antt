@@ -1,9 +1,9 @@
--- A draft: the lists as they are, the movements so far, and what was given up. What is kept is told by the lists worked backwards.
+-- A draft: the lists as they are, the movements so far, and what the hand's own store has. What is kept is told by the lists worked backwards.
 use Rattle.std.specs.Prelude.{◌≡◌, ℕ, zero, suc, ◌+◌, ◌<◌, ◌≤◌, List, [], ◌∷◌, ◌++◌, Bool, true, false, IsNone, if◌then◌else◌, is_some, length, slice_index_or, slice_set, refl}
 use Rattle.std.proofs.Common.{reverse}
 use Rattle.std.specs.Coded.{Coded, code_by, coded×, coded_bool, coded_list}
 use Rattle.amount_math.specs.Amount.{Meet}
-use Rattle.amount_math.specs.Content.{Content, coded_content, Contains, nothing, sum}
+use Rattle.amount_math.specs.Content.{Content, coded_content, Contains, difference, nothing, sum}
 use Rattle.amount_math.specs.Held.{HasRoom, keys_in}
 use Rattle.amount_math.specs.Worth.{Worth, keys_of}
 use Rattle.amount_math.specs.declared.Amount.{Amount}
@@ -25,7 +25,7 @@ use Rattle.vault_stores.specs.Asked.{IsTarget}
 use Rattle.vault_stores.specs.Memory.{kept_of, lists_of, rooms_of, staged_of, store_of}
 use Rattle.vault_stores.specs.declared.stores.Stores.{Stores}
 
--- what was kept at its beginning, what is now, what is staged of seats, the movements between, and what the hand's own store has of each brand
+-- what was kept at its beginning, what is now, what is staged of seats, the movements between, and what the hand's own store has of each brand: what was given up, and what is held there
 pub record DraftState : Type 0 where
   pub kept : Lists
   pub now : Lists
@@ -45,7 +45,7 @@ abbrev pub by_number : ℕ → (ℕ → Content) → List Content
 by_number zero of_brand = []
 by_number (suc n) of_brand = of_brand 0 ∷ by_number n (λ b. of_brand (suc b))
 
--- what was given up of each brand that was made: what the hand's own store has
+-- what the hand's own store has of each brand that was made
 abbrev pub given_list : Stores → List Content
 given_list p = by_number (length p.transit.out) (store_of p)
 
@@ -56,7 +56,7 @@ draft_of p ks ms spoiled = record { kept = all_back (lists_of p) (reverse ks) (r
 abbrev pub begun : Lists → DraftState
 begun s = record { kept = s; now = s; staging = []; movements = []; given_up = by_number (length s.out) (λ b. nothing); is_spoiled = false }
 
--- what was given up of a brand
+-- what the hand's own store has of a brand
 abbrev pub given_at : DraftState → ℕ → Content
 given_at d b = slice_index_or d.given_up b nothing
 
@@ -84,9 +84,16 @@ with_brand d kind = record d { now = with_new_brand d.now kind; given_up = d.giv
 abbrev pub given_up_too : DraftState → Amount → DraftState
 given_up_too d a = record d { given_up = slice_set d.given_up a.brand (sum (given_at d a.brand) a.value.content); is_spoiled = true }
 
+-- and once a parcel of the hand is held in its own store, and once a value was let go from there
+abbrev pub held_too : DraftState → Amount → DraftState
+held_too d a = record d { given_up = slice_set d.given_up a.brand (sum (given_at d a.brand) a.value.content) }
+
+abbrev pub let_out : DraftState → ℕ → Worth → DraftState
+let_out d b w = record d { given_up = slice_set d.given_up b (difference (given_at d b) w.content) }
+
 -- ---- what a caller may know of a draft
 
--- all that is held was and is what is out, its table follows the movements, and what was given up is in the hand: nothing, of an unspoiled draft
+-- all that is held was and is what is out, its table follows the movements, and what the hand's own store has is in the hand
 pub record IsValid (d : DraftState) : Type 0 where
   pub sound : IsSound d.now (hand_now d)
   pub agrees : Agrees d.now (hand_now d) (table_now d)
@@ -94,7 +101,6 @@ pub record IsValid (d : DraftState) : Type 0 where
   pub was_sound : IsSound d.kept no_hand
   pub brands : length d.given_up ≡ length d.now.out
   pub given : (b : ℕ) → Contains (hand_now d b) (given_at d b)
-  pub clear : d.is_spoiled ≡ false → (b : ℕ) → given_at d b ≡ nothing
 
 -- ---- what the calls ask for
 
@@ -127,12 +133,17 @@ slotted s (Payment n) a = s
 slotted s Hand a = s
 slotted s Outside a = s
 
--- the hand, less what was given up, has it
+-- the hand, less what its own store has, has it
 pub record HandKeeps (d : DraftState) (a : Amount) : Type 0 where
   pub brand : IsOfBrand d.now a.brand a.value
   pub has : Contains (hand_now d a.brand) (sum (given_at d a.brand) a.value.content)
 
--- the hand, less what was given up, is empty
+-- the hand's own store has it
+pub record IsStored (d : DraftState) (b : ℕ) (w : Worth) : Type 0 where
+  pub brand : IsOfBrand d.now b w
+  pub has : Contains (given_at d b) w.content
+
+-- all that the hand has is in its own store
 pub record HandGoes (d : DraftState) : Type 0 where
   pub each : (b : ℕ) → b < length d.now.out → given_at d b ≡ hand_now d b
 
@@ -143,12 +154,11 @@ pub record IsClean (d : DraftState) : Type 0 where
 
 -- ---- what is kept of a draft in memory
 
--- all of it can be worked backwards in the room that there is; for what the hand has there is room in its own store, which is bounded by the keys that were taken; that store has something only of a spoiled draft; and what is kept was retired by movements
+-- all of it can be worked backwards in the room that there is; for what the hand has there is room in its own store, which is bounded by the keys that were taken; and what is kept was retired by movements
 pub record IsDraft (p : Stores) (ks : List Step) (ms : List Movement) (keys : ℕ) (spoiled : Bool) : Type 0 where
   pub can : CanAllBack (rooms_of p) (lists_of p) (reverse ks) (reverse ms)
   pub bounded : (b : ℕ) → keys_in (kind_of (lists_of p) b) (in_hand (reverse ms) b) ≤ keys
   pub room : (b : ℕ) → b < length p.transit.out → HasRoom (kind_of (lists_of p) b) (keys_of (in_hand (reverse ms) b)) ((rooms_of p).hand b)
-  pub clear : spoiled ≡ false → (b : ℕ) → b < length p.transit.out → store_of p b ≡ nothing
   pub retired : (b : ℕ) → kept_of p b ≡ retired_by (reverse ms) b
   pub valid : IsValid (draft_of p ks ms spoiled)
 

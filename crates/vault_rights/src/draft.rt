@@ -1,21 +1,22 @@
 //! The vault, and a turn's draft of it.
 
-ghost use Rattle.std.specs.Prelude.{◌≡◌, ◌<◌, ◌≤◌, ◌+◌, ◌^◌, ◌↔◌, [], ◌∷◌, List, false, length, map, reverse, IfErr, IfOk, IsErr, IsOk, IsSome, OnErr, OnOk};
+ghost use Rattle.std.specs.Prelude.{◌≡◌, ◌<◌, ◌≤◌, ◌+◌, ◌^◌, ◌==◌, ◌↔◌, ℕ, [], ◌∷◌, List, None, false, if◌then◌else◌, length, map, reverse, IfErr, IfOk, IsErr, IsOk, IsSome, OnErr, OnOk};
 ghost use Rattle.std.specs.Vec.{vec_capacity, vec_len};
-ghost use Rattle.amount_math.specs.Content.{Contains, sum};
+ghost use Rattle.amount_math.specs.Content.{Contains, nothing, sum};
 ghost use Rattle.amount_math.specs.Counted.{counted};
 ghost use Rattle.amount_math.specs.Held.{HasRoom, keys_in};
 ghost use Rattle.amount_math.specs.Worth.{Fits, IsIssueRefusal, IsTakeRefusal, keys_of};
 ghost use Rattle.ertp_mint.specs.BrandSupply.{supply_at};
 ghost use Rattle.ertp_mint.specs.Stocks.{most_made};
 ghost use Rattle.proposals.specs.Slots.{FitsSeat};
-ghost use Rattle.seat_store.specs.Staging.{with_staged, without_staged};
+ghost use Rattle.seat_store.specs.Staging.{staged_at, with_staged, without_staged};
 ghost use Rattle.right_steps.specs.Backwards.{Rooms};
 ghost use Rattle.right_steps.specs.Lists.{Lists, amount_of, kind_of, no_lists, with_closed_seat, with_new_purse, with_new_seat, with_new_slot};
 ghost use Rattle.right_steps.specs.Seats.{IsOpenSeat, kept_seat_at};
 ghost use Rattle.right_steps.specs.Tables.{table_of};
 ghost use Rattle.rights_model.specs.Table.{movement};
-ghost use Rattle.vault_rights.specs.Drafts.{HandGoes, HandKeeps, IsClean, IsOfBrand, IsValid, MayPut, MayPutInSlot, after, begun, given_up_too, opened, slotted, table_now, with_brand, with_staging};
+ghost use Rattle.transit.specs.Transit.{in_store};
+ghost use Rattle.vault_rights.specs.Drafts.{HandGoes, HandKeeps, IsClean, IsOfBrand, IsStored, IsValid, MayPut, MayPutInSlot, after, begun, given_at, given_up_too, held_too, let_out, opened, slotted, table_now, with_brand, with_staging};
 ghost use Rattle.vault_rights.specs.Working.{IsWorking};
 ghost use Rattle.vault_stores.specs.Asked.{IsPutFault, IsSeatTooMany, IsSource, IsTarget, MayOpenSlot, TakesIn, brand_of, held_by};
 ghost use Rattle.vault_stores.specs.Forgetting.{IsForgetting, IsForgotten};
@@ -64,7 +65,7 @@ pub struct Draft {
     stores: Stores,
     steps: Vec<Step>,
     movements: Vec<Movement>,
-    /// At least as many keys as the turn took of any brand.
+    /// At least as many keys as the hand has of any brand.
     keys: usize,
     is_spoiled: bool,
 }
@@ -243,7 +244,8 @@ impl Draft {
 
     /// What is out of each brand, to read.
     pub fn supply(&self) -> &Transit
-        ensures { map supply_of result.now.out ≡ self.now.now.out }
+        ensures supply { map supply_of result.now.out ≡ self.now.now.out }
+        ensures store { (b : ℕ) → b < length result.now.out → in_store result.now b ≡ given_at self.now b }
     {
         let _ = &self.steps;
         &self.stores.transit
@@ -409,6 +411,7 @@ impl Draft {
         requires sound { self.old.is_spoiled ≡ false }
         requires brand { IsOfBrand self.old.now brand value }
         requires small { (supply_at self.old.now.out brand).minted + counted value.content < 2 ^ 128 }
+        requires empty { given_at self.old brand ≡ nothing }
         ensures ok { OnOk result (self.new ≡ after self.old (movement brand Holder.Outside Holder.Hand value)) }
         ensures parcel { IfOk result (λ parcel. parcel ≡ amount_of brand value) }
         ensures fits { OnOk result (Fits value.kind (sum (supply_at self.old.now.out brand).outstanding.content value.content)) }
@@ -544,10 +547,28 @@ impl Draft {
     pub fn unstage(&mut self, seat: u32) -> Result<(), SeatExited>
         requires { seat < length self.old.now.seats }
         ensures ok { OnOk result (self.new ≡ with_staging self.old (without_staged seat self.old.staging)) }
+        ensures looks { OnOk result ((n : ℕ) → staged_at n self.new.staging ≡ (if seat == n then None else staged_at n self.old.staging)) }
         ensures exited { IsErr result ↔ IsSome (kept_seat_at self.old.now.seats seat).last }
         ensures err { OnErr result (self.new ≡ self.old) }
     {
         self.stores.seats.unstage(seat)
+    }
+
+    /// Lets go of all that is staged, which takes no memory, and costs what was staged.
+    pub fn end_staging(&mut self)
+        ensures { self.new ≡ with_staging self.old [] }
+    {
+        self.stores.seats.end_staging();
+    }
+
+    /// Counts what the hand is to have room for anew, where it has nothing. What is taken later then asks for
+    /// no more room than what is in the hand with it.
+    pub fn count_anew(&mut self)
+        requires { IsClean self.old }
+        ensures { self.new ≡ self.old }
+    {
+        let _ = &self.stores;
+        self.keys = 0;
     }
 
     /// Takes in a new brand, with the next number, of which nothing was issued. On an error all is as before.
@@ -560,6 +581,24 @@ impl Draft {
         self.stores.transit.add_brand(kind)?;
         self.steps.push_reserved(Step::AddsBrand);
         Ok(())
+    }
+
+    /// Takes a parcel of the hand into the hand's own store, which no number of keys bounds, to be let go from
+    /// there. It takes no memory.
+    pub fn hold(&mut self, parcel: Parcel)
+        requires { HandKeeps self.old parcel }
+        ensures { self.new ≡ held_too self.old parcel }
+    {
+        self.stores.transit.hold(parcel);
+    }
+
+    /// Gives a value that the hand's own store has as a parcel of the hand. It takes no memory.
+    pub fn let_go(&mut self, brand: u16, value: Value) -> Parcel
+        requires { IsStored self.old brand value }
+        ensures parcel { result ≡ amount_of brand value }
+        ensures less { self.new ≡ let_out self.old brand value }
+    {
+        self.stores.transit.let_go(brand, value)
     }
 
     /// Gives a parcel of the hand up, which goes to the hand's own store and takes no memory. The draft is

@@ -37,7 +37,7 @@ not_from_hand s (Slot n k) w c d source = refl
 not_from_hand s Hand w c d source = absurd source
 not_from_hand s Outside w c d source = absurd source
 
-not_to_hand : (s : Lists) (to : Holder) (a : Amount) (c part : Content) → MayPut s to a → to_hand to c part ≡ c
+pub not_to_hand : (s : Lists) (to : Holder) (a : Amount) (c part : Content) → MayPut s to a → to_hand to c part ≡ c
 not_to_hand s (Purse n) a c part target = refl
 not_to_hand s (Payment n) a c part target = refl
 not_to_hand s (Slot n k) a c part target = refl
@@ -53,7 +53,7 @@ out_taken s (Slot n k) w b source = refl
 out_taken s Hand w b source = absurd source
 out_taken s Outside w b source = absurd source
 
-out_given : (s : Lists) (to : Holder) (a : Amount) → MayPut s to a → (given (slotted s to a) to a.brand a.value).out ≡ s.out
+pub out_given : (s : Lists) (to : Holder) (a : Amount) → MayPut s to a → (given (slotted s to a) to a.brand a.value).out ≡ s.out
 out_given s (Purse n) a target = refl
 out_given s (Payment n) a target = refl
 out_given s (Slot n k) a target = either (is_some (amount_under k (kept_seat_at s.seats n).slots))
@@ -71,7 +71,7 @@ module _ (d : DraftState) (from : Holder) (w : Worth) (source : IsSource d.now f
   abbrev c : Content
   c = w.content
 
-  hand_taken : (e : ℕ) → hand_now (with_part_taken d from w) e ≡ cond (b == e) (sum (hand_now d e) c) (hand_now d e)
+  pub hand_taken : (e : ℕ) → hand_now (with_part_taken d from w) e ≡ cond (b == e) (sum (hand_now d e) c) (hand_now d e)
   hand_taken e = hand_after d (movement b from Hand w) e ∙ ap (λ x. cond (b == e) (sum x c) (hand_now d e)) (not_from_hand d.now from w (hand_now d e) c source)
 
   module _ (brand : IsOfBrand d.now b w) (valid : IsValid d) where

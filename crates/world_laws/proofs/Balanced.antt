@@ -24,7 +24,7 @@ use Rattle.right_steps.specs.Tables.{Right, all_in, hand_minus, hand_plus, in_br
 use Rattle.right_steps.proofs.Sound.{at_or_else, minus_count, part, plus_count}
 use Rattle.list_edits.proofs.ListEdits.{length_map, length_set, map_set, read_map, read_other, read_set}
 use Rattle.world_state.specs.Good.{HasNothing, IsBalanced, IsGoodEffect, IsGoodWorld}
-use Rattle.world_state.specs.Rights.{CanGive, CanMoveAll, CanTake, Has, HasOrOpens, IsNextOr, IsNothing, Rights, TakesOrOpens, Takes, all_moved, all_spent, given, hand_after, hand_in, hand_out, held_of, moved, moved_together, paid, paper_less, paper_more, right_of_row, rows_less, rows_more, slot_rights, slots_at, spent_from, taken, value_less, value_more, with_slots}
+use Rattle.world_state.specs.Rights.{CanGive, CanMove, CanMoveAll, CanTake, Has, HasOrOpens, IsNextOr, IsNothing, Rights, TakesOrOpens, Takes, all_moved, all_spent, given, hand_after, hand_in, hand_out, held_of, moved, moved_together, paid, paper_less, paper_more, right_of_row, rows_less, rows_more, slot_rights, slots_at, spent_from, taken, value_less, value_more, with_slots}
 use Rattle.world_state.specs.Worlds.{Effect, State, after, burn_and_escrows, empty_slots, invitation_move, paid_out, empty_payment, empty_seat, exit, invite, moves, new_brand, new_purse, offer}
 use Rattle.world_laws.proofs.Supplies.{can_invite}
 use Rattle.world_laws.proofs.Instances.{open_made}
@@ -198,7 +198,7 @@ pub record WithHand (r : Rights) (hand : ℕ → Content) : Type 0 where
 
 module _ (r : Rights) (h : ℕ → Content) (b : ℕ) (w : Worth) (is : WithHand r h) where
   -- a take into the hand, if it isn't from there
-  taken_with : (from : Holder) → b < length r.out → CanTake r h from b w → WithHand (taken r from b w) (hand_plus (hand_out h from b w.content) b w.content)
+  pub taken_with : (from : Holder) → b < length r.out → CanTake r h from b w → WithHand (taken r from b w) (hand_plus (hand_out h from b w.content) b w.content)
   taken_with (Purse n) lt can = record { each = λ e k. omega (arith, is.each e k, plus_count h b w.content e k, purses-set r.purses n (less (purse_at r.purses n) w.content) e k can.made, brand_less (right_in (purse_at r.purses n)) b w.content e k can.has.brand can.has.has) }
   taken_with (Payment n) lt can = record { each = λ e k. omega (arith, is.each e k, plus_count h b w.content e k, papers-set r.payments n (paper_less (paper_at r.payments n) w.content) e k can.made, less_paper (paper_at r.payments n) b w e k can.has) }
   taken_with (Slot s q) lt can = record { each = λ e k. omega (arith, is.each e k, plus_count h b w.content e k, slots-set r.slots s (rows_less q (amount_of b w) (slots_at r.slots s)) e k can.made, rows_less-in q b w (slots_at r.slots s) e k (has_under (amount_under q (slots_at r.slots s)) (slots_at r.slots s) b w can.has)) }
@@ -206,7 +206,7 @@ module _ (r : Rights) (h : ℕ → Content) (b : ℕ) (w : Worth) (is : WithHand
   taken_with Outside lt can = record { each = λ e k. omega (arith, is.each e k, plus_count h b w.content e k, out_more r.out b w.content e k lt) }
 
 -- a give from the hand
-given_with : (r : Rights) (h : ℕ → Content) (b : ℕ) (w : Worth) → WithHand r (hand_plus h b w.content) → (to : Holder) → b < length r.out → CanGive r to b w → WithHand (given r to b w) (hand_in h to b w.content)
+pub given_with : (r : Rights) (h : ℕ → Content) (b : ℕ) (w : Worth) → WithHand r (hand_plus h b w.content) → (to : Holder) → b < length r.out → CanGive r to b w → WithHand (given r to b w) (hand_in h to b w.content)
 given_with r h b w is (Purse n) lt can = record { each = λ e k. omega (arith, is.each e k, plus_count h b w.content e k, purses-set r.purses n (more (purse_at r.purses n) w.content) e k can.made, brand_more (right_in (purse_at r.purses n)) b w.content e k can.takes.brand) }
 given_with r h b w is (Payment n) lt can = record { each = λ e k. omega (arith, is.each e k, plus_count h b w.content e k, paid-in r.payments n b w r e k refl can) }
 given_with r h b w is (Slot s q) lt can = record { each = λ e k. omega (arith, is.each e k, plus_count h b w.content e k, slots-set r.slots s (rows_more q (amount_of b w) (slots_at r.slots s)) e k can.made, rows_more-in q b w (slots_at r.slots s) e k (takes_brand (amount_under q (slots_at r.slots s)) (slots_at r.slots s) b w can.takes)) }
@@ -217,12 +217,13 @@ out_taken : (r : Rights) (h : Holder) (b : ℕ) (w : Worth) → length (taken r 
 out_taken r Outside b w = length_set r.out b _
 out_taken r _ b w = refl
 
+pub with-moved : (r : Rights) (h : ℕ → Content) (m : Movement) → CanMove r h m → WithHand r h → WithHand (moved r m) (hand_after h m)
+with-moved r h m c is =
+    given_with (taken r m.from m.brand m.value) (hand_out h m.from m.brand m.value.content) m.brand m.value (taken_with r h m.brand m.value is m.from c.brand c.from) m.to (omega (arith, c.brand, out_taken r m.from m.brand m.value)) c.to
+
 all_with : (r : Rights) (h : ℕ → Content) (ms : List Movement) → CanMoveAll r h ms → WithHand r h → IsBalanced (all_moved r ms)
 all_with r h [] can is = record { each = λ b k. omega (arith, is.each b k, can.each b k) }
-all_with r h (m ∷ ms) can is =
-    let c = can.0 in
-    all_with (moved r m) (hand_after h m) ms can.1
-    (given_with (taken r m.from m.brand m.value) (hand_out h m.from m.brand m.value.content) m.brand m.value (taken_with r h m.brand m.value is m.from c.brand c.from) m.to (omega (arith, c.brand, out_taken r m.from m.brand m.value)) c.to)
+all_with r h (m ∷ ms) can is = all_with (moved r m) (hand_after h m) ms can.1 (with-moved r h m can.0 is)
 
 -- ---- spent
 

@@ -11,12 +11,12 @@ use Rattle.instance_store.specs.Facets.{FacetView}
 use Rattle.instance_store.specs.Tables.{InstanceView, instance_at, module_at}
 use Rattle.instance_store.specs.declared.seat_promises.SeatPair.{SeatPair}
 use Rattle.invitations.specs.Details.{DetailsView}
-use Rattle.jessie_tree.specs.Syntax.{routines}
+use Rattle.jessie_syntax.specs.Syntax.{routines}
 use Rattle.jessie_tree.specs.Tree.{Tree, object, function}
 use Rattle.jessie_tree.specs.declared.data.Obj.{Obj}
 use Rattle.jessie_tree.specs.declared.data.ObjKind.{ObjKind}
 use Rattle.jessie_tree.specs.declared.data.ObjKind.TheVariants as kinds
-use Rattle.jessie_tree.specs.declared.syntax.Module.{Module}
+use Rattle.jessie_syntax.specs.declared.syntax.Module.{Module}
 use Rattle.promise_store.specs.States.{SettlementView, broken, ok}
 use Rattle.proposals.specs.declared.offers.Proposal.{Proposal}
 use Rattle.turn_records.specs.Deliveries.{Delivery, Notice, Offer, Send, Start, Wakeup, bad, call, deadline, give, notify, offer, send, start, tick, wake}

@@ -7,15 +7,14 @@ use Rattle.data_rows.specs.Names.{numbers_end}
 use Rattle.data_rows.specs.Printable.{HasForm, IsPrintable}
 use Rattle.host_text.specs.Words.{is_field_name}
 use Rattle.instance_store.specs.Tables.{instance_at, no_module}
-use Rattle.jessie_tree.specs.Syntax.{Routine, routines}
+use Rattle.jessie_syntax.specs.Syntax.{Routine, routines}
 use Rattle.jessie_tree.specs.Tree.{Tree, array, boolean, fields, function, null, number, object, text}
 use Rattle.jessie_tree.specs.declared.data.ObjKind.{ObjKind}
 use Rattle.jessie_tree.specs.declared.data.ObjKind.TheVariants as kinds
 use Rattle.turn_rows.specs.Form.{objects_end}
 use Rattle.world_state.specs.Good.{IsGoodWorld, IsModule}
-use Rattle.world_state.specs.Known.{HasFunction, HasNames, IsFormed, IsNamed, ObjectKnown, known_as, made_as, module_of}
+use Rattle.world_state.specs.Known.{HasFunction, HasNames, HasWidth, IsFormed, IsNamed, ObjectKnown, known_as, made_as, module_of}
 use Rattle.world_state.specs.Worlds.{State}
-use Rattle.world_laws.specs.Turns.{HasWidth}
 use Rattle.world_laws.proofs.Lists.{all_read}
 
 named_among : (f : List ℕ) (rs : List Routine) → IsNamed f rs → AllByRecursion (λ (r : Routine). is_field_name r.name ≡ true) rs → is_field_name f ≡ true

@@ -18,7 +18,7 @@ use Rattle.world_laws.proofs.Instances.{open_made}
 use Rattle.world_laws.proofs.OfKinds.{KindsStay, rows_stay, same_together, stay_push, stay_same}
 use Rattle.world_laws.proofs.Lists.{length_append, length_map}
 
-open-push : (seats : List Seat) (slots : List (List Row)) (s : Seat) (rows : List Row) → length slots ≡ length seats → open_slots (seats ++ s ∷ []) (slots ++ rows ∷ []) ≡ open_slots seats slots + slots_in s rows
+pub open-push : (seats : List Seat) (slots : List (List Row)) (s : Seat) (rows : List Row) → length slots ≡ length seats → open_slots (seats ++ s ∷ []) (slots ++ rows ∷ []) ≡ open_slots seats slots + slots_in s rows
 open-push [] [] s rows e = omega arith
 open-push [] (x ∷ xs) s rows e = absurd (omega (arith, e))
 open-push (q ∷ qs) [] s rows e = absurd (omega (arith, e))

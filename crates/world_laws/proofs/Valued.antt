@@ -33,7 +33,7 @@ use Rattle.world_laws.proofs.Supplies.{can_invite}
 part_left : (c d : Content) → Contains c (difference c d)
 part_left c d = record { each = λ k. omega (arith, count-difference c d k) }
 
-less_valued : (kind : Kind) (c d : Content) → IsValue kind c → IsValue kind (difference c d)
+pub less_valued : (kind : Kind) (c d : Content) → IsValue kind c → IsValue kind (difference c d)
 less_valued kind c d is = value_of_part kind c (difference c d) (part_left c d) is
 
 taken_more : (a : Amount) (b : ℕ) (w : Worth) → Takes a b w → IsAmountValued (more a w.content)
@@ -97,7 +97,7 @@ rows_more_valued k b w (r ∷ rs) can all = by (bytes_eq k r.keyword) (λ c. row
 
 -- ---- halves and movements
 
-taken_valued : (r : Rights) (h : Holder) (b : ℕ) (w : Worth) → AreValues r → AreValues (taken r h b w)
+pub taken_valued : (r : Rights) (h : Holder) (b : ℕ) (w : Worth) → AreValues r → AreValues (taken r h b w)
 taken_valued r (Purse n) b w v = record {
   purses = all_set IsAmountValued r.purses n _ v.purses (less_valued (purse_at r.purses n).value.kind (purse_at r.purses n).value.content w.content (all_read_or IsAmountValued r.purses n no_amount v.purses (nothing_is_value no_amount.value.kind)));
   payments = v.payments;
@@ -116,7 +116,7 @@ taken_valued r (Slot s k) b w v = record {
 taken_valued r Hand b w v = v
 taken_valued r Outside b w v = record { purses = v.purses; payments = v.payments; slots = v.slots }
 
-given_valued : (r : Rights) (h : Holder) (b : ℕ) (w : Worth) → CanGive r h b w → AreValues r → AreValues (given r h b w)
+pub given_valued : (r : Rights) (h : Holder) (b : ℕ) (w : Worth) → CanGive r h b w → AreValues r → AreValues (given r h b w)
 given_valued r (Purse n) b w can v = record { purses = all_set IsAmountValued r.purses n _ v.purses (taken_more (purse_at r.purses n) b w can.takes); payments = v.payments; slots = v.slots }
 given_valued r (Payment n) b w can v = record { purses = v.purses; payments = paid_valued r n b w can v.payments; slots = v.slots }
 given_valued r (Slot s k) b w can v = record {
@@ -127,7 +127,7 @@ given_valued r (Slot s k) b w can v = record {
 given_valued r Hand b w can v = v
 given_valued r Outside b w can v = record { purses = v.purses; payments = v.payments; slots = v.slots }
 
-all_valued : (r : Rights) (hand : ℕ → Content) (ms : List Movement) → CanMoveAll r hand ms → AreValues r → AreValues (all_moved r ms)
+pub all_valued : (r : Rights) (hand : ℕ → Content) (ms : List Movement) → CanMoveAll r hand ms → AreValues r → AreValues (all_moved r ms)
 all_valued r hand [] can v = v
 all_valued r hand (m ∷ ms) can v = all_valued (moved r m) (hand_after hand m) ms can.1 (given_valued (taken r m.from m.brand m.value) m.to m.brand m.value can.0.to (taken_valued r m.from m.brand m.value v))
 

@@ -1,12 +1,7 @@
--- What a turn's laws speak of: all amounts that are known of a seat, data as its types give it.
-use Rattle.std.specs.Prelude.{◌≡◌, ◌<◌, ℕ, All, List, [], ◌++◌, unwrap_or}
-use Rattle.std.specs.Str.{IsUtf8}
+-- What a turn's laws speak of: all amounts that are known of a seat.
+use Rattle.std.specs.Prelude.{◌≡◌, ℕ, All, List, [], ◌++◌, unwrap_or}
 use Rattle.amount_math.specs.Amount.{Meet}
-use Rattle.data_nodes.specs.Nodes.{NodeFact}
-use Rattle.data_rows.specs.Printable.{IsNumber}
-use Rattle.jessie_tree.specs.Tree.{number, object, text}
 use Rattle.proposals.specs.declared.allocations.Row.{Row}
-use Rattle.turn_rows.specs.Form.{objects_end}
 use Rattle.world_state.specs.Rights.{slots_at}
 use Rattle.world_state.specs.Worlds.{State, seat_at, staged_at}
 
@@ -29,10 +24,3 @@ AgreeWith rows r = All (λ x. x.keyword ≡ r.keyword → Meet x.amount r.amount
 
 abbrev pub Agree : List Row → Type 0
 Agree rows = All (AgreeWith rows) rows
-
--- numbers within 128 signed bits, texts of UTF-8, objects' numbers of 32 bits
-abbrev pub HasWidth : NodeFact
-HasWidth n (number z) = IsNumber z
-HasWidth n (text s) = IsUtf8 s
-HasWidth n (object o) = o.number < objects_end
-HasWidth n _ = Unit {0}

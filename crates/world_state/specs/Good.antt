@@ -25,10 +25,11 @@ use Rattle.instance_store.specs.declared.instance.Standing.TheVariants.{Halted}
 use Rattle.instance_store.specs.declared.seat_promises.SeatPair.{SeatPair}
 use Rattle.invitations.specs.Details.{DetailsView}
 use Rattle.invitations.specs.Elements.{element}
-use Rattle.jessie_tree.specs.Syntax.{Routine, routines}
+use Rattle.jessie_semantics.specs.Naming.{IsFieldName, RoutinesWrite}
+use Rattle.jessie_syntax.specs.Syntax.{Routine, routines}
 use Rattle.jessie_tree.specs.Tree.{Tree, fields, get, object}
 use Rattle.jessie_tree.specs.declared.data.Obj.{Obj}
-use Rattle.jessie_tree.specs.declared.syntax.Module.{Module}
+use Rattle.jessie_syntax.specs.declared.syntax.Module.{Module}
 use Rattle.payments.specs.Papers.{Paper, paper_at}
 use Rattle.promise_store.specs.Linked.{IsForest, LeadsTo, leader}
 use Rattle.promise_store.specs.States.{SettlementView, broken, ok}
@@ -354,12 +355,14 @@ pub record IsInstance (w : State) (n : ℕ) (x : InstanceView) : Type 0 where
 pub record AreInstances (w : State) (xs : List InstanceView) : Type 0 where
   pub each : (n : ℕ) → n < length xs → IsInstance w n (instance_at xs n)
 
--- what the state variables of a module begin with names nothing; its functions have names of
--- their form, and one of them is its start
+-- a module as a text is read: what its state variables begin with is data that a text may write;
+-- its functions have names of their form, and one of them is its start; and so have the fields of
+-- the records that they write
 pub record IsModule (m : Module) : Type 0 where
   pub plain : AllByRecursion IsPlain (initial_state m)
   pub starts : IsNamed (codes "start") (routines m)
   pub named : AllByRecursion (λ (r : Routine). is_field_name r.name ≡ true) (routines m)
+  pub writes : RoutinesWrite IsFieldName (routines m)
 
 abbrev pub IsMethod : State → ℕ → List ℕ × List ℕ → Type 0
 IsMethod w i m = HasFunction w.tables i m.1

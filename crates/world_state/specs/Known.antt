@@ -2,26 +2,28 @@
 -- is that all that was made stays what it is.
 use Rattle.std.specs.Prelude.{◌≡◌, ℕ, ◌<◌, ◌≤◌, ◌⊎◌, true, Option, Some, None, IsSome}
 use Rattle.std.specs.Prelude.{List, [], ◌∷◌, length, slice_index_or}
+use Rattle.std.specs.Str.{IsUtf8}
 use Rattle.amount_math.specs.declared.Kind.{Kind}
 use Rattle.brands.specs.Brands.{brand_at, no_brand}
 use Rattle.brands.specs.declared.Brand.{Brand}
 use Rattle.data_nodes.specs.Nodes.{NodeFact}
-use Rattle.data_rows.specs.Printable.{HaveFieldNames}
-use Rattle.host_text.specs.Words.{is_field_name}
 use Rattle.data_nodes.specs.Nodes.{EachNode, FunctionIs, HasFieldsInOrder, IsShallow, ObjectIs}
+use Rattle.data_rows.specs.Printable.{HaveFieldNames, IsNumber}
+use Rattle.host_text.specs.Words.{is_field_name}
 use Rattle.instance_store.specs.Facets.{no_facet}
 use Rattle.instance_store.specs.SeatPromises.{no_pair}
 use Rattle.instance_store.specs.Tables.{InstanceView, Tables, instance_at, module_at}
 use Rattle.instance_store.specs.Tables.{no_instance, no_module}
 use Rattle.invitations.specs.Details.{no_details}
-use Rattle.jessie_tree.specs.Syntax.{Routine, routines}
-use Rattle.jessie_tree.specs.Tree.{Tree, fields, function}
+use Rattle.jessie_syntax.specs.Syntax.{Routine, routines}
+use Rattle.jessie_tree.specs.Tree.{Tree, fields, function, number, object, text}
 use Rattle.jessie_tree.specs.declared.data.Obj.{Obj}
 use Rattle.jessie_tree.specs.declared.data.ObjKind.{ObjKind}
 use Rattle.jessie_tree.specs.declared.data.ObjKind.TheVariants as kinds
-use Rattle.jessie_tree.specs.declared.syntax.Module.{Module}
+use Rattle.jessie_syntax.specs.declared.syntax.Module.{Module}
 use Rattle.payments.specs.Papers.{Paper, spent_paper}
 use Rattle.proposals.specs.declared.offers.Proposal.{Proposal}
+use Rattle.turn_rows.specs.Form.{objects_end}
 use Rattle.world_state.specs.Promises.{WasSettled, no_promise}
 use Rattle.world_state.specs.Worlds.{Maker, Seat, State, maker_at, no_seat, seat_at}
 use Rattle.world_state.specs.Worlds.{of_host, of_instance, of_kit}
@@ -101,6 +103,13 @@ HasNames n (fields fs) = HaveFieldNames fs
 HasNames n (function name) = is_field_name name ≡ true
 HasNames n _ = Unit {0}
 
+-- numbers within 128 signed bits, texts of UTF-8, objects' numbers of 32 bits
+abbrev pub HasWidth : NodeFact
+HasWidth n (number z) = IsNumber z
+HasWidth n (text s) = IsUtf8 s
+HasWidth n (object o) = o.number < objects_end
+HasWidth n _ = Unit {0}
+
 -- all that the data names is known to its holder, fields and functions have names of their form,
 -- the fields of its records stand in order, and it nests at most 32 deep
 pub record IsFormed (w : State) (holder : Option ℕ) (t : Tree) : Type 0 where
@@ -118,13 +127,14 @@ IsHanded w t = IsFormed w None t
 abbrev pub IsKnownTo : State → ℕ → Tree → Type 0
 IsKnownTo w i t = IsFormed w (Some i) t
 
--- data that names nothing
+-- data that names nothing, as a text may write it
 pub record IsPlain (t : Tree) : Type 0 where
   pub objects : EachNode (ObjectIs (λ o. ⊥)) 0 t
   pub functions : EachNode (FunctionIs (λ f. ⊥)) 0 t
   pub named : EachNode HasNames 0 t
   pub ordered : EachNode HasFieldsInOrder 0 t
   pub shallow : EachNode (IsShallow 32) 0 t
+  pub sized : EachNode HasWidth 0 t
 
 -- ---- what was made stays what it is
 

@@ -22,7 +22,7 @@ use Rattle.jessie_tree.specs.Tree.{Tree, fields, null, object, Fields, no_fields
 use Rattle.jessie_tree.specs.declared.data.Obj.{Obj}
 use Rattle.jessie_tree.specs.declared.data.ObjKind.{ObjKind}
 use Rattle.jessie_tree.specs.declared.data.ObjKind.TheVariants as kinds
-use Rattle.jessie_tree.specs.declared.syntax.Module.{Module}
+use Rattle.jessie_syntax.specs.declared.syntax.Module.{Module}
 use Rattle.payments.specs.Papers.{Paper, live_paper}
 use Rattle.promise_store.specs.States.{SettlementView, ok}
 use Rattle.proposals.specs.Slots.{emptied, is_upto, slots_of}

@@ -1,5 +1,5 @@
 use Rattle.std.proofs.Common.{◌≡◌, map, take}
-use Rattle.jessie_tree.specs.Syntax.{constant_tree}
+use Rattle.jessie_values.specs.Literals.{constant_tree}
 use Rattle.jessie_tree.specs.View.{trees}
 use Rattle.instance_store.proofs.instance.initial_state.Given as goal
 

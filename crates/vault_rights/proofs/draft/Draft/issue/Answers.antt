@@ -14,9 +14,9 @@ invariant_of-self c = rw (c.in_default.ensures.steps, c.in_default.ensures.movem
 
 pub issue-requires-clause-empty : goal.issue-requires-clause-empty
 issue-requires-clause-empty c =
-    let sound = rw (← c.self.view_is) at c.requires.sound in
+    let empty = rw (← c.self.view_is) at c.requires.empty in
     let brand = rw (← c.self.view_is) at c.requires.brand in
-    none_in_store c.self.inside.stores c.note_take.new.stores c.self.inside.steps.items c.self.inside.movements.items c.self.inside.keys c.self.inside.is_spoiled c.args.brand c.args.value c.in-Ok.ensures.roomed brand sound c.self.invariant
+    none_in_store c.self.inside.stores c.note_take.new.stores c.self.inside.steps.items c.self.inside.movements.items c.self.inside.keys c.self.inside.is_spoiled c.args.brand c.args.value c.in-Ok.ensures.roomed brand empty
 
 pub invariant_of-self-in-Ok-issue : goal.invariant_of-self-in-Ok-issue
 invariant_of-self-in-Ok-issue c =

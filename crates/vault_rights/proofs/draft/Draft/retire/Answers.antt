@@ -6,8 +6,12 @@ use Rattle.rights_model.specs.declared.Movement.{Movement}
 use Rattle.rights_model.specs.Table.{movement}
 use Rattle.vault_rights.specs.Drafts.{HandKeeps, IsDraft, draft_of}
 use Rattle.vault_rights.proofs.Made.{put_after_so, put_keeps_so}
+use Rattle.vault_rights.proofs.Steps.{can_hold}
 use Rattle.vault_rights.proofs.Taking.{can_retire}
 use Rattle.vault_rights.proofs.draft.Draft.retire.Goals as goal
+
+pub retire-requires : goal.retire-requires
+retire-requires c = (can_hold c.self.inside.stores c.self.inside.steps.items c.self.inside.movements.items c.self.inside.keys c.self.inside.is_spoiled c.args.parcel c.self.invariant (rw (← c.self.view_is) at c.requires.hand)).way
 
 pub invariant_of-self-2 : goal.invariant_of-self-2
 invariant_of-self-2 c =

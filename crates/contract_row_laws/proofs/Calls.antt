@@ -1,0 +1,77 @@
+-- Each call of a contract's function is a good row, whatever its target, method and arguments.
+use Rattle.std.proofs.Common.{ℕ, List, Some, codes, refl}
+use Rattle.jessie_tree.specs.Tree.{Tree}
+use Rattle.jessie_tree.specs.declared.data.ObjKind.{ObjKind}
+use Rattle.jessie_tree.specs.declared.data.ObjKind.TheVariants as kinds
+use Rattle.world_state.specs.Worlds.{State}
+use Rattle.call_rows.specs.Obligations.{CanCall, IsGoodOutcome}
+use Rattle.call_rows.specs.Rows.{Outcome}
+use Rattle.call_row_laws.proofs.Reading.{by_method}
+use Rattle.trade_rows.specs.Trades.{of_kind, of_zcf, of_zmint, of_zseat, serve}
+use Rattle.contract_row_laws.specs.Good.{AreGoodContractCalls, IsNoRearrangement, numbered}
+use Rattle.contract_row_laws.proofs.Escrows.{deposit_is, withdraw_is}
+use Rattle.contract_row_laws.proofs.Getters.{amount_is, current_is, proposal_is, staged_is, terms_are}
+use Rattle.contract_row_laws.proofs.Issuers as issuers
+use Rattle.contract_row_laws.proofs.Mints.{burn_is, gains_are}
+use Rattle.contract_row_laws.proofs.Own.{safe_is, seat_is, wake_is}
+use Rattle.contract_row_laws.proofs.Seats.{clear_is, exited_is, fail_is, leave_is}
+use Rattle.contract_row_laws.proofs.Shutdowns.{failure_is, shutdown_is}
+use Rattle.contract_row_laws.proofs.Staging.{decrement_is, increment_is}
+use Rattle.contract_row_laws.proofs.Zcf.{instance_is, invitation_is, issuer_is, stop_is, zoe_is}
+
+module _ (w : State) (i n : ℕ) (m : List ℕ) (args : List Tree) where
+  zcf_is : CanCall w (Some i) (numbered kinds.Zcf n) args → IsNoRearrangement m → IsGoodOutcome w (Some i) (numbered kinds.Zcf n) m args (of_zcf w n m args)
+  zcf_is can =
+      let P : List ℕ → Outcome → Type 0 = λ k row. IsNoRearrangement k → IsGoodOutcome w (Some i) (numbered kinds.Zcf n) k args row in
+      by_method P m (codes "makeEmptySeatKit") _ _ (λ other. seat_is w i n args can)
+      (by_method P m (codes "reallocate") _ _ (λ other. absurd (other.staged refl))
+      (by_method P m (codes "atomicRearrange") _ _ (λ other. absurd (other.transfers refl))
+      (by_method P m (codes "makeZCFMint") _ _ (λ other. issuers.make_mint_is w i n args can)
+      (by_method P m (codes "saveIssuer") _ _ (λ other. issuers.save_is w i n args can)
+      (by_method P m (codes "getTerms") _ _ (λ other. terms_are w i n args can)
+      (by_method P m (codes "getBrandForIssuer") _ _ (λ other. issuers.brand_is w i n args can)
+      (by_method P m (codes "getIssuerForBrand") _ _ (λ other. issuers.issuer_is w i n args can)
+      (by_method P m (codes "getAssetKind") _ _ (λ other. issuers.kind_is w i n args can)
+      (by_method P m (codes "assertUniqueKeyword") _ _ (λ other. issuers.unique_is w i n args can)
+      (by_method P m (codes "wakeAt") _ _ (λ other. wake_is w i n args can)
+      (by_method P m (codes "depositToSeat") _ _ (λ other. deposit_is w i n args can)
+      (by_method P m (codes "withdrawFromSeat") _ _ (λ other. withdraw_is w i n args can)
+      (by_method P m (codes "makeInvitation") _ _ (λ other. invitation_is w i n args can)
+      (by_method P m (codes "getInstance") _ _ (λ other. instance_is w i n args can)
+      (by_method P m (codes "getZoeService") _ _ (λ other. zoe_is w i n args can)
+      (by_method P m (codes "getInvitationIssuer") _ _ (λ other. issuer_is w i n args can)
+      (by_method P m (codes "stopAcceptingOffers") _ _ (λ other. stop_is w i n args can)
+      (by_method P m (codes "shutdown") _ _ (λ other. shutdown_is w i n args can)
+      (by_method P m (codes "shutdownWithFailure") _ _ (λ other. failure_is w i n args can) (λ other. tt))))))))))))))))))))
+
+  zseat_is : CanCall w (Some i) (numbered kinds.Zseat n) args → IsGoodOutcome w (Some i) (numbered kinds.Zseat n) m args (of_zseat w n m args)
+  zseat_is can =
+      let P : List ℕ → Outcome → Type 0 = λ k row. IsGoodOutcome w (Some i) (numbered kinds.Zseat n) k args row in
+      by_method P m (codes "getProposal") _ _ (proposal_is w i n args can)
+      (by_method P m (codes "isOfferSafe") _ _ (safe_is w i n args can)
+      (by_method P m (codes "incrementBy") _ _ (increment_is w i n args can)
+      (by_method P m (codes "decrementBy") _ _ (decrement_is w i n args can)
+      (by_method P m (codes "exit") _ _ (leave_is w i n args can)
+      (by_method P m (codes "fail") _ _ (fail_is w i n args can)
+      (by_method P m (codes "hasExited") _ _ (exited_is w i n args can)
+      (by_method P m (codes "getCurrentAllocation") _ _ (current_is w i n args can)
+      (by_method P m (codes "getStagedAllocation") _ _ (staged_is w i n args can)
+      (by_method P m (codes "getAmountAllocated") _ _ (amount_is w i n args can)
+      (by_method P m (codes "clear") _ _ (clear_is w i n args can) tt))))))))))
+
+  zmint_is : CanCall w (Some i) (numbered kinds.Zmint n) args → IsGoodOutcome w (Some i) (numbered kinds.Zmint n) m args (of_zmint w n m args)
+  zmint_is can =
+      let P : List ℕ → Outcome → Type 0 = λ k row. IsGoodOutcome w (Some i) (numbered kinds.Zmint n) k args row in
+      by_method P m (codes "mintGains") _ _ (gains_are w i n args can)
+      (by_method P m (codes "burnLosses") _ _ (burn_is w i n args can)
+      (by_method P m (codes "getIssuerRecord") _ _ (issuers.own_is w i n args can) tt))
+
+  kind_is : (kind : ObjKind) → IsNoRearrangement m → CanCall w (Some i) (numbered kind n) args → IsGoodOutcome w (Some i) (numbered kind n) m args (of_kind w kind n m args)
+  kind_is kinds.Zcf other can = zcf_is can other
+  kind_is kinds.Zseat other can = zseat_is can
+  kind_is kinds.Zmint other can = zmint_is can
+  kind_is _ other can = tt
+
+pub calls_are : AreGoodContractCalls serve
+unfolding serve
+calls_are w i o m args other can = kind_is w i o.number m args o.kind other can

@@ -1,0 +1,149 @@
+-- What goes between payments and slots is a good row.
+use Rattle.std.specs.Prelude.{map, ◌||◌, not}
+use Rattle.std.specs.List.{AllByRecursion}
+use Rattle.std.proofs.Common.{◌≡◌, ℕ, suc, ◌+◌, ◌<◌, ◌≤◌, Bool, true, false, List, [], ◌∷◌, ◌++◌, length, Some, None, Ok, IfOk, codes, refl, sym, ap, subst, ◌∙◌, arith}
+use Rattle.allocation_changes.specs.Gains.{with_gains}
+use Rattle.allocation_changes.specs.Losses.{with_losses}
+use Rattle.call_arguments.proofs.Lists.{none_twice}
+use Rattle.call_arguments.specs.Arguments.{arg}
+use Rattle.call_arguments.specs.Numbers.{AreApart}
+use Rattle.jessie_tree.specs.Tree.{Tree, paired}
+use Rattle.jessie_tree.specs.declared.data.ObjKind.TheVariants as kinds
+use Rattle.list_edits.proofs.ListEdits.{length_map}
+use Rattle.plan_check_laws.proofs.Slots.{taken_if}
+use Rattle.plan_checks.specs.Slots.{can_take, each_passes, fits_slot, is_safe}
+use Rattle.proposals.specs.OfferSafety.{IsCovered}
+use Rattle.proposals.specs.declared.allocations.Row.{Row}
+use Rattle.record_arguments.specs.Records.{RowData, names}
+use Rattle.refusals.proofs.Steps.{after_check, after_known, after_need, after_none_such, after_step, ok_has}
+use Rattle.service_rows.specs.OfferRows.{escrows_of, is_live_in}
+use Rattle.trade_rows.specs.Escrows.{deposit_to_seat, payments_for, withdraw_from_seat}
+use Rattle.trade_rows.specs.Given.{is_misfit, is_other, issuers_of}
+use Rattle.world_laws.proofs.Forms.{formed_grows}
+use Rattle.world_laws.proofs.Growing.{grows-after}
+use Rattle.world_laws.proofs.Payouts.{payouts_handed}
+use Rattle.world_state.specs.Good.{IsGoodWorld, IsValued}
+use Rattle.world_state.specs.Known.{IsFormed}
+use Rattle.world_state.specs.Rights.{all_moved}
+use Rattle.world_state.specs.Worlds.{State, after, moves, payments_tree, payout_moves, unstage}
+use Rattle.call_rows.specs.Licence.{AreLicensed, NamesPayment}
+use Rattle.call_rows.specs.Obligations.{CanCall}
+use Rattle.call_row_laws.proofs.Forms.{null_formed}
+use Rattle.call_row_laws.proofs.PaidRows as paid_rows
+use Rattle.call_row_laws.proofs.PaidRows.{ArePayments, payments_under, rows_paid, same_where_none_alone}
+use Rattle.call_row_laws.proofs.Records.{fields_in, fields_ordered}
+use Rattle.call_row_laws.proofs.RowsRead.{IsReadRow, Rising, read_of_kinds, rising_apart, rising_names, row_names}
+use Rattle.call_row_laws.proofs.Shown.{handed_held}
+use Rattle.call_row_laws.proofs.SlotLists.{can_add_all, can_take_all, each_of_all, still_safe, with_less, with_less_many, with_more, with_more_grows, with_more_many}
+use Rattle.call_row_laws.proofs.SlotMoves.{Pay, escrows_can, escrows_emptied, escrows_fresh, escrows_good, escrows_issued, escrows_payments, escrows_slots}
+use Rattle.call_row_laws.proofs.Spending.{spent_length}
+use Rattle.contract_rows.specs.SeatRows.{allocation_of, seat_of}
+use Rattle.contract_row_laws.specs.Good.{IsGoodCall, numbered}
+use Rattle.contract_row_laws.proofs.Given.{AreGiven, IsOwn, OfBrand, all_add, all_take, gains_many, losses_many, neither, of_slot, own_is, record_at_is, room_is, rows_given, seat_slots}
+use Rattle.contract_row_laws.proofs.Losses.{safe_less}
+use Rattle.contract_row_laws.proofs.SeatMoves.{changes_here, payouts_can, payouts_emptied, payouts_fresh, payouts_good, payouts_issued, payouts_payments, payouts_slots}
+
+fitting : (w : State) (i seat : ℕ) (r : RowData) → is_misfit (issuers_of w i) (allocation_of w seat) r ≡ false → OfBrand (allocation_of w seat) r.keyword r.amount.brand
+fitting w i seat r is = of_slot (allocation_of w seat) r (neither _ (is_other (allocation_of w seat) r) is).1
+
+-- ---- payments for rows
+
+record IsPaid (w : State) (args : List Tree) (rows : List Row) (ps : List ℕ) : Type 0 where
+  pay : Pay w.rights.payments rows ps
+  apart : AreApart ps
+  named : AllByRecursion (NamesPayment args) ps
+
+paid_is : (w : State) (i : ℕ) → IsGoodWorld w → (args : List Tree) (rows : List Row) (given : List (List ℕ × Tree)) → IsFormed w (Some i) (arg 3 args) → paired (fields_in (arg 3 args)) ≡ given → AllByRecursion (IsReadRow w) rows → Rising (row_names rows) → IfOk (payments_for w rows given) (IsPaid w args rows)
+unfolding payments_for
+paid_is w i good args rows given formed same read rising = after_none_such _ _ _ _ (λ alone. after_step _ _ _ (λ ps at. after_none_such _ _ _ _ (λ live. after_none_such _ _ _ _ (λ once. after_none_such _ _ _ _ (λ wrong.
+    let payments : ArePayments w args given ps = payments_under w (Some i) 3 args given ps formed same at in
+    let names_same = same_where_none_alone (row_names rows) (names given) rising (subst (λ fs. Rising (names fs)) same (rising_names (fields_in (arg 3 args)) (fields_ordered (arg 3 args) formed.ordered))) alone in
+    record {
+      pay = rows_paid w good rows ps read (omega (arith, payments.many, length_map (λ (r : Row). r.keyword) rows, ap (λ l. length l) names_same)) payments.made (paid_rows.each_passes (is_live_in w) ps live) wrong;
+      apart = none_twice ps once;
+      named = payments.named;
+    })))))
+
+licensed_escrows : (w : State) (i n seat : ℕ) (args : List Tree) → IsOwn w i seat → (rows : List Row) (ps : List ℕ) → AllByRecursion (NamesPayment args) ps → AreLicensed w (Some i) (numbered kinds.Zcf n) (codes "depositToSeat") args (escrows_of seat rows ps ++ [])
+licensed_escrows w i n seat args own [] ps named = tt
+licensed_escrows w i n seat args own (x ∷ xs) [] named = tt
+licensed_escrows w i n seat args own (x ∷ xs) (p ∷ ps) named = (record { takes = named.0; gives = own.own }, licensed_escrows w i n seat args own xs ps named.1)
+
+pub deposit_is : IsGoodCall kinds.Zcf (codes "depositToSeat") deposit_to_seat
+unfolding deposit_to_seat
+deposit_is w i n args can = after_check _ _ _ (after_step _ _ _ (λ seat at. after_step _ _ _ (λ rows reads. after_step _ _ _ (λ record_given there. after_step _ _ _ (λ ps pays. after_known _ _ _ (λ fits. after_known _ _ _ (λ room.
+    let good = can.good in
+    let slots = allocation_of w seat in
+    let own : IsOwn w i seat = ok_has _ _ seat at (own_is w i n 1 args (can.arguments 1)) in
+    let given : AreGiven w args (OfBrand slots) rows = ok_has _ _ rows reads (rows_given w (Some i) (is_misfit (issuers_of w n) slots) (OfBrand slots) (fitting w n seat) 2 args (can.arguments 2)) in
+    let paid : IsPaid w args rows ps = ok_has _ _ ps pays (paid_is w i good args rows record_given (can.arguments 3) (record_at_is 3 args record_given there) given.read.each given.read.rising) in
+    let has = seat_slots w good i seat own.own in
+    let apart = rising_apart rows given.read.rising in
+    let adds = all_add w good slots has rows given.read.each given.fit fits in
+    let left = room_is w seat slots (with_gains slots rows) 0 room in
+    let many = gains_many slots rows in
+    let can_add = can_add_all slots rows apart adds (omega (arith, left.few, many)) in
+    let made_seat : seat < length w.rights.slots = omega (arith, own.own.made, good.seats.slotted) in
+    record {
+      good = changes_here w good i seat own (escrows_of seat rows ps) (with_more slots rows)
+          (escrows_can seat w.rights slots rows ps made_seat refl can_add paid.pay paid.apart (read_of_kinds w good rows given.read.each))
+          (escrows_good seat w.seats rows ps own.is_open given.read.named)
+          (escrows_emptied seat w.rights rows ps paid.pay paid.apart)
+          (escrows_fresh seat (length w.rights.payments) rows ps)
+          (escrows_slots seat w.rights slots rows ps made_seat refl paid.pay paid.apart)
+          (still_safe (seat_of w seat).proposal slots (with_more slots rows) (with_more_grows slots rows) (good.covered.each seat own.is_open))
+          (omega (arith, left.left, many, with_more_many slots rows apart, escrows_payments seat w.rights rows ps));
+      known = null_formed _ (Some i);
+      leaves = refl;
+      opens = refl;
+      acts = (own.own, (tt, tt));
+      licensed = licensed_escrows w i n seat args own rows ps paid.named;
+      issues = omega (arith, escrows_issued seat rows ps);
+      calls = omega arith;
+    })))))))
+
+-- ---- payments of what slots have
+
+licensed_payouts : (w : State) (i n seat : ℕ) (args : List Tree) → IsOwn w i seat → (rows : List Row) (first : ℕ) → length w.rights.payments ≤ first → AreLicensed w (Some i) (numbered kinds.Zcf n) (codes "withdrawFromSeat") args (payout_moves seat first rows ++ [])
+licensed_payouts w i n seat args own [] first le = tt
+licensed_payouts w i n seat args own (x ∷ xs) first le = (record { takes = own.own; gives = le }, licensed_payouts w i n seat args own xs (suc first) (omega (arith, le)))
+
+all_valued : (w : State) (rows : List Row) → AllByRecursion (IsReadRow w) rows → AllByRecursion (λ (x : Row). IsValued x.amount.value) rows
+all_valued w [] all = tt
+all_valued w (r ∷ rs) all = (all.0.value, all_valued w rs all.1)
+
+pub withdraw_is : IsGoodCall kinds.Zcf (codes "withdrawFromSeat") withdraw_from_seat
+unfolding withdraw_from_seat
+withdraw_is w i n args can = after_check _ _ _ (after_step _ _ _ (λ seat at. after_step _ _ _ (λ rows reads. after_known _ _ _ (λ takes. after_need _ _ _ _ (λ safe. after_known _ _ _ (λ room.
+    let good = can.good in
+    let slots = allocation_of w seat in
+    let first = length w.rights.payments in
+    let own : IsOwn w i seat = ok_has _ _ seat at (own_is w i n 1 args (can.arguments 1)) in
+    let given : AreGiven w args (OfBrand slots) rows = ok_has _ _ rows reads (rows_given w (Some i) (is_misfit (issuers_of w n) slots) (OfBrand slots) (fitting w n seat) 2 args (can.arguments 2)) in
+    let has = seat_slots w good i seat own.own in
+    let apart = rising_apart rows given.read.rising in
+    let covered = taken_if slots rows takes in
+    let from = all_take w good slots has rows given.read.each given.fit (each_of_all (IsCovered slots) rows covered) in
+    let left = room_is w seat slots (with_losses slots rows) (length rows) room in
+    let many = losses_many slots rows in
+    let can_take_them = can_take_all slots rows apart from (omega (arith, left.few, many)) in
+    let made_seat : seat < length w.rights.slots = omega (arith, own.own.made, good.seats.slotted) in
+    let ms = payout_moves seat first rows in
+    let v : State = after (after w (unstage seat)) (moves ms) in
+    record {
+      good = changes_here w good i seat own ms (with_less slots rows)
+          (payouts_can seat w.rights slots rows first refl made_seat refl can_take_them (read_of_kinds w good rows given.read.each) (all_valued w rows given.read.each))
+          (payouts_good seat w.seats rows first own.is_open given.read.named)
+          (payouts_emptied seat (all_moved w.rights ms).payments rows first)
+          (payouts_fresh seat first rows first (omega arith))
+          (payouts_slots seat w.rights slots rows first made_seat refl)
+          (safe_less (seat_of w seat).proposal slots rows apart covered safe)
+          (omega (arith, left.left, many, with_less_many slots rows apart, payouts_payments seat w.rights rows first refl));
+      known = handed_held v (Some i) (payments_tree first rows) (payouts_handed v first rows apart given.read.named (omega (arith, spent_length ms (all_moved w.rights ms).payments, payouts_payments seat w.rights rows first refl)));
+      leaves = refl;
+      opens = refl;
+      acts = (own.own, (tt, tt));
+      licensed = licensed_payouts w i n seat args own rows first (omega arith);
+      issues = omega (arith, payouts_issued seat rows first);
+      calls = omega arith;
+    }))))))

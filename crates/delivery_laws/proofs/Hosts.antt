@@ -1,0 +1,176 @@
+-- A step keeps a host good.
+use Rattle.std.specs.Prelude.{IfSome, cond, is_none}
+use Rattle.std.specs.List.{AllByRecursion}
+use Rattle.std.proofs.Math.Nat.{add-mul}
+use Rattle.std.proofs.Common.{◌≡◌, ℕ, suc, ◌+◌, ◌-◌, ◌*◌, ◌≤◌, ◌<◌, Bool, true, false, List, [], ◌∷◌, ◌++◌, Option, Some, None, refl, sym, ap, ◌∙◌, subst, arith}
+use Rattle.instance_store.specs.Tables.{instance_at}
+use Rattle.promise_store.specs.States.{SettlementView}
+use Rattle.promise_store.specs.declared.links.Following.{Following}
+use Rattle.jessie_tree.specs.Tree.{Tree}
+use Rattle.service_row_laws.specs.Good.{AreGoodServices}
+use Rattle.service_rows.specs.ZoeRows.{TextReader}
+use Rattle.turn_answers.specs.Settlements.{settled_after}
+use Rattle.turn_records.specs.Deliveries as deliveries
+use Rattle.turn_records.specs.Deliveries.{Delivery, promise_of}
+use Rattle.turn_records.specs.Events.{Answer, Event, given, threw}
+use Rattle.turn_rows.specs.Causes.{Cause}
+use Rattle.world_state.specs.Good.{IsDue, IsFacet, IsGoodWorld, IsInvitation, IsLabel, IsNotice, IsSettled, IsTimedEntry}
+use Rattle.world_state.specs.Rights.{IsRoomy, most_issued, most_turns}
+use Rattle.world_state.specs.Worlds.{Effect, State, after, after_all, behind, end_staging, halt, in_front, invite, issued_by, issued_by_all, moves, offer, seat_at}
+use Rattle.world_laws.proofs.Forms.{due_grows, facet_grows, instance_grows, invitation_grows, label_grows, notice_grows, settled_grows, timed_grows}
+use Rattle.world_laws.proofs.Fronts.{begins, good_behind}
+use Rattle.world_laws.proofs.Kept.{good-after_all}
+use Rattle.world_laws.proofs.Lists.{all_map}
+use Rattle.world_laws.proofs.Roomy.{roomy-after_all}
+use Rattle.zoe_rows.specs.Host.{serve as serve_call}
+use Rattle.delivery_turns.specs.Endings.{binds, binds_to, departs, ending, publishes, settles}
+use Rattle.delivery_turns.specs.Hosts.{HostState, step_after, step_from, step_of, untold}
+use Rattle.delivery_turns.specs.Tasks.{beginning, exits_with, task_work}
+use Rattle.delivery_turns.specs.Turns.{delivery_turn}
+use Rattle.delivery_laws.specs.Hosts.{IsGoodHost}
+use Rattle.delivery_laws.specs.Told.{with_log}
+use Rattle.delivery_laws.specs.Works.{AreGoodHostCalls, most_meter}
+use Rattle.delivery_laws.proofs.Logs.{log_grows}
+use Rattle.delivery_laws.proofs.Runs.{issued_both}
+use Rattle.delivery_laws.proofs.Works.{turn_good, work_is}
+
+-- ---- what was told is no matter of the world's
+
+pub good_told : (l : List Event) (w : State) → IsGoodWorld w → IsGoodWorld (with_log l w)
+good_told l w is =
+    let g = log_grows l w in
+    let v = with_log l w in
+    record {
+      balanced = is.balanced;
+      purse_kinds = is.purse_kinds;
+      payment_kinds = is.payment_kinds;
+      slot_kinds = is.slot_kinds;
+      valued = is.valued;
+      bounded = is.bounded;
+      brands = is.brands;
+      invited = is.invited;
+      seats = is.seats;
+      paired = is.paired;
+      placed = is.placed;
+      at_work = is.at_work;
+      proposed = is.proposed;
+      covered = is.covered;
+      room = is.room;
+      staged = is.staged;
+      owed = is.owed;
+      asked = is.asked;
+      following = is.following;
+      paid_out = is.paid_out;
+      settled = all_map (IsSettled w) (IsSettled v) (settled_grows w v g) w.promises.settled is.settled;
+      requests = all_map (IsNotice w) (IsNotice v) (notice_grows w v g) w.promises.requests is.requests;
+      modules = is.modules;
+      instances = record { each = λ n lt. instance_grows w v g n (instance_at w.tables.instances n) (is.instances.each n lt) };
+      invitations = all_map (IsInvitation w) (IsInvitation v) (invitation_grows w v g) w.invitations is.invitations;
+      facets = all_map (IsFacet w) (IsFacet v) (facet_grows w v g) w.facets is.facets;
+      labels = all_map (IsLabel w) (IsLabel v) (label_grows w v g) w.labels is.labels;
+      timed = all_map (IsTimedEntry w) (IsTimedEntry v) (λ (e : ℕ × Delivery). timed_grows w v g e.1) w.schedule.waiting is.timed;
+      timely = is.timely;
+      waiting = all_map (IsDue w) (IsDue v) (due_grows w v g) w.waiting is.waiting;
+    }
+
+-- ---- a turn's end issues nothing
+
+abbrev IsQuiet : Effect → Type 0
+IsQuiet (moves ms) = ⊥
+IsQuiet (offer o) = ⊥
+IsQuiet (invite d) = ⊥
+IsQuiet _ = Unit {0}
+
+quiet_one : (w : State) (e : Effect) → IsQuiet e → issued_by w e ≡ 0
+quiet_one w (moves ms) q = absurd q
+quiet_one w (offer o) q = absurd q
+quiet_one w (invite d) q = absurd q
+quiet_one w e q = refl
+
+quiet_all : (w : State) (es : List Effect) → AllByRecursion IsQuiet es → issued_by_all w es ≡ 0
+quiet_all w [] q = refl
+quiet_all w (e ∷ es) q = let here = quiet_one w e q.0 in let rest = quiet_all (after w e) es q.1 in omega (arith, here, rest)
+
+quiet_both : (es fs : List Effect) → AllByRecursion IsQuiet es → AllByRecursion IsQuiet fs → AllByRecursion IsQuiet (es ++ fs)
+quiet_both [] fs q r = r
+quiet_both (e ∷ es) fs q r = (q.0, quiet_both es fs q.1 r)
+
+quiet_if : (b : Bool) (e : Effect) → IsQuiet e → AllByRecursion IsQuiet (cond b (e ∷ []) [])
+quiet_if true e q = (q, tt)
+quiet_if false e q = tt
+
+quiet_exits : (cause : Cause) (ns : List ℕ) → AllByRecursion IsQuiet (exits_with cause ns)
+quiet_exits cause [] = tt
+quiet_exits cause (n ∷ ns) = (tt, quiet_exits cause ns)
+
+quiet_publication : (d : Delivery) (a : Answer) → AllByRecursion IsQuiet (publishes d a)
+quiet_publication (deliveries.start s) (given v) = (tt, tt)
+quiet_publication d a = tt
+
+quiet_settlement : (fs : List Following) (o : Option ℕ) (v : SettlementView) → AllByRecursion IsQuiet (settles fs o v)
+quiet_settlement fs None v = tt
+quiet_settlement fs (Some p) v = (tt, tt)
+
+quiet_departure : (d : Delivery) (a : Answer) (w : State) → AllByRecursion IsQuiet (departs d a w)
+quiet_departure (deliveries.offer o) (threw t) w = quiet_if (is_none (seat_at w.seats o.seat).last) _ tt
+quiet_departure (deliveries.start s) (threw t) w = quiet_both _ (halt s.instance ∷ []) (quiet_exits _ _) (tt, tt)
+quiet_departure d a w = tt
+
+quiet_label : (party : List ℕ) (label : Option (List ℕ)) (t : Tree) → AllByRecursion IsQuiet (binds_to party label t)
+quiet_label party None t = tt
+quiet_label party (Some l) t = (tt, tt)
+
+quiet_binding : (d : Delivery) (a : Answer) → AllByRecursion IsQuiet (binds d a)
+quiet_binding (deliveries.call c) (given t) = quiet_label c.by c.label t
+quiet_binding d a = tt
+
+quiet_end : (w : State) (d : Delivery) (a : Answer) → AllByRecursion IsQuiet (ending d a w)
+unfolding ending
+quiet_end w d a =
+    quiet_both (publishes d a) _ (quiet_publication d a)
+    (quiet_both (settles w.promises.follows (promise_of d) (settled_after d a)) _ (quiet_settlement w.promises.follows (promise_of d) (settled_after d a))
+    (quiet_both (departs d a w) _ (quiet_departure d a w) (quiet_both (binds d a) (end_staging ∷ []) (quiet_binding d a) (tt, tt))))
+
+pub turn_issues : (read : TextReader) (served : AreGoodServices (serve_call read)) (called : AreGoodHostCalls) (meter : ℕ) (few : meter ≤ most_meter) (w : State) (d : Delivery) → IsGoodWorld (in_front d w) → IsRoomy w.rights.out most_issued
+    → issued_by_all w (delivery_turn read meter w d).effects ≤ most_issued
+unfolding delivery_turn
+turn_issues read served called meter few w d good room =
+    let work = task_work read meter w (beginning w d).task in
+    let is = work_is read served called meter few w d good room in
+    let u = after_all w work.effects in
+    let both = issued_both w work.effects (ending d work.answer u) in
+    let none = quiet_all u (ending d work.answer u) (quiet_end u d work.answer) in
+    let n = is.issues in
+    omega (arith, both, none, n)
+
+-- ---- a step
+
+one_turn : (left : ℕ) → 0 < left → left * most_issued ≡ most_issued + (left - 1) * most_issued
+one_turn left some = let e : 1 + (left - 1) ≡ left = omega arith in let split = add-mul 1 (left - 1) most_issued in ap (λ k. k * most_issued) (sym e) ∙ (split ∙ omega arith)
+
+module _ (read : TextReader) (served : AreGoodServices (serve_call read)) (called : AreGoodHostCalls) where
+  step_good : (s : HostState) (d : Delivery) (ds : List Delivery) → s.world.waiting ≡ d ∷ ds → IsGoodHost s → s.turns < most_turns → IsGoodHost (step_after s d (delivery_turn read s.meter (behind s.world) d)).next
+  step_good s d ds front host before =
+      let w = behind s.world in
+      let good : IsGoodWorld (in_front d w) = subst IsGoodWorld (begins s.world d ds front) host.world in
+      let split = one_turn (most_turns - s.turns) (omega (arith, before)) in
+      let room : IsRoomy w.rights.out most_issued = record { each = λ b. let r = host.room.each b in omega (arith, r, split) } in
+      let es = (delivery_turn read s.meter w d).effects in
+      let are = turn_good read served called s.meter host.meter w d good room in
+      let issues = turn_issues read served called s.meter host.meter w d good room in
+      let left : most_turns - (s.turns + 1) ≡ most_turns - s.turns - 1 = omega arith in
+      record {
+        meter = host.meter;
+        world = good_told [] (after_all w es) (good-after_all w es are (good_behind w d good));
+        room = subst (λ k. IsRoomy (after_all w es).rights.out (k * most_issued)) (sym left)
+            (roomy-after_all w es ((most_turns - s.turns) * most_issued) ((most_turns - s.turns - 1) * most_issued) host.room (omega (arith, issues, split)));
+        untold = refl;
+      }
+
+  from_good : (s : HostState) (ws : List Delivery) → s.world.waiting ≡ ws → IsGoodHost s → s.turns < most_turns → IfSome (step_from read s ws) (λ t. IsGoodHost t.next)
+  from_good s [] front host before = tt
+  from_good s (d ∷ ds) front host before = step_good s d ds front host before
+
+  pub steps_good : (s : HostState) → IsGoodHost s → s.turns < most_turns → IfSome (step_of read s) (λ t. IsGoodHost t.next)
+  unfolding step_of
+  steps_good s host before = from_good s s.world.waiting refl host before

@@ -1,0 +1,9 @@
+pub mod Logs
+pub mod Knowing
+pub mod Asking
+pub mod Replies
+pub mod Runs
+pub mod Ends
+pub mod Reading
+pub mod Works
+pub mod Hosts

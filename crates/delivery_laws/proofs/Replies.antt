@@ -1,0 +1,223 @@
+-- What the host does for a call of an instance's function is good, what it answers the instance may know, and it
+-- issues no more than the call was charged for.
+use Rattle.std.specs.Prelude.{IfOk, IfSome, nat_lt}
+use Rattle.std.specs.List.{AllByRecursion}
+use Rattle.std.proofs.Common.{◌≡◌, ℕ, ◌+◌, ◌*◌, ◌^◌, ◌-◌, ◌≤◌, ◌<◌, Bool, true, false, not, ◌||◌, List, [], ◌∷◌, ◌++◌, Option, Some, None, Result, Ok, Err, length, refl, sym, subst, arith}
+use Rattle.std.specs.Prelude.{slice_index_or}
+use Rattle.call_arguments.specs.Arguments.{arg}
+use Rattle.call_rows.specs.Acts.{MayAct}
+use Rattle.call_rows.specs.Obligations.{CanCall, IsRow, most_issued_by}
+use Rattle.call_rows.specs.Rows.{Outcome}
+use Rattle.call_row_laws.proofs.Forms.{null_formed, object_formed}
+use Rattle.call_row_laws.proofs.Next.{after_next_of}
+use Rattle.data_nodes.specs.Nodes.{EachField, FunctionIs, ObjectIs, IsShallow}
+use Rattle.data_nodes.proofs.Nodes.{weaker}
+use Rattle.ertp_mint.specs.Stocks.{most_made}
+use Rattle.jessie_semantics.specs.Keeping.{AllHave, CallHas, ReplyHas, method_fields}
+use Rattle.jessie_semantics.specs.Play.{Call, call, cost, far, send, when}
+use Rattle.jessie_tree.specs.Tree as trees
+use Rattle.jessie_tree.specs.Tree.{Tree, is_local, object, some_local, stays}
+use Rattle.jessie_tree.specs.View.{items_of}
+use Rattle.jessie_tree.specs.declared.data.Obj.{Obj}
+use Rattle.jessie_tree.specs.declared.data.ObjKind.{ObjKind}
+use Rattle.jessie_tree.specs.declared.data.ObjKind.TheVariants as kinds
+use Rattle.jessie_values.specs.Requests.{is_promise}
+use Rattle.refusals.specs.Codes.{refusal_tree}
+use Rattle.refusals.specs.Plain.{IsPlain}
+use Rattle.refusals.specs.declared.codes.Refusal.{Refusal}
+use Rattle.refusals.proofs.Plainly.{in_order, plain, shallow}
+use Rattle.refusals.proofs.Steps.{after_need}
+use Rattle.trade_rows.specs.Trades.{serve}
+use Rattle.turn_form.specs.Printing.{CanPrintNode}
+use Rattle.turn_form.proofs.Brought.{refusal_prints}
+use Rattle.promise_store.specs.States.{SettlementView}
+use Rattle.turn_records.specs.Deliveries.{Notice}
+use Rattle.turn_records.specs.Events.{called}
+use Rattle.world_state.specs.Promises.{PromiseBook, asking, settlement_at, with_promise}
+use Rattle.world_state.specs.Good.{AreGood, IsGoodWorld, IsMethod}
+use Rattle.world_state.specs.Known.{FunctionKnown, HasNames, IsFormed, IsHanded, IsKnownTo, ObjectKnown, known_as, made_as}
+use Rattle.world_state.specs.Rights.{IsRoomy}
+use Rattle.world_state.specs.Worlds as worlds
+use Rattle.world_state.specs.Worlds.{Effect, State, after, after_all, bind_label, issued_by_all, note_call, promises_made, request_of, resolve}
+use Rattle.world_laws.proofs.Forms.{formed_grows}
+use Rattle.world_laws.proofs.Lists.{all_read_or, length_append}
+use Rattle.delivery_turns.specs.HostCalls.{answer_of, call_effects, call_reply, call_row, effects_of, far_row, reply_of, send_row, told_call, told_effects, when_row}
+use Rattle.delivery_laws.specs.Told.{with_log}
+use Rattle.delivery_laws.specs.Works.{AreGoodHostCalls, IsCallWork, IsOfCall}
+use Rattle.delivery_laws.proofs.Asking.{all_have, have_all}
+use Rattle.delivery_laws.proofs.Knowing.{handed_of}
+use Rattle.delivery_laws.proofs.Logs.{all_good_untold, all_issued_untold, effects_untold, log_grows}
+
+-- ---- refusals
+
+module _ (w : State) (h : Option ℕ) where
+  no_object : (n : ℕ) (t : Tree) → IsPlain n t → ObjectIs (ObjectKnown h w) n t
+  no_object n (trees.object o) is = absurd is
+  no_object n _ is = tt
+
+  no_function : (n : ℕ) (t : Tree) → IsPlain n t → FunctionIs (FunctionKnown h w) n t
+  no_function n (trees.function f) is = absurd is
+  no_function n _ is = tt
+
+  named : (n : ℕ) (t : Tree) → CanPrintNode n t → HasNames n t
+  named n (trees.fields fs) is = is.1
+  named n (trees.function f) is = is
+  named n _ is = tt
+
+  less_deep : (n : ℕ) (t : Tree) → IsShallow 4 n t → IsShallow 32 n t
+  less_deep n (trees.array ts) is = omega (arith, is)
+  less_deep n (trees.fields fs) is = omega (arith, is)
+  less_deep n _ is = tt
+
+  pub refusal_formed : (r : Refusal) → IsFormed w h (refusal_tree r)
+  refusal_formed r = record {
+    objects = weaker IsPlain (ObjectIs (ObjectKnown h w)) no_object 0 (refusal_tree r) (plain r 0);
+    functions = weaker IsPlain (FunctionIs (FunctionKnown h w)) no_function 0 (refusal_tree r) (plain r 0);
+    named = weaker CanPrintNode HasNames named 0 (refusal_tree r) (refusal_prints r);
+    ordered = in_order r 0;
+    shallow = weaker (IsShallow 4) (IsShallow 32) less_deep 0 (refusal_tree r) (shallow r 0);
+  }
+
+-- ---- effects of calls
+
+calm_act : (w : State) (caller : Option ℕ) (o : Obj) (m : List ℕ) (e : Effect) → MayAct w caller o m e → IsOfCall e
+calm_act w caller o m (resolve p v) is = is
+calm_act w caller o m (bind_label party label value) is = is
+calm_act w caller o m _ is = tt
+
+pub calm_acts : (w : State) (caller : Option ℕ) (o : Obj) (m : List ℕ) (es : List Effect) → AllByRecursion (MayAct w caller o m) es → AllByRecursion IsOfCall es
+calm_acts w caller o m [] is = tt
+calm_acts w caller o m (e ∷ es) is = (calm_act w caller o m e is.0, calm_acts w caller o m es is.1)
+
+-- ---- what a row is for an instance
+
+pub record IsWork (w : State) (i n : ℕ) (answer : Tree) (es : List Effect) : Type 0 where
+  pub good : AreGood w es
+  pub known : IsKnownTo (after_all w es) i answer
+  pub calm : AllByRecursion IsOfCall es
+  pub issues : issued_by_all w es ≤ n
+
+abbrev IsWorkOf : State → ℕ → ℕ → Outcome → Type 0
+IsWorkOf w i n row = IfOk row (λ d. IsWork w i n d.0 d.1)
+
+-- ---- and once it is told
+
+record IsTold (w : State) (i n : ℕ) (c : Call) (row : Outcome) : Type 0 where
+  good : AreGood w (told_effects c row)
+  known : ReplyHas (IsKnownTo (after_all w (told_effects c row)) i) (reply_of row)
+  calm : AllByRecursion IsOfCall (told_effects c row)
+  issues : issued_by_all w (told_effects c row) ≤ n
+
+told_is : (w : State) (i n : ℕ) (c : Call) (row : Outcome) → IsWorkOf w i n row → IsTold w i n c row
+told_is w i n c (Err r) is = record { good = (tt, tt); known = refusal_formed _ (Some i) r; calm = (tt, tt); issues = omega arith }
+told_is w i n c (Ok (answer, es)) is =
+    let l = w.log ++ called (told_call c (answer_of (Ok (answer, es)))) ∷ [] in
+    let u = after_all (with_log l w) es in
+    record {
+      good = (tt, all_good_untold l w es is.good);
+      known = subst (λ (x : State). IsKnownTo x i answer) (sym (effects_untold l w es)) (formed_grows (after_all w es) (with_log u.log (after_all w es)) (log_grows u.log (after_all w es)) (Some i) answer is.known);
+      calm = (tt, is.calm);
+      issues = omega (arith, all_issued_untold l w es, is.issues);
+    }
+
+-- ---- calls of methods
+
+call_can : (w : State) (i : ℕ) (o : Obj) (args : List Tree) → IsGoodWorld w → i < length w.tables.instances → IsKnownTo w i (object o) → AllHave (IsKnownTo w i) args → IsRoomy w.rights.out (most_issued_by (Some i) args) → CanCall w (Some i) o args
+call_can w i o args good made target known room = record {
+  good = good;
+  hosted = made;
+  target = target.objects;
+  arguments = λ place. all_read_or (IsKnownTo w i) args (place - 1) trees.null (all_have (IsKnownTo w i) args known) (null_formed w (Some i));
+  room = room;
+}
+
+row_work : (w : State) (i n : ℕ) (o : Obj) (m : List ℕ) (args : List Tree) (row : Outcome) → most_issued_by (Some i) args ≤ n → IfOk row (λ d. IsRow w (Some i) o m args d.0 d.1) → IsWorkOf w i n row
+row_work w i n o m args (Err r) le is = tt
+row_work w i n o m args (Ok (answer, es)) le is = record { good = is.good; known = is.known; calm = calm_acts w (Some i) o m es is.acts; issues = omega (arith, is.issues, le) }
+
+-- ---- sends
+
+not_true : (b : Bool) → not b ≡ true → b ≡ false
+not_true true e = cc
+not_true false e = refl
+
+or_left : (a b : Bool) → (a || b) ≡ false → a ≡ false
+or_left true b e = cc
+or_left false b e = refl
+
+or_right : (a b : Bool) → (a || b) ≡ false → b ≡ false
+or_right true b e = cc
+or_right false b e = e
+
+handed_all : (w : State) (i : ℕ) (vs : List Tree) → some_local (items_of vs) ≡ false → AllHave (IsKnownTo w i) vs → AllByRecursion (IsHanded w) vs
+handed_all w i [] e h = tt
+handed_all w i (v ∷ vs) e h = (handed_of w i v (or_left _ _ e) h.0, handed_all w i vs (or_right (is_local v) _ e) h.1)
+
+send_is : (w : State) (i n : ℕ) (target : Obj) (m : List ℕ) (args : List Tree) → i < length w.tables.instances → IsKnownTo w i (object target) → AllHave (IsKnownTo w i) args → IsWorkOf w i n (send_row w i target m args)
+unfolding send_row
+send_is w i n target m args made known all =
+    after_need (λ d. IsWork w i n d.0 d.1) (not (stays target.kind || some_local (items_of args))) _ _
+    (λ e. after_next_of (λ d. IsWork w i n d.0 d.1) (promises_made w) most_made _ (λ room.
+    let free = not_true _ e in
+    record {
+      good = (record { made = made; target = handed_of w i (object target) (or_left _ _ free) known; arguments = handed_all w i args (or_right (stays target.kind) _ free) all; room = room }, tt);
+      known = object_formed _ (Some i) (record { kind = kinds.Promise; number = promises_made w }) (let more = length_append w.promises.settled (None ∷ []) in omega (arith, more));
+      calm = (tt, tt);
+      issues = omega arith;
+    }))
+
+-- ---- requests
+
+promise_there : (w : State) (i : ℕ) (k : ObjKind) (n : ℕ) → is_promise k ≡ true → known_as i w k n → n < promises_made w
+promise_there w i kinds.Promise n e is = is
+promise_there w i k n e is = cc
+
+asking_made : (s : Option SettlementView) (n : Notice) (b : PromiseBook) → length (asking s n b).settled ≡ length b.settled
+asking_made (Some v) n b = refl
+asking_made None n b = refl
+
+asked_made : (w : State) (i p : ℕ) (f : List ℕ) (held : Tree) → promises_made w < promises_made (after w (worlds.when i p f held))
+asked_made w i p f held =
+    let same = asking_made (settlement_at w.promises.settled p) (request_of w i p f held) (with_promise None w.promises) in
+    let more = length_append w.promises.settled (None ∷ []) in
+    omega (arith, same, more)
+
+when_is : (w : State) (i n : ℕ) (promise : Obj) (f : List ℕ) (held : Tree) → i < length w.tables.instances → is_promise promise.kind ≡ true → IsKnownTo w i (object promise) → IsKnownTo w i (trees.function f) → IsKnownTo w i held → IsWorkOf w i n (when_row w i promise f held)
+unfolding when_row
+when_is w i n promise f held made is known named kept =
+    after_next_of (λ d. IsWork w i n d.0 d.1) (promises_made w) most_made _ (λ room. record {
+      good = (record { made = promise_there w i promise.kind promise.number is known.objects; function = named.functions; held = kept; room = room }, tt);
+      known = object_formed _ (Some i) (record { kind = kinds.Promise; number = promises_made w }) (asked_made w i promise.number f held);
+      calm = (tt, tt);
+      issues = omega arith;
+    })
+
+-- ---- facets
+
+methods_there : (w : State) (i n : ℕ) (ms : List (List ℕ × List ℕ)) → EachField (FunctionIs (FunctionKnown (Some i) w)) n (method_fields ms) → AllByRecursion (IsMethod w i) ms
+methods_there w i n [] h = tt
+methods_there w i n (m ∷ ms) h = (h.0, methods_there w i n ms h.1)
+
+far_is : (w : State) (i n : ℕ) (ms : List (List ℕ × List ℕ)) (held : Tree) → i < length w.tables.instances → IsKnownTo w i (trees.fields (method_fields ms)) → IsKnownTo w i held → IsWorkOf w i n (far_row w i ms held)
+unfolding far_row
+far_is w i n ms held made named kept =
+    after_next_of (λ d. IsWork w i n d.0 d.1) (length w.facets) most_made _ (λ room. record {
+      good = (record { facet = record { made = made; methods = methods_there w i 1 ms named.functions.1; held = kept }; room = room }, tt);
+      known = object_formed _ (Some i) (record { kind = kinds.Facet; number = length w.facets }) (let more = length_append w.facets (record { instance = i; methods = ms; held = held } ∷ []) in omega (arith, more));
+      calm = (tt, tt);
+      issues = omega arith;
+    })
+
+-- ---- any call
+
+module _ (served : AreGoodHostCalls) (w : State) (i : ℕ) (good : IsGoodWorld w) (made : i < length w.tables.instances) where
+  row_is : (c : Call) → CallHas (IsKnownTo w i) c → IsRoomy w.rights.out (2 ^ 63 * cost c) → IsWorkOf w i (2 ^ 63 * cost c) (call_row w i c)
+  row_is (call o m args) known room = row_work w i _ o m args (serve w o m args) (omega arith) (served w i o m args (call_can w i o args good made known.0 known.1 room))
+  row_is (send o m args) known room = send_is w i _ o m args made known.0 known.1
+  row_is (when o f held) known room = when_is w i _ o f held made known.0 known.1 known.2 known.3
+  row_is (far x ms held) known room = far_is w i _ ms held made known.0 known.1
+
+  pub call_is : (c : Call) → CallHas (IsKnownTo w i) c → IsRoomy w.rights.out (2 ^ 63 * cost c) → IsCallWork w i (2 ^ 63 * cost c) c
+  call_is c known room =
+      let is = told_is w i (2 ^ 63 * cost c) c (call_row w i c) (row_is c known room) in
+      record { good = is.good; known = is.known; calm = is.calm; issues = is.issues }

@@ -1,0 +1,387 @@
+-- What is done for each delivery is good, leaves the delivery's promise to its end, and is answered with what can be
+-- handed out.
+use Rattle.std.specs.Prelude.{IfOk, IfSome, cond, is_none, nat_lt, unwrap_or, codes}
+use Rattle.std.specs.List.{AllByRecursion}
+use Rattle.std.specs.Map.{lookup}
+use Rattle.std.specs.Str.{bytes_eq}
+use Rattle.std.proofs.Common.{◌≡◌, ℕ, ◌+◌, ◌*◌, ◌^◌, ◌-◌, ◌≤◌, ◌<◌, Bool, true, false, List, [], ◌∷◌, ◌++◌, Option, Some, None, Result, Ok, Err, length, map, refl, sym, ap, ◌∙◌, subst, arith}
+use Rattle.std.proofs.Math.Nat.{mul-le-mul_left}
+use Rattle.std.proofs.lemmas.Bool.{ltb-false, ltb-true}
+use Rattle.actors.specs.Labels.{bound_to}
+use Rattle.call_arguments.specs.Arguments.{arg}
+use Rattle.call_data.specs.Values.{number_tree, object_tree}
+use Rattle.call_rows.specs.Obligations.{CanCall, IsRow}
+use Rattle.call_rows.specs.Rows.{Outcome}
+use Rattle.call_rows.specs.Traces.{all_open}
+use Rattle.call_rows.specs.Words.{has_halted, standing_of}
+use Rattle.call_row_laws.proofs.Fields.{FormedAt, formed_here, record_formed}
+use Rattle.call_row_laws.proofs.Forms.{null_formed, object_formed}
+use Rattle.call_row_laws.proofs.Shown.{handed_held}
+use Rattle.contract_row_laws.proofs.OpenSeats.{AreAllOpen, all_are_open, others_are_open}
+use Rattle.instance_store.specs.Facets.{FacetView, facet_at, no_facet}
+use Rattle.instance_store.specs.Tables.{InstanceView, instance_at}
+use Rattle.jessie_semantics.specs.Keeping.{AllHave, EndingHas}
+use Rattle.jessie_semantics.specs.Play as plays
+use Rattle.jessie_semantics.specs.Play.{Ending}
+use Rattle.jessie_semantics.proofs.Licence.{room_fits}
+use Rattle.jessie_syntax.specs.Syntax.{routines, variable_names}
+use Rattle.jessie_syntax.specs.declared.syntax.Module.{Module}
+use Rattle.jessie_tree.specs.Tree as trees
+use Rattle.data_nodes.proofs.Nodes.{shallow}
+use Rattle.data_rows.specs.Printable.{most_nested}
+use Rattle.jessie_tree.specs.Tree.{Tree, is_local, nesting, null}
+use Rattle.jessie_tree.specs.declared.data.Obj.{Obj}
+use Rattle.jessie_tree.specs.declared.data.ObjKind.{ObjKind}
+use Rattle.jessie_tree.specs.declared.data.ObjKind.TheVariants as kinds
+use Rattle.promise_store.specs.States.{SettlementView, broken, ok}
+use Rattle.proposals.specs.declared.allocations.Row.{Row}
+use Rattle.refusals.specs.Codes.{closed, local_only, no_method, refusal_tree}
+use Rattle.refusals.specs.declared.codes.Refusal.{Refusal}
+use Rattle.refusals.specs.declared.codes.Refusal.TheVariants.{Backwards}
+use Rattle.service_rows.specs.ZoeRows.{TextReader}
+use Rattle.service_row_laws.specs.Good.{AreGoodServices}
+use Rattle.turn_records.specs.Deliveries as deliveries
+use Rattle.turn_records.specs.Deliveries.{Delivery}
+use Rattle.turn_records.specs.Events.{Answer, given, refused, spent, threw}
+use Rattle.turn_records.specs.Messages.{LineGift}
+use Rattle.turn_records.specs.Printed.{notice_tree, told_value}
+use Rattle.turn_rows.specs.Causes as causes
+use Rattle.turn_rows.specs.Causes.{Cause}
+use Rattle.world_state.specs.Good.{AreGood, CanKeep, IsFacet, IsGoodWorld, IsSettled, IsSettling, LeavesAnswer}
+use Rattle.world_state.specs.Known.{Grows, IsHanded, IsKnownTo, made_as, module_of}
+use Rattle.turn_rows.specs.Form.{times_end}
+use Rattle.world_state.specs.Promises.{no_promise, settlement_at}
+use Rattle.world_state.specs.Rights.{IsRoomy, most_issued}
+use Rattle.world_state.specs.Worlds.{Effect, State, after, after_all, bind_label, end_staging, exit, halt, in_front, issued_by_all, keep_state, resolve, seat_at, set_time}
+use Rattle.world_laws.proofs.Forms.{formed_grows, module_stays}
+use Rattle.world_laws.proofs.Fronts.{due_behind, front-after_all, good_behind}
+use Rattle.world_laws.proofs.Growing.{grows-after}
+use Rattle.world_laws.proofs.Kept.{good-after_all}
+use Rattle.world_laws.proofs.Lists.{all_read, all_read_or, length_map}
+use Rattle.zoe_rows.specs.Host.{serve as serve_call}
+use Rattle.delivery_turns.specs.Functions.{FunctionCall, Run, ended, function_run, module_play, ran_out, run}
+use Rattle.delivery_turns.specs.HostCalls.{answer_of, effects_of}
+use Rattle.delivery_turns.specs.Endings.{ending}
+use Rattle.delivery_turns.specs.Messages.{Addressed, addressed, gift_of, sent_to}
+use Rattle.delivery_turns.specs.Tasks.{Task, Work, answer_of_ending, beginning, call_beginning, do_all, exit_if_open, exits_with, facet_task, function_behind, gift_beginning, halt_with, handler_call, method_task, notice_call, refuse, row_work, run_task, run_work, serve, settlement_of, start_call, task_on, task_work, tick_task, wakeup_call}
+use Rattle.delivery_turns.specs.Turns.{delivery_turn}
+use Rattle.delivery_turns.specs.Tasks as tasks
+use Rattle.delivery_laws.specs.Works.{AreGoodHostCalls, IsEnded, IsOfCall, IsOut, IsRun, IsTurnWork, LabelIsFree, most_meter}
+use Rattle.delivery_laws.proofs.Asking.{all_have, evaluates, have_all}
+use Rattle.delivery_laws.proofs.Ends.{ending_good, halts_good, open_there}
+use Rattle.delivery_laws.proofs.Knowing.{handed_of}
+use Rattle.delivery_laws.proofs.Replies.{calm_acts, refusal_formed}
+use Rattle.delivery_laws.proofs.Reading.{IsAddressed, IsCalled, IsGift, addressed_there, gift_there, loose_of, sent_there, weaker_ok}
+use Rattle.delivery_laws.proofs.Runs.{after_both, all_grow, calm_both, good_both, grows_itself, issued_both, run_is}
+
+-- ---- how much a function issues at most
+
+pub at_most : (meter : ℕ) → meter ≤ most_meter → 2 ^ 63 * meter ≤ most_issued
+at_most meter few = let h = mul-le-mul_left {m = meter} {n = most_meter} (2 ^ 63) few in omega (arith, h)
+
+-- ---- effects of calls leave labels and the delivery's promise
+
+calm_leaves : (d : Delivery) (e : Effect) → IsOfCall e → LeavesAnswer d e
+calm_leaves d (resolve p v) calm = absurd calm
+calm_leaves d e calm = tt
+
+all_leave : (d : Delivery) (es : List Effect) → AllByRecursion IsOfCall es → AllByRecursion (LeavesAnswer d) es
+all_leave d [] calm = tt
+all_leave d (e ∷ es) calm = (calm_leaves d e calm.0, all_leave d es calm.1)
+
+labels_stay : (w : State) (e : Effect) → IsOfCall e → (after w e).labels ≡ w.labels
+labels_stay w (bind_label party label value) calm = absurd calm
+labels_stay w e calm = refl
+
+all_labels_stay : (w : State) (es : List Effect) → AllByRecursion IsOfCall es → (after_all w es).labels ≡ w.labels
+all_labels_stay w [] calm = refl
+all_labels_stay w (e ∷ es) calm = all_labels_stay (after w e) es calm.1 ∙ labels_stay w e calm.0
+
+-- the label that a call wants is free before, so it is after
+abbrev WantsFree : State → Delivery → Type 0
+WantsFree w (deliveries.call c) = IfSome c.label (λ l. bound_to w.labels c.by l ≡ None)
+WantsFree w _ = Unit {0}
+
+free_then : (u w : State) (d : Delivery) (a : Answer) → u.labels ≡ w.labels → WantsFree w d → LabelIsFree u d a
+free_then u w (deliveries.call c) (given t) same free = subst (λ bs. IfSome c.label (λ l. bound_to bs c.by l ≡ None)) (sym same) free
+free_then u w d a same free = tt
+
+calm_work : (w : State) (d : Delivery) (a : Answer) (es : List Effect) → IsGoodWorld (in_front d w) → WantsFree w d → AreGood w es → AllByRecursion IsOfCall es → IsOut (after_all w es) a → issued_by_all w es ≤ most_issued
+    → IsTurnWork w d (record { answer = a; effects = es })
+calm_work w d a es good free are calm out issues = record {
+  good = are;
+  front = front-after_all w d es are (all_leave d es calm) good;
+  out = out;
+  free = free_then (after_all w es) w d a (all_labels_stay w es calm) free;
+  issues = issues;
+}
+
+-- ---- the host's own objects
+
+served_work : (w : State) (d : Delivery) (o : Obj) (m : List ℕ) (args : List Tree) (row : Outcome) → IsGoodWorld (in_front d w) → WantsFree w d → IfOk row (λ x. IsRow w None o m args x.0 x.1) → IsTurnWork w d (row_work row)
+served_work w d o m args (Err r) good free is = calm_work w d (refused r) [] good free tt tt tt (omega arith)
+served_work w d o m args (Ok (answer, es)) good free is =
+    calm_work w d (given answer) es good free is.good (calm_acts w None o m es is.acts) is.known (let n = is.issues in omega (arith, n))
+
+pub service_work : (read : TextReader) (w : State) (d : Delivery) (o : Obj) (m : List ℕ) (args : List Tree) → AreGoodServices (serve_call read) → IsGoodWorld (in_front d w) → WantsFree w d → IsRoomy w.rights.out most_issued
+    → IsHanded w (trees.object o) → AllByRecursion (IsHanded w) args → IsTurnWork w d (row_work (serve_call read w o m args))
+service_work read w d o m args served good free room target handed =
+    served_work w d o m args (serve_call read w o m args) good free
+    (served w o m args (record {
+      good = good_behind w d good;
+      hosted = tt;
+      target = target.objects;
+      arguments = λ place. all_read_or (IsHanded w) args (place - 1) trees.null handed (null_formed w None);
+      room = record { each = λ b. omega (arith, room.each b) };
+    }))
+
+-- ---- functions
+
+-- what stays with its instance is thrown as LocalOnly, all else comes out
+ending_out : (w : State) (i : ℕ) (e : Ending) → EndingHas (IsKnownTo w i) e → IsOut w (answer_of_ending e)
+ending_out w i (plays.returned v) known = by (is_local v) refl
+  where
+    by : (b : Bool) → is_local v ≡ b → IsOut w (cond b (threw (refusal_tree local_only)) (given v))
+    by true is = refusal_formed w None local_only
+    by false is = handed_of w i v is known
+ending_out w i (plays.threw v) known = by (is_local v) refl
+  where
+    by : (b : Bool) → is_local v ≡ b → IsOut w (cond b (threw (refusal_tree local_only)) (threw v))
+    by true is = refusal_formed w None local_only
+    by false is = handed_of w i v is known
+
+out_grows : (u v : State) (a : Answer) → Grows u v → IsOut u a → IsOut v a
+out_grows u v (given t) g out = formed_grows u v g None t out
+out_grows u v (threw t) g out = formed_grows u v g None t out
+out_grows u v (refused r) g out = tt
+out_grows u v (spent meter) g out = tt
+
+module _ (w : State) (d : Delivery) (i meter : ℕ) (good : IsGoodWorld (in_front d w)) (free : WantsFree w d) (made : i < length w.tables.instances) (few : meter ≤ most_meter) where
+  whole : IsGoodWorld w
+  whole = good_behind w d good
+
+  ended_work : (e : Ending) (values : List Tree) (es : List Effect) → IsEnded w i (length (variable_names (module_of w.tables i))) meter e values es → IsTurnWork w d (run_work meter w i (ended e values es))
+  ended_work e values es is =
+      let u = after_all w es in
+      let grown : Grows w u = all_grow w es in
+      let after_good : IsGoodWorld u = good-after_all w es is.good whole in
+      let here : i < length u.tables.instances = omega (arith, made, grown.instances.more) in
+      let m = module_of w.tables i in
+      let stays : module_of u.tables i ≡ m = module_stays w u grown i made (whole.instances.each i made).installed in
+      let many : length values ≡ length (instance_at u.tables.instances i).state =
+      is.many ∙ length_map (λ v. v.name) m.variables ∙ sym (ap (λ (x : Module). length x.variables) stays) ∙ sym (after_good.instances.each i here).whole in
+      let can : CanKeep u i values = record { made = here; as_many = many; known = all_have (IsKnownTo u i) values is.kept } in
+      let both = issued_both w es (keep_state i values ∷ []) in
+      let bound = at_most meter few in
+      calm_work w d (answer_of_ending e) (es ++ keep_state i values ∷ []) good free (good_both w es (keep_state i values ∷ []) is.good (can, tt)) (calm_both es (keep_state i values ∷ []) is.calm (tt, tt))
+      (subst (λ (x : State). IsOut x (answer_of_ending e)) (sym (after_both w es (keep_state i values ∷ [])))
+      (out_grows u (after u (keep_state i values)) (answer_of_ending e) (grows-after u (keep_state i values)) (ending_out u i e is.ending)))
+      (let n = is.issues in omega (arith, both, n, bound))
+
+  first_good : (v : State) (es fs : List Effect) → AreGood v (es ++ fs) → AreGood v es
+  first_good v [] fs are = tt
+  first_good v (e ∷ es) fs are = (are.0, first_good (after v e) es fs are.1)
+
+  calm_halts : (ns : List ℕ) → AllByRecursion IsOfCall (exits_with causes.spent ns ++ halt i ∷ [])
+  calm_halts [] = (tt, tt)
+  calm_halts (n ∷ ns) = (tt, calm_halts ns)
+
+  none_issued : (v : State) (ns : List ℕ) → issued_by_all v (exits_with causes.spent ns ++ halt i ∷ []) ≡ 0
+  none_issued v [] = refl
+  none_issued v (n ∷ ns) = let rest = none_issued (after v (exit n causes.spent)) ns in omega (arith, rest)
+
+  spent_work : IsTurnWork w d (run_work meter w i ran_out)
+  spent_work =
+      calm_work w d (spent meter) (halt_with causes.spent w i) good free (first_good w (halt_with causes.spent w i) (end_staging ∷ []) (halts_good w i causes.spent made)) (calm_halts (all_open w i)) tt
+      (let none = none_issued w (all_open w i) in omega (arith, none))
+
+  ran_work : (r : Run) → IsRun w i (length (variable_names (module_of w.tables i))) meter r → IsTurnWork w d (run_work meter w i r)
+  ran_work (ended e values es) is = ended_work e values es is
+  ran_work ran_out is = spent_work
+
+module _ (read : TextReader) (served : AreGoodServices (serve_call read)) (called : AreGoodHostCalls) (meter : ℕ) (few : meter ≤ most_meter) (w : State) (d : Delivery) (good : IsGoodWorld (in_front d w)) (room : IsRoomy w.rights.out most_issued) where
+  abbrev Done : Task → Type 0
+  Done task = IsTurnWork w d (task_work read meter w task)
+
+  abbrev this_whole : IsGoodWorld w
+  this_whole = good_behind w d good
+
+  refused_free : (e : Delivery) (r : Refusal) → LabelIsFree w e (refused r)
+  refused_free (deliveries.call c) r = tt
+  refused_free e r = tt
+
+  refused_done : (r : Refusal) → Done (refuse r)
+  unfolding task_work
+  refused_done r = record { good = tt; front = good; out = tt; free = refused_free d r; issues = omega arith }
+
+  run_done : (c : FunctionCall) → WantsFree w d → c.instance < length w.tables.instances → AllHave (IsKnownTo w c.instance) c.arguments → Done (tasks.run c)
+  unfolding task_work function_run
+  run_done c free made known =
+      let m = module_of w.tables c.instance in
+      let values = (instance_at w.tables.instances c.instance).state in
+      let kept : AllHave (IsKnownTo w c.instance) values = have_all (IsKnownTo w c.instance) values (this_whole.instances.each c.instance made).state in
+      let p = module_play m c.function c.arguments values meter in
+      let asks = evaluates w c.instance this_whole made c.function c.arguments values meter known kept in
+      let bound = at_most meter few in
+      ran_work w d c.instance meter good free made few (run w c.instance p)
+      (run_is called w c.instance (length (variable_names m)) made p asks p [] w meter refl (room_fits (routines m) (variable_names m) c.function c.arguments values meter meter (omega arith)) this_whole (grows_itself w) tt
+      (record { each = λ b. let r = room.each b in omega (arith, r, bound) }))
+
+  task_done : (c : FunctionCall) → WantsFree w d → c.instance < length w.tables.instances → AllHave (IsKnownTo w c.instance) c.arguments → Done (run_task w c)
+  task_done c free made known = by (has_halted (standing_of w c.instance))
+    where
+      by : (b : Bool) → Done (cond b (refuse (closed c.instance)) (tasks.run c))
+      by true = refused_done (closed c.instance)
+      by false = run_done c free made known
+
+  -- ---- calls
+
+  known_all : (i : ℕ) (ts : List Tree) → AllByRecursion (IsHanded w) ts → AllHave (IsKnownTo w i) ts
+  known_all i [] h = tt
+  known_all i (t ∷ ts) h = (handed_held w (Some i) t h.0, known_all i ts h.1)
+
+  method_done : (f : FacetView) (method : List ℕ) (args : List Tree) (o : Option (List ℕ)) → IsFacet w f → WantsFree w d → AllByRecursion (IsHanded w) args → Done (method_task f method args o)
+  method_done f method args None is free handed = refused_done (no_method method)
+  method_done f method args (Some g) is free handed = run_done (record { instance = f.instance; function = g; arguments = f.held ∷ args }) free is.made (is.held, known_all f.instance args handed)
+
+  facet_done : (f : FacetView) (method : List ℕ) (args : List Tree) → IsFacet w f → WantsFree w d → AllByRecursion (IsHanded w) args → Done (facet_task w f method args)
+  facet_done f method args is free handed = by (has_halted (standing_of w f.instance))
+    where
+      by : (b : Bool) → Done (cond b (refuse (closed f.instance)) (method_task f method args (function_behind method f)))
+      by true = refused_done (closed f.instance)
+      by false = method_done f method args (function_behind method f) is free handed
+
+  serve_done : (o : Obj) (method : List ℕ) (args : List Tree) → WantsFree w d → IsHanded w (trees.object o) → AllByRecursion (IsHanded w) args → Done (serve o method args)
+  unfolding task_work
+  serve_done o method args free target handed = service_work read w d o method args served good free room target handed
+
+  on_done : (k : ObjKind) (o : Obj) (method : List ℕ) (args : List Tree) → o.kind ≡ k → WantsFree w d → IsHanded w (trees.object o) → AllByRecursion (IsHanded w) args → Done (task_on k w o method args)
+  on_done kinds.Facet o method args e free target handed =
+      let made : o.number < length w.facets = subst (λ k. made_as w k o.number) e target.objects in
+      facet_done (facet_at w.facets o.number) method args (all_read (IsFacet w) w.facets o.number no_facet this_whole.facets made) free handed
+  on_done k o method args e free target handed = serve_done o method args free target handed
+
+  called_done : (method : List ℕ) (r : Result Addressed Refusal) → IfOk r (λ a. WantsFree w d × IsAddressed w this_whole a) → Done (call_beginning w method r).task
+  called_done method (Ok a) is = on_done a.target.kind a.target method a.arguments refl is.0 is.1.target is.1.arguments
+  called_done method (Err r) is = refused_done r
+
+  -- ---- what else is delivered
+
+  effects_done : (es : List Effect) → AreGood w es → AllByRecursion (LeavesAnswer d) es → LabelIsFree (after_all w es) d (given null) → issued_by_all w es ≡ 0 → Done (do_all es)
+  unfolding task_work
+  effects_done es are leave free none = record { good = are; front = front-after_all w d es are leave good; out = null_formed _ None; free = free; issues = omega (arith, none) }
+
+  give_done : (g : LineGift) (r : Result Tree Refusal) → d ≡ deliveries.give g → IfOk r (IsGift w this_whole g) → Done (gift_beginning g r).task
+  give_done g (Ok t) e is =
+      effects_done (bind_label g.to g.label t ∷ []) (record { free = is.free; handed = is.handed }, tt) (tt, tt) (gift_free e) refl
+    where
+      gift_free : d ≡ deliveries.give g → LabelIsFree (after_all w (bind_label g.to g.label t ∷ [])) d (given null)
+      gift_free e = subst (λ x. LabelIsFree (after_all w (bind_label g.to g.label t ∷ [])) x (given null)) (sym e) tt
+  give_done g (Err r) e is = refused_done r
+
+  tick_done : (t : ℕ) → d ≡ deliveries.tick t → t < times_end → Done (tick_task w.schedule.time t)
+  tick_done t e timely = by (nat_lt t w.schedule.time) refl
+    where
+      by : (b : Bool) → nat_lt t w.schedule.time ≡ b → Done (cond b (refuse (Backwards w.schedule.time t)) (do_all (set_time t ∷ [])))
+      by true is = refused_done (Backwards w.schedule.time t)
+      by false is =
+          effects_done (set_time t ∷ []) (record { later = ltb-false t w.schedule.time is; timely = timely }, tt) (tt, tt)
+          (subst (λ x. LabelIsFree (after_all w (set_time t ∷ [])) x (given null)) (sym e) tt) refl
+
+  deadline_done : (seat : ℕ) → d ≡ deliveries.deadline seat → Done (do_all (exit_if_open w seat causes.deadline))
+  deadline_done seat e = by (is_none (seat_at w.seats seat).last) refl
+    where
+      by : (b : Bool) → is_none (seat_at w.seats seat).last ≡ b → Done (do_all (cond b (exit seat causes.deadline ∷ []) []))
+      by true is = effects_done (exit seat causes.deadline ∷ []) (open_there (seat_at w.seats seat).last is, tt) (tt, tt) (subst (λ x. LabelIsFree (after_all w (exit seat causes.deadline ∷ [])) x (given null)) (sym e) tt) refl
+      by false is = effects_done [] tt tt (subst (λ x. LabelIsFree w x (given null)) (sym e) tt) refl
+
+  -- ---- what functions are called with
+
+  number_known : (i n : ℕ) → IsKnownTo w i (number_tree n)
+  number_known i n = record { objects = tt; functions = tt; named = tt; ordered = tt; shallow = tt }
+
+  told_at : (t : Tree) → IsHanded w t → FormedAt w None 1 (told_value t)
+  told_at t is = by (nat_lt (nesting t) most_nested) refl
+    where
+      by : (b : Bool) → nat_lt (nesting t) most_nested ≡ b → FormedAt w None 1 (cond b t null)
+      by true low =
+          let there = loose_of w 1 t is in
+          let less = ltb-true _ _ low in
+          record { objects = there.objects; functions = there.functions; named = there.named; ordered = there.ordered; shallow = shallow 32 1 t (omega (arith, less)) }
+      by false low = record { objects = tt; functions = tt; named = tt; ordered = tt; shallow = tt }
+
+  notice_fields_handed : (b : Bool) (t : Tree) → IsHanded w t → IsHanded w (trees.fields (trees.field (codes "ok") (trees.boolean b) (trees.field (codes "value") (told_value t) trees.no_fields)))
+  notice_fields_handed b t is =
+      let value = told_at t is in
+      formed_here w None _ (record_formed w None 0 _ (omega arith) (record {
+        objects = (tt, (value.objects, tt));
+        functions = (tt, (value.functions, tt));
+        names = (refl, (refl, tt));
+        named = (tt, (value.named, tt));
+        order = (refl, (tt, tt));
+        ordered = (tt, (value.ordered, tt));
+        shallow = (tt, (value.shallow, tt));
+      }))
+
+  notice_handed : (s : SettlementView) → IsSettling w s → IsHanded w (notice_tree s)
+  notice_handed (ok t) is = notice_fields_handed true t is
+  notice_handed (broken t) is = notice_fields_handed false t is
+
+  settled_read : (o : Option SettlementView) → IsSettled w o → IsSettling w (unwrap_or o (broken null))
+  settled_read None is = null_formed w None
+  settled_read (Some s) is = is.handed
+
+  settlement_handed : (p : ℕ) → p < length w.promises.settled → IsSettling w (settlement_of w p)
+  settlement_handed p made = settled_read (settlement_at w.promises.settled p) (all_read (IsSettled w) w.promises.settled p no_promise this_whole.settled made)
+
+-- ---- each delivery
+
+pub work_is : (read : TextReader) (served : AreGoodServices (serve_call read)) (called : AreGoodHostCalls) (meter : ℕ) (few : meter ≤ most_meter) (w : State) (d : Delivery) → IsGoodWorld (in_front d w) → IsRoomy w.rights.out most_issued
+    → IsTurnWork w d (task_work read meter w (beginning w d).task)
+unfolding beginning
+work_is read served called meter few w (deliveries.call c) good room =
+    let d = deliveries.call c in
+    called_done read served called meter few w d good room c.method (addressed w c)
+    (weaker_ok (IsCalled w (good_behind w d good) c) (λ a. WantsFree w d × IsAddressed w (good_behind w d good) a) (addressed w c) (λ a is. (is.free, is.addressed_to)) (addressed_there w (good_behind w d good) c (due_behind w d good)))
+work_is read served called meter few w (deliveries.send s) good room =
+    let d = deliveries.send s in
+    called_done read served called meter few w d good room s.method (sent_to w s)
+    (weaker_ok (IsAddressed w (good_behind w d good)) (λ a. WantsFree w d × IsAddressed w (good_behind w d good) a) (sent_to w s) (λ a is. (tt, is)) (sent_there w (good_behind w d good) s (due_behind w d good)))
+work_is read served called meter few w (deliveries.give g) good room =
+    let d = deliveries.give g in
+    give_done read served called meter few w d good room g (gift_of w g) refl (gift_there w (good_behind w d good) g)
+work_is read served called meter few w (deliveries.tick t) good room = tick_done read served called meter few w (deliveries.tick t) good room t refl (due_behind w (deliveries.tick t) good)
+work_is read served called meter few w (deliveries.bad r) good room = refused_done read served called meter few w (deliveries.bad r) good room r
+work_is read served called meter few w (deliveries.start s) good room =
+    let d = deliveries.start s in
+    let due = due_behind w d good in
+    task_done read served called meter few w d good room (start_call s) tt due.made
+    (object_formed w (Some s.instance) (record { kind = kinds.Zcf; number = s.instance }) refl, (handed_held w (Some s.instance) s.private_arguments due.arguments, tt))
+work_is read served called meter few w (deliveries.offer o) good room =
+    let d = deliveries.offer o in
+    let due = due_behind w d good in
+    task_done read served called meter few w d good room (handler_call o) tt due.function.made
+    (object_formed w (Some o.instance) (record { kind = kinds.Zseat; number = o.seat }) due.seat, (handed_held w (Some o.instance) o.offer_arguments due.arguments, (due.held, tt)))
+work_is read served called meter few w (deliveries.wake x) good room =
+    let d = deliveries.wake x in
+    let due = due_behind w d good in
+    task_done read served called meter few w d good room (wakeup_call x w.schedule.time) tt due.function.made
+    (due.held, (number_known read served called meter few w d good room x.instance w.schedule.time, tt))
+work_is read served called meter few w (deliveries.notify n) good room =
+    let d = deliveries.notify n in
+    let due = due_behind w d good in
+    let s = settlement_of w n.promise in
+    let told : IsHanded w (notice_tree s) = notice_handed read served called meter few w d good room s (settlement_handed read served called meter few w d good room n.promise due.notice.promise) in
+    task_done read served called meter few w d good room (notice_call n s) tt due.notice.function.made
+    (due.notice.held, (handed_held w (Some n.instance) (notice_tree s) told, tt))
+work_is read served called meter few w (deliveries.deadline seat) good room = deadline_done read served called meter few w (deliveries.deadline seat) good room seat refl
+
+-- ---- whole turns
+
+pub turn_good : (read : TextReader) (served : AreGoodServices (serve_call read)) (called : AreGoodHostCalls) (meter : ℕ) (few : meter ≤ most_meter) (w : State) (d : Delivery) → IsGoodWorld (in_front d w) → IsRoomy w.rights.out most_issued
+    → AreGood w (delivery_turn read meter w d).effects
+unfolding delivery_turn
+turn_good read served called meter few w d good room =
+    let work = task_work read meter w (beginning w d).task in
+    let is = work_is read served called meter few w d good room in
+    good_both w work.effects (ending d work.answer (after_all w work.effects)) is.good (ending_good (after_all w work.effects) d work.answer is.front is.out is.free)

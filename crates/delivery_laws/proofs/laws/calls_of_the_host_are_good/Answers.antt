@@ -1,0 +1,5 @@
+use Rattle.delivery_laws.proofs.Replies.{call_is}
+use Rattle.delivery_laws.proofs.laws.calls_of_the_host_are_good.Goals as goal
+
+pub returns : goal.returns
+returns c = record { good = λ w i x served good made known room. call_is served w i good made x known room }

@@ -1,0 +1,90 @@
+-- What is owed of what is done in a turn.
+use Rattle.std.specs.Prelude.{◌≡◌, ℕ, ◌≤◌, ◌*◌, ◌^◌, List, length, Some, None, IfSome}
+use Rattle.std.specs.List.{AllByRecursion}
+use Rattle.actors.specs.Labels.{bound_to}
+use Rattle.call_rows.specs.Obligations.{CanCall, IsGoodOutcome}
+use Rattle.jessie_semantics.specs.Keeping.{AllHave, EndingHas, NextHas, RepliesHave, ReplyHas}
+use Rattle.jessie_semantics.specs.Play.{Call, Ending, Play, Reply, after}
+use Rattle.jessie_tree.specs.Tree.{Tree}
+use Rattle.jessie_tree.specs.declared.data.Obj.{Obj}
+use Rattle.trade_rows.specs.Trades.{serve}
+use Rattle.turn_records.specs.Deliveries.{Delivery, call}
+use Rattle.turn_records.specs.Events.{Answer, given, refused, spent, threw}
+use Rattle.delivery_turns.specs.Functions.{Run, ended, ran_out}
+use Rattle.delivery_turns.specs.HostCalls.{call_effects, call_reply}
+use Rattle.delivery_turns.specs.Tasks.{Work}
+use Rattle.world_state.specs.Good.{AreGood, IsGoodWorld}
+use Rattle.world_state.specs.Known.{Grows, IsHanded, IsKnownTo}
+use Rattle.world_state.specs.Rights.{most_issued}
+use Rattle.world_state.specs.Worlds.{Effect, State, after_all, bind_label, in_front, issued_by_all}
+use Rattle.world_state.specs.Worlds.{resolve}
+
+-- each call that a function of an instance makes is a good row
+abbrev pub AreGoodHostCalls : Type 0
+AreGoodHostCalls =
+    (w : State) (i : ℕ) (o : Obj) (m : List ℕ) (args : List Tree) →
+    CanCall w (Some i) o args → IsGoodOutcome w (Some i) o m args (serve w o m args)
+
+-- calls resolve no promise, and bind no label
+abbrev pub IsOfCall : Effect → Type 0
+IsOfCall (resolve p v) = ⊥
+IsOfCall (bind_label party label value) = ⊥
+IsOfCall _ = Unit {0}
+
+-- what the host does for a call is good; what it answers the instance may know; it issues so much at most
+pub record IsCallWork (w : State) (i n : ℕ) (c : Call) : Type 0 where
+  pub good : AreGood w (call_effects w i c)
+  pub known : ReplyHas (IsKnownTo (after_all w (call_effects w i c)) i) (call_reply w i c)
+  pub calm : AllByRecursion IsOfCall (call_effects w i c)
+  pub issues : issued_by_all w (call_effects w i c) ≤ n
+
+-- ---- answers
+
+-- what is answered can be handed out
+abbrev pub IsOut : State → Answer → Type 0
+IsOut w (given t) = IsHanded w t
+IsOut w (threw t) = IsHanded w t
+IsOut w (refused r) = Unit {0}
+IsOut w (spent meter) = Unit {0}
+
+-- the label that a party wants for its answer isn't bound
+abbrev pub LabelIsFree : State → Delivery → Answer → Type 0
+LabelIsFree w (call c) (given t) = IfSome c.label (λ label. bound_to w.labels c.by label ≡ None)
+LabelIsFree w _ _ = Unit {0}
+
+-- ---- functions
+
+-- in whatever the world grows to, after whatever answers the instance may know, it may know what is asked next, or
+-- what the play comes to
+pub record Evaluates (w : State) (i n : ℕ) (p : Play) : Type 0 where
+  pub each : (v : State) → Grows w v → (rs : List Reply) → RepliesHave (IsKnownTo v i) rs
+      → NextHas (IsKnownTo v i) n (after p rs)
+
+-- what a function did is good, and issues no more than its meter; the instance may know what it gave or threw, and
+-- the values of its state
+pub record IsEnded (w : State) (i n m : ℕ) (e : Ending) (values : List Tree) (es : List Effect) : Type 0 where
+  pub good : AreGood w es
+  pub calm : AllByRecursion IsOfCall es
+  pub issues : issued_by_all w es ≤ 2 ^ 63 * m
+  pub ending : EndingHas (IsKnownTo (after_all w es) i) e
+  pub kept : AllHave (IsKnownTo (after_all w es) i) values
+  pub many : length values ≡ n
+
+abbrev pub IsRun : State → ℕ → ℕ → ℕ → Run → Type 0
+IsRun w i n m (ended e values es) = IsEnded w i n m e values es
+IsRun w i n m ran_out = Unit {0}
+
+-- ---- what is done for a delivery
+
+-- the most that a function may cost
+abbrev pub most_meter : ℕ
+most_meter = 10000000
+
+-- its effects are good; the delivery's promise and the label that is wanted are left to the turn's end; what is
+-- answered can be handed out; and little is issued
+pub record IsTurnWork (w : State) (d : Delivery) (work : Work) : Type 0 where
+  pub good : AreGood w work.effects
+  pub front : IsGoodWorld (in_front d (after_all w work.effects))
+  pub out : IsOut (after_all w work.effects) work.answer
+  pub free : LabelIsFree (after_all w work.effects) d work.answer
+  pub issues : issued_by_all w work.effects ≤ most_issued

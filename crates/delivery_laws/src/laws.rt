@@ -1,0 +1,79 @@
+//! The laws. The bodies are empty: what they state is proved of the definitions.
+
+ghost use Rattle.std.specs.Prelude.{IfOk, IfSome, ◌≡◌, ◌≤◌, ◌<◌, ◌+◌, ◌*◌, ◌^◌, ℕ, List, length};
+ghost use Rattle.delivery_laws.specs.Hosts.{IsGoodHost};
+ghost use Rattle.delivery_laws.specs.Told.{with_log};
+ghost use Rattle.delivery_laws.specs.Works.{AreGoodHostCalls, Evaluates, IsCallWork, IsOut, IsRun, LabelIsFree};
+ghost use Rattle.delivery_laws.specs.Works.{most_meter};
+ghost use Rattle.delivery_turns.specs.Endings.{ending};
+ghost use Rattle.delivery_turns.specs.Functions.{run};
+ghost use Rattle.delivery_turns.specs.Hosts.{HostState, step_of};
+ghost use Rattle.delivery_turns.specs.Messages.{value_at};
+ghost use Rattle.delivery_turns.specs.Turns.{delivery_turn};
+ghost use Rattle.jessie_semantics.specs.Keeping.{CallHas, Fits};
+ghost use Rattle.jessie_semantics.specs.Play.{Call, Play, cost};
+ghost use Rattle.service_row_laws.specs.Good.{AreGoodServices};
+ghost use Rattle.service_rows.specs.ZoeRows.{TextReader};
+ghost use Rattle.turn_records.specs.Deliveries.{Delivery};
+ghost use Rattle.turn_records.specs.Events.{Answer, Event};
+ghost use Rattle.world_state.specs.Good.{AreGood, IsGoodWorld};
+ghost use Rattle.world_state.specs.Known.{IsHanded, IsKnownTo};
+ghost use Rattle.world_state.specs.Rights.{IsRoomy, most_issued, most_turns};
+ghost use Rattle.zoe_rows.specs.Host.{serve};
+ghost use Rattle.world_state.specs.Worlds.{Effect, State, after_all, in_front, issued_by_all};
+
+/// What was told in the turn changes nothing of what effects need, do and issue.
+pub fn what_was_told_changes_nothing()
+    ensures good { (log : List Event) (w : State) (es : List Effect) → AreGood w es
+        → AreGood (with_log log w) es }
+    ensures after { (log : List Event) (w : State) (es : List Effect)
+        → let there = after_all (with_log log w) es in there ≡ with_log there.log (after_all w es) }
+    ensures issues { (log : List Event) (w : State) (es : List Effect)
+        → issued_by_all (with_log log w) es ≡ issued_by_all w es }
+{}
+
+/// What the host does for a call of an instance's function is good, what it answers the instance
+/// may know, and it issues no more than the call was charged for.
+pub fn calls_of_the_host_are_good()
+    ensures good { (w : State) (i : ℕ) (c : Call) → AreGoodHostCalls
+        → IsGoodWorld w → i < length w.tables.instances → CallHas (IsKnownTo w i) c
+        → IsRoomy w.rights.out (2 ^ 63 * cost c)
+        → IsCallWork w i (2 ^ 63 * cost c) c }
+{}
+
+/// How a turn ends is good, where its answer can be handed out and the label that is wanted for it
+/// is free.
+pub fn ends_of_turns_are_good()
+    ensures good { (w : State) (d : Delivery) (a : Answer) → IsGoodWorld (in_front d w) → IsOut w a
+        → LabelIsFree w d a → AreGood w (ending d a w) }
+{}
+
+/// What the function of an instance comes to is good.
+pub fn runs_are_good()
+    ensures good { (start : State) (i n : ℕ) (p : Play) (m : ℕ) → AreGoodHostCalls
+        → i < length start.tables.instances → Evaluates start i n p → Fits m p
+        → IsGoodWorld start → IsRoomy start.rights.out (2 ^ 63 * m)
+        → IsRun start i n m (run start i p) }
+{}
+
+/// What stands at a path can be handed out.
+pub fn messages_are_of_what_can_be_handed_out()
+    ensures value { (w : State) (party path : List ℕ) → IsGoodWorld w
+        → IfOk (value_at w party path) (IsHanded w) }
+{}
+
+/// What a delivery comes to has good effects, each after those before it, where the world with the
+/// delivery in front is good and leaves room for what a turn may issue, and calls are good rows.
+pub fn deliveries_have_good_effects()
+    ensures good { (read : TextReader) (meter : ℕ) (w : State) (d : Delivery)
+        → AreGoodServices (serve read) → AreGoodHostCalls → meter ≤ most_meter
+        → IsGoodWorld (in_front d w) → IsRoomy w.rights.out most_issued
+        → AreGood w (delivery_turn read meter w d).effects }
+{}
+
+/// A turn issues little, and a step keeps a host good, where the last turn isn't run yet.
+pub fn steps_keep_hosts_good()
+    ensures step { (read : TextReader) (s : HostState)
+        → AreGoodServices (serve read) → AreGoodHostCalls → IsGoodHost s → s.turns < most_turns
+        → IfSome (step_of read s) (λ step. IsGoodHost step.next) }
+{}

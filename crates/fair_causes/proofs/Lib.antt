@@ -1,0 +1,4 @@
+pub mod Shown
+pub mod Owing
+pub mod Calls
+pub mod Others

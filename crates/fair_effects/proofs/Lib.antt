@@ -1,0 +1,13 @@
+pub mod Seats
+pub mod Values
+pub mod Moves
+pub mod Openings
+pub mod Rows
+pub mod Offers
+pub mod Held
+pub mod Payouts
+pub mod Exits
+pub mod Effects
+pub mod Supplies
+pub mod Papers
+pub mod Accounted

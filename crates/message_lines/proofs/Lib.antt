@@ -1,0 +1,6 @@
+pub mod Cuts
+pub mod FurtherFields
+pub mod JsonLines
+pub mod OnlyMembers
+pub mod Paths
+pub mod ReadParts

@@ -1,0 +1,3 @@
+pub mod Inviting
+pub mod KeywordTests
+pub mod ReadRows

@@ -1,0 +1,4 @@
+pub mod Added
+pub mod Apart
+pub mod Taken
+pub mod Combining

@@ -1,0 +1,129 @@
+//! Promises, what waits, and the timer.
+
+ghost use Rattle.std.specs.Prelude.{◌≡◌, ◌<◌, length, IfSome, OnOk};
+ghost use Rattle.jessie_tree.specs.View.{tree, trees};
+ghost use Rattle.plain_effects.specs.After.{Becomes};
+ghost use Rattle.plain_stores.specs.Stores.{plain_at_start, plain_now};
+ghost use Rattle.promise_store.specs.States.{settlement_view};
+ghost use Rattle.turn_events.specs.Views.{delivery_view, wakeup_view};
+ghost use Rattle.world_state.specs.Promises.{IsPending, target_of};
+ghost use Rattle.world_state.specs.Worlds as worlds;
+
+use call_plans::effects::{Asking, Sending};
+use plain_stores::PlainStores;
+use promise_store::Settlement;
+use promise_table::waiting::queue_delivery;
+use std::alloc::{AllocError, Global};
+use time_effects::{Timed, deliver_at};
+use turn_events::deliveries::{Delivery, Notice, Send, Wakeup};
+
+/// A promise is made.
+pub fn make_promise(stores: &mut PlainStores) -> Result<(), AllocError>
+    ensures ok { OnOk result (Becomes stores.old stores.new worlds.new_promise) }
+    ensures start { plain_at_start stores.new ≡ plain_at_start stores.old }
+{
+    match stores.promises.make() {
+        Ok(_) => Ok(()),
+        Err(_) => Err(AllocError),
+    }
+}
+
+/// A promise is resolved.
+pub fn resolve(
+    stores: &mut PlainStores,
+    promise: u32,
+    settlement: Settlement,
+) -> Result<(), AllocError>
+    requires pending { IsPending (plain_now stores.old).promises promise }
+    requires target { IfSome (target_of (settlement_view settlement))
+        (λ target. target < length (plain_now stores.old).promises.settled) }
+    ensures ok { OnOk result (Becomes stores.old stores.new
+        (worlds.resolve promise (settlement_view settlement))) }
+    ensures start { plain_at_start stores.new ≡ plain_at_start stores.old }
+{
+    match stores.promises.resolve(promise, settlement, &mut stores.queue, &mut stores.log) {
+        Ok(()) => Ok(()),
+        Err(_) => Err(AllocError),
+    }
+}
+
+/// An instance sends a call, for the next promise.
+pub fn send(stores: &mut PlainStores, sending: Sending) -> Result<(), AllocError>
+    ensures ok { OnOk result (Becomes stores.old stores.new (worlds.send sending.instance
+        sending.target sending.method (trees sending.arguments.items))) }
+    ensures start { plain_at_start stores.new ≡ plain_at_start stores.old }
+{
+    let Sending {
+        instance,
+        target,
+        method,
+        arguments,
+    } = sending;
+    let call = Send {
+        instance,
+        target,
+        method,
+        arguments,
+        promise: stores.promises.made(),
+    };
+    match stores.promises.send(call, &mut stores.queue) {
+        Ok(()) => Ok(()),
+        Err(_) => Err(AllocError),
+    }
+}
+
+/// A function of an instance is to be told of a promise that was made, for the next promise.
+pub fn when(stores: &mut PlainStores, asking: Asking) -> Result<(), AllocError>
+    requires { asking.promise < length (plain_now stores.old).promises.settled }
+    ensures ok { OnOk result (Becomes stores.old stores.new (worlds.when asking.instance
+        asking.promise asking.function (tree asking.held))) }
+    ensures start { plain_at_start stores.new ≡ plain_at_start stores.old }
+{
+    let Ok(answer) = stores.promises.make() else {
+        return Err(AllocError);
+    };
+    let Asking {
+        instance,
+        promise,
+        function,
+        held,
+    } = asking;
+    let request = Notice {
+        instance,
+        promise,
+        function,
+        held,
+        answer,
+    };
+    match stores.promises.ask(request, &mut stores.queue) {
+        Ok(()) => Ok(()),
+        Err(fault) => Err(fault),
+    }
+}
+
+/// A function is to be called at a time.
+pub fn wake(stores: &mut PlainStores, time: u64, wakeup: Wakeup) -> Result<(), AllocError>
+    ensures ok { OnOk result (Becomes stores.old stores.new (worlds.wake time (wakeup_view wakeup))) }
+    ensures start { plain_at_start stores.new ≡ plain_at_start stores.old }
+{
+    deliver_at(&mut stores.timer, &mut stores.queue, time, Timed::Wake(wakeup))
+}
+
+/// The timer is set to a time that isn't earlier, and what is due is to be delivered.
+pub fn set_time(stores: &mut PlainStores, alloc: Global, time: u64) -> Result<(), AllocError>
+    ensures ok { OnOk result (Becomes stores.old stores.new (worlds.set_time time)) }
+    ensures start { plain_at_start stores.new ≡ plain_at_start stores.old }
+{
+    match time_effects::set_time(alloc, &mut stores.timer, &mut stores.queue, time) {
+        Ok(()) => Ok(()),
+        Err(_) => Err(AllocError),
+    }
+}
+
+/// A line of a party's comes in.
+pub fn arrive(stores: &mut PlainStores, delivery: Delivery) -> Result<(), AllocError>
+    ensures ok { OnOk result (Becomes stores.old stores.new (worlds.arrive (delivery_view delivery))) }
+    ensures start { plain_at_start stores.new ≡ plain_at_start stores.old }
+{
+    queue_delivery(&mut stores.queue, delivery)
+}

@@ -1,0 +1,62 @@
+-- The methods of purses and of their deposit facets are good rows.
+use Rattle.std.proofs.Common.{ℕ, ◌<◌, List, length, None, IfOk, codes, refl, sym, ◌∙◌, arith}
+use Rattle.ertp_mint.specs.Stocks.{no_amount}
+use Rattle.jessie_tree.specs.Tree.{Tree}
+use Rattle.jessie_tree.specs.declared.data.ObjKind.TheVariants as kinds
+use Rattle.refusals.proofs.Steps.{after_check, after_known, after_step, ok_has}
+use Rattle.right_steps.specs.Lists.{amount_of}
+use Rattle.world_laws.proofs.Lists.{all_read}
+use Rattle.world_state.specs.Good.{IsAmountValued, IsValued}
+use Rattle.world_state.specs.Known.{IsFormed}
+use Rattle.world_state.specs.Worlds.{State}
+use Rattle.call_rows.specs.Obligations.{CanCall, IsGoodOutcome}
+use Rattle.call_rows.specs.Rows.{Outcome}
+use Rattle.call_row_laws.proofs.Forms.{amount_formed, object_formed}
+use Rattle.call_row_laws.proofs.Moving.{held_kind, payment_to_purse, purse_is}
+use Rattle.call_row_laws.proofs.Reading.{by_method, reads}
+use Rattle.call_row_laws.proofs.Sums.{sum_if}
+use Rattle.service_rows.specs.PurseRows.{deposit, purse_of}
+use Rattle.service_row_laws.specs.Good.{AreGoodRows, numbered}
+use Rattle.service_row_laws.proofs.Payments.{IsGiven, held_value, live_is}
+use Rattle.service_row_laws.proofs.Purses.{purses_are}
+use Rattle.ertp_rows.specs.Ertp.{of_deposit, of_purse}
+use Rattle.ertp_rows.specs.PaymentRows.{get_deposit_facet}
+
+facet_formed : (w : State) (n : ℕ) (args : List Tree) → CanCall w None (numbered kinds.Purse n) args → IfOk (get_deposit_facet n) (IsFormed w None)
+unfolding get_deposit_facet
+facet_formed w n args can = object_formed w None _ can.target
+
+pub purses_are_all : AreGoodRows kinds.Purse of_purse
+purses_are_all w n m args can =
+    let P : List ℕ → Outcome → Type 0 = λ k row. IsGoodOutcome w None (numbered kinds.Purse n) k args row in
+    by_method P m (codes "getDepositFacet") _ _ (reads w None _ _ args (get_deposit_facet n) refl refl (facet_formed w n args can)) (purses_are w n m args can)
+
+module _ (w : State) (n : ℕ) (args : List Tree) (can : CanCall w None (numbered kinds.Deposit n) args) where
+  brand_made : (purse_of w n).brand < length w.brands
+  brand_made = omega (arith, (purse_is w can.good n can.target).made, can.good.brands.supplies)
+
+  held_is_value : IsValued (purse_of w n).value
+  held_is_value = all_read IsAmountValued w.rights.purses n no_amount can.good.valued.purses can.target
+
+  receive_is : IsGoodOutcome w None (numbered kinds.Deposit n) (codes "receive") args (deposit w n args)
+  unfolding deposit
+  receive_is = after_step _ _ _ (λ g is. after_check _ _ _ (after_known _ _ _ (λ fits.
+      let b = (purse_of w n).brand in
+      let given : IsGiven w b args g = ok_has _ _ g is (live_is w None b 1 args (can.arguments 1)) in
+      let same = sym (purse_is w can.good n can.target).kind ∙ held_kind w can.good g.number b g.value given.holds in
+      record {
+        good = payment_to_purse w can.good g.number n g.value given.holds can.target
+            (sum_if (purse_of w n).value g.value tt same held_is_value (held_value w b g.number g.value can.good.valued given.holds) fits);
+        known = amount_formed _ None (amount_of b g.value) (record { made = brand_made; kind_is = sym (can.good.brands.kinds b) ∙ held_kind w can.good g.number b g.value given.holds });
+        leaves = refl;
+        opens = refl;
+        licensed = (given.named, tt);
+        acts = (tt, tt);
+        issues = omega arith;
+        calls = omega arith;
+      })))
+
+pub deposits_are : AreGoodRows kinds.Deposit of_deposit
+deposits_are w n m args can =
+    let P : List ℕ → Outcome → Type 0 = λ k row. IsGoodOutcome w None (numbered kinds.Deposit n) k args row in
+    by_method P m (codes "receive") _ _ (receive_is w n args can) tt

@@ -1,0 +1,3 @@
+pub mod Gained
+pub mod Lost
+pub mod Taken

@@ -1,4 +1,0 @@
-pub mod Fields
-pub mod Amounts
-pub mod Seats
-pub mod Zoe
