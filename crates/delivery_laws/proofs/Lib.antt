@@ -7,3 +7,5 @@ pub mod Ends
 pub mod Reading
 pub mod Works
 pub mod Hosts
+pub mod Printed
+pub mod Staging

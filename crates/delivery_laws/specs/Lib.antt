@@ -1,3 +1,4 @@
 pub mod Told
 pub mod Works
 pub mod Hosts
+pub mod Printed
