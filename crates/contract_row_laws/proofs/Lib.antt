@@ -13,8 +13,6 @@ pub mod Losses
 pub mod Shares
 pub mod Rearranged
 pub mod Carried
-pub mod Sorted
-pub mod Settling
 pub mod Staging
 pub mod Mints
 pub mod Escrows

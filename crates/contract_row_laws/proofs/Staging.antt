@@ -50,7 +50,7 @@ use Rattle.contract_row_laws.proofs.Seats.{open_there}
 abbrev other : (Row → Content) → Row → Row
 other content r = row_of r.keyword (holding r.amount (content r))
 
-pub each_map : (P Q : Row → Type 0) (f : Row → Row) → ((r : Row) → P r → Q (f r)) → (rs : List Row) → AllByRecursion P rs → AllByRecursion Q (map f rs)
+each_map : (P Q : Row → Type 0) (f : Row → Row) → ((r : Row) → P r → Q (f r)) → (rs : List Row) → AllByRecursion P rs → AllByRecursion Q (map f rs)
 each_map P Q f to [] all = tt
 each_map P Q f to (r ∷ rs) all = (to r all.0, each_map P Q f to rs all.1)
 
@@ -59,7 +59,7 @@ each_both P Q [] p q = tt
 each_both P Q (r ∷ rs) p q = ((p.0, q.0), each_both P Q rs p.1 q.1)
 
 -- what each row is told of by its keyword is told of what stands under it
-pub under_row : (P : List ℕ → Amount → Type 0) (k : List ℕ) (rs : List Row) → AllByRecursion (λ (r : Row). P r.keyword r.amount) rs → IfSome (amount_under k rs) (P k)
+under_row : (P : List ℕ → Amount → Type 0) (k : List ℕ) (rs : List Row) → AllByRecursion (λ (r : Row). P r.keyword r.amount) rs → IfSome (amount_under k rs) (P k)
 under_row P k [] all = tt
 under_row P k (r ∷ rs) all = by (bytes_eq k r.keyword) refl (under_row P k rs all.1)
   where
@@ -70,18 +70,18 @@ under_row P k (r ∷ rs) all = by (bytes_eq k r.keyword) refl (under_row P k rs 
 -- ---- what a seat's staging begins with
 
 -- rows that may be staged of a seat with these slots
-pub record AreNow (w : State) (slots now : List Row) : Type 0 where
-  pub rows : AreRows now
-  pub named : AreNamed now
-  pub of_kinds : AreRowsOf w.rights.out now
-  pub valued : AreRowsValued now
-  pub of_slots : AllByRecursion (IsOfSlot slots) now
+record AreNow (w : State) (slots now : List Row) : Type 0 where
+  rows : AreRows now
+  named : AreNamed now
+  of_kinds : AreRowsOf w.rights.out now
+  valued : AreRowsValued now
+  of_slots : AllByRecursion (IsOfSlot slots) now
 
 own_slots : (slots rs : List Row) → AllByRecursion (λ (r : Row). amount_under r.keyword slots ≡ Some r.amount) rs → AllByRecursion (IsOfSlot slots) rs
 own_slots slots [] all = tt
 own_slots slots (r ∷ rs) all = (subst (λ o. IfSome o (λ (a : Amount). a.brand ≡ r.amount.brand)) (sym all.0) refl, own_slots slots rs all.1)
 
-pub now_are : (w : State) → IsGoodWorld w → (n : ℕ) → HasSlots w (allocation_of w n) → AreNow w (allocation_of w n) (rows_now w n)
+now_are : (w : State) → IsGoodWorld w → (n : ℕ) → HasSlots w (allocation_of w n) → AreNow w (allocation_of w n) (rows_now w n)
 now_are w good n has = by (staged_at w.staging n) refl
   where
     by : (o : Option (List Row)) → staged_at w.staging n ≡ o → AreNow w (allocation_of w n) (unwrap_or o (allocation_of w n))

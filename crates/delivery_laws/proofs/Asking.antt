@@ -1,13 +1,14 @@
 -- A function of an instance of a good world asks the host for nothing but what its instance may name, whatever the
 -- host answers of such; and so is what it comes to.
 use Rattle.std.specs.List.{AllByRecursion}
-use Rattle.std.proofs.Common.{◌≡◌, ◌⊎◌, inl, inr, ℕ, ◌+◌, ◌≤◌, ◌<◌, true, List, [], ◌∷◌, ◌++◌, Some, length, refl, arith}
+use Rattle.std.proofs.Common.{◌≡◌, ◌⊎◌, inl, inr, ℕ, ◌+◌, ◌≤◌, ◌<◌, true, List, [], ◌∷◌, ◌++◌, Option, Some, None, length, refl, ap, subst, arith}
 use Rattle.host_text.specs.Words.{is_field_name}
 use Rattle.instance_store.specs.Tables.{instance_at, no_module}
 use Rattle.jessie_semantics.specs.Form.{InForm}
-use Rattle.jessie_semantics.specs.Keeping.{AllHave, CallHas, EndingHas, FunctionsKnown, NextHas, RepliesHave, ReplyHas, Within}
-use Rattle.jessie_semantics.specs.Naming.{HasFieldNames, IsFieldName, RoutinesNamed}
+use Rattle.jessie_semantics.specs.Keeping.{AllHave, CallHas, EndingHas, FunctionsKnown, NextHas, RepliesHave, ReplyHas, Within, to_function}
+use Rattle.jessie_semantics.specs.Naming.{HasFieldNames, IsFieldName, RoutinesNamed, RoutinesWrite}
 use Rattle.jessie_semantics.specs.Play.{Asks, Call, Ending, Ends, Play, Reply, Spends, after, call, far, given, refused, returned, send, threw, when}
+use Rattle.jessie_semantics.specs.Rules.{play}
 use Rattle.jessie_semantics.proofs.FormKept.{closed_form}
 use Rattle.jessie_semantics.proofs.NamesKept.{closed_named}
 use Rattle.jessie_semantics.proofs.Safe.{play_safe, safe_after}

@@ -1,7 +1,8 @@
 -- How a turn ends is good: its promise can be resolved, seats that are left are open, labels are free.
 use Rattle.std.specs.Prelude.{IfSome, ◌==◌, cond, is_none, unwrap_or, codes}
+use Rattle.std.specs.List.{AllByRecursion}
 use Rattle.std.specs.Option.{option_map_or}
-use Rattle.std.proofs.Common.{◌≡◌, ℕ, ◌+◌, ◌≤◌, ◌<◌, Bool, true, false, List, [], ◌∷◌, ◌++◌, Option, Some, None, length, refl, sym, ap, ◌∙◌, arith}
+use Rattle.std.proofs.Common.{◌≡◌, inl, inr, ℕ, ◌+◌, ◌≤◌, ◌<◌, Bool, true, false, List, [], ◌∷◌, ◌++◌, Option, Some, None, length, refl, sym, ap, ◌∙◌, subst, arith}
 use Rattle.std.proofs.lemmas.Bool.{eq-eqb, eqb-true}
 use Rattle.actors.specs.Labels.{bound_to}
 use Rattle.call_rows.specs.Traces.{all_open}
@@ -9,9 +10,9 @@ use Rattle.call_row_laws.proofs.Fields.{FormedAt, formed_here, record_formed}
 use Rattle.call_row_laws.proofs.Forms.{field_formed, got, null_formed}
 use Rattle.contract_row_laws.proofs.OpenSeats.{AreAllOpen, all_are_open, others_are_open}
 use Rattle.jessie_tree.specs.Tree as trees
-use Rattle.jessie_tree.specs.Tree.{Tree, field_of, get, null}
+use Rattle.jessie_tree.specs.Tree.{Fields, Tree, field, fields, field_of, get, no_fields, null}
 use Rattle.promise_store.specs.Linked.{IsForest, LeadsTo, here, leader, through}
-use Rattle.promise_store.specs.States.{SettlementView, broken}
+use Rattle.promise_store.specs.States.{SettlementView, broken, ok}
 use Rattle.promise_store.specs.declared.links.Following.{Following}
 use Rattle.proposals.specs.declared.allocations.Row.{Row}
 use Rattle.refusals.specs.Codes.{promise_cycle, refusal_tree}
@@ -26,11 +27,11 @@ use Rattle.world_state.specs.Good.{AreGood, CanPublish, CanResolve, IsGoodWorld,
 use Rattle.world_state.specs.Known.{IsFormed, IsHanded}
 use Rattle.world_state.specs.Promises.{target_of}
 use Rattle.world_state.specs.Rights.{slots_at}
-use Rattle.world_state.specs.Worlds.{Effect, State, after, end_staging, exit, halt, in_front, publish, resolve, seat_at}
+use Rattle.world_state.specs.Worlds.{Effect, IsOpen, State, after, after_all, bind_label, end_staging, exit, halt, in_front, publish, resolve, seat_at}
 use Rattle.world_laws.proofs.Forms.{formed_grows}
 use Rattle.world_laws.proofs.Growing.{grows-after}
 use Rattle.world_laws.proofs.Fronts.{due_behind, front-after, good_behind, in_hand}
-use Rattle.delivery_turns.specs.Endings.{binds, binds_to, departs, ending, last_followed, leads_back, settles, without_cycle}
+use Rattle.delivery_turns.specs.Endings.{binds, binds_to, departs, ending, last_followed, leads_back, publishes, settles, without_cycle}
 use Rattle.delivery_turns.specs.Tasks.{exit_if_open, exits_with, halt_with}
 use Rattle.delivery_laws.specs.Works.{IsOut, LabelIsFree}
 use Rattle.delivery_laws.proofs.Replies.{refusal_formed}

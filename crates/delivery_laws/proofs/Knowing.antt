@@ -1,16 +1,18 @@
 -- What an instance may hold, as the rules of evaluation speak of it: what it refers to is known, it is in form, and
 -- its names are.
-use Rattle.std.proofs.Common.{◌≡◌, ℕ, ◌+◌, ◌≤◌, ◌<◌, false, [], ◌∷◌, Some, None, arith}
-use Rattle.data_nodes.specs.Nodes.{Both, EachField, EachItem, EachNode, FunctionIs, IsFree, ObjectIs}
+use Rattle.std.specs.List.{AllByRecursion}
+use Rattle.std.proofs.Common.{◌≡◌, ℕ, ◌+◌, ◌≤◌, ◌<◌, true, false, List, [], ◌∷◌, Option, Some, None, length, refl, arith}
+use Rattle.data_nodes.specs.Nodes.{Both, EachField, EachItem, EachNode, FunctionIs, HasFieldsInOrder, IsFree, IsShallow, ObjectIs}
 use Rattle.data_nodes.proofs.Nodes.{both, free, in_order_throughout, nested, ordered, shallow, weaker}
 use Rattle.data_rows.specs.Printable.{HaveFieldNames}
 use Rattle.jessie_semantics.specs.Form.{InForm}
-use Rattle.jessie_semantics.specs.Keeping.{FieldsWithin, ItemsWithin, Known, Within, to_function, to_object}
-use Rattle.jessie_semantics.specs.Naming.{FieldNamesAre, HasFieldNames, IsFieldName, ItemNamesAre}
-use Rattle.jessie_tree.specs.Tree.{Tree, null, boolean, number, text, array, fields, object, function, Items, no_items, item, Fields, no_fields, field, is_local, stays}
+use Rattle.jessie_semantics.specs.Keeping.{AllHave, FieldsWithin, ItemsWithin, Known, Reference, Within, to_function, to_object}
+use Rattle.jessie_semantics.specs.Naming.{FieldNamesAre, HasFieldNames, IsFieldName, ItemNamesAre, NamesAre}
+use Rattle.jessie_tree.specs.Tree.{Tree, null, boolean, number, text, array, fields, object, function, Items, no_items, item, Fields, no_fields, field, is_local, nesting, stays}
+use Rattle.jessie_tree.specs.declared.data.Obj.{Obj}
 use Rattle.jessie_tree.specs.declared.data.ObjKind.{ObjKind}
 use Rattle.jessie_tree.specs.declared.data.ObjKind.TheVariants as kinds
-use Rattle.world_state.specs.Known.{FunctionKnown, HasNames, IsHanded, IsKnownTo, ObjectKnown, known_as, made_as}
+use Rattle.world_state.specs.Known.{FunctionKnown, HasNames, IsFormed, IsHanded, IsKnownTo, ObjectKnown, known_as, made_as}
 use Rattle.world_state.specs.Worlds.{State}
 
 -- ---- what data refers to

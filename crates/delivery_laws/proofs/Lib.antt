@@ -7,5 +7,3 @@ pub mod Ends
 pub mod Reading
 pub mod Works
 pub mod Hosts
-pub mod Printed
-pub mod Staging

@@ -1,4 +1,5 @@
 -- What was told in the turn changes nothing of what effects do, of what they need, and of what they issue.
+use Rattle.std.specs.Prelude.{IfSome}
 use Rattle.std.proofs.Common.{◌≡◌, ℕ, ◌≤◌, ◌+◌, List, [], ◌∷◌, Option, Some, None, length, ◌++◌, refl, sym, ap, ◌∙◌, subst, arith}
 use Rattle.instance_store.specs.SeatPromises.{pair_at}
 use Rattle.promise_store.specs.States.{SettlementView, ok}

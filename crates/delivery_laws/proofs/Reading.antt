@@ -1,12 +1,12 @@
 -- What a party's message comes to, and the target of a call that was sent, can be handed out.
 use Rattle.std.specs.Prelude.{IfOk, IfSome, cond, nat_le, nat_lt, not, is_some, slice_get, option_and_then, codes}
 use Rattle.std.specs.List.{AllByRecursion}
-use Rattle.std.proofs.Common.{◌≡◌, ℕ, zero, suc, ◌+◌, ◌≤◌, ◌<◌, max, Bool, true, false, List, [], ◌∷◌, Option, Some, None, Result, Ok, Err, refl, ◌∙◌, subst, arith}
+use Rattle.std.proofs.Common.{◌≡◌, ℕ, zero, suc, ◌+◌, ◌≤◌, ◌<◌, max, Bool, true, false, List, [], ◌∷◌, Option, Some, None, Result, Ok, Err, length, refl, sym, ap, ◌∙◌, subst, arith}
 use Rattle.std.proofs.lemmas.Bool.{leb-true, ltb-true}
 use Rattle.std.specs.Option.{ok_or, option_map_or}
 use Rattle.std.specs.Str.{bytes_eq}
-use Rattle.actors.specs.Labels.{Bound, bound_to, is_of, label_in}
-use Rattle.actors.specs.Paths.{Found, and_then, followed, fulfilled, part_at, part_met, steps_of, walked, walked_from}
+use Rattle.actors.specs.Labels.{Bound, bound_to, is_of, label_in, service_of}
+use Rattle.actors.specs.Paths.{Found, and_then, followed, fulfilled, item_at, part_at, part_met, stands_at, steps_of, walked, walked_from}
 use Rattle.actors.specs.declared.paths.ResolveFault.{ResolveFault}
 use Rattle.actors.specs.declared.paths.ResolveFault.TheVariants.{UnknownName}
 use Rattle.call_row_laws.proofs.Forms.{field_formed, object_formed, raised}
@@ -19,14 +19,14 @@ use Rattle.jessie_tree.specs.declared.data.Obj.{Obj}
 use Rattle.jessie_tree.specs.declared.data.ObjKind.TheVariants as kinds
 use Rattle.promise_store.specs.Linked.{leader}
 use Rattle.promise_store.specs.States.{SettlementView, broken, is_promise_kind, ok, pending}
-use Rattle.refusals.specs.Outcomes.{◌>>=◌, ◌>>◌, bind}
+use Rattle.refusals.specs.Outcomes.{◌>>=◌, ◌>>◌, bind, need, wanted}
 use Rattle.refusals.specs.declared.codes.Refusal.{Refusal}
 use Rattle.refusals.proofs.Steps.{after_known, after_need, after_wanted, need_holds}
 use Rattle.turn_records.specs.Deliveries.{Send}
 use Rattle.turn_records.specs.Messages as parts
 use Rattle.turn_records.specs.Messages.{FieldParts, LineCall, LineGift, Part, Parts}
 use Rattle.world_state.specs.Good.{IsGoodWorld, IsLabel, IsSend, IsSettled}
-use Rattle.world_state.specs.Known.{FunctionKnown, HasNames, IsHanded, ObjectKnown}
+use Rattle.world_state.specs.Known.{FunctionKnown, HasNames, IsFormed, IsHanded, ObjectKnown}
 use Rattle.world_state.specs.Lines.{AreFormedFields, AreFormedParts, IsBefore, IsFormedCall, IsFormedPart}
 use Rattle.world_state.specs.Promises.{no_promise, settlement_at, state_by}
 use Rattle.world_state.specs.Worlds.{State, promises_made}

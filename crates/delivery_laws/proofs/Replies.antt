@@ -1,8 +1,10 @@
 -- What the host does for a call of an instance's function is good, what it answers the instance may know, and it
 -- issues no more than the call was charged for.
-use Rattle.std.specs.Prelude.{IfOk}
+use Rattle.std.specs.Prelude.{IfOk, IfSome, nat_lt}
 use Rattle.std.specs.List.{AllByRecursion}
-use Rattle.std.proofs.Common.{◌≡◌, ℕ, ◌+◌, ◌*◌, ◌^◌, ◌-◌, ◌≤◌, ◌<◌, Bool, true, false, not, ◌||◌, List, [], ◌∷◌, ◌++◌, Option, Some, None, Ok, Err, length, refl, sym, subst, arith}
+use Rattle.std.proofs.Common.{◌≡◌, ℕ, ◌+◌, ◌*◌, ◌^◌, ◌-◌, ◌≤◌, ◌<◌, Bool, true, false, not, ◌||◌, List, [], ◌∷◌, ◌++◌, Option, Some, None, Result, Ok, Err, length, refl, sym, subst, arith}
+use Rattle.std.specs.Prelude.{slice_index_or}
+use Rattle.call_arguments.specs.Arguments.{arg}
 use Rattle.call_rows.specs.Acts.{MayAct}
 use Rattle.call_rows.specs.Obligations.{CanCall, IsRow, most_issued_by}
 use Rattle.call_rows.specs.Rows.{Outcome}
@@ -33,16 +35,16 @@ use Rattle.turn_records.specs.Deliveries.{Notice}
 use Rattle.turn_records.specs.Events.{called}
 use Rattle.world_state.specs.Promises.{PromiseBook, asking, settlement_at, with_promise}
 use Rattle.world_state.specs.Good.{AreGood, IsGoodWorld, IsMethod}
-use Rattle.world_state.specs.Known.{FunctionKnown, HasNames, IsFormed, IsHanded, IsKnownTo, ObjectKnown, known_as}
+use Rattle.world_state.specs.Known.{FunctionKnown, HasNames, IsFormed, IsHanded, IsKnownTo, ObjectKnown, known_as, made_as}
 use Rattle.world_state.specs.Rights.{IsRoomy}
 use Rattle.world_state.specs.Worlds as worlds
-use Rattle.world_state.specs.Worlds.{Effect, State, after, after_all, bind_label, issued_by_all, promises_made, request_of, resolve}
+use Rattle.world_state.specs.Worlds.{Effect, State, after, after_all, bind_label, issued_by_all, note_call, promises_made, request_of, resolve}
 use Rattle.world_laws.proofs.Forms.{formed_grows}
 use Rattle.world_laws.proofs.Lists.{all_read_or, length_append}
-use Rattle.delivery_turns.specs.HostCalls.{answer_of, call_row, far_row, reply_of, send_row, told_call, told_effects, when_row}
+use Rattle.delivery_turns.specs.HostCalls.{answer_of, call_effects, call_reply, call_row, effects_of, far_row, reply_of, send_row, told_call, told_effects, when_row}
 use Rattle.delivery_laws.specs.Told.{with_log}
 use Rattle.delivery_laws.specs.Works.{AreGoodHostCalls, IsCallWork, IsOfCall}
-use Rattle.delivery_laws.proofs.Asking.{all_have}
+use Rattle.delivery_laws.proofs.Asking.{all_have, have_all}
 use Rattle.delivery_laws.proofs.Knowing.{handed_of}
 use Rattle.delivery_laws.proofs.Logs.{all_good_untold, all_issued_untold, effects_untold, log_grows}
 

@@ -4,9 +4,10 @@ use Rattle.std.specs.List.{AllByRecursion}
 use Rattle.std.proofs.Math.Nat.{mul-add, mul-le-mul_left}
 use Rattle.std.proofs.Common.{◌≡◌, ℕ, ◌+◌, ◌*◌, ◌^◌, ◌-◌, ◌≤◌, ◌<◌, List, [], ◌∷◌, ◌++◌, Some, length, refl, sym, ap, ◌∙◌, subst, arith}
 use Rattle.jessie_semantics.specs.Keeping.{AllHave, CallHas, EndingHas, Fits, NextHas, RepliesHave, ReplyHas}
-use Rattle.jessie_semantics.specs.Play.{Asks, Call, Ends, Play, Reply, Spends, after, cost, reply_size}
+use Rattle.jessie_semantics.specs.Play.{Asks, Call, Ending, Ends, Play, Reply, Spends, after, cost, reply_size}
+use Rattle.jessie_tree.specs.Tree.{Tree}
 use Rattle.world_state.specs.Good.{AreGood, IsGoodWorld}
-use Rattle.world_state.specs.Known.{Grows, IsKnownTo}
+use Rattle.world_state.specs.Known.{Extends, Grows, IsKnownTo, Keeps}
 use Rattle.world_state.specs.Rights.{IsRoomy}
 use Rattle.world_state.specs.Worlds.{Effect, State, after_all, issued_by_all}
 use Rattle.world_state.specs.Worlds as worlds
@@ -17,7 +18,7 @@ use Rattle.world_laws.proofs.Lists.{extends_refl, extends_trans, keeps_refl, kee
 use Rattle.world_laws.proofs.Roomy.{roomy-after_all}
 use Rattle.delivery_turns.specs.Functions.{Run, ended, ran_out, run, run_after}
 use Rattle.delivery_turns.specs.HostCalls.{call_effects, call_reply}
-use Rattle.delivery_laws.specs.Works.{AreGoodHostCalls, Evaluates, IsOfCall, IsRun}
+use Rattle.delivery_laws.specs.Works.{AreGoodHostCalls, Evaluates, IsCallWork, IsEnded, IsOfCall, IsRun}
 use Rattle.delivery_laws.proofs.Asking.{replies_so}
 use Rattle.delivery_laws.proofs.Replies.{call_is}
 

@@ -2,20 +2,24 @@
 -- handed out.
 use Rattle.std.specs.Prelude.{IfOk, IfSome, cond, is_none, nat_lt, unwrap_or, codes}
 use Rattle.std.specs.List.{AllByRecursion}
-use Rattle.std.proofs.Common.{◌≡◌, ℕ, ◌+◌, ◌*◌, ◌^◌, ◌-◌, ◌≤◌, ◌<◌, Bool, true, false, List, [], ◌∷◌, ◌++◌, Option, Some, None, Result, Ok, Err, length, refl, sym, ap, ◌∙◌, subst, arith}
+use Rattle.std.specs.Map.{lookup}
+use Rattle.std.specs.Str.{bytes_eq}
+use Rattle.std.proofs.Common.{◌≡◌, ℕ, ◌+◌, ◌*◌, ◌^◌, ◌-◌, ◌≤◌, ◌<◌, Bool, true, false, List, [], ◌∷◌, ◌++◌, Option, Some, None, Result, Ok, Err, length, map, refl, sym, ap, ◌∙◌, subst, arith}
 use Rattle.std.proofs.Math.Nat.{mul-le-mul_left}
 use Rattle.std.proofs.lemmas.Bool.{ltb-false, ltb-true}
 use Rattle.actors.specs.Labels.{bound_to}
-use Rattle.call_data.specs.Values.{number_tree}
-use Rattle.call_rows.specs.Obligations.{IsRow}
+use Rattle.call_arguments.specs.Arguments.{arg}
+use Rattle.call_data.specs.Values.{number_tree, object_tree}
+use Rattle.call_rows.specs.Obligations.{CanCall, IsRow}
 use Rattle.call_rows.specs.Rows.{Outcome}
 use Rattle.call_rows.specs.Traces.{all_open}
 use Rattle.call_rows.specs.Words.{has_halted, standing_of}
 use Rattle.call_row_laws.proofs.Fields.{FormedAt, formed_here, record_formed}
 use Rattle.call_row_laws.proofs.Forms.{null_formed, object_formed}
 use Rattle.call_row_laws.proofs.Shown.{handed_held}
+use Rattle.contract_row_laws.proofs.OpenSeats.{AreAllOpen, all_are_open, others_are_open}
 use Rattle.instance_store.specs.Facets.{FacetView, facet_at, no_facet}
-use Rattle.instance_store.specs.Tables.{instance_at}
+use Rattle.instance_store.specs.Tables.{InstanceView, instance_at}
 use Rattle.jessie_semantics.specs.Keeping.{AllHave, EndingHas}
 use Rattle.jessie_semantics.specs.Play as plays
 use Rattle.jessie_semantics.specs.Play.{Ending}
@@ -30,6 +34,7 @@ use Rattle.jessie_tree.specs.declared.data.Obj.{Obj}
 use Rattle.jessie_tree.specs.declared.data.ObjKind.{ObjKind}
 use Rattle.jessie_tree.specs.declared.data.ObjKind.TheVariants as kinds
 use Rattle.promise_store.specs.States.{SettlementView, broken, ok}
+use Rattle.proposals.specs.declared.allocations.Row.{Row}
 use Rattle.refusals.specs.Codes.{closed, local_only, no_method, refusal_tree}
 use Rattle.refusals.specs.declared.codes.Refusal.{Refusal}
 use Rattle.refusals.specs.declared.codes.Refusal.TheVariants.{Backwards}
@@ -41,6 +46,7 @@ use Rattle.turn_records.specs.Events.{Answer, given, refused, spent, threw}
 use Rattle.turn_records.specs.Messages.{LineGift}
 use Rattle.turn_records.specs.Printed.{notice_tree, told_value}
 use Rattle.turn_rows.specs.Causes as causes
+use Rattle.turn_rows.specs.Causes.{Cause}
 use Rattle.world_state.specs.Good.{AreGood, CanKeep, IsFacet, IsGoodWorld, IsSettled, IsSettling, LeavesAnswer}
 use Rattle.world_state.specs.Known.{Grows, IsHanded, IsKnownTo, made_as, module_of}
 use Rattle.turn_rows.specs.Form.{times_end}
@@ -54,9 +60,10 @@ use Rattle.world_laws.proofs.Kept.{good-after_all}
 use Rattle.world_laws.proofs.Lists.{all_read, all_read_or, length_map}
 use Rattle.zoe_rows.specs.Host.{serve as serve_call}
 use Rattle.delivery_turns.specs.Functions.{FunctionCall, Run, ended, function_run, module_play, ran_out, run}
+use Rattle.delivery_turns.specs.HostCalls.{answer_of, effects_of}
 use Rattle.delivery_turns.specs.Endings.{ending}
 use Rattle.delivery_turns.specs.Messages.{Addressed, addressed, gift_of, sent_to}
-use Rattle.delivery_turns.specs.Tasks.{Task, answer_of_ending, beginning, call_beginning, do_all, exit_if_open, exits_with, facet_task, function_behind, gift_beginning, halt_with, handler_call, method_task, notice_call, refuse, row_work, run_task, run_work, serve, settlement_of, start_call, task_on, task_work, tick_task, wakeup_call}
+use Rattle.delivery_turns.specs.Tasks.{Task, Work, answer_of_ending, beginning, call_beginning, do_all, exit_if_open, exits_with, facet_task, function_behind, gift_beginning, halt_with, handler_call, method_task, notice_call, refuse, row_work, run_task, run_work, serve, settlement_of, start_call, task_on, task_work, tick_task, wakeup_call}
 use Rattle.delivery_turns.specs.Turns.{delivery_turn}
 use Rattle.delivery_turns.specs.Tasks as tasks
 use Rattle.delivery_laws.specs.Works.{AreGoodHostCalls, IsEnded, IsOfCall, IsOut, IsRun, IsTurnWork, LabelIsFree, most_meter}
@@ -324,7 +331,7 @@ module _ (read : TextReader) (served : AreGoodServices (serve_call read)) (calle
   settled_read None is = null_formed w None
   settled_read (Some s) is = is.handed
 
-  pub settlement_handed : (p : ℕ) → p < length w.promises.settled → IsSettling w (settlement_of w p)
+  settlement_handed : (p : ℕ) → p < length w.promises.settled → IsSettling w (settlement_of w p)
   settlement_handed p made = settled_read (settlement_at w.promises.settled p) (all_read (IsSettled w) w.promises.settled p no_promise this_whole.settled made)
 
 -- ---- each delivery

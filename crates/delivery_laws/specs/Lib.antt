@@ -1,4 +1,3 @@
 pub mod Told
 pub mod Works
 pub mod Hosts
-pub mod Printed

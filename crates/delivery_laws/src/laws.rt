@@ -2,8 +2,7 @@
 
 ghost use Rattle.std.specs.Prelude.{IfOk, IfSome, ◌≡◌, ◌≤◌, ◌<◌, ◌+◌, ◌*◌, ◌^◌, ℕ, List, length};
 ghost use Rattle.delivery_laws.specs.Hosts.{IsGoodHost};
-ghost use Rattle.delivery_laws.specs.Printed.{IsToldInForm};
-ghost use Rattle.delivery_laws.specs.Told.{IsUnstaged, with_log};
+ghost use Rattle.delivery_laws.specs.Told.{with_log};
 ghost use Rattle.delivery_laws.specs.Works.{AreGoodHostCalls, Evaluates, IsCallWork, IsOut, IsRun, LabelIsFree};
 ghost use Rattle.delivery_laws.specs.Works.{most_meter};
 ghost use Rattle.delivery_turns.specs.Endings.{ending};
@@ -77,18 +76,4 @@ pub fn steps_keep_hosts_good()
     ensures step { (read : TextReader) (s : HostState)
         → AreGoodServices (serve read) → AreGoodHostCalls → IsGoodHost s → s.turns < most_turns
         → IfSome (step_of read s) (λ step. IsGoodHost step.next) }
-{}
-
-/// What a turn tells of its delivery can be printed: what was delivered and read for it, the arguments, the answer.
-pub fn what_is_told_of_deliveries_prints()
-    ensures told { (read : TextReader) (meter : ℕ) (w : State) (d : Delivery)
-        → AreGoodServices (serve read) → AreGoodHostCalls → meter ≤ most_meter
-        → IsGoodWorld (in_front d w) → IsRoomy w.rights.out most_issued
-        → IsToldInForm d (delivery_turn read meter w d) }
-{}
-
-/// After a turn nothing is staged.
-pub fn nothing_stays_staged()
-    ensures unstaged { (read : TextReader) (meter : ℕ) (w : State) (d : Delivery)
-        → IsUnstaged (after_all w (delivery_turn read meter w d).effects) }
 {}

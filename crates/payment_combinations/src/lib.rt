@@ -52,8 +52,7 @@ fn combine_stored(draft: &mut Draft, first: &Movement, moves: &[Movement]) -> Re
     requires sum { HaveSum moves.now }
     requires has { Contains (hand_now draft.old first.now.brand) (whole_moved moves.now).content }
     requires brand { IsOfBrand draft.old.now first.now.brand (whole_moved moves.now) }
-    requires reach { MayReach draft.old.now first.now.to
-        (amount_of first.now.brand (whole_moved moves.now)) }
+    requires reach { MayReach draft.old.now first.now.to (amount_of first.now.brand (whole_moved moves.now)) }
     ensures ok { OnOk result (IsStoring draft.old draft.new
         (put_to draft.old.now first.now.to (amount_of first.now.brand (whole_moved moves.now)))
         (hand_minus (hand_now draft.old) first.now.brand (whole_moved moves.now).content)) }

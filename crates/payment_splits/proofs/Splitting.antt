@@ -1,5 +1,5 @@
 -- A split of a payment that can be made in the world can be made in a draft, and makes of the rights what its movements make together.
-use Rattle.core.specs.List.{slice_get}
+use Rattle.std.specs.List.{slice_get}
 use Rattle.std.specs.Prelude.{IsSomeAnd, cond, slice_set, unwrap_or}
 use Rattle.std.proofs.Common.{◌≡◌, ◌≢◌, inl, inr, ℕ, ◌<◌, ◌≤◌, ◌==◌, List, [], ◌∷◌, ◌++◌, None, Option, Some, length, map, refl, sym, ◌∙◌, ap, subst, arith}
 use Rattle.std.proofs.lemmas.Bool.{cases_eq, eq-eqb, ne_eqb}

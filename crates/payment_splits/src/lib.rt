@@ -19,6 +19,7 @@ ghost use Rattle.world_state.specs.Good.{CanMoveTogether};
 ghost use Rattle.world_state.specs.Rights.{moved_together};
 
 use amount_math::Value;
+use right_reads::payment_reads::payment_amount;
 use rights_model::{Holder, Movement};
 use std::alloc::AllocError;
 use stored_parts::{put_all, store_part};
@@ -67,12 +68,7 @@ fn payment_value(draft: &Draft, payment: u32) -> Result<Value, AllocError>
     requires { IsPaymentOf draft.now.now payment (worth_at draft.now.now payment) }
     ensures { IfOk result (λ value. value ≡ worth_at draft.now.now payment) }
 {
-    let payments = draft.payments();
-    let _made = payments.made();
-    let Some(found) = payments.find(payment) else {
-        unreachable!();
-    };
-    let Ok(held) = payments.amount(found) else {
+    let Some(held) = payment_amount(draft, payment) else {
         unreachable!();
     };
     held.copy()

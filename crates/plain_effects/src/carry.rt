@@ -35,10 +35,7 @@ pub fn carry_promises(
 }
 
 /// An effect on installations and instances.
-pub fn carry_instances(
-    stores: &mut PlainStores,
-    effect: InstancesEffect,
-) -> Result<(), AllocError>
+pub fn carry_instances(stores: &mut PlainStores, effect: InstancesEffect) -> Result<(), AllocError>
     requires { CanInstances (plain_now stores.old) effect }
     ensures ok { OnOk result (Becomes stores.old stores.new (instances_view effect)) }
     ensures start { plain_at_start stores.new ≡ plain_at_start stores.old }

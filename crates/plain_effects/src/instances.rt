@@ -41,7 +41,8 @@ fn make_instance(
 ) -> Result<u32, AllocError>
     requires made { installation < length (plain_now stores.old).tables.installations }
     ensures ok { OnOk result (plain_now stores.new ≡ record (plain_now stores.old) {
-        tables = started installation issuers (tree terms) (plain_now stores.old).tables }) }
+      tables = started installation issuers (tree terms) (plain_now stores.old).tables;
+    }) }
     ensures number { IfOk result (λ number. number ≡ length (plain_now stores.old).tables.instances) }
     ensures start { plain_at_start stores.new ≡ plain_at_start stores.old }
 {
@@ -58,12 +59,13 @@ fn queue_start(
     private_arguments: Data,
 ) -> Result<(), AllocError>
     ensures ok { OnOk result (plain_now stores.new ≡ record (plain_now stores.old) {
-        promises = with_promise None (plain_now stores.old).promises;
-        waiting = (plain_now stores.old).waiting ++ deliveries.start (record {
-            instance = instance;
-            private_arguments = tree private_arguments;
-            promise = length (plain_now stores.old).promises.settled;
-        }) ∷ [] }) }
+      promises = with_promise None (plain_now stores.old).promises;
+      waiting = (plain_now stores.old).waiting ++ deliveries.start (record {
+        instance = instance;
+        private_arguments = tree private_arguments;
+        promise = length (plain_now stores.old).promises.settled;
+      }) ∷ [];
+    }) }
     ensures start { plain_at_start stores.new ≡ plain_at_start stores.old }
 {
     let promise = match stores.promises.make() {

@@ -41,7 +41,10 @@ pub fn resolve(
         (worlds.resolve promise (settlement_view settlement))) }
     ensures start { plain_at_start stores.new ≡ plain_at_start stores.old }
 {
-    match stores.promises.resolve(promise, settlement, &mut stores.queue, &mut stores.log) {
+    match stores
+        .promises
+        .resolve(promise, settlement, &mut stores.queue, &mut stores.log)
+    {
         Ok(()) => Ok(()),
         Err(_) => Err(AllocError),
     }
@@ -106,7 +109,12 @@ pub fn wake(stores: &mut PlainStores, time: u64, wakeup: Wakeup) -> Result<(), A
     ensures ok { OnOk result (Becomes stores.old stores.new (worlds.wake time (wakeup_view wakeup))) }
     ensures start { plain_at_start stores.new ≡ plain_at_start stores.old }
 {
-    deliver_at(&mut stores.timer, &mut stores.queue, time, Timed::Wake(wakeup))
+    deliver_at(
+        &mut stores.timer,
+        &mut stores.queue,
+        time,
+        Timed::Wake(wakeup),
+    )
 }
 
 /// The timer is set to a time that isn't earlier, and what is due is to be delivered.

@@ -94,7 +94,10 @@ fn log_opening(
     proposal: Proposal,
 ) -> Result<(), AllocError>
     ensures { OnOk result (log_of log.new ≡ log_of log.old ++ events.opened (record {
-        seat = seat; instance = instance; proposal = proposal; }) ∷ []) }
+      seat = seat;
+      instance = instance;
+      proposal = proposal;
+    }) ∷ []) }
 {
     log.push(Event::Opened(Opening {
         seat,
@@ -109,8 +112,9 @@ fn log_opening(
 /// The next seat gets the two next promises, both pending.
 fn open_pair(stores: &mut PlainStores) -> Result<SeatPair, AllocError>
     ensures ok { IfOk result (λ pair. plain_now stores.new ≡ record (plain_now stores.old) {
-        promises = with_promise None (with_promise None (plain_now stores.old).promises);
-        pairs = (plain_now stores.old).pairs ++ pair ∷ []; }) }
+      promises = with_promise None (with_promise None (plain_now stores.old).promises);
+      pairs = (plain_now stores.old).pairs ++ pair ∷ [];
+    }) }
     ensures results { IfOk result (λ pair. pair.«result» ≡ length (plain_now stores.old).promises.settled) }
     ensures payouts { IfOk result (λ pair. pair.payouts ≡ length (plain_now stores.old).promises.settled + 1) }
     ensures start { plain_at_start stores.new ≡ plain_at_start stores.old }
@@ -157,12 +161,13 @@ fn handler_call(
 ) -> Result<Delivery, AllocError>
     requires { invitation < length (plain_now stores.now).invitations }
     ensures { IfOk result (λ made. delivery_view made ≡ deliveries.offer (record {
-        instance = (details_at (plain_now stores.now).invitations invitation).instance;
-        seat = seat;
-        function = (details_at (plain_now stores.now).invitations invitation).handler;
-        offer_arguments = tree arguments;
-        held = (details_at (plain_now stores.now).invitations invitation).held;
-        promise = promise; })) }
+      instance = (details_at (plain_now stores.now).invitations invitation).instance;
+      seat = seat;
+      function = (details_at (plain_now stores.now).invitations invitation).handler;
+      offer_arguments = tree arguments;
+      held = (details_at (plain_now stores.now).invitations invitation).held;
+      promise = promise;
+    })) }
 {
     let details = stores.invitations.details(invitation);
     let function = details.handler.copy(alloc)?;
@@ -233,7 +238,10 @@ fn log_offer(
     escrows: Vec<Movement>,
 ) -> Result<(), AllocError>
     ensures { OnOk result (log_of log.new ≡ log_of log.old ++ events.opened (record {
-        seat = seat; instance = instance; proposal = proposal; })
+      seat = seat;
+      instance = instance;
+      proposal = proposal;
+    })
         ∷ map events.moved (burn ∷ escrows.items)) }
 {
     log_opening(log, seat, instance, proposal)?;
@@ -352,7 +360,12 @@ fn place_payout(
         kind: ObjKind::Payment,
         number: payout.payment,
     };
-    place(alloc, fields, payout.keyword.as_str(), Data::Object(payment))
+    place(
+        alloc,
+        fields,
+        payout.keyword.as_str(),
+        Data::Object(payment),
+    )
 }
 
 /// What leaving a seat does that touches no rights, once it is paid out: it is told, and the promise of its
@@ -375,9 +388,12 @@ pub fn exit(
     let record = payments_data(alloc, &payouts)?;
     log_exit(&mut stores.log, seat, cause, payouts, moves)?;
     let promise = stores.pairs.of(seat).payouts;
-    stores
-        .promises
-        .settle(promise, Settlement::Ok(record), &mut stores.queue, &mut stores.log)
+    stores.promises.settle(
+        promise,
+        Settlement::Ok(record),
+        &mut stores.queue,
+        &mut stores.log,
+    )
 }
 
 /// That a seat is left is told, and then the movements that pay it out.
@@ -389,7 +405,10 @@ fn log_exit(
     moves: Vec<Movement>,
 ) -> Result<(), AllocError>
     ensures { OnOk result (log_of log.new ≡ log_of log.old ++ events.exited (record {
-        seat = seat; cause = cause_view cause; payouts = payout_views payouts.items; })
+      seat = seat;
+      cause = cause_view cause;
+      payouts = payout_views payouts.items;
+    })
         ∷ map events.moved moves.items) }
 {
     log.push(Event::Exited(Leaving {

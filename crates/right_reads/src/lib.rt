@@ -3,7 +3,6 @@
 //! lists; what is held is lent, and nothing goes over what was made.
 #![tactic(auto)]
 
-pub mod payments;
-pub mod purses;
-pub mod seats;
-pub mod values;
+pub mod payment_reads;
+pub mod purse_reads;
+pub mod seat_reads;

@@ -1,3 +1,0 @@
-pub mod Inviting
-pub mod KeywordTests
-pub mod ReadRows
