@@ -81,6 +81,20 @@ pub record IsContractMove (w : State) (i : ℕ) (o : Obj) (m : List ℕ) (args :
   pub takes : ContractTakes w i o m args move.brand move.from
   pub gives : ContractGives w i o m move.brand move.to
 
+-- ---- where what moves is kept
+
+-- purses, payments and slots
+abbrev pub IsStore : Holder → Type 0
+IsStore (Purse n) = Unit {0}
+IsStore (Payment n) = Unit {0}
+IsStore (Slot s k) = Unit {0}
+IsStore Hand = ⊥
+IsStore Outside = ⊥
+
+-- a movement goes to one of them, or comes from one
+abbrev pub IsStored : Movement → Type 0
+IsStored m = IsStore m.from ⊎ IsStore m.to
+
 -- ---- all movements of a call
 
 abbrev pub IsLicensed : State → Option ℕ → Obj → List ℕ → List Tree → Movement → Type 0

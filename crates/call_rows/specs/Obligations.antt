@@ -10,7 +10,7 @@ use Rattle.world_state.specs.Known.{IsFormed, ObjectKnown}
 use Rattle.world_state.specs.Rights.{IsRoomy}
 use Rattle.world_state.specs.Worlds.{Effect, State, after_all, issued_by_all}
 use Rattle.call_rows.specs.Acts.{MayAct}
-use Rattle.call_rows.specs.Licence.{AreLicensed}
+use Rattle.call_rows.specs.Licence.{AreLicensed, IsStored}
 use Rattle.call_rows.specs.Rows.{Outcome}
 use Rattle.call_rows.specs.Traces.{calls_in, departures_by, departures_in, movements_in, openings_by, openings_in}
 
@@ -31,8 +31,8 @@ most_issued_by (Some i) args = 2 ^ 63 * charge_of args
 
 -- The effects are good, each after those before it. The answer names only what the caller may hold then, is in
 -- order and not too deep. Seats are left as the call's target and method say, and opened likewise. The effects are
--- such as calls have, on what is the caller's. Movements take from and go to where they may; little is issued; and
--- at most one function more is to be called.
+-- such as calls have, on what is the caller's. Movements take from and go to where they may, and each goes to or
+-- comes from where things are kept; little is issued; and at most one function more is to be called.
 pub record IsRow (w : State) (caller : Option ℕ) (o : Obj) (m : List ℕ) (args : List Tree) (answer : Tree)
     (effects : List Effect) : Type 0 where
   pub good : AreGood w effects
@@ -41,6 +41,7 @@ pub record IsRow (w : State) (caller : Option ℕ) (o : Obj) (m : List ℕ) (arg
   pub opens : openings_in effects ≡ openings_by o m
   pub acts : AllByRecursion (MayAct w caller o m) effects
   pub licensed : AreLicensed w caller o m args (movements_in effects)
+  pub stored : AllByRecursion IsStored (movements_in effects)
   pub issues : issued_by_all w effects ≤ most_issued_by caller args
   pub calls : calls_in effects ≤ 1
 

@@ -41,7 +41,7 @@ use Rattle.rights_tables.proofs.Left.{left_is, payouts_can}
 use Rattle.rights_tables.proofs.Openings as tables
 use Rattle.rights_tables.proofs.Tabled.{table_agrees, table_is}
 use Rattle.fair_effects.specs.Accounts.{Accounts, AreStoredEffects, IsAccounted, IsKnownEvent, IsStoredEffect, burned_of, is_taken, minted_of, out_of}
-use Rattle.fair_effects.specs.Shown.{IsStored}
+use Rattle.call_rows.specs.Licence.{IsStored}
 use Rattle.fair_effects.proofs.Moves.{all_as_many, movement_valued, moved_valued}
 use Rattle.fair_effects.proofs.Offers as offers
 use Rattle.fair_effects.proofs.Papers.{all_more, all_named, live_of_taken, push_alike, together_taken}

@@ -32,7 +32,8 @@ use Rattle.rights_tables.proofs.Agreeing.{agrees_together}
 use Rattle.rights_tables.proofs.Openings as tables
 use Rattle.rights_tables.proofs.Tabled.{table_agrees, table_is}
 use Rattle.fair_effects.specs.Places.{opening_told, place_of, rows_of, seat_told, seats_told}
-use Rattle.fair_effects.specs.Shown.{AreShown, IsShown, IsStored, TellsActs}
+use Rattle.call_rows.specs.Licence.{IsStored}
+use Rattle.fair_effects.specs.Shown.{AreShown, IsShown, TellsActs}
 use Rattle.fair_effects.proofs.Exits.{exit_tells}
 use Rattle.fair_effects.proofs.Moves.{acts_lead, acts_of, acts_told, all_as_many, movement_valued, moves_are_acts, one_move}
 use Rattle.fair_effects.proofs.Offers.{offer_tells}

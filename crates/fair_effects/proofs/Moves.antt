@@ -38,7 +38,7 @@ use Rattle.world_state.specs.Rights.{CanGive, CanMove, CanMoveAll, CanTake, Has,
 use Rattle.world_state.specs.Worlds.{IsOpen, Seat, no_seat, seat_at}
 use Rattle.rights_tables.proofs.Changes.{under_other, under_with}
 use Rattle.fair_effects.specs.Places.{seat_told, seats_from}
-use Rattle.fair_effects.specs.Shown.{IsStore, IsStored}
+use Rattle.call_rows.specs.Licence.{IsStore, IsStored}
 use Rattle.fair_effects.proofs.Seats.{brand_told, seat_read, told_brand, told_moved}
 use Rattle.fair_effects.proofs.Values as values
 

@@ -38,7 +38,8 @@ use Rattle.rights_tables.proofs.Agreeing.{agrees_together}
 use Rattle.rights_tables.proofs.Openings as tables
 use Rattle.rights_tables.proofs.Tabled.{table_agrees, table_is}
 use Rattle.fair_effects.specs.Places.{opening_told, place_of, rows_of, seat_told, seats_from, seats_told, slot_name}
-use Rattle.fair_effects.specs.Shown.{IsStore, IsStored, TellsActs}
+use Rattle.call_rows.specs.Licence.{IsStore, IsStored}
+use Rattle.fair_effects.specs.Shown.{TellsActs}
 use Rattle.fair_effects.proofs.Moves.{all_as_many, from_made, move_row, taken_as_many}
 use Rattle.fair_effects.proofs.Openings.{HasItsBrand, brands_opened, one_seat_more, others_before, rows_ordered, seat_opened}
 use Rattle.fair_effects.proofs.Rows.{all_values, move_rows, movements_of_rows, rows_append, rows_of_moves, table_told}

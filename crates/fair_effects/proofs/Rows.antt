@@ -23,7 +23,7 @@ use Rattle.world_state.specs.Promises.{CascadeStep, Flow, PromiseBook, all_stepp
 use Rattle.world_state.specs.Rights.{CanMoveAll, Rights, hand_after, moved}
 use Rattle.turn_records.specs.Deliveries.{Delivery}
 use Rattle.fair_effects.specs.Places.{rows_of}
-use Rattle.fair_effects.specs.Shown.{IsStored}
+use Rattle.call_rows.specs.Licence.{IsStored}
 use Rattle.fair_effects.proofs.Moves.{move_row, moved_valued, movement_valued}
 use Rattle.fair_effects.proofs.Values as values
 

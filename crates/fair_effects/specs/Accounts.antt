@@ -16,7 +16,7 @@ use Rattle.world_state.specs.Good.{AreRowsOf, AreRowsValued, IsOfKind, IsValued}
 use Rattle.world_state.specs.Rights.{Rights}
 use Rattle.world_state.specs.Worlds.{Effect, State, moves}
 use Rattle.rights_tables.specs.Tables.{table_of}
-use Rattle.fair_effects.specs.Shown.{IsStored}
+use Rattle.call_rows.specs.Licence.{IsStored}
 
 abbrev pub out_of : Rights → ℕ → Content
 out_of r b = (supply_at r.out b).outstanding.content

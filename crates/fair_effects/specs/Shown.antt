@@ -1,31 +1,17 @@
 -- What the rows of a turn must show for the row that an effect writes; and what effects tell then.
-use Rattle.std.specs.Prelude.{◌≡◌, ◌⊎◌, true, false, List, [], ◌∷◌, ◌++◌, Some, length}
+use Rattle.std.specs.Prelude.{◌≡◌, true, false, List, [], ◌∷◌, ◌++◌, Some, length}
 use Rattle.std.specs.List.{AllByRecursion}
 use Rattle.fair_rows.specs.Acts.{Act, AreActs, place_after, rows_of_acts}
 use Rattle.fair_rows.specs.Amounts.{IsReadByCall}
 use Rattle.fair_rows.specs.ExitCauses.{Owners, first_cause}
 use Rattle.fair_rows.specs.Rows.{IsEmptySeat, is_offer}
-use Rattle.rights_model.specs.declared.Holder.{Holder}
-use Rattle.rights_model.specs.declared.Holder.TheVariants.{Purse, Payment, Slot, Hand, Outside}
-use Rattle.rights_model.specs.declared.Movement.{Movement}
 use Rattle.turn_records.specs.Printed.{printed_call}
 use Rattle.turn_rows.specs.Turns.{Turn}
 use Rattle.world_state.specs.Worlds.{Effect, State, after, empty_seat, exit, moves, new_seat}
 use Rattle.world_state.specs.Worlds.{note_call, of_own, offer, seat_at}
 use Rattle.rights_tables.specs.Tables.{table_of}
+use Rattle.call_rows.specs.Licence.{IsStored}
 use Rattle.fair_effects.specs.Places.{opening_told, place_of, rows_of, seats_told}
-
--- purses, payments and slots
-abbrev pub IsStore : Holder → Type 0
-IsStore (Purse n) = Unit {0}
-IsStore (Payment n) = Unit {0}
-IsStore (Slot s k) = Unit {0}
-IsStore Hand = ⊥
-IsStore Outside = ⊥
-
--- a movement goes to one of them, or comes from one
-abbrev pub IsStored : Movement → Type 0
-IsStored m = IsStore m.from ⊎ IsStore m.to
 
 -- An offer's seat is opened in the turn of an offer that is answered, an instance's own right after the call that
 -- asks for it; a seat is left for the first cause that is shown; and what a call answers is what is held.
