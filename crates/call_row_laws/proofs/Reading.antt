@@ -33,6 +33,7 @@ reads w caller o m args (Ok t) leaves opens known = record {
   opens = sym opens;
   acts = tt;
   licensed = tt;
+  stored = tt;
   issues = zero_le (most_issued_by caller args);
   calls = omega arith;
 }

@@ -2,7 +2,7 @@
 -- be made together.
 use Rattle.std.specs.Prelude.{IsSome, IsSomeAnd, is_none, slice_set}
 use Rattle.std.specs.List.{AllByRecursion}
-use Rattle.std.proofs.Common.{◌≡◌, ◌≢◌, ℕ, zero, suc, ◌+◌, ◌<◌, ◌≤◌, ◌^◌, List, [], ◌∷◌, Some, None, Option, length, map, inl, inr, refl, sym, ◌∙◌, ap, subst, arith, if◌then◌else◌}
+use Rattle.std.proofs.Common.{◌≡◌, ◌≢◌, ℕ, zero, suc, ◌+◌, ◌<◌, ◌≤◌, ◌^◌, List, [], ◌∷◌, Some, None, Option, length, map, inl, inr, ◌++◌, refl, sym, ◌∙◌, ap, subst, arith, if◌then◌else◌}
 use Rattle.std.proofs.lemmas.Bool.{cases_eq, false≢true}
 use Rattle.amount_math.specs.Content.{Content, Contains, count, count-nothing, count-sum, sum}
 use Rattle.amount_math.specs.Counted.{counted}
@@ -23,6 +23,7 @@ use Rattle.service_rows.specs.OfferRows.{escrows_of}
 use Rattle.world_state.specs.Good.{AreEscrows, AreNamed, AreRowsOf, CanMoveTogether, HasNothing, HasRoom, HoldsNothing, IsFresh, IsGoodMove, LeavesSafe, LeavesSlots, TakeApart, open_slots}
 use Rattle.world_state.specs.Rights.{CanMoveAll, Has, Rights, TakesOrOpens, all_moved, given, issued_in, paper_less, rows_more, slots_at, taken}
 use Rattle.world_state.specs.Worlds.{IsOpen, Seat, no_seat, seat_at, staged_at}
+use Rattle.call_rows.specs.Licence.{IsStored}
 use Rattle.call_row_laws.proofs.Moving.{Holds, contains_itself, emptied_paper}
 use Rattle.call_row_laws.proofs.SlotLists.{CanAddAll, moved_amount, with_more}
 use Rattle.call_row_laws.proofs.Spending.{spent_length}
@@ -172,6 +173,11 @@ module _ (s : ℕ) where
   escrows_issued [] ps = refl
   escrows_issued (x ∷ xs) [] = refl
   escrows_issued (x ∷ xs) (p ∷ ps) = omega (arith, escrows_issued xs ps)
+
+  pub escrows_stored : (rows : List Row) (ps : List ℕ) → AllByRecursion IsStored (escrows_of s rows ps ++ [])
+  escrows_stored [] ps = tt
+  escrows_stored (x ∷ xs) [] = tt
+  escrows_stored (x ∷ xs) (p ∷ ps) = (inl tt, escrows_stored xs ps)
 
   pub escrows_take_apart : (rows : List Row) (ps : List ℕ) (q : ℕ) → IsNoneOf ps q → AllByRecursion (λ (m : Movement). m.from ≢ Payment q) (escrows_of s rows ps)
   escrows_take_apart [] ps q none = tt

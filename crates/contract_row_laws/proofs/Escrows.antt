@@ -35,13 +35,13 @@ use Rattle.call_row_laws.proofs.Records.{fields_in, fields_ordered}
 use Rattle.call_row_laws.proofs.RowsRead.{IsReadRow, Rising, read_of_kinds, rising_apart, rising_names, row_names}
 use Rattle.call_row_laws.proofs.Shown.{handed_held}
 use Rattle.call_row_laws.proofs.SlotLists.{can_add_all, can_take_all, each_of_all, still_safe, with_less, with_less_many, with_more, with_more_grows, with_more_many}
-use Rattle.call_row_laws.proofs.SlotMoves.{Pay, escrows_can, escrows_emptied, escrows_fresh, escrows_good, escrows_issued, escrows_payments, escrows_slots}
+use Rattle.call_row_laws.proofs.SlotMoves.{Pay, escrows_can, escrows_emptied, escrows_fresh, escrows_good, escrows_issued, escrows_payments, escrows_slots, escrows_stored}
 use Rattle.call_row_laws.proofs.Spending.{spent_length}
 use Rattle.contract_rows.specs.SeatRows.{allocation_of, seat_of}
 use Rattle.contract_row_laws.specs.Good.{IsGoodCall, numbered}
 use Rattle.contract_row_laws.proofs.Given.{AreGiven, IsOwn, OfBrand, all_add, all_take, gains_many, losses_many, neither, of_slot, own_is, record_at_is, room_is, rows_given, seat_slots}
 use Rattle.contract_row_laws.proofs.Losses.{safe_less}
-use Rattle.contract_row_laws.proofs.SeatMoves.{changes_here, payouts_can, payouts_emptied, payouts_fresh, payouts_good, payouts_issued, payouts_payments, payouts_slots}
+use Rattle.contract_row_laws.proofs.SeatMoves.{changes_here, payouts_can, payouts_emptied, payouts_fresh, payouts_good, payouts_issued, payouts_payments, payouts_slots, payouts_stored}
 
 fitting : (w : State) (i seat : ℕ) (r : RowData) → is_misfit (issuers_of w i) (allocation_of w seat) r ≡ false → OfBrand (allocation_of w seat) r.keyword r.amount.brand
 fitting w i seat r is = of_slot (allocation_of w seat) r (neither _ (is_other (allocation_of w seat) r) is).1
@@ -98,6 +98,7 @@ deposit_is w i n args can = after_check _ _ _ (after_step _ _ _ (λ seat at. aft
       opens = refl;
       acts = (own.own, (tt, tt));
       licensed = licensed_escrows w i n seat args own rows ps paid.named;
+      stored = escrows_stored seat rows ps;
       issues = omega (arith, escrows_issued seat rows ps);
       calls = omega arith;
     })))))))
@@ -144,6 +145,7 @@ withdraw_is w i n args can = after_check _ _ _ (after_step _ _ _ (λ seat at. af
       opens = refl;
       acts = (own.own, (tt, tt));
       licensed = licensed_payouts w i n seat args own rows first (omega arith);
+      stored = payouts_stored seat rows first;
       issues = omega (arith, payouts_issued seat rows first);
       calls = omega arith;
     }))))))

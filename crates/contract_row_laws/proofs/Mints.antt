@@ -36,7 +36,7 @@ use Rattle.contract_rows.specs.SeatRows.{allocation_of, seat_of}
 use Rattle.contract_row_laws.specs.Good.{IsGoodCall, numbered}
 use Rattle.contract_row_laws.proofs.Given.{AreGiven, IsOwn, OfBrand, all_add, all_take, neither, of_slot, own_is, passed, room_is, rows_given, seat_slots}
 use Rattle.contract_row_laws.proofs.Losses.{safe_less}
-use Rattle.contract_row_laws.proofs.SeatMoves.{balanced_hand, changes_here, gains_can, gains_emptied, gains_fresh, gains_good, gains_issued, gains_payments, gains_slots, losses_can, losses_emptied, losses_fresh, losses_good, losses_issued, losses_payments, losses_slots}
+use Rattle.contract_row_laws.proofs.SeatMoves.{balanced_hand, changes_here, gains_can, gains_emptied, gains_fresh, gains_good, gains_issued, gains_payments, gains_slots, gains_stored, losses_can, losses_emptied, losses_fresh, losses_good, losses_issued, losses_payments, losses_slots, losses_stored}
 use Rattle.contract_row_laws.proofs.Given.{gains_many, losses_many}
 
 -- a row is of the mint's brand, and the slot of its keyword too
@@ -124,6 +124,7 @@ gains_are w i n args can = after_check _ _ _ (after_step _ _ _ (λ seat at. afte
       opens = refl;
       acts = (own.own, (tt, tt));
       licensed = licensed_gains w i n seat args can.target own rows brands;
+      stored = gains_stored seat rows;
       issues = omega (arith, gains_issued seat rows, given.counts);
       calls = omega arith;
     }))))))
@@ -158,6 +159,7 @@ burn_is w i n args can = after_check _ _ _ (after_step _ _ _ (λ seat at. after_
       opens = refl;
       acts = (own.own, (tt, tt));
       licensed = licensed_losses w i n seat args can.target own rows brands;
+      stored = losses_stored seat rows;
       issues = omega (arith, losses_issued seat rows);
       calls = omega arith;
     }))))))

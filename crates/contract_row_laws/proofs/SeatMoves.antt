@@ -1,7 +1,7 @@
 -- Movements between the slots of one seat and outside, and from its slots to payments that they make.
 use Rattle.std.specs.Prelude.{map, slice_set, ◌==◌}
 use Rattle.std.specs.List.{AllByRecursion}
-use Rattle.std.proofs.Common.{◌≡◌, ℕ, suc, ◌+◌, ◌<◌, ◌≤◌, ◌^◌, cond, List, [], ◌∷◌, length, None, refl, sym, ap, subst, ◌∙◌, arith}
+use Rattle.std.proofs.Common.{◌≡◌, ℕ, suc, ◌+◌, ◌<◌, ◌≤◌, ◌^◌, cond, List, [], ◌∷◌, length, None, inl, inr, ◌++◌, refl, sym, ap, subst, ◌∙◌, arith}
 use Rattle.std.proofs.lemmas.Bool.{eq-eqb}
 use Rattle.amount_math.specs.Content.{Content, Contains, count, count-nothing, count-sum, nothing, sum}
 use Rattle.amount_math.specs.Worth.{Fits, IsValue, Worth, bound}
@@ -26,6 +26,7 @@ use Rattle.world_laws.proofs.OfKinds.{rows_stay, same_moved, stay_same}
 use Rattle.world_state.specs.Good.{AreGood, AreNamed, AreRowsOf, HasNothing, IsBalanced, IsFresh, IsGoodMove, IsGoodWorld, open_slots}
 use Rattle.world_state.specs.Rights.{CanMove, CanMoveAll, CanTake, HasOrOpens, IsNextOr, MayCome, PaymentTakes, Rights, TakesOrOpens, all_moved, given, issued_in, kind_at, moved, paid, rows_less, rows_more, slots_at, taken}
 use Rattle.world_state.specs.Worlds.{IsOpen, Seat, State, payout_moves, seat_at}
+use Rattle.call_rows.specs.Licence.{IsStored}
 use Rattle.call_row_laws.proofs.Moving.{paid_next}
 use Rattle.call_row_laws.proofs.SlotLists.{CanAddAll, CanTakeAll, moved_amount, with_less, with_more}
 use Rattle.call_row_laws.proofs.SlotMoves.{at_seat, can_change}
@@ -124,6 +125,10 @@ module _ (s : ℕ) where
   gains_issued [] = refl
   gains_issued (x ∷ xs) = omega (arith, gains_issued xs)
 
+  pub gains_stored : (rows : List Row) → AllByRecursion IsStored (map (gain s) rows ++ [])
+  gains_stored [] = tt
+  gains_stored (x ∷ xs) = (inr tt, gains_stored xs)
+
   -- ---- to outside
 
   abbrev loss_step : Rights → Row → Rights
@@ -184,6 +189,10 @@ module _ (s : ℕ) where
   losses_issued [] = refl
   losses_issued (x ∷ xs) = omega (arith, losses_issued xs)
 
+  pub losses_stored : (rows : List Row) → AllByRecursion IsStored (map (loss s) rows ++ [])
+  losses_stored [] = tt
+  losses_stored (x ∷ xs) = (inl tt, losses_stored xs)
+
   -- ---- to payments
 
   abbrev payout_step : Rights → ℕ → Row → Rights
@@ -232,3 +241,7 @@ module _ (s : ℕ) where
   pub payouts_issued : (rows : List Row) (n : ℕ) → issued_in (payout_moves s n rows) ≡ 0
   payouts_issued [] n = refl
   payouts_issued (x ∷ xs) n = omega (arith, payouts_issued xs (suc n))
+
+  pub payouts_stored : (rows : List Row) (n : ℕ) → AllByRecursion IsStored (payout_moves s n rows ++ [])
+  payouts_stored [] n = tt
+  payouts_stored (x ∷ xs) n = (inl tt, payouts_stored xs (suc n))

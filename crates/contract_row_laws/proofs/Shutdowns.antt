@@ -11,7 +11,7 @@ use Rattle.world_state.specs.Known.{IsSeatOf}
 use Rattle.world_state.specs.Rights.{slots_at}
 use Rattle.world_state.specs.Worlds.{State, after, exit, halt, issued_by_all}
 use Rattle.call_rows.specs.Acts.{MayAct}
-use Rattle.call_rows.specs.Licence.{AreLicensed}
+use Rattle.call_rows.specs.Licence.{AreLicensed, IsStored}
 use Rattle.call_rows.specs.Obligations.{IsGoodOutcome}
 use Rattle.call_rows.specs.Traces.{all_halted, all_open, calls_in, departure, departures_by, departures_in, movements_in, openings_by, openings_in}
 use Rattle.call_row_laws.proofs.Forms.{null_formed}
@@ -66,6 +66,7 @@ module _ (w : State) (i : ℕ) (args : List Tree) (made : i < length w.tables.in
     opens = opened_by i (all_open w i) ∙ sym opens;
     acts = acts_by i w (numbered kinds.Zcf i) m (all_open w i) (all_own i w.seats);
     licensed = subst (λ ms. AreLicensed w (Some i) (numbered kinds.Zcf i) m args ms) (sym (moved_by i (all_open w i))) tt;
+    stored = subst (λ ms. AllByRecursion IsStored ms) (sym (moved_by i (all_open w i))) tt;
     issues = omega (arith, issued_by_none i w (all_open w i));
     calls = subst (λ k. k ≤ 1) (sym (called_by i (all_open w i))) (omega arith);
   }))

@@ -173,6 +173,7 @@ module _ (w : State) (i n : ℕ) (args : List Tree) (can : CanCall w (Some i) (n
     opens = sym opens;
     acts = (can.target, tt);
     licensed = tt;
+    stored = tt;
     issues = omega arith;
     calls = omega arith;
   }

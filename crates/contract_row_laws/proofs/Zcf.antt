@@ -46,6 +46,7 @@ invited w i n args can = after_check _ _ _ (after_step _ _ _ (λ f is. after_ste
   leaves = refl;
   opens = refl;
   licensed = tt;
+  stored = tt;
   acts = (record { by = refl; target = record { kind_is = refl; number_is = refl }; method = refl }, tt);
   issues = omega (arith, counted_one (element (length w.invitations)));
   calls = omega arith;
@@ -83,6 +84,7 @@ stop_is w i n args can = record {
   leaves = refl;
   opens = refl;
   licensed = tt;
+  stored = tt;
   acts = (ap Some (sym can.target), tt);
   issues = omega arith;
   calls = omega arith;

@@ -8,7 +8,7 @@ use Rattle.amount_math.specs.Content.{Content, Contains-sum, count, count-nothin
 use Rattle.amount_math.specs.Worth.{IsValue, Worth}
 use Rattle.amount_math.specs.declared.Kind.{Kind}
 use Rattle.call_data.specs.Amounts.{IsValueOf}
-use Rattle.call_rows.specs.Licence.{AreLicensed, NamesPayment}
+use Rattle.call_rows.specs.Licence.{AreLicensed, IsStored, NamesPayment}
 use Rattle.call_row_laws.proofs.Moving.{Holds, held_brand, held_kind}
 use Rattle.ertp_mint.specs.Stocks.{most_made}
 use Rattle.ertp_rows.specs.Lists.{moves_apart}
@@ -116,6 +116,10 @@ nothing_left r p b kind left = subst (λ (o : Option Worth). IfSome o (λ (x : W
 pub licensed_apart : (w : State) (o : Obj) (m : List ℕ) (args : List Tree) (p b n : ℕ) (vs : List Worth) → NamesPayment args p → AreLicensed w None o m args (moves_apart b p n vs ++ [])
 licensed_apart w o m args p b n [] named = tt
 licensed_apart w o m args p b n (v ∷ vs) named = (named, licensed_apart w o m args p b (suc n) vs named)
+
+pub stored_apart : (p b n : ℕ) (vs : List Worth) → AllByRecursion IsStored (moves_apart b p n vs ++ [])
+stored_apart p b n [] = tt
+stored_apart p b n (v ∷ vs) = (inl tt, stored_apart p b (suc n) vs)
 
 pub issued_apart : (p b n : ℕ) (vs : List Worth) → issued_in (moves_apart b p n vs) ≡ 0
 issued_apart p b n [] = refl

@@ -1,6 +1,6 @@
 -- The methods of issuers are good rows.
 use Rattle.std.specs.List.{AllByRecursion}
-use Rattle.std.proofs.Common.{◌≡◌, ℕ, suc, ◌+◌, ◌<◌, ◌≤◌, List, [], ◌∷◌, length, None, IfOk, codes, refl, sym, ap, subst, ◌∙◌, arith}
+use Rattle.std.proofs.Common.{◌≡◌, ℕ, suc, ◌+◌, ◌<◌, ◌≤◌, List, [], ◌∷◌, length, None, IfOk, codes, inl, refl, sym, ap, subst, ◌∙◌, arith}
 use Rattle.amount_math.specs.Content.{Contains, count-difference, difference, sum, sum-comm, sum-difference, sum-nothing}
 use Rattle.amount_math.specs.KindLaws.{value_of_part}
 use Rattle.amount_math.specs.Worth.{IsValue, Worth}
@@ -42,11 +42,11 @@ use Rattle.ertp_rows.specs.BrandRows.{get_alleged_name, get_asset_kind}
 use Rattle.ertp_rows.specs.Ertp.{of_issuer}
 use Rattle.ertp_rows.specs.IssuerRows.{claim, combine, get_amount_of, rest_of, split, split_many}
 use Rattle.ertp_rows.specs.Lists.{combined, moves_apart, moves_to, parted, payments_from, values_of}
-use Rattle.service_row_laws.proofs.Apart.{licensed_apart, issued_apart, parted_can, payments_apart}
+use Rattle.service_row_laws.proofs.Apart.{licensed_apart, issued_apart, parted_can, payments_apart, stored_apart}
 use Rattle.service_row_laws.proofs.Lists.{AreGiven, after_next_payments, listed_are, parts_are, sum_is, summed_value}
 use Rattle.call_row_laws.proofs.Spending.{spent_length}
 use Rattle.service_row_laws.proofs.Readers.{kind_formed, name_formed}
-use Rattle.service_row_laws.proofs.Together.{gathered_can, gathered_length, licensed_to, issued_to}
+use Rattle.service_row_laws.proofs.Together.{gathered_can, gathered_length, licensed_to, issued_to, stored_to}
 
 -- ---- arrays of payments
 
@@ -91,6 +91,7 @@ module _ (w : State) (n : ℕ) (args : List Tree) (can : CanCall w None (numbere
         leaves = refl;
         opens = refl;
         licensed = (given.named, tt);
+        stored = (inl tt, tt);
         acts = (tt, tt);
         issues = omega arith;
         calls = omega arith;
@@ -107,6 +108,7 @@ module _ (w : State) (n : ℕ) (args : List Tree) (can : CanCall w None (numbere
         leaves = refl;
         opens = refl;
         licensed = licensed_apart w (numbered kinds.Issuer n) m args g.number n next vs given.named;
+        stored = stored_apart g.number n next vs;
         acts = (tt, tt);
         issues = omega (arith, issued_apart g.number n next vs);
         calls = omega arith;
@@ -167,6 +169,7 @@ module _ (w : State) (n : ℕ) (args : List Tree) (can : CanCall w None (numbere
     leaves = refl;
     opens = refl;
     licensed = tt;
+    stored = tt;
     acts = (refl, tt);
     issues = omega arith;
     calls = omega arith;
@@ -180,6 +183,7 @@ module _ (w : State) (n : ℕ) (args : List Tree) (can : CanCall w None (numbere
         leaves = refl;
         opens = refl;
         licensed = licensed_to w (numbered kinds.Issuer n) (codes "combine") args next n (g ∷ gs) (names_all (g ∷ gs) are.given);
+        stored = stored_to next n (g ∷ gs);
         acts = (tt, tt);
         issues = omega (arith, issued_to next n (g ∷ gs));
         calls = omega arith;

@@ -1,5 +1,5 @@
 -- The methods of purses and of their deposit facets are good rows.
-use Rattle.std.proofs.Common.{ℕ, ◌<◌, List, length, None, IfOk, codes, refl, sym, ◌∙◌, arith}
+use Rattle.std.proofs.Common.{ℕ, ◌<◌, List, length, None, IfOk, codes, inl, refl, sym, ◌∙◌, arith}
 use Rattle.ertp_mint.specs.Stocks.{no_amount}
 use Rattle.jessie_tree.specs.Tree.{Tree}
 use Rattle.jessie_tree.specs.declared.data.ObjKind.TheVariants as kinds
@@ -51,6 +51,7 @@ module _ (w : State) (n : ℕ) (args : List Tree) (can : CanCall w None (numbere
         leaves = refl;
         opens = refl;
         licensed = (given.named, tt);
+        stored = (inl tt, tt);
         acts = (tt, tt);
         issues = omega arith;
         calls = omega arith;

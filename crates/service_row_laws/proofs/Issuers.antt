@@ -1,5 +1,5 @@
 -- The methods of issuers are good rows.
-use Rattle.std.proofs.Common.{ℕ, List, None, IfOk, codes, refl, sym, ◌∙◌, arith}
+use Rattle.std.proofs.Common.{ℕ, List, None, IfOk, codes, inl, refl, sym, ◌∙◌, arith}
 use Rattle.brands.specs.Brands.{brand_at}
 use Rattle.ertp_mint.specs.Stocks.{empty_amount}
 use Rattle.jessie_tree.specs.Tree.{Tree}
@@ -37,6 +37,7 @@ module _ (w : State) (n : ℕ) (args : List Tree) (can : CanCall w None (numbere
     leaves = refl;
     opens = refl;
     licensed = tt;
+    stored = tt;
     acts = (refl, tt);
     issues = omega arith;
     calls = omega arith;
@@ -52,6 +53,7 @@ module _ (w : State) (n : ℕ) (args : List Tree) (can : CanCall w None (numbere
         leaves = refl;
         opens = refl;
         licensed = (given.named, tt);
+        stored = (inl tt, tt);
         acts = (tt, tt);
         issues = omega arith;
         calls = omega arith;

@@ -43,6 +43,7 @@ module _ (w : State) (n : ℕ) (args : List Tree) (can : CanCall w None (numbere
         leaves = refl;
         opens = refl;
         licensed = tt;
+        stored = tt;
         acts = (refl, tt);
         issues = omega arith;
         calls = omega arith;

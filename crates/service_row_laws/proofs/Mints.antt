@@ -1,5 +1,5 @@
 -- The methods of mints, and of ERTP's service, are good rows.
-use Rattle.std.proofs.Common.{ℕ, ◌+◌, ◌≤◌, ◌^◌, List, None, codes, refl, arith}
+use Rattle.std.proofs.Common.{ℕ, ◌+◌, ◌≤◌, ◌^◌, List, None, codes, inr, refl, arith}
 use Rattle.amount_math.specs.Counted.{counted}
 use Rattle.amount_math.specs.KindLaws.{counted_value}
 use Rattle.amount_math.specs.Worth.{Worth, most_counted}
@@ -50,6 +50,7 @@ module _ (w : State) (n : ℕ) (args : List Tree) where
           leaves = refl;
           opens = refl;
           licensed = (record { target = record { kind_is = refl; number_is = refl }; method_is = refl }, tt);
+          stored = (inr tt, tt);
           acts = (tt, tt);
           issues = omega (arith, few);
           calls = omega arith;

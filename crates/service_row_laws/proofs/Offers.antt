@@ -2,7 +2,7 @@
 use Rattle.std.specs.Prelude.{IsSomeAnd, is_none, map, slice_set, unwrap_or}
 use Rattle.std.specs.List.{AllByRecursion}
 use Rattle.std.specs.Str.{bytes_eq}
-use Rattle.std.proofs.Common.{◌≡◌, ◌≢◌, ℕ, suc, ◌+◌, ◌<◌, ◌≤◌, nat_le, Bool, true, false, cond, List, [], ◌∷◌, ◌++◌, length, Option, Some, None, Result, Ok, IfOk, codes, inr, refl, sym, ap, subst, ◌∙◌, arith}
+use Rattle.std.proofs.Common.{◌≡◌, ◌≢◌, ℕ, suc, ◌+◌, ◌<◌, ◌≤◌, nat_le, Bool, true, false, cond, List, [], ◌∷◌, ◌++◌, length, Option, Some, None, Result, Ok, IfOk, codes, inr, inl, refl, sym, ap, subst, ◌∙◌, arith}
 use Rattle.std.proofs.lemmas.Bool.{leb-true}
 use Rattle.amount_math.specs.Amount.{Meet}
 use Rattle.amount_math.specs.Content.{Contains, nothing, nothing-sum, sum}
@@ -48,7 +48,7 @@ use Rattle.call_row_laws.proofs.Forms.{object_formed}
 use Rattle.call_row_laws.proofs.Moving.{Holds, contains_itself, emptied_paper, held_kind, is_out}
 use Rattle.call_row_laws.proofs.RowsRead.{AreRead, IsReadRow, read_of_kinds, read_valued, rising_apart, rising_ordered}
 use Rattle.call_row_laws.proofs.SlotLists.{CanAddAll, CanAddTo, added_covered, all_of_each, can_add_all, fresh_in, with_more, with_more_many}
-use Rattle.call_row_laws.proofs.SlotMoves.{Pay, can_change, escrows_apart, escrows_are, escrows_can, escrows_emptied, escrows_fresh, escrows_good, escrows_issued, escrows_payments, escrows_slots, escrows_take_apart, escrows_untouched, pays_still}
+use Rattle.call_row_laws.proofs.SlotMoves.{Pay, can_change, escrows_apart, escrows_are, escrows_can, escrows_emptied, escrows_fresh, escrows_good, escrows_issued, escrows_payments, escrows_slots, escrows_stored, escrows_take_apart, escrows_untouched, pays_still}
 use Rattle.service_rows.specs.OfferRows.{Invited, escrows_of, has_room, held_by, is_live_in, keywords_of, offer, offering, paid}
 use Rattle.service_rows.specs.Proposals.{Proposed}
 use Rattle.service_row_laws.specs.Good.{IsGoodMethod, numbered}
@@ -308,6 +308,7 @@ offer_is w n args can = after_step _ _ _ (λ by invites. after_step _ _ _ (λ re
       opens = refl;
       acts = (refl, tt);
       licensed = (invited.named, licensed_escrows w args n (length w.seats) p.give ps paying.named);
+      stored = (inl tt, escrows_stored (length w.seats) p.give ps);
       issues = omega (arith, escrows_issued (length w.seats) p.give ps);
       calls = omega arith;
     }))))

@@ -1,5 +1,5 @@
 -- The methods of purses are good rows.
-use Rattle.std.proofs.Common.{ℕ, ◌<◌, List, length, None, IfOk, codes, refl, sym, ◌∙◌, arith}
+use Rattle.std.proofs.Common.{ℕ, ◌<◌, List, length, None, IfOk, codes, inl, refl, sym, ◌∙◌, arith}
 use Rattle.call_arguments.specs.Arguments.{arg}
 use Rattle.call_data.specs.Amounts.{IsValueOf}
 use Rattle.ertp_mint.specs.Stocks.{no_amount}
@@ -53,6 +53,7 @@ module _ (w : State) (n : ℕ) (args : List Tree) (can : CanCall w None (numbere
         leaves = refl;
         opens = refl;
         licensed = (record { target = record { kind_is = refl; number_is = refl }; method_is = refl }, tt);
+        stored = (inl tt, tt);
         acts = (tt, tt);
         issues = omega arith;
         calls = omega arith;
@@ -71,6 +72,7 @@ module _ (w : State) (n : ℕ) (args : List Tree) (can : CanCall w None (numbere
         leaves = refl;
         opens = refl;
         licensed = (given.named, tt);
+        stored = (inl tt, tt);
         acts = (tt, tt);
         issues = omega arith;
         calls = omega arith;

@@ -62,6 +62,7 @@ module _ (w : State) (n : ℕ) (args : List Tree) (can : CanCall w None (numbere
     leaves = refl;
     opens = refl;
     licensed = tt;
+    stored = tt;
     acts = (tt, tt);
     issues = omega arith;
     calls = omega arith;

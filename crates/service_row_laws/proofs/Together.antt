@@ -9,7 +9,7 @@ use Rattle.amount_math.specs.KindLaws.{value_of_part}
 use Rattle.amount_math.specs.Worth.{IsValue, Worth}
 use Rattle.amount_math.specs.declared.Kind.{Kind}
 use Rattle.call_arguments.specs.Numbers.{AreApart, IsNoneOf}
-use Rattle.call_rows.specs.Licence.{AreLicensed, NamesPayment}
+use Rattle.call_rows.specs.Licence.{AreLicensed, IsStored, NamesPayment}
 use Rattle.call_row_laws.proofs.Moving.{Holds, held_brand, held_kind}
 use Rattle.ertp_mint.specs.Stocks.{most_made}
 use Rattle.ertp_rows.specs.Lists.{moves_to, values_of}
@@ -177,6 +177,10 @@ fresh_all made n b (g ∷ gs) le = (le, fresh_all made n b gs le)
 pub licensed_to : (w : State) (o : Obj) (m : List ℕ) (args : List Tree) (n b : ℕ) (gs : List LivePayment) → AllByRecursion (λ (g : LivePayment). NamesPayment args g.number) gs → AreLicensed w None o m args (moves_to b n gs ++ [])
 licensed_to w o m args n b [] named = tt
 licensed_to w o m args n b (g ∷ gs) named = (named.0, licensed_to w o m args n b gs named.1)
+
+pub stored_to : (n b : ℕ) (gs : List LivePayment) → AllByRecursion IsStored (moves_to b n gs ++ [])
+stored_to n b [] = tt
+stored_to n b (g ∷ gs) = (inl tt, stored_to n b gs)
 
 pub issued_to : (n b : ℕ) (gs : List LivePayment) → issued_in (moves_to b n gs) ≡ 0
 issued_to n b [] = refl
