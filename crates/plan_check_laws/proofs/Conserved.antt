@@ -52,7 +52,7 @@ some_least : (m : ℕ) (o : Option ℕ) → least_of (Some m) o ≡ None → ⊥
 some_least m None is = cc
 some_least m (Some n) is = cc
 
-abbrev Named : ℕ → List ℕ → Type 0
+abbrev pub Named : ℕ → List ℕ → Type 0
 Named n [] = ⊥
 Named n (m ∷ ms) = (m ≡ n) ⊎ Named n ms
 
@@ -94,7 +94,7 @@ counted brand k (r ∷ rs) = by (r.amount.brand == brand) (counted brand k rs) �
     by true later = count-sum r.amount.value.content (total_of (values_of brand rs)) k ∙ ap (λ n. count r.amount.value.content k + n) later
     by false later = omega (arith, later)
 
-both_sides : (brand : ℕ) (k : List ℕ) (touched : List Touched) → rows_count brand k (rows_of touched) ≡ count_before brand k touched + count_after brand k touched
+pub both_sides : (brand : ℕ) (k : List ℕ) (touched : List Touched) → rows_count brand k (rows_of touched) ≡ count_before brand k touched + count_after brand k touched
 both_sides brand k [] = refl
 both_sides brand k (t ∷ ts) = omega (
   arith,
@@ -105,7 +105,7 @@ both_sides brand k (t ∷ ts) = omega (
   sum_by-cons (λ (u : Touched). rows_count brand k u.after) t ts,
 )
 
-named_if : (brand : ℕ) (k : List ℕ) (rows : List Row) → rows_count brand k rows ≢ 0 → Named brand (map (λ r. r.amount.brand) rows)
+pub named_if : (brand : ℕ) (k : List ℕ) (rows : List Row) → rows_count brand k rows ≢ 0 → Named brand (map (λ r. r.amount.brand) rows)
 named_if brand k [] there = absurd (there refl)
 named_if brand k (r ∷ rs) there = by (r.amount.brand == brand) refl (named_if brand k rs)
   where
@@ -120,7 +120,7 @@ named_if brand k (r ∷ rs) there = by (r.amount.brand == brand) refl (named_if 
 
 -- ---- what isn't kept is found
 
-listed_if : (touched : List Touched) (brand : ℕ) (k : List ℕ) → count_before brand k touched ≢ count_after brand k touched → listed (entries (total_of (values_of brand (rows_of touched)))) k ≢ 0
+pub listed_if : (touched : List Touched) (brand : ℕ) (k : List ℕ) → count_before brand k touched ≢ count_after brand k touched → listed (entries (total_of (values_of brand (rows_of touched)))) k ≢ 0
 listed_if touched brand k differ none = differ (omega (
   arith,
   count_listed (total_of (values_of brand (rows_of touched))) k,

@@ -1,2 +1,9 @@
 pub mod Slots
 pub mod Conserved
+pub mod Leasts
+pub mod Unkept
+pub mod Gains
+pub mod Seats
+pub mod Kept
+pub mod Worked
+pub mod Changes
