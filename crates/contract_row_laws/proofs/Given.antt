@@ -71,7 +71,7 @@ object_seat w i o n known is = by (is_kind kinds.Zseat o.kind) refl is
     by true e at = subst (IsSeatOf w.seats i) (same_Some o.number n at) (seat_known w i o.kind o.number e known)
     by false e at = absurd (cc)
 
-seat_in : (w : State) (i : ℕ) (t : Tree) (n : ℕ) → EachNode (ObjectIs (ObjectKnown (Some i) w)) 0 t → object_in kinds.Zseat t ≡ Some n → IsSeatOf w.seats i n
+pub seat_in : (w : State) (i : ℕ) (t : Tree) (n : ℕ) → EachNode (ObjectIs (ObjectKnown (Some i) w)) 0 t → object_in kinds.Zseat t ≡ Some n → IsSeatOf w.seats i n
 unfolding object_in
 seat_in w i (trees.object o) n known is = object_seat w i o n known is
 seat_in w i trees.null n known is = absurd (cc)
@@ -101,7 +101,7 @@ own_is w i j place args formed = after_step _ _ _ (λ n at. after_need _ _ _ _ (
 
 -- ---- rows that are read
 
-pairs_are : (t : Tree) (given : List (List ℕ × Tree)) → pairs_of t ≡ Some given → paired (fields_in t) ≡ given
+pub pairs_are : (t : Tree) (given : List (List ℕ × Tree)) → pairs_of t ≡ Some given → paired (fields_in t) ≡ given
 pairs_are (trees.fields fs) given is = same_Some (paired fs) given is
 pairs_are _ given is = absurd (cc)
 

@@ -10,10 +10,15 @@ pub mod Sizes
 pub mod Given
 pub mod SeatMoves
 pub mod Losses
+pub mod Changed
 pub mod Shares
 pub mod Rearranged
 pub mod Carried
 pub mod Staging
+pub mod Sorted
+pub mod Settling
+pub mod Rearranging
+pub mod Reallocating
 pub mod Mints
 pub mod Escrows
 pub mod Calls

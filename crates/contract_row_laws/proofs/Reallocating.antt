@@ -1,48 +1,41 @@
--- What a plan of reallocating is, whose tests were passed: the seats, each once and open, settled with their staging.
-use Rattle.std.specs.Prelude.{find, filter, is_none, is_some, map, nat_le, nat_lt, not, option_and_then, slice_index_or, sum_by, unwrap_or, ◌==◌, ◌&&◌, ◌-◌}
+-- Reallocating is a good row: the seats, each once and open, are settled with what is staged of them.
+use Rattle.std.specs.Prelude.{find, filter, map, not, option_and_then, slice_index_or, unwrap_or, ◌==◌, ◌-◌}
 use Rattle.std.specs.List.{AllByRecursion, count_by, list_all}
 use Rattle.std.specs.Option.{option_map_or}
-use Rattle.std.proofs.Common.{◌≡◌, ◌≢◌, ℕ, zero, suc, ◌+◌, ◌<◌, ◌≤◌, Bool, true, false, cond, List, [], ◌∷◌, ◌++◌, length, Option, Some, None, Result, Ok, Err, IfOk, codes, refl, sym, ap, subst, ◌∙◌, arith}
-use Rattle.std.proofs.lemmas.Bool.{and_parts, eq-eqb, false≢true, leb-true, ltb-false, ne_eqb}
+use Rattle.std.proofs.Common.{◌≡◌, ◌≢◌, ℕ, zero, suc, ◌+◌, ◌<◌, ◌≤◌, Bool, true, false, cond, List, [], ◌∷◌, length, Option, Some, None, Ok, IfOk, codes, refl, sym, ap, subst, ◌∙◌, arith}
+use Rattle.std.proofs.lemmas.Bool.{eq-eqb, ltb-false, ne_eqb}
 use Rattle.std.proofs.lemmas.List.Sums.{sum_by-cons}
-use Rattle.call_arguments.specs.Arguments.{arg, object_in}
+use Rattle.call_arguments.specs.Arguments.{arg}
 use Rattle.call_arguments.specs.Numbers.{AreApart, IsNoneOf}
-use Rattle.ertp_mint.specs.Stocks.{most_made}
 use Rattle.jessie_tree.specs.Tree.{Tree, null}
 use Rattle.jessie_tree.specs.declared.data.ObjKind.TheVariants as kinds
 use Rattle.plan_check_laws.proofs.Conserved.{conserved_if}
-use Rattle.plan_check_laws.proofs.Slots.{safe_if}
-use Rattle.plan_checks.specs.Moves.{by_number, moves_of, opened_at, opened_by}
-use Rattle.plan_checks.specs.Plans.{can_take_over, first_unkept, is_safe_after, is_small, keeps, least_unsafe, staged_changes}
-use Rattle.plan_checks.specs.Slots.{is_safe}
+use Rattle.plan_checks.specs.Plans.{can_take_over, first_unkept, is_small, keeps, least_unsafe, staged_changes}
 use Rattle.proposals.specs.OfferSafety.{IsOfferSafe}
 use Rattle.proposals.specs.Reading.{least, least_of}
 use Rattle.proposals.specs.Rows.{most_rows}
 use Rattle.proposals.specs.declared.allocations.Row.{Row}
 use Rattle.proposals.specs.declared.plans.SeatState.{SeatState}
 use Rattle.proposals.specs.declared.plans.Touched.{Touched}
-use Rattle.rearrange.specs.Seats as given_states
+use Rattle.rearrange.specs.Seats as given
 use Rattle.rearrange.specs.Seats.{has_exited, is_repeated, least_such}
 use Rattle.rearrange.specs.Settled.{settled}
 use Rattle.rearrange.specs.Staged.{rows_staged, staged_plan, touched_with}
-use Rattle.rearrange.specs.Sums.{AreConserved}
 use Rattle.record_arguments.specs.Lists.{each_object}
-use Rattle.refusals.proofs.Steps.{after_check, after_known, after_none_such, after_step, after_wanted, need_holds, none_is, ok_has}
-use Rattle.refusals.specs.Outcomes.{◌>>◌, bind, need, none_such}
-use Rattle.refusals.specs.declared.codes.Refusal.{Refusal}
+use Rattle.refusals.proofs.Steps.{after_check, after_known, after_step, after_wanted, need_holds, none_is, ok_has}
 use Rattle.trade_rows.specs.Rearranging.{carried_out, reallocate}
-use Rattle.trade_rows.specs.States.{all_states, has_room, last_allocation, leaves_room, state_of, states_from, touched_seat}
+use Rattle.trade_rows.specs.States.{all_states, has_room, state_of, states_from, touched_seat}
 use Rattle.trade_rows.specs.Staging.{rows_now}
-use Rattle.world_state.specs.Good.{AreGood, IsGoodWorld, open_slots}
-use Rattle.world_state.specs.Known.{IsFormed, IsSeatOf, ObjectKnown}
-use Rattle.world_state.specs.Worlds.{IsOpen, Seat, State, seat_at, staged_at}
+use Rattle.world_laws.proofs.Lists.{all_map}
+use Rattle.world_state.specs.Good.{IsGoodWorld}
+use Rattle.world_state.specs.Known.{IsFormed, IsSeatOf}
+use Rattle.world_state.specs.Worlds.{IsOpen, Seat, State, staged_at}
+use Rattle.call_rows.specs.Obligations.{IsGoodOutcome, IsRow}
 use Rattle.contract_rows.specs.SeatRows.{allocation_of, seat_of}
-use Rattle.contract_row_laws.proofs.Carried.{IsTouch, carry_together, total_many}
-use Rattle.contract_row_laws.proofs.Given.{HasSlots, passed, seat_in, seat_slots}
-use Rattle.contract_row_laws.proofs.Rearranged.{after_of, before_of, seats_of}
-use Rattle.contract_row_laws.proofs.Settling.{settled_can, settled_named}
-use Rattle.contract_row_laws.proofs.Shares.{had_settled, new_many, settled_many}
-use Rattle.contract_row_laws.proofs.Sorted.{all_by_number, all_unstaged, apart_by_number, changing_good, conserved_by_number, moves_are, sum_by_number, unstaged_all}
+use Rattle.contract_row_laws.specs.Good.{IsGoodCall, numbered}
+use Rattle.contract_row_laws.proofs.Given.{passed, seat_in, seat_slots}
+use Rattle.contract_row_laws.proofs.Read.{of_caller}
+use Rattle.contract_row_laws.proofs.Rearranging.{IsSettling, IsStateOf, rearranged, safe_each, small_each, stays_open, touch_of}
 use Rattle.contract_row_laws.proofs.Staging.{now_are}
 
 -- ---- states of seats
@@ -59,8 +52,12 @@ found_state w k (s ∷ ss) (suc n) lt =
     ap (λ b. cond b (Some (state_of w k)) (find (λ s. s.seat == k + suc n) (states_from w (suc k) ss))) (ne_eqb k (k + suc n) other)
     ∙ subst (λ m. find (λ s. s.seat == m) (states_from w (suc k) ss) ≡ Some (state_of w m)) e (found_state w (suc k) ss n (omega (arith, lt)))
 
-pub state_there : (w : State) (n : ℕ) → n < length w.seats → given_states.state_of (all_states w) n ≡ Some (state_of w n)
+pub state_there : (w : State) (n : ℕ) → n < length w.seats → given.state_of (all_states w) n ≡ Some (state_of w n)
 state_there w n made = let e : 0 + n ≡ n = omega arith in subst (λ m. find (λ s. s.seat == m) (all_states w) ≡ Some (state_of w m)) e (found_state w 0 w.seats n made)
+
+pub state_is : (w : State) (n : ℕ) → n < length w.seats → IsStateOf w (all_states w) n
+unfolding state_of
+state_is w n made = record { state = state_of w n; there = state_there w n made; proposal = refl; allocation = refl; is_open = refl }
 
 -- ---- tests over seats
 
@@ -148,34 +145,51 @@ pub formed_each : (w : State) (h : Option ℕ) (args : List Tree) → ((k : ℕ)
 formed_each w h [] each = tt
 formed_each w h (t ∷ ts) each = (each 0, formed_each w h ts (λ k. each (suc k)))
 
-open_by : (o : Option (List Row)) → not (is_none o) ≡ false → o ≡ None
-open_by None is = refl
-open_by (Some rows) is = cc
-
 module _ (w : State) (good : IsGoodWorld w) (i : ℕ) where
-  seat_open : (n : ℕ) → IsSeatOf w.seats i n → has_exited (all_states w) n ≡ false → IsOpen (seat_of w n)
-  unfolding state_of
-  seat_open n own is =
-      open_by (seat_of w n).last (subst (λ o. option_map_or (λ (s : SeatState). not s.is_open) o false ≡ false) (state_there w n own.made) is)
+  states_are : (ns : List ℕ) → AllByRecursion (IsSeatOf w.seats i) ns → AllByRecursion (IsStateOf w (all_states w)) ns
+  states_are ns own = all_map (IsSeatOf w.seats i) (IsStateOf w (all_states w)) (λ n is. state_is w n is.made) ns own
 
-  -- a seat as the plan has it: its slots, settled with what is staged of it
-  abbrev pub touch_of : ℕ → Touched
-  touch_of n = touched_seat n (allocation_of w n) (settled (allocation_of w n) (rows_now w n))
-
-  as_touched : (n : ℕ) → IsSeatOf w.seats i n → IsOpen (seat_of w n) → touched_with (all_states w) n (rows_staged (all_states w) n) ≡ touch_of n
+  as_touched : (n : ℕ) → IsSeatOf w.seats i n → IsOpen (seat_of w n) → touched_with (all_states w) n (rows_staged (all_states w) n) ≡ touch_of w (rows_now w) n
   unfolding state_of
   as_touched n own is_open =
       ap (λ (o : Option SeatState). touched_seat n (option_map_or (λ (s : SeatState). s.allocation) o []) (settled (option_map_or (λ (s : SeatState). s.allocation) o []) (unwrap_or (option_and_then (λ (s : SeatState). s.staged) o) (option_map_or (λ (s : SeatState). s.allocation) o [])))) (state_there w n own.made)
       ∙ ap (λ (o : Option (List Row)). touched_seat n (unwrap_or o (allocation_of w n)) (settled (unwrap_or o (allocation_of w n)) (unwrap_or (staged_at w.staging n) (unwrap_or o (allocation_of w n))))) is_open
 
-  pub plan_touched : (ns : List ℕ) → AllByRecursion (IsSeatOf w.seats i) ns → AllByRecursion (λ n. IsOpen (seat_of w n)) ns → staged_plan (all_states w) ns ≡ map touch_of ns
+  plan_touched : (ns : List ℕ) → AllByRecursion (IsSeatOf w.seats i) ns → AllByRecursion (λ n. IsOpen (seat_of w n)) ns → staged_plan (all_states w) ns ≡ map (touch_of w (rows_now w)) ns
   plan_touched [] own are = refl
-  plan_touched (n ∷ ns) own are = ap (λ t. t ∷ staged_plan (all_states w) ns) (as_touched n own.0 are.0) ∙ ap (λ ts. touch_of n ∷ ts) (plan_touched ns own.1 are.1)
+  plan_touched (n ∷ ns) own are = ap (λ t. t ∷ staged_plan (all_states w) ns) (as_touched n own.0 are.0) ∙ ap (λ ts. touch_of w (rows_now w) n ∷ ts) (plan_touched ns own.1 are.1)
 
-  pub seats_open : (ns : List ℕ) → AllByRecursion (IsSeatOf w.seats i) ns → AllByRecursion (λ n. has_exited (all_states w) n ≡ false) ns → AllByRecursion (λ n. IsOpen (seat_of w n)) ns
+  seats_open : (ns : List ℕ) → AllByRecursion (IsSeatOf w.seats i) ns → AllByRecursion (λ n. has_exited (all_states w) n ≡ false) ns → AllByRecursion (λ n. IsOpen (seat_of w n)) ns
   seats_open [] own each = tt
-  seats_open (n ∷ ns) own each = (seat_open n own.0 each.0, seats_open ns own.1 each.1)
+  seats_open (n ∷ ns) own each = (stays_open w (all_states w) n (state_is w n own.0.made) each.0, seats_open ns own.1 each.1)
 
-  pub seats_same : (ns : List ℕ) → seats_of (map touch_of ns) ≡ ns
-  seats_same [] = refl
-  seats_same (n ∷ ns) = ap (λ l. n ∷ l) (seats_same ns)
+  settles : (ns : List ℕ) → AllByRecursion (IsSeatOf w.seats i) ns → AllByRecursion (λ n. IsOpen (seat_of w n)) ns → AllByRecursion (λ n. length (settled (allocation_of w n) (rows_now w n)) ≤ most_rows) ns → AllByRecursion (λ n. IsOfferSafe (seat_of w n).proposal (settled (allocation_of w n) (rows_now w n))) ns → AllByRecursion (IsSettling w i (rows_now w)) ns
+  settles [] own are small safe = tt
+  settles (n ∷ ns) own are small safe = (
+    record { own = own.0; is_open = are.0; may = now_are w good n (seat_slots w good i n own.0); small = small.0; safe = safe.0 },
+    settles ns own.1 are.1 small.1 safe.1,
+  )
+
+-- ---- the row
+
+module _ (w : State) (good : IsGoodWorld w) (i : ℕ) (args : List Tree) (arguments : (place : ℕ) → IsFormed w (Some i) (arg place args)) where
+  argument_at : (k : ℕ) → IsFormed w (Some i) (slice_index_or args k null)
+  argument_at k = let e : suc k - 1 ≡ k = omega arith in subst (λ j. IsFormed w (Some i) (slice_index_or args j null)) e (arguments (suc k))
+
+  taken_over_is : IsGoodOutcome w (Some i) (numbered kinds.Zcf i) (codes "reallocate") args (reallocate w i args)
+  unfolding reallocate
+  taken_over_is = after_check _ _ _ (after_step _ _ _ (λ seats at. after_step _ _ _ (λ touched planned. after_known _ _ _ (λ room.
+      let states = all_states w in
+      let own : AllByRecursion (IsSeatOf w.seats i) seats = ok_has _ _ seats at (seats_given w i 1 args (formed_each w (Some i) args argument_at)) in
+      let plan : IsPlan w seats touched = ok_has _ _ touched planned (plan_is w i seats) in
+      let are = seats_open w good i seats own plan.open_each in
+      let same : touched ≡ map (touch_of w (rows_now w)) seats = plan.plan ∙ plan_touched w good i seats own are in
+      let small = small_each w (rows_now w) seats (subst (λ ts. list_all is_small ts ≡ true) same plan.small) in
+      let safe = safe_each w states (rows_now w) seats (states_are w good i seats own) (subst (λ ts. least_unsafe states ts ≡ None) same plan.safe) in
+      let conserved = conserved_if (map (touch_of w (rows_now w)) seats) (subst (λ ts. first_unkept ts ≡ None) same plan.unkept) in
+      subst (λ ts. IsRow w (Some i) (numbered kinds.Zcf i) (codes "reallocate") args null (carried_out ts)) (sym same)
+      (rearranged w good i (rows_now w) seats (settles w good i seats own are small safe) (codes "reallocate") args refl refl plan.apart conserved
+          (subst (λ ts. has_room w ts 0 ≡ Ok tt) same room)))))
+
+pub reallocate_is : IsGoodCall kinds.Zcf (codes "reallocate") reallocate
+reallocate_is w i n args can = of_caller w i n (codes "reallocate") args (λ k. reallocate w k args) can.target (taken_over_is w can.good i args can.arguments)

@@ -1,8 +1,8 @@
 -- What slots are settled with are rows that they can become.
-use Rattle.std.specs.Prelude.{IfSome, is_none, map}
+use Rattle.std.specs.Prelude.{IfSome, map}
 use Rattle.std.specs.List.{AllByRecursion}
 use Rattle.std.specs.Option.{option_map_or}
-use Rattle.std.proofs.Common.{◌≡◌, ℕ, ◌≤◌, Bool, true, false, List, [], ◌∷◌, ◌++◌, length, Option, Some, None, refl, sym, ap, subst, ◌∙◌, arith, if◌then◌else◌}
+use Rattle.std.proofs.Common.{◌≡◌, ℕ, ◌≤◌, List, [], ◌∷◌, length, Option, Some, None, refl, sym, ap, subst, ◌∙◌, arith}
 use Rattle.allocation_changes.specs.Rows.{further}
 use Rattle.amount_math.specs.Content.{Content, nothing}
 use Rattle.amount_math.specs.KindLaws.{nothing_is_value}
@@ -10,7 +10,6 @@ use Rattle.amount_math.specs.Worth.{IsValue}
 use Rattle.amount_math.specs.declared.Amount.{Amount}
 use Rattle.amount_math.specs.declared.Kind.{Kind}
 use Rattle.proposals.specs.Rows.{amount_under, content_under, most_rows}
-use Rattle.proposals.specs.Slots.{in_byte_order, is_upto, placed}
 use Rattle.proposals.specs.declared.allocations.Row.{Row}
 use Rattle.rearrange.proofs.Agreeing.{AreApart-settled}
 use Rattle.rearrange.specs.Settled.{filled, has_some, opened, settled}
@@ -19,26 +18,14 @@ use Rattle.world_laws.proofs.Proposed.{under_own}
 use Rattle.world_state.specs.Good.{AreNamed, IsAmountValued, IsKeyword, IsOfKind, IsOfSlot}
 use Rattle.world_state.specs.Rights.{kind_at}
 use Rattle.world_state.specs.Worlds.{State}
+use Rattle.contract_row_laws.proofs.Changed.{MaySettle, each_map, further_all, under_row}
 use Rattle.contract_row_laws.proofs.Given.{HasSlots, OfBrand}
 use Rattle.contract_row_laws.proofs.Shares.{CanBecome, settled_many}
-use Rattle.contract_row_laws.proofs.Staging.{AreNow, each_map, under_row}
-
-placed_all : (P : Row → Type 0) (r : Row) (rs : List Row) → P r → AllByRecursion P rs → AllByRecursion P (placed r rs)
-placed_all P r [] one all = (one, tt)
-placed_all P r (x ∷ xs) one all = by (is_upto r.keyword x.keyword) (placed_all P r xs one all.1)
-  where
-    by : (b : Bool) → AllByRecursion P (placed r xs) → AllByRecursion P (if b then r ∷ x ∷ xs else x ∷ placed r xs)
-    by true rest = (one, all)
-    by false rest = (all.0, rest)
-
-ordered_all : (P : Row → Type 0) (rs : List Row) → AllByRecursion P rs → AllByRecursion P (in_byte_order rs)
-ordered_all P [] all = tt
-ordered_all P (r ∷ rs) all = placed_all P r (in_byte_order rs) all.0 (ordered_all P rs all.1)
 
 opened_all : (P : Row → Type 0) (slots rows : List Row) → AllByRecursion P rows → AllByRecursion P (opened slots rows)
-opened_all P slots rows all = all_filter P has_some (further slots rows) (all_filter P (λ (r : Row). is_none (amount_under r.keyword slots)) (in_byte_order rows) (ordered_all P rows all))
+opened_all P slots rows all = all_filter P has_some (further slots rows) (further_all P slots rows all)
 
-module _ (w : State) (slots : List Row) (has : HasSlots w slots) (rows : List Row) (are : AreNow w slots rows) where
+module _ (w : State) (slots : List Row) (has : HasSlots w slots) (rows : List Row) (are : MaySettle w slots rows) where
   abbrev Staged : List ℕ → Amount → Type 0
   Staged k a = (IsOfKind w.rights.out a × IsAmountValued a) × OfBrand slots k a.brand
 
@@ -71,7 +58,7 @@ module _ (w : State) (slots : List Row) (has : HasSlots w slots) (rows : List Ro
 
   pub settled_can : length (settled slots rows) ≤ most_rows → CanBecome w.rights.out slots (settled slots rows)
   settled_can small = record {
-    apart = AreApart-settled slots rows has.rows.apart are.rows.apart;
+    apart = AreApart-settled slots rows has.rows.apart are.apart;
     of_kinds = all_append (λ (r : Row). IsOfKind w.rights.out r.amount) (map (filled rows) slots) (opened slots rows) (each_map (λ (r : Row). IsOfKind w.rights.out r.amount) (λ (r : Row). IsOfKind w.rights.out r.amount) (filled rows) (λ r h. record { made = h.made; kind = h.kind }) slots has.of_kinds) (opened_all (λ (r : Row). IsOfKind w.rights.out r.amount) slots rows are.of_kinds);
     valued = all_append (λ (r : Row). IsValue r.amount.value.kind r.amount.value.content) (map (filled rows) slots) (opened slots rows) (filled_values slots own has.of_kinds) (opened_all (λ (r : Row). IsAmountValued r.amount) slots rows are.valued);
     of_brands = all_append (λ (r : Row). OfBrand slots r.keyword r.amount.brand) (map (filled rows) slots) (opened slots rows) (each_map (λ (r : Row). amount_under r.keyword slots ≡ Some r.amount) (λ (r : Row). OfBrand slots r.keyword r.amount.brand) (filled rows) (λ r h. subst (λ o. IfSome o (λ (a : Amount). a.brand ≡ r.amount.brand)) (sym h) refl) slots own) (opened_all (IsOfSlot slots) slots rows are.of_slots);

@@ -1,100 +1,46 @@
 -- Staging is a good row.
-use Rattle.std.specs.Prelude.{IfSome, is_none, map, nat_le, unwrap_or}
+use Rattle.std.specs.Prelude.{nat_le, unwrap_or}
 use Rattle.std.specs.List.{AllByRecursion}
-use Rattle.std.specs.Option.{option_map_or}
-use Rattle.std.specs.Str.{bytes_eq}
-use Rattle.std.proofs.Common.{◌≡◌, ℕ, ◌<◌, ◌≤◌, Bool, true, false, cond, List, [], ◌∷◌, ◌++◌, length, Option, Some, None, Result, Ok, IfOk, codes, refl, sym, ap, subst, ◌∙◌, arith}
+use Rattle.std.proofs.Common.{◌≡◌, ℕ, ◌<◌, ◌≤◌, false, List, [], ◌∷◌, length, Option, Some, None, Result, Ok, IfOk, codes, refl, sym, arith}
 use Rattle.std.proofs.lemmas.Bool.{leb-true}
-use Rattle.std.proofs.lemmas.Slice.Eq.{bytes_eq-Decides}
 use Rattle.allocation_changes.specs.Gains.{with_gains}
 use Rattle.allocation_changes.specs.Losses.{with_losses}
-use Rattle.allocation_changes.specs.Rows.{further}
-use Rattle.allocation_changes.proofs.Apart.{AreApart-further}
-use Rattle.amount_math.specs.Amount.{holding}
-use Rattle.amount_math.specs.Content.{Content, difference, nothing, sum, sum-nothing}
-use Rattle.amount_math.specs.KindLaws.{value_of_sum}
-use Rattle.amount_math.specs.Worth.{Fits, HasFew, IsValue}
-use Rattle.amount_math.specs.declared.Amount.{Amount}
-use Rattle.amount_math.specs.declared.Kind.{Kind}
 use Rattle.jessie_tree.specs.Tree.{Tree}
 use Rattle.jessie_tree.specs.declared.data.ObjKind.TheVariants as kinds
 use Rattle.plan_checks.specs.Slots.{can_give, each_passes, fits_slot}
-use Rattle.proposals.specs.Rows.{AreRows, amount_under, content_under, most_rows, row_of}
-use Rattle.proposals.specs.Slots.{in_byte_order}
+use Rattle.proposals.specs.Rows.{most_rows}
 use Rattle.proposals.specs.declared.allocations.Row.{Row}
 use Rattle.record_arguments.specs.Records.{RowData}
 use Rattle.refusals.proofs.Steps.{after_check, after_known, after_step, need_holds, ok_has}
 use Rattle.trade_rows.specs.Given.{is_other}
 use Rattle.trade_rows.specs.Staging.{are_few, decrement_by, increment_by, misfits_slot, misfits_staged, rows_now}
-use Rattle.value_checks.proofs.Exact.{value_passed}
 use Rattle.world_laws.proofs.Forms.{formed_grows}
 use Rattle.world_laws.proofs.Growing.{grows-after}
-use Rattle.world_laws.proofs.Lists.{all_append, all_filter}
-use Rattle.world_laws.proofs.Proposed.{under_own}
-use Rattle.world_laws.proofs.Valued.{less_valued}
-use Rattle.world_state.specs.Good.{AreNamed, AreRowsOf, AreRowsValued, IsAmountValued, IsGoodWorld, IsKeyword, IsOfKind, IsOfSlot, IsStaged}
+use Rattle.world_laws.proofs.Lists.{all_map}
+use Rattle.world_state.specs.Good.{IsGoodWorld, IsOfSlot, IsStaged}
 use Rattle.world_state.specs.Known.{IsFormed, IsSeatOf}
 use Rattle.world_state.specs.Worlds.{IsOpen, State, after, stage, staged_at}
 use Rattle.call_rows.specs.Obligations.{CanCall, IsRow}
 use Rattle.call_rows.specs.Traces.{departures_by, openings_by}
 use Rattle.call_row_laws.proofs.Amounts.{allocation_formed}
 use Rattle.call_row_laws.proofs.Fields.{formed_here}
-use Rattle.call_row_laws.proofs.RowsRead.{IsReadRow, read_of_kinds, read_valued, rising_apart, rising_ordered}
+use Rattle.call_row_laws.proofs.RowsRead.{read_of_kinds, rising_apart}
 use Rattle.contract_rows.specs.SeatRows.{allocation_of, allocation_tree, seat_of}
 use Rattle.contract_row_laws.specs.Good.{IsGoodCall, numbered}
-use Rattle.contract_row_laws.proofs.Given.{AreGiven, HasSlots, OfBrand, neither, of_slot, passed, rows_given, same_kind, seat_slots, under_all}
+use Rattle.contract_row_laws.proofs.Changed.{AreFitting, MaySettle, gains_may, less_may, slots_may}
+use Rattle.contract_row_laws.proofs.Given.{AreGiven, HasSlots, OfBrand, neither, of_slot, passed, rows_given, seat_slots}
 use Rattle.contract_row_laws.proofs.Seats.{open_there}
-
--- ---- rows of the same keywords with other contents
-
-abbrev other : (Row → Content) → Row → Row
-other content r = row_of r.keyword (holding r.amount (content r))
-
-each_map : (P Q : Row → Type 0) (f : Row → Row) → ((r : Row) → P r → Q (f r)) → (rs : List Row) → AllByRecursion P rs → AllByRecursion Q (map f rs)
-each_map P Q f to [] all = tt
-each_map P Q f to (r ∷ rs) all = (to r all.0, each_map P Q f to rs all.1)
-
-each_both : (P Q : Row → Type 0) (rs : List Row) → AllByRecursion P rs → AllByRecursion Q rs → AllByRecursion (λ r. P r × Q r) rs
-each_both P Q [] p q = tt
-each_both P Q (r ∷ rs) p q = ((p.0, q.0), each_both P Q rs p.1 q.1)
-
--- what each row is told of by its keyword is told of what stands under it
-under_row : (P : List ℕ → Amount → Type 0) (k : List ℕ) (rs : List Row) → AllByRecursion (λ (r : Row). P r.keyword r.amount) rs → IfSome (amount_under k rs) (P k)
-under_row P k [] all = tt
-under_row P k (r ∷ rs) all = by (bytes_eq k r.keyword) refl (under_row P k rs all.1)
-  where
-    by : (b : Bool) → bytes_eq k r.keyword ≡ b → IfSome (amount_under k rs) (P k) → IfSome (cond b (Some r.amount) (amount_under k rs)) (P k)
-    by true e later = subst (λ q. P q r.amount) (sym ((bytes_eq-Decides k r.keyword).0 e)) all.0
-    by false e later = later
 
 -- ---- what a seat's staging begins with
 
--- rows that may be staged of a seat with these slots
-record AreNow (w : State) (slots now : List Row) : Type 0 where
-  rows : AreRows now
-  named : AreNamed now
-  of_kinds : AreRowsOf w.rights.out now
-  valued : AreRowsValued now
-  of_slots : AllByRecursion (IsOfSlot slots) now
-
-own_slots : (slots rs : List Row) → AllByRecursion (λ (r : Row). amount_under r.keyword slots ≡ Some r.amount) rs → AllByRecursion (IsOfSlot slots) rs
-own_slots slots [] all = tt
-own_slots slots (r ∷ rs) all = (subst (λ o. IfSome o (λ (a : Amount). a.brand ≡ r.amount.brand)) (sym all.0) refl, own_slots slots rs all.1)
-
-now_are : (w : State) → IsGoodWorld w → (n : ℕ) → HasSlots w (allocation_of w n) → AreNow w (allocation_of w n) (rows_now w n)
+pub now_are : (w : State) → IsGoodWorld w → (n : ℕ) → HasSlots w (allocation_of w n) → MaySettle w (allocation_of w n) (rows_now w n)
 now_are w good n has = by (staged_at w.staging n) refl
   where
-    by : (o : Option (List Row)) → staged_at w.staging n ≡ o → AreNow w (allocation_of w n) (unwrap_or o (allocation_of w n))
-    by None e = record {
-      rows = has.rows;
-      named = has.named;
-      of_kinds = has.of_kinds;
-      valued = has.valued;
-      of_slots = own_slots (allocation_of w n) (allocation_of w n) (under_own (allocation_of w n) has.rows.apart);
-    }
+    by : (o : Option (List Row)) → staged_at w.staging n ≡ o → MaySettle w (allocation_of w n) (unwrap_or o (allocation_of w n))
+    by None e = slots_may w (allocation_of w n) has
     by (Some rows) e =
         let is = good.staged.each n rows e in
-        record { rows = is.apart; named = is.named; of_kinds = is.of_kinds; valued = is.valued; of_slots = is.of_slots }
+        record { apart = is.apart.apart; named = is.named; of_kinds = is.of_kinds; valued = is.valued; of_slots = is.of_slots }
 
 -- a row fits the slot, and what is staged, of its keyword
 abbrev Fitting : State → ℕ → List ℕ → ℕ → Type 0
@@ -108,59 +54,27 @@ fitting w n r is =
 
 -- ---- what is staged then
 
-module _ (w : State) (good : IsGoodWorld w) (n : ℕ) (is_open : IsOpen (seat_of w n)) (now : List Row) (are : AreNow w (allocation_of w n) now) (args : List Tree) (rows : List Row) (given : AreGiven w args (Fitting w n) rows) where
-  fresh_all : (P : Row → Type 0) → AllByRecursion P rows → AllByRecursion P (further now rows)
-  fresh_all P all = all_filter P (λ (r : Row). is_none (amount_under r.keyword now)) (in_byte_order rows) (subst (AllByRecursion P) (sym (rising_ordered rows given.read.rising)) all)
-
-  slots_fit : (rs : List Row) → AllByRecursion (λ (r : Row). Fitting w n r.keyword r.amount.brand) rs → AllByRecursion (IsOfSlot (allocation_of w n)) rs
-  slots_fit [] all = tt
-  slots_fit (r ∷ rs) all = (all.0.0, slots_fit rs all.1)
-
-  can_stage : (content : Row → Content) → AllByRecursion (λ (r : Row). IsValue r.amount.value.kind (content r)) now → length (map (other content) now ++ further now rows) ≤ most_rows → IsStaged w.rights.out (seat_of w n) (allocation_of w n) (map (other content) now ++ further now rows)
-  can_stage content values few = record {
-    is_open = is_open;
-    apart = record { few = few; apart = AreApart-further (other content) (λ r. refl) now rows are.rows.apart (rising_apart rows given.read.rising) };
-    named = all_append (λ (r : Row). IsKeyword r.keyword) (map (other content) now) (further now rows) (each_map (λ (r : Row). IsKeyword r.keyword) (λ (r : Row). IsKeyword r.keyword) (other content) (λ r h. h) now are.named) (fresh_all (λ (r : Row). IsKeyword r.keyword) given.read.named);
-    valued = all_append (λ (r : Row). IsAmountValued r.amount) (map (other content) now) (further now rows) (each_map (λ (r : Row). IsValue r.amount.value.kind (content r)) (λ (r : Row). IsAmountValued r.amount) (other content) (λ r h. h) now values) (fresh_all (λ (r : Row). IsAmountValued r.amount) (read_valued w rows given.read.each));
-    of_kinds = all_append (λ (r : Row). IsOfKind w.rights.out r.amount) (map (other content) now) (further now rows) (each_map (λ (r : Row). IsOfKind w.rights.out r.amount) (λ (r : Row). IsOfKind w.rights.out r.amount) (other content) (λ r h. record { made = h.made; kind = h.kind }) now are.of_kinds) (fresh_all (λ (r : Row). IsOfKind w.rights.out r.amount) (read_of_kinds w good rows given.read.each));
-    of_slots = all_append (IsOfSlot (allocation_of w n)) (map (other content) now) (further now rows) (each_map (IsOfSlot (allocation_of w n)) (IsOfSlot (allocation_of w n)) (other content) (λ r h. h) now are.of_slots) (fresh_all (IsOfSlot (allocation_of w n)) (slots_fit rows given.fit));
+module _ (w : State) (n : ℕ) (args : List Tree) (rows : List Row) (given : AreGiven w args (Fitting w n) rows) where
+  rows_fit : AreFitting w (allocation_of w n) rows
+  rows_fit = record {
+    each = given.read.each;
+    apart = rising_apart rows given.read.rising;
+    named = given.read.named;
+    of_slots = all_map (λ (r : Row). Fitting w n r.keyword r.amount.brand) (IsOfSlot (allocation_of w n)) (λ r is. is.0) rows given.fit;
   }
 
-  -- ---- once rows are added
+  now_fit : AllByRecursion (λ (r : Row). OfBrand (rows_now w n) r.keyword r.amount.brand) rows
+  now_fit = all_map (λ (r : Row). Fitting w n r.keyword r.amount.brand) (λ (r : Row). OfBrand (rows_now w n) r.keyword r.amount.brand) (λ r is. is.1) rows given.fit
 
-  abbrev Gains : List ℕ → Amount → Type 0
-  Gains k a = (IsReadRow w (row_of k a) × OfBrand now k a.brand) × (fits_slot now (row_of k a) ≡ Ok tt)
-
-  all_gain : (rs : List Row) → AllByRecursion (IsReadRow w) rs → AllByRecursion (λ (r : Row). Fitting w n r.keyword r.amount.brand) rs → ((r : Row) → OfBrand (rows_now w n) r.keyword r.amount.brand → OfBrand now r.keyword r.amount.brand) → each_passes (fits_slot now) rs ≡ Ok tt → AllByRecursion (λ (r : Row). Gains r.keyword r.amount) rs
-  all_gain [] read fit same fits = tt
-  all_gain (r ∷ rs) read fit same fits =
-      let both = passed (fits_slot now r) (each_passes (fits_slot now) rs) fits in
-      (((record { brand = read.0.brand; value = read.0.value }, same r fit.0.1), both.0), all_gain rs read.1 fit.1 same both.1)
-
-  abbrev content_in : Option Amount → Content
-  content_in o = option_map_or (λ (a : Amount). a.value.content) o nothing
-
-  gained : (r : Row) → (amount_under r.keyword now ≡ Some r.amount) × IsAmountValued r.amount → IsOfKind w.rights.out r.amount → AllByRecursion (λ (g : Row). Gains g.keyword g.amount) rows → IsValue r.amount.value.kind (sum r.amount.value.content (content_under r.keyword rows))
-  gained r own kind gains = by (amount_under r.keyword rows) (under_row Gains r.keyword rows gains)
-    where
-      by : (o : Option Amount) → IfSome o (Gains r.keyword) → IsValue r.amount.value.kind (sum r.amount.value.content (content_in o))
-      by None gains = subst (IsValue r.amount.value.kind) (sym (sum-nothing r.amount.value.content)) own.1
-      by (Some a) gains =
-          let same : r.amount.brand ≡ a.brand = subst (λ o. IfSome o (λ (x : Amount). x.brand ≡ a.brand)) own.0 gains.0.1 in
-          let k = same_kind w good (row_of r.keyword a) r.amount gains.0.0 kind same in
-          let at : sum (content_under r.keyword now) a.value.content ≡ sum r.amount.value.content a.value.content = ap (λ o. sum (content_in o) a.value.content) own.0 in
-          let both = value_passed a.value.kind (sum (content_under r.keyword now) a.value.content) gains.1 in
-          let fits : Fits a.value.kind (sum r.amount.value.content a.value.content) = subst (Fits a.value.kind) at both.0 in
-          let few : HasFew a.value.kind (sum r.amount.value.content a.value.content) = subst (HasFew a.value.kind) at both.1 in
-          subst (λ (q : Kind). IsValue q (sum r.amount.value.content a.value.content)) (sym k)
-          (value_of_sum a.value.kind r.amount.value.content a.value.content (subst (λ (q : Kind). IsValue q r.amount.value.content) k own.1) gains.0.0.value fits few)
-
-  all_gained : (rs : List Row) → AllByRecursion (λ (r : Row). (amount_under r.keyword now ≡ Some r.amount) × IsAmountValued r.amount) rs → AllByRecursion (λ (r : Row). IsOfKind w.rights.out r.amount) rs → AllByRecursion (λ (g : Row). Gains g.keyword g.amount) rows → AllByRecursion (λ (r : Row). IsValue r.amount.value.kind (sum r.amount.value.content (content_under r.keyword rows))) rs
-  all_gained [] own kinds gains = tt
-  all_gained (r ∷ rs) own kinds gains = (gained r own.0 kinds.0 gains, all_gained rs own.1 kinds.1 gains)
-
-  gains_valued : AllByRecursion (λ (g : Row). Gains g.keyword g.amount) rows → AllByRecursion (λ (r : Row). IsValue r.amount.value.kind (sum r.amount.value.content (content_under r.keyword rows))) now
-  gains_valued gains = all_gained now (each_both (λ (r : Row). amount_under r.keyword now ≡ Some r.amount) (λ (r : Row). IsAmountValued r.amount) now (under_own now are.rows.apart) are.valued) are.of_kinds gains
+can_stage : (w : State) (n : ℕ) (rows : List Row) → IsOpen (seat_of w n) → MaySettle w (allocation_of w n) rows → length rows ≤ most_rows → IsStaged w.rights.out (seat_of w n) (allocation_of w n) rows
+can_stage w n rows is_open may few = record {
+  is_open = is_open;
+  apart = record { few = few; apart = may.apart };
+  named = may.named;
+  valued = may.valued;
+  of_kinds = may.of_kinds;
+  of_slots = may.of_slots;
+}
 
 -- ---- the rows
 
@@ -192,13 +106,9 @@ increment_is w i n args can = after_known _ _ _ (λ stays. after_step _ _ _ (λ 
     let now = rows_now w n in
     let given : AreGiven w args (Fitting w n) rows = ok_has _ _ rows reads (rows_given w (Some i) (misfits_staged w n) (Fitting w n) (fitting w n) 1 args (can.arguments 1)) in
     let are = now_are w can.good n (seat_slots w can.good i n can.target) in
-    let gains = all_gain w can.good n (open_there w n stays) now are args rows given rows given.read.each given.fit (λ r h. h) (fits_each now rows gives) in
+    let may = gains_may w (allocation_of w n) now are can.good rows (rows_fit w n args rows given) (now_fit w n args rows given) (fits_each now rows gives) in
     staged_is w i n args can (codes "incrementBy") rows (with_gains now rows) refl refl given
-    (can_stage w can.good n (open_there w n stays) now are args rows given (λ (r : Row). sum r.amount.value.content (content_under r.keyword rows)) (gains_valued w can.good n (open_there w n stays) now are args rows given gains) (few_is (with_gains now rows) few))))))
-
-losses_valued : (losses now : List Row) → AreRowsValued now → AllByRecursion (λ (r : Row). IsValue r.amount.value.kind (difference r.amount.value.content (content_under r.keyword losses))) now
-losses_valued losses [] all = tt
-losses_valued losses (r ∷ rs) all = (less_valued r.amount.value.kind r.amount.value.content (content_under r.keyword losses) all.0, losses_valued losses rs all.1)
+    (can_stage w n (with_gains now rows) (open_there w n stays) may (few_is (with_gains now rows) few))))))
 
 pub decrement_is : IsGoodCall kinds.Zseat (codes "decrementBy") decrement_by
 unfolding decrement_by
@@ -206,5 +116,6 @@ decrement_is w i n args can = after_known _ _ _ (λ stays. after_step _ _ _ (λ 
     let now = rows_now w n in
     let given : AreGiven w args (Fitting w n) rows = ok_has _ _ rows reads (rows_given w (Some i) (misfits_staged w n) (Fitting w n) (fitting w n) 1 args (can.arguments 1)) in
     let are = now_are w can.good n (seat_slots w can.good i n can.target) in
+    let may = less_may w (allocation_of w n) now are can.good rows (rows_fit w n args rows given) in
     staged_is w i n args can (codes "decrementBy") rows (with_losses now rows) refl refl given
-    (can_stage w can.good n (open_there w n stays) now are args rows given (λ (r : Row). difference r.amount.value.content (content_under r.keyword rows)) (losses_valued rows now are.valued) (few_is (with_losses now rows) few))))))
+    (can_stage w n (with_losses now rows) (open_there w n stays) may (few_is (with_losses now rows) few))))))
