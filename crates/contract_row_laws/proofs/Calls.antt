@@ -1,5 +1,5 @@
 -- Each call of a contract's function is a good row, whatever its target, method and arguments.
-use Rattle.std.proofs.Common.{ℕ, List, Some, codes, refl}
+use Rattle.std.proofs.Common.{ℕ, List, Some, codes}
 use Rattle.jessie_tree.specs.Tree.{Tree}
 use Rattle.jessie_tree.specs.declared.data.ObjKind.{ObjKind}
 use Rattle.jessie_tree.specs.declared.data.ObjKind.TheVariants as kinds
@@ -8,41 +8,43 @@ use Rattle.call_rows.specs.Obligations.{CanCall, IsGoodOutcome}
 use Rattle.call_rows.specs.Rows.{Outcome}
 use Rattle.call_row_laws.proofs.Reading.{by_method}
 use Rattle.trade_rows.specs.Trades.{of_kind, of_zcf, of_zmint, of_zseat, serve}
-use Rattle.contract_row_laws.specs.Good.{AreGoodContractCalls, IsNoRearrangement, numbered}
+use Rattle.contract_row_laws.specs.Good.{AreGoodContractCalls, numbered}
 use Rattle.contract_row_laws.proofs.Escrows.{deposit_is, withdraw_is}
 use Rattle.contract_row_laws.proofs.Getters.{amount_is, current_is, proposal_is, staged_is, terms_are}
 use Rattle.contract_row_laws.proofs.Issuers as issuers
 use Rattle.contract_row_laws.proofs.Mints.{burn_is, gains_are}
 use Rattle.contract_row_laws.proofs.Own.{safe_is, seat_is, wake_is}
+use Rattle.contract_row_laws.proofs.Reallocating.{reallocate_is}
 use Rattle.contract_row_laws.proofs.Seats.{clear_is, exited_is, fail_is, leave_is}
 use Rattle.contract_row_laws.proofs.Shutdowns.{failure_is, shutdown_is}
 use Rattle.contract_row_laws.proofs.Staging.{decrement_is, increment_is}
+use Rattle.contract_row_laws.proofs.Transferring.{rearrange_is}
 use Rattle.contract_row_laws.proofs.Zcf.{instance_is, invitation_is, issuer_is, stop_is, zoe_is}
 
 module _ (w : State) (i n : ℕ) (m : List ℕ) (args : List Tree) where
-  zcf_is : CanCall w (Some i) (numbered kinds.Zcf n) args → IsNoRearrangement m → IsGoodOutcome w (Some i) (numbered kinds.Zcf n) m args (of_zcf w n m args)
+  zcf_is : CanCall w (Some i) (numbered kinds.Zcf n) args → IsGoodOutcome w (Some i) (numbered kinds.Zcf n) m args (of_zcf w n m args)
   zcf_is can =
-      let P : List ℕ → Outcome → Type 0 = λ k row. IsNoRearrangement k → IsGoodOutcome w (Some i) (numbered kinds.Zcf n) k args row in
-      by_method P m (codes "makeEmptySeatKit") _ _ (λ other. seat_is w i n args can)
-      (by_method P m (codes "reallocate") _ _ (λ other. absurd (other.staged refl))
-      (by_method P m (codes "atomicRearrange") _ _ (λ other. absurd (other.transfers refl))
-      (by_method P m (codes "makeZCFMint") _ _ (λ other. issuers.make_mint_is w i n args can)
-      (by_method P m (codes "saveIssuer") _ _ (λ other. issuers.save_is w i n args can)
-      (by_method P m (codes "getTerms") _ _ (λ other. terms_are w i n args can)
-      (by_method P m (codes "getBrandForIssuer") _ _ (λ other. issuers.brand_is w i n args can)
-      (by_method P m (codes "getIssuerForBrand") _ _ (λ other. issuers.issuer_is w i n args can)
-      (by_method P m (codes "getAssetKind") _ _ (λ other. issuers.kind_is w i n args can)
-      (by_method P m (codes "assertUniqueKeyword") _ _ (λ other. issuers.unique_is w i n args can)
-      (by_method P m (codes "wakeAt") _ _ (λ other. wake_is w i n args can)
-      (by_method P m (codes "depositToSeat") _ _ (λ other. deposit_is w i n args can)
-      (by_method P m (codes "withdrawFromSeat") _ _ (λ other. withdraw_is w i n args can)
-      (by_method P m (codes "makeInvitation") _ _ (λ other. invitation_is w i n args can)
-      (by_method P m (codes "getInstance") _ _ (λ other. instance_is w i n args can)
-      (by_method P m (codes "getZoeService") _ _ (λ other. zoe_is w i n args can)
-      (by_method P m (codes "getInvitationIssuer") _ _ (λ other. issuer_is w i n args can)
-      (by_method P m (codes "stopAcceptingOffers") _ _ (λ other. stop_is w i n args can)
-      (by_method P m (codes "shutdown") _ _ (λ other. shutdown_is w i n args can)
-      (by_method P m (codes "shutdownWithFailure") _ _ (λ other. failure_is w i n args can) (λ other. tt))))))))))))))))))))
+      let P : List ℕ → Outcome → Type 0 = λ k row. IsGoodOutcome w (Some i) (numbered kinds.Zcf n) k args row in
+      by_method P m (codes "makeEmptySeatKit") _ _ (seat_is w i n args can)
+      (by_method P m (codes "reallocate") _ _ (reallocate_is w i n args can)
+      (by_method P m (codes "atomicRearrange") _ _ (rearrange_is w i n args can)
+      (by_method P m (codes "makeZCFMint") _ _ (issuers.make_mint_is w i n args can)
+      (by_method P m (codes "saveIssuer") _ _ (issuers.save_is w i n args can)
+      (by_method P m (codes "getTerms") _ _ (terms_are w i n args can)
+      (by_method P m (codes "getBrandForIssuer") _ _ (issuers.brand_is w i n args can)
+      (by_method P m (codes "getIssuerForBrand") _ _ (issuers.issuer_is w i n args can)
+      (by_method P m (codes "getAssetKind") _ _ (issuers.kind_is w i n args can)
+      (by_method P m (codes "assertUniqueKeyword") _ _ (issuers.unique_is w i n args can)
+      (by_method P m (codes "wakeAt") _ _ (wake_is w i n args can)
+      (by_method P m (codes "depositToSeat") _ _ (deposit_is w i n args can)
+      (by_method P m (codes "withdrawFromSeat") _ _ (withdraw_is w i n args can)
+      (by_method P m (codes "makeInvitation") _ _ (invitation_is w i n args can)
+      (by_method P m (codes "getInstance") _ _ (instance_is w i n args can)
+      (by_method P m (codes "getZoeService") _ _ (zoe_is w i n args can)
+      (by_method P m (codes "getInvitationIssuer") _ _ (issuer_is w i n args can)
+      (by_method P m (codes "stopAcceptingOffers") _ _ (stop_is w i n args can)
+      (by_method P m (codes "shutdown") _ _ (shutdown_is w i n args can)
+      (by_method P m (codes "shutdownWithFailure") _ _ (failure_is w i n args can) tt)))))))))))))))))))
 
   zseat_is : CanCall w (Some i) (numbered kinds.Zseat n) args → IsGoodOutcome w (Some i) (numbered kinds.Zseat n) m args (of_zseat w n m args)
   zseat_is can =
@@ -66,12 +68,12 @@ module _ (w : State) (i n : ℕ) (m : List ℕ) (args : List Tree) where
       (by_method P m (codes "burnLosses") _ _ (burn_is w i n args can)
       (by_method P m (codes "getIssuerRecord") _ _ (issuers.own_is w i n args can) tt))
 
-  kind_is : (kind : ObjKind) → IsNoRearrangement m → CanCall w (Some i) (numbered kind n) args → IsGoodOutcome w (Some i) (numbered kind n) m args (of_kind w kind n m args)
-  kind_is kinds.Zcf other can = zcf_is can other
-  kind_is kinds.Zseat other can = zseat_is can
-  kind_is kinds.Zmint other can = zmint_is can
-  kind_is _ other can = tt
+  kind_is : (kind : ObjKind) → CanCall w (Some i) (numbered kind n) args → IsGoodOutcome w (Some i) (numbered kind n) m args (of_kind w kind n m args)
+  kind_is kinds.Zcf can = zcf_is can
+  kind_is kinds.Zseat can = zseat_is can
+  kind_is kinds.Zmint can = zmint_is can
+  kind_is _ can = tt
 
 pub calls_are : AreGoodContractCalls serve
 unfolding serve
-calls_are w i o m args other can = kind_is w i o.number m args o.kind other can
+calls_are w i o m args can = kind_is w i o.number m args o.kind can

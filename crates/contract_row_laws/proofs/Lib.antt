@@ -19,6 +19,10 @@ pub mod Sorted
 pub mod Settling
 pub mod Rearranging
 pub mod Reallocating
+pub mod Tags
+pub mod Working
+pub mod Asked
+pub mod Transferring
 pub mod Mints
 pub mod Escrows
 pub mod Calls

@@ -116,7 +116,7 @@ pub record IsPlan (w : State) (seats : List ℕ) (touched : List Touched) : Type
   pub safe : least_unsafe (all_states w) touched ≡ None
   pub small : list_all is_small touched ≡ true
 
-kept_is : (states : List SeatState) (touched : List Touched) → keeps states touched ≡ Ok tt → (first_unkept touched ≡ None) × ((least_unsafe states touched ≡ None) × (list_all is_small touched ≡ true))
+pub kept_is : (states : List SeatState) (touched : List Touched) → keeps states touched ≡ Ok tt → (first_unkept touched ≡ None) × ((least_unsafe states touched ≡ None) × (list_all is_small touched ≡ true))
 unfolding keeps
 kept_is states touched is =
     let first = passed _ _ is in

@@ -1,5 +1,5 @@
 -- That calls of an instance's functions are good rows.
-use Rattle.std.specs.Prelude.{◌≢◌, ℕ, List, Some, codes}
+use Rattle.std.specs.Prelude.{ℕ, List, Some}
 use Rattle.jessie_tree.specs.Tree.{Tree}
 use Rattle.jessie_tree.specs.declared.data.Obj.{Obj}
 use Rattle.jessie_tree.specs.declared.data.ObjKind.{ObjKind}
@@ -17,13 +17,8 @@ IsGoodCall kind m row =
     CanCall w (Some i) (numbered kind n) args →
     IsGoodOutcome w (Some i) (numbered kind n) m args (row w n args)
 
--- the method isn't one of the two that rearrange what several seats have
-pub record IsNoRearrangement (m : List ℕ) : Type 0 where
-  pub staged : m ≢ codes "reallocate"
-  pub transfers : m ≢ codes "atomicRearrange"
-
--- what each call owes that a function of an instance makes, whatever its target, method and arguments, but for those
+-- what each call owes that a function of an instance makes, whatever its target, method and arguments
 abbrev pub AreGoodContractCalls : (State → Obj → List ℕ → List Tree → Outcome) → Type 0
 AreGoodContractCalls serve =
-    (w : State) (i : ℕ) (o : Obj) (m : List ℕ) (args : List Tree) → IsNoRearrangement m →
+    (w : State) (i : ℕ) (o : Obj) (m : List ℕ) (args : List Tree) →
     CanCall w (Some i) o args → IsGoodOutcome w (Some i) o m args (serve w o m args)

@@ -3,8 +3,7 @@
 ghost use Rattle.contract_row_laws.specs.Good.{AreGoodContractCalls};
 ghost use Rattle.trade_rows.specs.Trades.{serve};
 
-/// Each call that a function of a contract makes is a good row, whatever its target, method and arguments, but for
-/// the two that rearrange what several seats have, of which nothing is said.
+/// Each call that a function of a contract makes is a good row, whatever its target, method and arguments.
 pub fn calls_of_contracts_are_good_rows()
     ensures good { AreGoodContractCalls serve }
 {}
