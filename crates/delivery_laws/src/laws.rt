@@ -3,7 +3,7 @@
 ghost use Rattle.std.specs.Prelude.{IfOk, IfSome, ◌≡◌, ◌≤◌, ◌<◌, ◌+◌, ◌*◌, ◌^◌, ℕ, List, length};
 ghost use Rattle.delivery_laws.specs.Hosts.{IsGoodHost};
 ghost use Rattle.delivery_laws.specs.Told.{with_log};
-ghost use Rattle.delivery_laws.specs.Works.{AreGoodHostCalls, Evaluates, IsCallWork, IsOut, IsRun, LabelIsFree};
+ghost use Rattle.delivery_laws.specs.Works.{Evaluates, IsCallWork, IsOut, IsRun, LabelIsFree};
 ghost use Rattle.delivery_laws.specs.Works.{most_meter};
 ghost use Rattle.delivery_turns.specs.Endings.{ending};
 ghost use Rattle.delivery_turns.specs.Functions.{run};
@@ -12,14 +12,12 @@ ghost use Rattle.delivery_turns.specs.Messages.{value_at};
 ghost use Rattle.delivery_turns.specs.Turns.{delivery_turn};
 ghost use Rattle.jessie_semantics.specs.Keeping.{CallHas, Fits};
 ghost use Rattle.jessie_semantics.specs.Play.{Call, Play, cost};
-ghost use Rattle.service_row_laws.specs.Good.{AreGoodServices};
-ghost use Rattle.service_rows.specs.ZoeRows.{TextReader};
+ghost use Rattle.service_rows.specs.ZoeRows.{ReadsModules, TextReader};
 ghost use Rattle.turn_records.specs.Deliveries.{Delivery};
 ghost use Rattle.turn_records.specs.Events.{Answer, Event};
 ghost use Rattle.world_state.specs.Good.{AreGood, IsGoodWorld};
 ghost use Rattle.world_state.specs.Known.{IsHanded, IsKnownTo};
 ghost use Rattle.world_state.specs.Rights.{IsRoomy, most_issued, most_turns};
-ghost use Rattle.zoe_rows.specs.Host.{serve};
 ghost use Rattle.world_state.specs.Worlds.{Effect, State, after_all, in_front, issued_by_all};
 
 /// What was told in the turn changes nothing of what effects need, do and issue.
@@ -35,7 +33,7 @@ pub fn what_was_told_changes_nothing()
 /// What the host does for a call of an instance's function is good, what it answers the instance
 /// may know, and it issues no more than the call was charged for.
 pub fn calls_of_the_host_are_good()
-    ensures good { (w : State) (i : ℕ) (c : Call) → AreGoodHostCalls
+    ensures good { (w : State) (i : ℕ) (c : Call)
         → IsGoodWorld w → i < length w.tables.instances → CallHas (IsKnownTo w i) c
         → IsRoomy w.rights.out (2 ^ 63 * cost c)
         → IsCallWork w i (2 ^ 63 * cost c) c }
@@ -50,7 +48,7 @@ pub fn ends_of_turns_are_good()
 
 /// What the function of an instance comes to is good.
 pub fn runs_are_good()
-    ensures good { (start : State) (i n : ℕ) (p : Play) (m : ℕ) → AreGoodHostCalls
+    ensures good { (start : State) (i n : ℕ) (p : Play) (m : ℕ)
         → i < length start.tables.instances → Evaluates start i n p → Fits m p
         → IsGoodWorld start → IsRoomy start.rights.out (2 ^ 63 * m)
         → IsRun start i n m (run start i p) }
@@ -63,17 +61,19 @@ pub fn messages_are_of_what_can_be_handed_out()
 {}
 
 /// What a delivery comes to has good effects, each after those before it, where the world with the
-/// delivery in front is good and leaves room for what a turn may issue, and calls are good rows.
+/// delivery in front is good and leaves room for what a turn may issue, and what is read of texts are modules
+/// that can be installed.
 pub fn deliveries_have_good_effects()
     ensures good { (read : TextReader) (meter : ℕ) (w : State) (d : Delivery)
-        → AreGoodServices (serve read) → AreGoodHostCalls → meter ≤ most_meter
+        → ReadsModules read → meter ≤ most_meter
         → IsGoodWorld (in_front d w) → IsRoomy w.rights.out most_issued
         → AreGood w (delivery_turn read meter w d).effects }
 {}
 
-/// A turn issues little, and a step keeps a host good, where the last turn isn't run yet.
+/// A turn issues little, and a step keeps a host good, where the last turn isn't run yet and what is read of
+/// texts are modules that can be installed.
 pub fn steps_keep_hosts_good()
     ensures step { (read : TextReader) (s : HostState)
-        → AreGoodServices (serve read) → AreGoodHostCalls → IsGoodHost s → s.turns < most_turns
+        → ReadsModules read → IsGoodHost s → s.turns < most_turns
         → IfSome (step_of read s) (λ step. IsGoodHost step.next) }
 {}

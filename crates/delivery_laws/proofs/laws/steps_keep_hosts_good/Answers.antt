@@ -1,5 +1,7 @@
+use Rattle.contract_row_laws.proofs.Calls.{calls_are}
+use Rattle.service_row_laws.proofs.Services.{services_are}
 use Rattle.delivery_laws.proofs.Hosts.{steps_good}
 use Rattle.delivery_laws.proofs.laws.steps_keep_hosts_good.Goals as goal
 
 pub returns : goal.returns
-returns c = record { step = λ read s served called host before. steps_good read served called s host before }
+returns c = record { step = λ read s reads host before. steps_good read (services_are read reads) calls_are s host before }
