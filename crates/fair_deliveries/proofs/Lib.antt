@@ -1,0 +1,5 @@
+pub mod Calls
+pub mod Runs
+pub mod Ends
+pub mod Works
+pub mod Whole

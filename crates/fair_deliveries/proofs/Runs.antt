@@ -1,0 +1,57 @@
+-- What the function of an instance does is shown by the rows of its calls, one after another.
+use Rattle.std.specs.Prelude.{◌≡◌, ◌+◌, ◌*◌, ◌-◌, ◌^◌, ◌<◌, ◌≤◌, ◌++◌, ℕ, false, List, [], ◌∷◌, Some, length, refl}
+use Rattle.std.proofs.Common.{sym, ◌∙◌, ap, subst, arith}
+use Rattle.delivery_laws.specs.Works.{AreGoodHostCalls, Evaluates}
+use Rattle.delivery_laws.proofs.Asking.{replies_so}
+use Rattle.delivery_laws.proofs.Replies.{call_is}
+use Rattle.delivery_laws.proofs.Runs.{after_both, after_more, all_grow, grows_on, have_end, scaled}
+use Rattle.delivery_turns.specs.Functions.{Run, ended, ran_out, run, run_after}
+use Rattle.delivery_turns.specs.HostCalls.{call_effects, call_reply}
+use Rattle.fair_causes.specs.Owed.{Owes}
+use Rattle.fair_rows.specs.ExitCauses.{Owners}
+use Rattle.fair_rows.specs.Rows.{is_offer}
+use Rattle.jessie_semantics.specs.Keeping.{CallHas, Fits, NextHas, RepliesHave}
+use Rattle.jessie_semantics.specs.Play.{Asks, Ends, Play, Reply, Spends, after, cost, reply_size}
+use Rattle.jessie_tree.specs.declared.data.ObjKind.TheVariants as kinds
+use Rattle.turn_records.specs.Printed.{named}
+use Rattle.turn_rows.specs.Turns.{Turn}
+use Rattle.world_laws.proofs.Forms.{formed_grows}
+use Rattle.world_laws.proofs.Roomy.{roomy-after_all}
+use Rattle.world_state.specs.Known.{Grows, IsKnownTo}
+use Rattle.world_state.specs.Rights.{IsRoomy}
+use Rattle.world_state.specs.Worlds.{Effect, State, after_all}
+use Rattle.shown_reads.specs.Reads.{CallsRead}
+use Rattle.fair_deliveries.proofs.Calls.{call_shows}
+use Rattle.fair_steps.proofs.Holding.{Holds, Shows, shows_both}
+use Rattle.fair_steps.proofs.Telling.{none_shown}
+
+module _ (owners : Owners) (t : Turn) (i : ℕ) where
+  abbrev pub RunShows : State → Run → Type 0
+  RunShows w (ended e values es) = Shows owners t none_shown (Some (named kinds.Instance i)) w es
+  RunShows w ran_out = Unit {0}
+
+  -- behind the calls before it
+  then_shows : (w : State) (es : List Effect) (r : Run) → Shows owners t none_shown (Some (named kinds.Instance i)) w es → RunShows (after_all w es) r → RunShows w (run_after es r)
+  then_shows w es ran_out one two = tt
+  then_shows w es (ended e values fs) one two = shows_both owners t none_shown (Some (named kinds.Instance i)) w es fs (after_both w es fs) one two
+
+  module _ (served : AreGoodHostCalls) (reads : CallsRead) (runs_none : is_offer t ≡ false) (start : State) (n : ℕ) (made : i < length start.tables.instances) (p0 : Play) (asks : Evaluates start i n p0) where
+    pub run_shows : (p : Play) (rs : List Reply) (w : State) (m : ℕ) → after p0 rs ≡ p → Fits m p → Holds none_shown owners (Some (named kinds.Instance i)) w → Owes w [] → Grows start w → RepliesHave (IsKnownTo w i) rs → IsRoomy w.rights.out (2 ^ 63 * m)
+        → RunShows w (run w i p)
+    run_shows (Ends e values) rs w m is fits holds owes grown known room = record { shown = tt; stored = tt; owes = owes; holds = holds }
+    run_shows Spends rs w m is fits holds owes grown known room = tt
+    run_shows (Asks c go) rs w m is fits holds owes grown known room =
+        let next : CallHas (IsKnownTo w i) c = subst (λ q. NextHas (IsKnownTo w i) n q) is (asks.each w grown rs known) in
+        let here : i < length w.tables.instances = omega (arith, made, grown.instances.more) in
+        let split = scaled (2 ^ 63) (cost c) 0 m (omega (arith, fits.0)) in
+        let room_now : IsRoomy w.rights.out (2 ^ 63 * cost c) = record { each = λ b. omega (arith, room.each b, split) } in
+        let work = call_is served w i holds.good here c next room_now in
+        let shows = call_shows served reads owners t runs_none w i here holds owes c next room_now in
+        let es = call_effects w i c in
+        let r = call_reply w i c in
+        let left = m - (cost c + reply_size r) in
+        let rest = scaled (2 ^ 63) (cost c) left m (omega (arith, fits.0)) in
+        let room_then : IsRoomy (after_all w es).rights.out (2 ^ 63 * left) = roomy-after_all w es (2 ^ 63 * m) (2 ^ 63 * left) room (omega (arith, work.issues, rest)) in
+        let known_then : RepliesHave (IsKnownTo (after_all w es) i) (rs ++ r ∷ []) = have_end (after_all w es) i rs r (replies_so (formed_grows w (after_all w es) (all_grow w es) (Some i)) rs known) work.known in
+        then_shows w es (run (after_all w es) i (go r)) shows
+        (run_shows (go r) (rs ++ r ∷ []) (after_all w es) left (after_more p0 rs c go r is) (fits.1 r) shows.holds shows.owes (grows_on start w (after_all w es) grown (all_grow w es)) known_then room_then)

@@ -1,0 +1,248 @@
+-- The turn of the delivery in front is a step from the world of the host to that of the host after it.
+use Rattle.std.specs.Prelude.{◌≡◌, ◌+◌, ◌-◌, ◌*◌, ◌<◌, ◌≤◌, ◌++◌, ℕ, List, [], ◌∷◌, Option, Some, None, IfSome, length, map, refl}
+use Rattle.std.specs.List.{AllByRecursion}
+use Rattle.std.proofs.Common.{sym, ◌∙◌, ap, subst, arith}
+use Rattle.std.proofs.lemmas.List.{append-nil}
+use Rattle.delivery_laws.specs.Hosts.{IsGoodHost}
+use Rattle.delivery_laws.specs.Works.{AreGoodHostCalls, IsTurnWork, most_meter}
+use Rattle.delivery_laws.proofs.Ends.{ending_good}
+use Rattle.delivery_laws.proofs.Hosts.{one_turn}
+use Rattle.delivery_laws.proofs.Runs.{after_both}
+use Rattle.delivery_laws.proofs.Works.{turn_good, work_is}
+use Rattle.delivery_turns.specs.Endings.{ending, without_cycle}
+use Rattle.delivery_turns.specs.Hosts.{HostState, step_after, step_from, step_of, sums_of}
+use Rattle.delivery_turns.specs.Tasks.{beginning, task_work}
+use Rattle.delivery_turns.specs.Turns.{delivery_turn}
+use Rattle.fair_causes.specs.Owed.{cause_shown}
+use Rattle.fair_effects.specs.Places.{rows_of, seat_told, seats_told}
+use Rattle.fair_effects.proofs.Rows.{Settles, resolving_settles}
+use Rattle.fair_effects.proofs.Seats.{seat_read}
+use Rattle.fair_rows.specs.Amounts.{IsReadByTurn}
+use Rattle.fair_rows.specs.ExitCauses.{Owners, either, first_cause, instance_of}
+use Rattle.fair_rows.specs.Rows.{ChangesNothing}
+use Rattle.fair_rows.specs.Seats as told
+use Rattle.fair_rows.specs.Seats.{IsOpen}
+use Rattle.fair_rows.specs.Steps.{IsStep, World}
+use Rattle.fair_rows.specs.Turns.{IsCaused}
+use Rattle.promise_store.specs.States.{SettlementView}
+use Rattle.refusals.specs.declared.codes.Refusal.{Refusal}
+use Rattle.rights_model.specs.declared.Sum.{Sum}
+use Rattle.rights_tables.specs.Tables.{table_of}
+use Rattle.serde_json.specs.Data as json
+use Rattle.service_row_laws.specs.Good.{AreGoodServices}
+use Rattle.service_rows.specs.ZoeRows.{TextReader}
+use Rattle.turn_answers.specs.Settlements.{settled_after}
+use Rattle.turn_records.specs.Deliveries as deliveries
+use Rattle.turn_records.specs.Deliveries.{Delivery, Reading}
+use Rattle.turn_records.specs.Events as events
+use Rattle.turn_records.specs.Events.{Answer, Event, given, moves_in, refused, spent, threw}
+use Rattle.turn_records.specs.Printed.{printed, printed_answer}
+use Rattle.turn_rows.specs.Turns as rows
+use Rattle.turn_rows.specs.Turns.{Turn}
+use Rattle.world_laws.proofs.Fronts.{begins, good_behind}
+use Rattle.world_state.specs.Good.{AreGood, IsGoodWorld}
+use Rattle.world_state.specs.Rights.{IsRoomy, most_issued, most_turns, slots_at}
+use Rattle.world_state.specs.Worlds as worlds
+use Rattle.world_state.specs.Worlds.{Effect, State, after, after_all, behind, in_front, no_seat, seat_at}
+use Rattle.zoe_rows.specs.Host.{serve as serve_call}
+use Rattle.shown_reads.specs.Reads.{CallsRead, ServicesRead}
+use Rattle.fair_deliveries.specs.Turns.{IsTurnStep}
+use Rattle.fair_steps.specs.Steps.{AccountsFor, ShowsSeats, TellsLog}
+use Rattle.fair_steps.specs.Views.{IsCounted, owners_told, world_in, world_of}
+use Rattle.fair_steps.proofs.Accounting.{accounts_for}
+use Rattle.fair_steps.proofs.Counts.{counted_after_all}
+use Rattle.fair_deliveries.proofs.Ends.{ending_fit, turn_with}
+use Rattle.fair_steps.proofs.Holding.{Shows, fit_all, row_of, shows_both}
+use Rattle.fair_steps.proofs.Seats.{open_is, shows_seats}
+use Rattle.fair_steps.proofs.Telling.{HasItsCause, Showing, shown_by}
+use Rattle.fair_deliveries.proofs.Works.{Turns, turns_of}
+
+-- ---- a turn that is refused tells settlements alone
+
+settled_nothing : (ps : List (ℕ × SettlementView)) → AllByRecursion ChangesNothing (rows_of (map (λ p. events.settled p.0 p.1) ps))
+settled_nothing [] = tt
+settled_nothing (p ∷ ps) = (tt, settled_nothing ps)
+
+unsettled : (log : List Event) → Settles log log
+unsettled log = record { promises = []; told = sym (append-nil log) }
+
+refused_end : (d : Delivery) (e : Refusal) (u : State) → Settles u.log (after_all u (ending d (refused e) u)).log
+unfolding ending
+refused_end (deliveries.call c) e u = unsettled u.log
+refused_end (deliveries.give g) e u = unsettled u.log
+refused_end (deliveries.tick t) e u = unsettled u.log
+refused_end (deliveries.bad r) e u = unsettled u.log
+refused_end (deliveries.wake x) e u = unsettled u.log
+refused_end (deliveries.deadline s) e u = unsettled u.log
+refused_end (deliveries.send s) e u = resolving_settles s.promise (without_cycle u.promises.follows s.promise (settled_after (deliveries.send s) (refused e))) u.promises u.waiting u.log
+refused_end (deliveries.start s) e u = resolving_settles s.promise (without_cycle u.promises.follows s.promise (settled_after (deliveries.start s) (refused e))) u.promises u.waiting u.log
+refused_end (deliveries.offer o) e u = resolving_settles o.promise (without_cycle u.promises.follows o.promise (settled_after (deliveries.offer o) (refused e))) u.promises u.waiting u.log
+refused_end (deliveries.notify n) e u = resolving_settles n.answer (without_cycle u.promises.follows n.answer (settled_after (deliveries.notify n) (refused e))) u.promises u.waiting u.log
+
+-- ---- a whole turn
+
+module _ (read : TextReader) (served : AreGoodServices (serve_call read)) (called : AreGoodHostCalls) (reads : CallsRead) (service_reads : ServicesRead read) (meter : ℕ) (few : meter ≤ most_meter) (w : State) (d : Delivery) (good : IsGoodWorld (in_front d w)) (room : IsRoomy w.rights.out most_issued) (counted : IsCounted w) (empty : w.log ≡ []) (k : ℕ) where
+  abbrev r : Reading
+  r = (beginning w d).reading
+
+  abbrev a : Answer
+  a = (task_work read meter w (beginning w d).task).answer
+
+  abbrev es : List Effect
+  es = (task_work read meter w (beginning w d).task).effects
+
+  abbrev u : State
+  u = after_all w es
+
+  abbrev fs : List Effect
+  fs = ending d a u
+
+  abbrev z : State
+  z = after_all w (es ++ fs)
+
+  abbrev sums : List Sum
+  sums = sums_of z.rights (moves_in z.log)
+
+  abbrev t : Turn
+  t = turn_with (k + 1) z.log sums d r a
+
+  abbrev os : Owners
+  os = owners_told w
+
+  abbrev row : Showing
+  row = row_of os t
+
+  abbrev i : Option (List ℕ)
+  i = instance_of os t.kind t
+
+  work : IsTurnWork w d (task_work read meter w (beginning w d).task)
+  work = work_is read served called meter few w d good room
+
+  whole : IsGoodWorld w
+  whole = good_behind w d good
+
+  are : AreGood w (es ++ fs)
+  unfolding delivery_turn
+  are = turn_good read served called meter few w d good room
+
+  turned : Turns read served called reads service_reads meter few w d good room counted empty (k + 1) z.log sums r a es
+  turned = turns_of read served called reads service_reads meter few w room counted empty (k + 1) z.log sums d good
+
+  ended : Shows os t row i u fs
+  ended = fit_all os t row (λ i n c e. e) i u fs turned.shows.holds turned.shows.owes (ending_good u d a work.front work.out work.free) (ending_fit (k + 1) z.log sums os d r a u)
+
+  same_end : z ≡ after_all u fs
+  same_end = after_both w es fs
+
+  all : Shows os t row i w (es ++ fs)
+  all = shows_both os t row i w es fs same_end turned.shows ended
+
+  tells : TellsLog z t
+  tells = record { events = refl; sums = refl }
+
+  accounts : AccountsFor (world_in k w) t (world_in (k + 1) z)
+  accounts = accounts_for k w (es ++ fs) t whole empty are all.stored tells
+
+  seats : ShowsSeats (world_in k w) t (world_in (k + 1) z)
+  seats = shows_seats k w (es ++ fs) t whole empty are all.shown tells
+
+  -- no cause is shown of a seat that is open
+  none_shown_by : (n : ℕ) → worlds.IsOpen (seat_at z.seats n) → row (seat_at z.seats n).instance n ≡ None
+  none_shown_by = subst (λ (x : State). (n : ℕ) → worlds.IsOpen (seat_at x.seats n) → row (seat_at x.seats n).instance n ≡ None) (sym same_end) turned.stays
+
+  stays : (seat : ℕ) (is_open : IsOpen (seats_told z) seat) → first_cause os t t.events is_open.seat.opening.instance seat ≡ None
+  stays n is_open =
+      let of = open_is z n all.holds.good is_open in
+      ap (λ (s : told.Seat). first_cause os t t.events s.opening.instance n) of.is
+      ∙ ap (λ c. either c (row (seat_at z.seats n).instance n)) (all.owes.shown n of.opens)
+      ∙ none_shown_by n of.opens
+
+  -- a seat that was left has its cause
+  caused_all : (xs : List Event) → AllByRecursion (HasItsCause row z) xs → AllByRecursion (IsCaused (seats_told z) os t t.events) (rows_of xs)
+  caused_all [] have = tt
+  caused_all (events.exited x ∷ xs) have = (record {
+    seat = seat_told x.seat (seat_at z.seats x.seat) (slots_at z.rights.slots x.seat);
+    was_opened = seat_read 0 x.seat z.seats z.rights.slots no_seat have.0.0 all.holds.good.seats.slotted
+        ∙ ap (λ n. Some (seat_told n (seat_at z.seats x.seat) (slots_at z.rights.slots x.seat))) (let e : 0 + x.seat ≡ x.seat = omega arith in e);
+    first = have.0.1;
+  }, caused_all xs have.1)
+  caused_all (events.called c ∷ xs) have = (tt, caused_all xs have.1)
+  caused_all (events.opened o ∷ xs) have = (tt, caused_all xs have.1)
+  caused_all (events.moved m ∷ xs) have = (tt, caused_all xs have.1)
+  caused_all (events.settled p s ∷ xs) have = (tt, caused_all xs have.1)
+
+  nothing_done : es ≡ [] → (e : Refusal) → a ≡ refused e → AllByRecursion ChangesNothing t.events
+  nothing_done none e is =
+      let v : List Effect → State = λ xs. after_all (after_all w xs) (ending d (refused e) (after_all w xs)) in
+      let end : z ≡ v [] = same_end ∙ ap (λ b. after_all u (ending d b u)) is ∙ ap v none in
+      let settled = refused_end d e w in
+      let log : z.log ≡ map (λ p. events.settled p.0 p.1) settled.promises = ap (λ (x : State). x.log) end ∙ settled.told ∙ ap (λ x. x ++ map (λ p. events.settled p.0 p.1) settled.promises) empty in
+      subst (λ x. AllByRecursion ChangesNothing (rows_of x)) (sym log) (settled_nothing settled.promises)
+
+  refusal : (code : List ℕ) (shown : json.Items) → t.answer ≡ rows.refused code shown → AllByRecursion ChangesNothing t.events
+  refusal code shown = by a refl
+    where
+      by : (b : Answer) → a ≡ b → printed_answer b ≡ rows.refused code shown → AllByRecursion ChangesNothing t.events
+      by (refused e) same is = nothing_done (turned.quiet e same) e same
+      by (given x) same is = cc
+      by (threw x) same is = cc
+      by (spent m) same is = cc
+
+  pub is_step : IsStep (world_in k w) t (world_in (k + 1) z)
+  is_step = record {
+    number = refl;
+    turns = refl;
+    defined = accounts.defined;
+    table = accounts.table;
+    hand = accounts.hand;
+    out = accounts.out;
+    minted_is = accounts.minted_is;
+    burned_is = accounts.burned_is;
+    fits = accounts.fits;
+    sums = accounts.sums;
+    brands = accounts.brands;
+    kinds = accounts.kinds;
+    values = accounts.values;
+    payments = accounts.payments;
+    made = accounts.made;
+    emptied = accounts.emptied;
+    live = accounts.live;
+    taken = accounts.taken;
+    stays_taken = accounts.stays_taken;
+    rows = seats.rows;
+    safe = seats.safe;
+    stays = stays;
+    caused = caused_all z.log all.holds.causes;
+    owners = all.holds.facets;
+    refusal = refusal;
+    read = turned.reads;
+  }
+
+  pub counted_then : IsCounted z
+  counted_then = all.holds.counted
+
+-- ---- hosts
+
+module _ (read : TextReader) (served : AreGoodServices (serve_call read)) (called : AreGoodHostCalls) (reads : CallsRead) (service_reads : ServicesRead read) where
+  step_is : (s : HostState) (d : Delivery) (ds : List Delivery) → s.world.waiting ≡ d ∷ ds → IsGoodHost s → IsCounted s.world → s.turns < most_turns
+      → IsTurnStep s (step_after s d (delivery_turn read s.meter (behind s.world) d))
+  unfolding delivery_turn
+  step_is s d ds front host counted before =
+      let w = behind s.world in
+      let good : IsGoodWorld (in_front d w) = subst IsGoodWorld (begins s.world d ds front) host.world in
+      let split = one_turn (most_turns - s.turns) (omega (arith, before)) in
+      let room : IsRoomy w.rights.out most_issued = record { each = λ b. let x = host.room.each b in omega (arith, x, split) } in
+      let counted_now : IsCounted w = record { seats = counted.seats; instances = counted.instances; facets = counted.facets; purses = counted.purses } in
+      let then = counted_then read served called reads service_reads s.meter host.meter w d good room counted_now host.untold s.turns in
+      record {
+        is_step = is_step read served called reads service_reads s.meter host.meter w d good room counted_now host.untold s.turns;
+        counted = record { seats = then.seats; instances = then.instances; facets = then.facets; purses = then.purses };
+      }
+
+  from_is : (s : HostState) (ws : List Delivery) → s.world.waiting ≡ ws → IsGoodHost s → IsCounted s.world → s.turns < most_turns → IfSome (step_from read s ws) (IsTurnStep s)
+  from_is s [] front host counted before = tt
+  from_is s (d ∷ ds) front host counted before = step_is s d ds front host counted before
+
+  pub steps_are : (s : HostState) → IsGoodHost s → IsCounted s.world → s.turns < most_turns → IfSome (step_of read s) (IsTurnStep s)
+  unfolding step_of
+  steps_are s host counted before = from_is s s.world.waiting refl host counted before

@@ -1,0 +1,7 @@
+pub mod Accounting
+pub mod Seats
+pub mod Names
+pub mod Telling
+pub mod Counts
+pub mod Owned
+pub mod Holding

@@ -1,0 +1,49 @@
+-- A host's world as the rows of a journal tell it: who holds what, what is out and what was ever minted and burned,
+-- the payments, the seats, and the facets with their instances.
+use Rattle.std.specs.Prelude.{◌≤◌, ℕ, suc, List, [], ◌∷◌, Some, length}
+use Rattle.ertp_mint.specs.Stocks.{most_made}
+use Rattle.delivery_turns.specs.Hosts.{HostState}
+use Rattle.fair_effects.specs.Accounts.{burned_of, is_taken, minted_of, out_of}
+use Rattle.fair_effects.specs.Places.{seats_told}
+use Rattle.fair_rows.specs.ExitCauses.{Owners}
+use Rattle.fair_rows.specs.Steps.{World}
+use Rattle.instance_store.specs.Facets.{FacetView}
+use Rattle.jessie_tree.specs.declared.data.ObjKind.TheVariants.{Facet, Instance}
+use Rattle.rights_tables.specs.Tables.{table_of}
+use Rattle.turn_records.specs.Printed.{named}
+use Rattle.world_state.specs.Rights.{kind_at}
+use Rattle.world_state.specs.Worlds.{State}
+
+-- facets by their names, numbered from n, each with the name of its instance
+abbrev pub owners_from : ℕ → List FacetView → Owners
+owners_from n [] = []
+owners_from n (f ∷ fs) = (named Facet n, Some (named Instance f.instance)) ∷ owners_from (suc n) fs
+
+abbrev pub owners_told : State → Owners
+owners_told w = owners_from 0 w.facets
+
+-- after so many turns
+abbrev pub world_in : ℕ → State → World
+world_in turns w = record {
+  turns = turns;
+  table = table_of w.rights;
+  out = out_of w.rights;
+  minted = minted_of w.rights;
+  burned = burned_of w.rights;
+  brands = length w.rights.out;
+  kind_of = kind_at w.rights.out;
+  payments = length w.rights.payments;
+  is_taken = is_taken w.rights.payments;
+  seats = seats_told w;
+  owners = owners_told w;
+}
+
+abbrev pub world_of : HostState → World
+world_of s = world_in s.turns s.world
+
+-- seats, instances, facets and purses have numbers of 32 bits
+pub record IsCounted (w : State) : Type 0 where
+  pub seats : length w.seats ≤ most_made
+  pub instances : length w.tables.instances ≤ most_made
+  pub facets : length w.facets ≤ most_made
+  pub purses : length w.rights.purses ≤ most_made
