@@ -1,22 +1,31 @@
 -- Rows are added to slots exactly where the tests of plans pass, and are refused by what these show.
-use Rattle.std.proofs.Common.{◌≡◌, List, [], ◌∷◌, inl, inr, Result, Ok, Err, refl, ap, ◌∙◌, subst}
+use Rattle.std.proofs.Common.{◌≡◌, List, [], ◌∷◌, inl, inr, Option, Some, None, Result, Ok, Err, refl, sym, ap, ◌∙◌, subst}
 use Rattle.std.specs.List.{All}
+use Rattle.std.specs.Option.{ForSome}
 use Rattle.std.proofs.lemmas.List.Elements.{All-head, All-tail}
 use Rattle.allocation_changes.specs.Gains.{CanGain, IsApart, IsGainsRefusal, IsRefused, together}
 use Rattle.allocation_changes.specs.Rows.{FirstShows}
+use Rattle.allocation_changes.proofs.Apart.{row_under}
+use Rattle.allocation_changes.proofs.Sums.{content_none, content_there}
+use Rattle.amount_math.specs.Amount.{Meet}
 use Rattle.amount_math.specs.Content.{Content}
-use Rattle.amount_math.specs.Worth.{Fits, fits_from_value}
+use Rattle.amount_math.specs.KindLaws.{nothing_is_value}
+use Rattle.amount_math.specs.Worth.{Fits, IsValue, fits_from_value}
+use Rattle.amount_math.specs.declared.Amount.{Amount}
 use Rattle.amount_math.specs.declared.Kind.{Kind}
 use Rattle.amount_math.specs.declared.Kind.TheVariants.{Nat, Set, Bag}
 use Rattle.amount_math.specs.declared.PutFault.{PutFault}
 use Rattle.amount_math.specs.declared.PutFault.TheVariants as put_fault
 use Rattle.plan_checks.specs.Slots.{can_give, each_passes, fits_slot, is_apart}
+use Rattle.plan_refusals.specs.Bounds.{HasValue}
+use Rattle.proposals.specs.OfferSafety.{MeetSlots, MeetsSlot}
+use Rattle.proposals.specs.Rows.{amount_under, content_under}
 use Rattle.proposals.specs.declared.allocations.Row.{Row}
 use Rattle.refusals.specs.Outcomes.{Fails, ◌>>◌, bind}
-use Rattle.refusals.specs.Told.{put_told}
+use Rattle.refusals.specs.Told.{PutCanShow, put_told}
 use Rattle.refusals.specs.declared.codes.Refusal.{Refusal}
 use Rattle.value_checks.specs.Tests.{overlap_free}
-use Rattle.value_checks.proofs.Sums.{overlap_none, overlap_there, refused, value_passes}
+use Rattle.value_checks.proofs.Sums.{overlap_none, overlap_there, refused, small, value_passes}
 
 abbrev Test : Type 0
 Test = Row → Result (Unit {0}) Refusal
@@ -72,3 +81,25 @@ gains_fail slots gains (put_fault.TooMuch over) (apart, shows) =
     both (each_passes (is_apart slots) gains) (each_passes (fits_slot slots) gains) (each_ok (is_apart slots) (IsApart slots) (apart_passes slots) gains apart)
     ∙ first_fails (fits_slot slots) (CanGain slots) (IsRefused slots (put_fault.TooMuch over)) _ (fits_passes slots) (λ r is. refused r.amount.value.kind (together slots r) (put_fault.TooMuch over) is) gains shows
 gains_fail slots gains put_fault.NoMemory shows = tt
+
+-- ---- what is shown can be shown
+
+held_value : (slots : List Row) (r : Row) → All HasValue slots → MeetsSlot slots r → IsValue r.amount.value.kind (content_under r.keyword slots)
+held_value slots r values meets = by (amount_under r.keyword slots) refl meets
+  where
+    by : (o : Option Amount) → amount_under r.keyword slots ≡ o → ForSome o (λ slot. Meet slot r.amount) → IsValue r.amount.value.kind (content_under r.keyword slots)
+    by None is meet = subst (λ (c : Content). IsValue r.amount.value.kind c) (sym (content_none r.keyword slots is)) (nothing_is_value r.amount.value.kind)
+    by (Some a) is meet =
+        subst (λ (c : Content). IsValue r.amount.value.kind c) (sym (content_there r.keyword slots a is))
+        (subst (λ (k : Kind). IsValue k a.value.content) (meet a refl).kind (row_under HasValue slots values r.keyword a is))
+
+pub gains_shown : (slots gains : List Row) (fault : PutFault) → All HasValue slots → All HasValue gains → MeetSlots slots gains → IsGainsRefusal slots gains fault → PutCanShow fault
+gains_shown slots gains (put_fault.Overlap key) held given meet shows = tt
+gains_shown slots gains (put_fault.TooMuch over) held given meet (apart, shows) = by gains given meet shows
+  where
+    by : (rs : List Row) → All HasValue rs → MeetSlots slots rs → FirstShows (CanGain slots) (IsRefused slots (put_fault.TooMuch over)) rs → PutCanShow (put_fault.TooMuch over)
+    by [] values meets here = absurd here
+    by (r ∷ rs) values meets (inl here) =
+        small r.amount.value.kind (content_under r.keyword slots) r.amount.value.content (put_fault.TooMuch over) (held_value slots r held (All-head (MeetsSlot slots) r rs meets)) (All-head HasValue r rs values) here
+    by (r ∷ rs) values meets (inr (p, later)) = by rs (All-tail HasValue r rs values) (All-tail (MeetsSlot slots) r rs meets) later
+gains_shown slots gains put_fault.NoMemory held given meet shows = tt

@@ -7,3 +7,4 @@ pub mod Seats
 pub mod Kept
 pub mod Worked
 pub mod Changes
+pub mod Shown

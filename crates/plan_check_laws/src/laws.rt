@@ -1,9 +1,12 @@
 //! The laws. The bodies are empty: what they state is proved of the definitions.
 
+ghost use Rattle.std.specs.List.{AllByRecursion};
 ghost use Rattle.std.specs.Prelude.{◌≡◌, ◌↔◌, ◌≤◌, All, ℕ, List, Err, None, Ok, length, true};
 ghost use Rattle.allocation_changes.specs.Losses.{IsLossesRefusal};
 ghost use Rattle.amount_math.specs.declared.shortfall.LossFault.TheVariants as takes;
+ghost use Rattle.amount_math.specs.declared.TooMuch.{TooMuch};
 ghost use Rattle.amount_math.specs.declared.shortfall.Shortfall.{Shortfall};
+ghost use Rattle.plan_check_laws.specs.Values.{AreValues, IsValued};
 ghost use Rattle.plan_checks.specs.Plans.{can_take_over, can_take_part, first_unkept, keeps, staged_changes, transfer_changes};
 ghost use Rattle.plan_checks.specs.Slots.{are_covered, can_take, is_covered, is_safe};
 ghost use Rattle.plan_refusals.specs.Told.{plan_told, seats_told};
@@ -19,9 +22,11 @@ ghost use Rattle.rearrange.specs.Safety.{AreSafe};
 ghost use Rattle.rearrange.specs.Seats.{allocation_of, seats_named, staged_refusal, transfers_refusal};
 ghost use Rattle.rearrange.specs.Staged.{IsStagedRefusal, staged_plan};
 ghost use Rattle.rearrange.specs.Sums.{AreConserved};
-ghost use Rattle.rearrange.specs.Transfers.{CanWork, IsTransfersRefusal, transfers_plan};
+ghost use Rattle.rearrange.specs.Transfers.{CanWork, HasOneBrand, IsTransfersRefusal, IsWorkRefusal, transfers_plan};
 ghost use Rattle.rearrange.specs.declared.plans.PlanFault.{PlanFault};
+ghost use Rattle.rearrange.specs.declared.plans.PlanFault.TheVariants as plan;
 ghost use Rattle.refusals.specs.Outcomes.{Fails, ◌>>◌, none_such};
+ghost use Rattle.refusals.specs.Told.{CanShow};
 ghost use Rattle.refusals.specs.declared.codes.Refusal.TheVariants.{NotEnough};
 
 /// A test of slots passes exactly where they cover the rows (Zoe's offer safety), and rows are refused to be
@@ -81,3 +86,13 @@ pub fn transfers_are_worked_as_they_are_planned()
         IsTransfersRefusal i states list fault
         → Fails (plan_told fault) (can_take_part i states (seats_named list) >> transfer_changes states list) }
 {}
+
+/// What transfers make too much can be shown, where what seats have and what transfers give are values, and all
+/// amounts for a seat and keyword are of one brand.
+pub fn what_transfers_make_too_much_can_be_shown()
+    ensures { (states : List SeatState) (list : List Transfer) (over : TooMuch) →
+        All (HasOneBrand states list) (seats_named list) → ((n : ℕ) → AreValues (allocation_of states n))
+        → AllByRecursion IsValued list → IsWorkRefusal (allocation_of states) list (plan.TooMuch over)
+        → CanShow over.sum over.bound }
+{}
+

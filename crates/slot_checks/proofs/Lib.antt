@@ -1,3 +1,2 @@
-pub mod Gained
 pub mod Lost
 pub mod Taken

@@ -2,7 +2,7 @@ use Rattle.std.proofs.Common.{List, refl, subst}
 use Rattle.std.specs.List.{All}
 use Rattle.plan_refusals.specs.Bounds.{HasValue}
 use Rattle.proposals.specs.declared.allocations.Row.{Row}
-use Rattle.slot_checks.proofs.Gained.{gains_fail, gains_pass, gains_shown}
+use Rattle.plan_check_laws.proofs.Gains.{gains_fail, gains_pass, gains_shown}
 use Rattle.slot_checks.proofs.increased.Goals as goal
 
 pub of_put-requires : goal.of_put-requires
