@@ -75,6 +75,7 @@ use Rattle.world_state.specs.Worlds.{Effect, IsOpen, Seat, State, after, after_a
 use Rattle.shown_reads.specs.Reads.{CallsRead}
 use Rattle.fair_steps.specs.Views.{IsCounted}
 use Rattle.fair_steps.proofs.Counts.{counted_after}
+use Rattle.fair_steps.proofs.Left.{left_after}
 use Rattle.fair_steps.proofs.Holding.{AreFit, Holds, IsFit, Shows, fit_all, holds_after}
 use Rattle.fair_steps.proofs.Names.{same_bytes}
 use Rattle.fair_steps.proofs.Owned.{FacetsTold, IsNoFacet, facets_called, facets_far}
@@ -229,7 +230,7 @@ module _ (owners : Owners) (t : Turn) where
     good = good-after w (note_call c) tt is.good;
     causes = causes_called w c is.causes;
     facets = facets;
-    counted = counted_after w (note_call c) tt is.counted;
+    steady = record { counted = counted_after w (note_call c) tt is.steady.counted; left = left_after w (note_call c) is.good tt is.steady.left };
   }
 
   -- a call of a method that is answered
@@ -250,9 +251,9 @@ module _ (owners : Owners) (t : Turn) where
     tells : owed.Tells w o m
     tells = record {
       on = no_user_seat o.kind own;
-      number = own_number w i o.kind o.number is.good is.counted can.hosted own can.target;
-      seats = λ n opens. omega (arith, open_made w.seats n opens, is.counted.seats);
-      instances = λ n opens. let placed = all_read (IsPlaced w) w.seats n no_seat is.good.placed (open_made w.seats n opens) in omega (arith, placed, is.counted.instances);
+      number = own_number w i o.kind o.number is.good is.steady.counted can.hosted own can.target;
+      seats = λ n opens. omega (arith, open_made w.seats n opens, is.steady.counted.seats);
+      instances = λ n opens. let placed = all_read (IsPlaced w) w.seats n no_seat is.good.placed (open_made w.seats n opens) in omega (arith, placed, is.steady.counted.instances);
       made = departures_made w i o.kind o.number m own can.target;
     }
 
@@ -352,7 +353,10 @@ module _ (owners : Owners) (t : Turn) (i : Option (List ℕ)) (w : State) (is : 
           good = good-after behind (make_facet f) good.1.0 (good-after w (note_call x) tt is.good);
           causes = causes_after none_shown behind (make_facet f) tt good.1.0 tt (causes_called w x is.causes);
           facets = facets_far owners i w is.facets x f (facet_named n ∙ ap (λ k. named kinds.Facet k ∷ []) same) of;
-          counted = counted_after behind (make_facet f) good.1.0 (counted_after w (note_call x) tt is.counted);
+          steady = record {
+            counted = counted_after behind (make_facet f) good.1.0 (counted_after w (note_call x) tt is.steady.counted);
+            left = left_after behind (make_facet f) (good-after w (note_call x) tt is.good) good.1.0 (left_after w (note_call x) is.good tt is.steady.left);
+          };
         };
       }
     where
@@ -396,7 +400,7 @@ module _ (served : AreGoodHostCalls) (reads : CallsRead) (owners : Owners) (t : 
 
   called_row : (o : Obj) (m : List ℕ) (args : List Tree) → CanCall w (Some i) o args → (row : Outcome) → serve w o m args ≡ row → IfOk row (λ d. IsRow w (Some i) o m args d.0 d.1) → Showing (call o m args) row
   called_row o m args can (Err r) e so good = refused_shows owners t ours w is owes (call o m args) r
-  called_row o m args can (Ok (answer, es)) e so good = answered_shows owners t w i o m args answer es is owes runs_none can e so (reads w i o m args answer es is.counted can e)
+  called_row o m args can (Ok (answer, es)) e so good = answered_shows owners t w i o m args answer es is owes runs_none can e so (reads w i o m args answer es is.steady.counted can e)
 
   sent_row : (o : Obj) (m : List ℕ) (args : List Tree) (row : Outcome) → IfOk row (λ d. (t : Turn) (v : State) → AreFit t none_shown v d.1) → Showing (send o m args) row
   sent_row o m args (Err r) fit good = refused_shows owners t ours w is owes (send o m args) r

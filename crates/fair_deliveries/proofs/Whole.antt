@@ -14,7 +14,8 @@ use Rattle.delivery_turns.specs.Hosts.{HostState, step_after, step_from, step_of
 use Rattle.delivery_turns.specs.Tasks.{beginning, task_work}
 use Rattle.delivery_turns.specs.Turns.{delivery_turn}
 use Rattle.fair_causes.specs.Owed.{cause_shown}
-use Rattle.fair_effects.specs.Places.{rows_of, seat_told, seats_told}
+use Rattle.ertp_mint.specs.Stocks.{most_made}
+use Rattle.fair_effects.specs.Places.{rows_of, seat_told, seats_told, slot_name}
 use Rattle.fair_effects.proofs.Rows.{Settles, resolving_settles}
 use Rattle.fair_effects.proofs.Seats.{seat_read}
 use Rattle.fair_rows.specs.Amounts.{IsReadByTurn}
@@ -24,7 +25,10 @@ use Rattle.fair_rows.specs.Seats as told
 use Rattle.fair_rows.specs.Seats.{IsOpen}
 use Rattle.fair_rows.specs.Steps.{IsStep, World}
 use Rattle.fair_rows.specs.Turns.{IsCaused}
+use Rattle.instance_store.specs.Facets.{FacetView}
+use Rattle.instance_store.specs.Tables.{Tables}
 use Rattle.promise_store.specs.States.{SettlementView}
+use Rattle.proposals.specs.declared.allocations.Row.{Row}
 use Rattle.refusals.specs.declared.codes.Refusal.{Refusal}
 use Rattle.rights_model.specs.declared.Sum.{Sum}
 use Rattle.rights_tables.specs.Tables.{table_of}
@@ -41,16 +45,15 @@ use Rattle.turn_rows.specs.Turns as rows
 use Rattle.turn_rows.specs.Turns.{Turn}
 use Rattle.world_laws.proofs.Fronts.{begins, good_behind}
 use Rattle.world_state.specs.Good.{AreGood, IsGoodWorld}
-use Rattle.world_state.specs.Rights.{IsRoomy, most_issued, most_turns, slots_at}
+use Rattle.world_state.specs.Rights.{IsRoomy, Rights, most_issued, most_turns, slots_at}
 use Rattle.world_state.specs.Worlds as worlds
-use Rattle.world_state.specs.Worlds.{Effect, State, after, after_all, behind, in_front, no_seat, seat_at}
+use Rattle.world_state.specs.Worlds.{Effect, Seat, State, after, after_all, behind, in_front, no_seat, seat_at}
 use Rattle.zoe_rows.specs.Host.{serve as serve_call}
 use Rattle.shown_reads.specs.Reads.{CallsRead, ServicesRead}
 use Rattle.fair_deliveries.specs.Turns.{IsTurnStep}
 use Rattle.fair_steps.specs.Steps.{AccountsFor, ShowsSeats, TellsLog}
-use Rattle.fair_steps.specs.Views.{IsCounted, owners_told, world_in, world_of}
+use Rattle.fair_steps.specs.Views.{IsSteady, owners_told, world_in, world_of}
 use Rattle.fair_steps.proofs.Accounting.{accounts_for}
-use Rattle.fair_steps.proofs.Counts.{counted_after_all}
 use Rattle.fair_deliveries.proofs.Ends.{ending_fit, turn_with}
 use Rattle.fair_steps.proofs.Holding.{Shows, fit_all, row_of, shows_both}
 use Rattle.fair_steps.proofs.Seats.{open_is, shows_seats}
@@ -81,7 +84,7 @@ refused_end (deliveries.notify n) e u = resolving_settles n.answer (without_cycl
 
 -- ---- a whole turn
 
-module _ (read : TextReader) (served : AreGoodServices (serve_call read)) (called : AreGoodHostCalls) (reads : CallsRead) (service_reads : ServicesRead read) (meter : ℕ) (few : meter ≤ most_meter) (w : State) (d : Delivery) (good : IsGoodWorld (in_front d w)) (room : IsRoomy w.rights.out most_issued) (counted : IsCounted w) (empty : w.log ≡ []) (k : ℕ) where
+module _ (read : TextReader) (served : AreGoodServices (serve_call read)) (called : AreGoodHostCalls) (reads : CallsRead) (service_reads : ServicesRead read) (meter : ℕ) (few : meter ≤ most_meter) (w : State) (d : Delivery) (good : IsGoodWorld (in_front d w)) (room : IsRoomy w.rights.out most_issued) (steady : IsSteady w) (empty : w.log ≡ []) (k : ℕ) where
   abbrev r : Reading
   r = (beginning w d).reading
 
@@ -125,8 +128,8 @@ module _ (read : TextReader) (served : AreGoodServices (serve_call read)) (calle
   unfolding delivery_turn
   are = turn_good read served called meter few w d good room
 
-  turned : Turns read served called reads service_reads meter few w d good room counted empty (k + 1) z.log sums r a es
-  turned = turns_of read served called reads service_reads meter few w room counted empty (k + 1) z.log sums d good
+  turned : Turns read served called reads service_reads meter few w d good room steady empty (k + 1) z.log sums r a es
+  turned = turns_of read served called reads service_reads meter few w room steady empty (k + 1) z.log sums d good
 
   ended : Shows os t row i u fs
   ended = fit_all os t row (λ i n c e. e) i u fs turned.shows.holds turned.shows.owes (ending_good u d a work.front work.out work.free) (ending_fit (k + 1) z.log sums os d r a u)
@@ -218,31 +221,44 @@ module _ (read : TextReader) (served : AreGoodServices (serve_call read)) (calle
     read = turned.reads;
   }
 
-  pub counted_then : IsCounted z
-  counted_then = all.holds.counted
+  pub steady_then : IsSteady z
+  steady_then = all.holds.steady
 
 -- ---- hosts
 
+still_steady : (x y : State) → y.seats ≡ x.seats → y.tables ≡ x.tables → y.facets ≡ x.facets → y.rights ≡ x.rights → IsSteady x → IsSteady y
+still_steady x y seats tables facets rights is = record {
+  counted = record {
+    seats = subst (λ (l : List Seat). length l ≤ most_made) (sym seats) is.counted.seats;
+    instances = subst (λ (l : Tables). length l.instances ≤ most_made) (sym tables) is.counted.instances;
+    facets = subst (λ (l : List FacetView). length l ≤ most_made) (sym facets) is.counted.facets;
+    purses = subst (λ (l : Rights). length l.purses ≤ most_made) (sym rights) is.counted.purses;
+  };
+  left = record {
+    each = subst (λ (p : List Seat × Rights). (n : ℕ) (rows : List Row) → n < length p.0 → (seat_at p.0 n).last ≡ Some rows → map slot_name (slots_at p.1.slots n) ≡ map slot_name rows) (λ i. (sym seats i, sym rights i)) is.left.each;
+  };
+}
+
 module _ (read : TextReader) (served : AreGoodServices (serve_call read)) (called : AreGoodHostCalls) (reads : CallsRead) (service_reads : ServicesRead read) where
-  step_is : (s : HostState) (d : Delivery) (ds : List Delivery) → s.world.waiting ≡ d ∷ ds → IsGoodHost s → IsCounted s.world → s.turns < most_turns
+  step_is : (s : HostState) (d : Delivery) (ds : List Delivery) → s.world.waiting ≡ d ∷ ds → IsGoodHost s → IsSteady s.world → s.turns < most_turns
       → IsTurnStep s (step_after s d (delivery_turn read s.meter (behind s.world) d))
   unfolding delivery_turn
-  step_is s d ds front host counted before =
+  step_is s d ds front host steady before =
       let w = behind s.world in
       let good : IsGoodWorld (in_front d w) = subst IsGoodWorld (begins s.world d ds front) host.world in
       let split = one_turn (most_turns - s.turns) (omega (arith, before)) in
       let room : IsRoomy w.rights.out most_issued = record { each = λ b. let x = host.room.each b in omega (arith, x, split) } in
-      let counted_now : IsCounted w = record { seats = counted.seats; instances = counted.instances; facets = counted.facets; purses = counted.purses } in
-      let then = counted_then read served called reads service_reads s.meter host.meter w d good room counted_now host.untold s.turns in
+      let now : IsSteady w = still_steady s.world w refl refl refl refl steady in
+      let then = steady_then read served called reads service_reads s.meter host.meter w d good room now host.untold s.turns in
       record {
-        is_step = is_step read served called reads service_reads s.meter host.meter w d good room counted_now host.untold s.turns;
-        counted = record { seats = then.seats; instances = then.instances; facets = then.facets; purses = then.purses };
+        is_step = is_step read served called reads service_reads s.meter host.meter w d good room now host.untold s.turns;
+        steady = still_steady (after_all w (delivery_turn read s.meter w d).effects) (step_after s d (delivery_turn read s.meter w d)).next.world refl refl refl refl then;
       }
 
-  from_is : (s : HostState) (ws : List Delivery) → s.world.waiting ≡ ws → IsGoodHost s → IsCounted s.world → s.turns < most_turns → IfSome (step_from read s ws) (IsTurnStep s)
-  from_is s [] front host counted before = tt
-  from_is s (d ∷ ds) front host counted before = step_is s d ds front host counted before
+  from_is : (s : HostState) (ws : List Delivery) → s.world.waiting ≡ ws → IsGoodHost s → IsSteady s.world → s.turns < most_turns → IfSome (step_from read s ws) (IsTurnStep s)
+  from_is s [] front host steady before = tt
+  from_is s (d ∷ ds) front host steady before = step_is s d ds front host steady before
 
-  pub steps_are : (s : HostState) → IsGoodHost s → IsCounted s.world → s.turns < most_turns → IfSome (step_of read s) (IsTurnStep s)
+  pub steps_are : (s : HostState) → IsGoodHost s → IsSteady s.world → s.turns < most_turns → IfSome (step_of read s) (IsTurnStep s)
   unfolding step_of
-  steps_are s host counted before = from_is s s.world.waiting refl host counted before
+  steps_are s host steady before = from_is s s.world.waiting refl host steady before

@@ -76,7 +76,7 @@ use Rattle.world_state.specs.Rights.{IsRoomy, most_issued}
 use Rattle.world_state.specs.Worlds.{Effect, IsOpen, Seat, State, after, after_all, bind_label, burn_and_escrows, set_time, empty_seat, exit, halt, in_front, keep_state, make_facet, moves, note_call, offer, seat_at}
 use Rattle.zoe_rows.specs.Host.{serve as serve_call}
 use Rattle.shown_reads.specs.Reads.{CallsRead, ServicesRead}
-use Rattle.fair_steps.specs.Views.{IsCounted, owners_from, owners_told}
+use Rattle.fair_steps.specs.Views.{IsSteady, owners_from, owners_told}
 use Rattle.fair_deliveries.proofs.Calls.{act_no_facet, first_all, second_all}
 use Rattle.fair_deliveries.proofs.Ends.{IsClosed, closed_if, deadline_same, halts_fit, handler_closed, if_fit, instance_same, none_open, one_closed, open_or_left, seat_same, second_good, spent_same, start_left, turn_with}
 use Rattle.fair_steps.proofs.Holding.{AreFit, Holds, IsFit, Shows, fit_all, row_of, shows_both}
@@ -170,7 +170,7 @@ weaker_holds row os i v is = record {
   good = is.good;
   causes = all_map (HasItsCause none_shown v) (HasItsCause row v) (weaker_cause row v) v.log is.causes;
   facets = is.facets;
-  counted = is.counted;
+  steady = is.steady;
 }
 
 weaker_shows : (os : Owners) (t : Turn) (row : Showing) (i : Option (List ℕ)) (w : State) (es : List Effect) → Shows os t none_shown i w es → Shows os t row i w es
@@ -225,7 +225,7 @@ function_answer (plays.threw v) = by (is_local v)
     by true = tt
     by false = tt
 
-module _ (read : TextReader) (served : AreGoodServices (serve_call read)) (called : AreGoodHostCalls) (reads : CallsRead) (service_reads : ServicesRead read) (meter : ℕ) (few : meter ≤ most_meter) (w : State) (d : Delivery) (good : IsGoodWorld (in_front d w)) (room : IsRoomy w.rights.out most_issued) (counted : IsCounted w) (empty : w.log ≡ []) (k : ℕ) (l : List Event) (ss : List Sum) where
+module _ (read : TextReader) (served : AreGoodServices (serve_call read)) (called : AreGoodHostCalls) (reads : CallsRead) (service_reads : ServicesRead read) (meter : ℕ) (few : meter ≤ most_meter) (w : State) (d : Delivery) (good : IsGoodWorld (in_front d w)) (room : IsRoomy w.rights.out most_issued) (steady : IsSteady w) (empty : w.log ≡ []) (k : ℕ) (l : List Event) (ss : List Sum) where
   abbrev turn : Reading → Answer → Turn
   turn r a = turn_with k l ss d r a
 
@@ -266,7 +266,7 @@ module _ (read : TextReader) (served : AreGoodServices (serve_call read)) (calle
     good = whole;
     causes = subst (AllByRecursion (HasItsCause by w)) (sym empty) tt;
     facets = sym (ap (λ x. os ++ facets_made i (rows_of x)) empty ∙ append-nil os);
-    counted = counted;
+    steady = steady;
   }
 
   owes : Owes w []
@@ -342,14 +342,14 @@ module _ (read : TextReader) (served : AreGoodServices (serve_call read)) (calle
           (subst (AllByRecursion (Asked answer)) (sym is.leaves) (asked answer o.kind refl known)));
       stays = λ n opens. ap (λ x. cause_by_row x t.answer os t (seat_at (last (given answer) es).seats n).instance n) (kind_is (given answer)) ∙ by n opens (serves (name (codes "seat") n) (codes "tryExit") t) refl;
       quiet = λ e is. cc;
-      reads = service_reads w o m args answer es t counted can so (record { on = calling.on o args; method = calling.method; arguments = calling.arguments o args; answered = refl });
+      reads = service_reads w o m args answer es t steady can so (record { on = calling.on o args; method = calling.method; arguments = calling.arguments o args; answered = refl });
     }
       where
         abbrev t : Turn
         t = turn at (given answer)
 
         wide : o.kind ≡ kinds.Seat → o.number < 2 ^ 128
-        wide e = let made : o.number < length w.seats = subst (λ x. made_as w x o.number) e known in omega (arith, made, counted.seats)
+        wide e = let made : o.number < length w.seats = subst (λ x. made_as w x o.number) e known in omega (arith, made, steady.counted.seats)
 
         by : (n : ℕ) → IsOpen (seat_at (last (given answer) es).seats n) → (b : Bool) → serves (name (codes "seat") n) (codes "tryExit") t ≡ b → cause_if b causes.asked ≡ None
         by n opens false e = refl
@@ -438,7 +438,7 @@ module _ (read : TextReader) (served : AreGoodServices (serve_call read)) (calle
 
         by : (n : ℕ) → IsOpen (seat_at (last spends halts).seats n) → (b : Bool) → bytes_eq (named kinds.Instance i) (instance_name (seat_at (last spends halts).seats n).instance) ≡ b → cause_if b causes.spent ≡ None
         by n opens false e = refl
-        by n opens true e = absurd (none n opens (sym (instance_there i (seat_at (last spends halts).seats n).instance (omega (arith, made, counted.instances)) e)))
+        by n opens true e = absurd (none n opens (sym (instance_there i (seat_at (last spends halts).seats n).instance (omega (arith, made, steady.counted.instances)) e)))
 
     ran_turn : (x : Run) → Ran x → IsTurnWork w d (run_work meter w i x) → TurnsBy r (run_work meter w i x)
     ran_turn (ended e values es) ran is = ended_turn e values es ran is
@@ -489,7 +489,7 @@ module _ (read : TextReader) (served : AreGoodServices (serve_call read)) (calle
           ap (λ x. instance_of os x (turn there a)) (facet_kind a)
           ∙ ap (λ x. owner_in x os) (calling.on o args ∙ ap (λ x. object_name (object x o.number)) facet)
           ∙ ap (λ n. owner_in (named kinds.Facet n) os) (let e : o.number ≡ 0 + o.number = omega arith in e)
-          ∙ owner_found 0 o.number w.facets known (omega (arith, counted.facets));
+          ∙ owner_found 0 o.number w.facets known (omega (arith, steady.counted.facets));
     }
 
     facet_threw : ThrewStays there
@@ -578,18 +578,18 @@ zseat_there : (i j : ℕ) → i < 2 ^ 128 → bytes_eq (named kinds.Zseat i) (na
 unfolding object_name
 zseat_there i j wide e = numbers_same i j wide e
 
-module _ (read : TextReader) (served : AreGoodServices (serve_call read)) (called : AreGoodHostCalls) (reads : CallsRead) (service_reads : ServicesRead read) (meter : ℕ) (few : meter ≤ most_meter) (w : State) (room : IsRoomy w.rights.out most_issued) (counted : IsCounted w) (empty : w.log ≡ []) (k : ℕ) (l : List Event) (ss : List Sum) where
+module _ (read : TextReader) (served : AreGoodServices (serve_call read)) (called : AreGoodHostCalls) (reads : CallsRead) (service_reads : ServicesRead read) (meter : ℕ) (few : meter ≤ most_meter) (w : State) (room : IsRoomy w.rights.out most_issued) (steady : IsSteady w) (empty : w.log ≡ []) (k : ℕ) (l : List Event) (ss : List Sum) where
   abbrev pub TurnsOf : (d : Delivery) → IsGoodWorld (in_front d w) → Type 0
-  TurnsOf d good = beginning_turn read served called reads service_reads meter few w d good room counted empty k l ss (beginning w d)
+  TurnsOf d good = beginning_turn read served called reads service_reads meter few w d good room steady empty k l ss (beginning w d)
 
   abbrev work_there : (d : Delivery) → IsGoodWorld (in_front d w) → IsTurnWork w d (task_work read meter w (beginning w d).task)
   work_there d good = work_is read served called meter few w d good room
 
   -- the seat whose deadline has come is left
   deadline_turn : (seat : ℕ) (good : IsGoodWorld (in_front (deliveries.deadline seat) w)) → seat < length w.seats → IsTurnWork w (deliveries.deadline seat) (record { answer = given null; effects = exit_if_open w seat causes.deadline })
-      → Turns read served called reads service_reads meter few w (deliveries.deadline seat) good room counted empty k l ss deliveries.nothing (given null) (exit_if_open w seat causes.deadline)
+      → Turns read served called reads service_reads meter few w (deliveries.deadline seat) good room steady empty k l ss deliveries.nothing (given null) (exit_if_open w seat causes.deadline)
   deadline_turn seat good made is = record {
-    shows = fits read served called reads service_reads meter few w d good room counted empty k l ss deliveries.nothing (given null) es is.good
+    shows = fits read served called reads service_reads meter few w d good room steady empty k l ss deliveries.nothing (given null) es is.good
         (if_fit t (row_of (owners_told w) t) w (is_none (seat_at w.seats seat).last) (exit seat causes.deadline) (ap (λ b. cause_if b causes.deadline) (seat_same seat)));
     stays = λ n opens. by n opens (bytes_eq (named kinds.Seat seat) (name (codes "seat") n)) refl;
     quiet = λ e is. cc;
@@ -614,14 +614,14 @@ module _ (read : TextReader) (served : AreGoodServices (serve_call read)) (calle
       by : (n : ℕ) → IsOpen (seat_at end.seats n) → (b : Bool) → bytes_eq (named kinds.Seat seat) (name (codes "seat") n) ≡ b → cause_if b causes.deadline ≡ None
       by n opens false e = refl
       by n opens true e =
-          let here : seat ≡ n = seat_there seat n (omega (arith, made, counted.seats)) e in
+          let here : seat ≡ n = seat_there seat n (omega (arith, made, steady.counted.seats)) e in
           absurd (open_or_left (seat_at end.seats n).last opens (subst (λ m. WasLeft (seat_at end.seats m)) here closed_now))
 
   start_turn : (s : Start) (good : IsGoodWorld (in_front (deliveries.start s) w)) → TurnsOf (deliveries.start s) good
   unfolding beginning
   start_turn s good =
       let due = due_behind w d good in
-      task_turn read served called reads service_reads meter few w d good room counted empty k l ss deliveries.nothing (start_call s) due.made
+      task_turn read served called reads service_reads meter few w d good room steady empty k l ss deliveries.nothing (start_call s) due.made
       (object_formed w (Some s.instance) (record { kind = kinds.Zcf; number = s.instance }) refl, (handed_held w (Some s.instance) s.private_arguments due.arguments, tt))
       (record { of = tt; instance = λ a. refl })
       (λ x es end n opens. by due.made x es end n opens (bytes_eq (named kinds.Instance s.instance) (instance_name (seat_at (at_end x es).seats n).instance)) refl)
@@ -636,13 +636,13 @@ module _ (read : TextReader) (served : AreGoodServices (serve_call read)) (calle
       by : s.instance < length w.tables.instances → (x : Tree) (es : List Effect) → AreGood (after_all w es) (ending d (threw x) (after_all w es)) → (n : ℕ) → IsOpen (seat_at (at_end x es).seats n)
           → (b : Bool) → bytes_eq (named kinds.Instance s.instance) (instance_name (seat_at (at_end x es).seats n).instance) ≡ b → cause_if b causes.halted ≡ None
       by made x es end n opens false e = refl
-      by made x es end n opens true e = absurd (start_left (after_all w es) s x end n opens (sym (instance_there s.instance (seat_at (at_end x es).seats n).instance (omega (arith, made, counted.instances)) e)))
+      by made x es end n opens true e = absurd (start_left (after_all w es) s x end n opens (sym (instance_there s.instance (seat_at (at_end x es).seats n).instance (omega (arith, made, steady.counted.instances)) e)))
 
   offer_turn : (o : Offer) (good : IsGoodWorld (in_front (deliveries.offer o) w)) → TurnsOf (deliveries.offer o) good
   unfolding beginning
   offer_turn o good =
       let due = due_behind w d good in
-      task_turn read served called reads service_reads meter few w d good room counted empty k l ss deliveries.nothing (handler_call o) due.function.made
+      task_turn read served called reads service_reads meter few w d good room steady empty k l ss deliveries.nothing (handler_call o) due.function.made
       (object_formed w (Some o.instance) (record { kind = kinds.Zseat; number = o.seat }) due.seat, (handed_held w (Some o.instance) o.offer_arguments due.arguments, (due.held, tt)))
       (record { of = tt; instance = λ a. refl })
       (λ x es end n opens. by due.seat.made x es n opens (bytes_eq (named kinds.Zseat o.seat) (name (codes "zseat") n)) refl)
@@ -657,34 +657,34 @@ module _ (read : TextReader) (served : AreGoodServices (serve_call read)) (calle
       by : o.seat < length w.seats → (x : Tree) (es : List Effect) (n : ℕ) → IsOpen (seat_at (at_end x es).seats n) → (b : Bool) → bytes_eq (named kinds.Zseat o.seat) (name (codes "zseat") n) ≡ b → cause_if b causes.threw ≡ None
       by made x es n opens false e = refl
       by made x es n opens true e =
-          let here : o.seat ≡ n = zseat_there o.seat n (omega (arith, made, counted.seats)) e in
+          let here : o.seat ≡ n = zseat_there o.seat n (omega (arith, made, steady.counted.seats)) e in
           absurd (open_or_left (seat_at (at_end x es).seats n).last opens (subst (λ m. WasLeft (seat_at (at_end x es).seats m)) here (handler_closed (after_all w es) o x)))
 
   pub turns_of : (d : Delivery) (good : IsGoodWorld (in_front d w)) → TurnsOf d good
   unfolding beginning
   turns_of (deliveries.call c) good =
       let d = deliveries.call c in
-      called_turn read served called reads service_reads meter few w d good room counted empty k l ss c.method (record { kind = λ o args. refl; on = λ o args. refl; method = refl; arguments = λ o args. refl }) tt (addressed w c)
+      called_turn read served called reads service_reads meter few w d good room steady empty k l ss c.method (record { kind = λ o args. refl; on = λ o args. refl; method = refl; arguments = λ o args. refl }) tt (addressed w c)
       (weaker_ok (IsCalled w (good_behind w d good) c) (IsAddressed w (good_behind w d good)) (addressed w c) (λ a is. is.addressed_to) (addressed_there w (good_behind w d good) c (due_behind w d good)))
       (work_there d good)
   turns_of (deliveries.send s) good =
       let d = deliveries.send s in
-      called_turn read served called reads service_reads meter few w d good room counted empty k l ss s.method (record { kind = λ o args. refl; on = λ o args. refl; method = refl; arguments = λ o args. refl }) tt (sent_to w s)
+      called_turn read served called reads service_reads meter few w d good room steady empty k l ss s.method (record { kind = λ o args. refl; on = λ o args. refl; method = refl; arguments = λ o args. refl }) tt (sent_to w s)
       (sent_there w (good_behind w d good) s (due_behind w d good))
       (work_there d good)
-  turns_of (deliveries.give g) good = give_turn read served called reads service_reads meter few w (deliveries.give g) good room counted empty k l ss g refl (gift_of w g) (work_there (deliveries.give g) good)
-  turns_of (deliveries.tick t) good = tick_turn read served called reads service_reads meter few w (deliveries.tick t) good room counted empty k l ss t refl (work_there (deliveries.tick t) good)
+  turns_of (deliveries.give g) good = give_turn read served called reads service_reads meter few w (deliveries.give g) good room steady empty k l ss g refl (gift_of w g) (work_there (deliveries.give g) good)
+  turns_of (deliveries.tick t) good = tick_turn read served called reads service_reads meter few w (deliveries.tick t) good room steady empty k l ss t refl (work_there (deliveries.tick t) good)
   turns_of (deliveries.bad r) good = bad_turn r good
     where
       bad_turn : (r : Refusal) (good : IsGoodWorld (in_front (deliveries.bad r) w)) → TurnsOf (deliveries.bad r) good
       unfolding beginning task_work
-      bad_turn r good = refused_turn read served called reads service_reads meter few w (deliveries.bad r) good room counted empty k l ss deliveries.nothing r tt
+      bad_turn r good = refused_turn read served called reads service_reads meter few w (deliveries.bad r) good room steady empty k l ss deliveries.nothing r tt
   turns_of (deliveries.start s) good = start_turn s good
   turns_of (deliveries.offer o) good = offer_turn o good
   turns_of (deliveries.wake x) good =
       let d = deliveries.wake x in
       let due = due_behind w d good in
-      task_turn read served called reads service_reads meter few w d good room counted empty k l ss (deliveries.time w.schedule.time) (wakeup_call x w.schedule.time) due.function.made
+      task_turn read served called reads service_reads meter few w d good room steady empty k l ss (deliveries.time w.schedule.time) (wakeup_call x w.schedule.time) due.function.made
       (due.held, (number_known read served called meter few w d good room x.instance w.schedule.time, tt))
       (record { of = tt; instance = λ a. refl }) (λ y es end n opens. refl) tt (work_there d good)
   turns_of (deliveries.notify n) good =
@@ -692,7 +692,7 @@ module _ (read : TextReader) (served : AreGoodServices (serve_call read)) (calle
       let due = due_behind w d good in
       let s = settlement_of w n.promise in
       let told : IsHanded w (notice_tree s) = notice_handed read served called meter few w d good room s (settlement_handed read served called meter few w d good room n.promise due.notice.promise) in
-      task_turn read served called reads service_reads meter few w d good room counted empty k l ss (deliveries.settlement s) (notice_call n s) due.notice.function.made
+      task_turn read served called reads service_reads meter few w d good room steady empty k l ss (deliveries.settlement s) (notice_call n s) due.notice.function.made
       (due.notice.held, (handed_held w (Some n.instance) (notice_tree s) told, tt))
       (record { of = tt; instance = λ a. refl }) (λ y es end m opens. refl) tt (work_there d good)
   turns_of (deliveries.deadline seat) good = end_turn seat good

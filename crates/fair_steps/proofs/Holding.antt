@@ -14,25 +14,26 @@ use Rattle.turn_rows.specs.Turns.{Turn}
 use Rattle.world_laws.proofs.Kept.{good-after}
 use Rattle.world_state.specs.Good.{AreGood, IsGoodEffect, IsGoodWorld}
 use Rattle.world_state.specs.Worlds.{Effect, State, after, after_all, empty_seat, exit, make_facet, moves, note_call, offer, seat_at}
-use Rattle.fair_steps.specs.Views.{IsCounted}
+use Rattle.fair_steps.specs.Views.{IsSteady}
 use Rattle.fair_steps.proofs.Counts.{counted_after}
+use Rattle.fair_steps.proofs.Left.{left_after}
 use Rattle.fair_steps.proofs.Owned.{FacetsTold, IsNoFacet, facets_kept}
 use Rattle.fair_steps.proofs.Telling.{AllHaveCauses, LeavesFor, Showing, causes_after, none_shown, owes_after_it}
 
--- the world is good, all seats that were left in the turn have their causes, facets that were made are told, and
--- numbers are of 32 bits
+-- the world is good, all seats that were left in the turn have their causes, facets that were made are told, numbers
+-- are of 32 bits, and slots keep their names
 pub record Holds (row : Showing) (owners : Owners) (i : Option (List ℕ)) (w : State) : Type 0 where
   pub good : IsGoodWorld w
   pub causes : AllHaveCauses row w
   pub facets : FacetsTold owners i w
-  pub counted : IsCounted w
+  pub steady : IsSteady w
 
 pub holds_after : (row : Showing) (owners : Owners) (i : Option (List ℕ)) (w : State) (e : Effect) → IsUncalled e → IsNoFacet e → IsGoodEffect w e → LeavesFor row w e → Holds row owners i w → Holds row owners i (after w e)
 holds_after row owners i w e un no can leaves is = record {
   good = good-after w e can is.good;
   causes = causes_after row w e un can leaves is.causes;
   facets = facets_kept owners i w is.facets e un no;
-  counted = counted_after w e can is.counted;
+  steady = record { counted = counted_after w e can is.steady.counted; left = left_after w e is.good can is.steady.left };
 }
 
 -- ---- effects that need nothing but the turn's own row

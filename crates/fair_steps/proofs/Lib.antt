@@ -3,5 +3,6 @@ pub mod Seats
 pub mod Names
 pub mod Telling
 pub mod Counts
+pub mod Left
 pub mod Owned
 pub mod Holding

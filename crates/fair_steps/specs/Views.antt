@@ -1,18 +1,19 @@
 -- A host's world as the rows of a journal tell it: who holds what, what is out and what was ever minted and burned,
 -- the payments, the seats, and the facets with their instances.
-use Rattle.std.specs.Prelude.{◌≤◌, ℕ, suc, List, [], ◌∷◌, Some, length}
+use Rattle.std.specs.Prelude.{◌≡◌, ◌<◌, ◌≤◌, ℕ, suc, List, [], ◌∷◌, Some, length, map}
 use Rattle.ertp_mint.specs.Stocks.{most_made}
 use Rattle.delivery_turns.specs.Hosts.{HostState}
 use Rattle.fair_effects.specs.Accounts.{burned_of, is_taken, minted_of, out_of}
-use Rattle.fair_effects.specs.Places.{seats_told}
+use Rattle.fair_effects.specs.Places.{seats_told, slot_name}
 use Rattle.fair_rows.specs.ExitCauses.{Owners}
 use Rattle.fair_rows.specs.Steps.{World}
 use Rattle.instance_store.specs.Facets.{FacetView}
 use Rattle.jessie_tree.specs.declared.data.ObjKind.TheVariants.{Facet, Instance}
+use Rattle.proposals.specs.declared.allocations.Row.{Row}
 use Rattle.rights_tables.specs.Tables.{table_of}
 use Rattle.turn_records.specs.Printed.{named}
-use Rattle.world_state.specs.Rights.{kind_at}
-use Rattle.world_state.specs.Worlds.{State}
+use Rattle.world_state.specs.Rights.{kind_at, slots_at}
+use Rattle.world_state.specs.Worlds.{State, seat_at}
 
 -- facets by their names, numbered from n, each with the name of its instance
 abbrev pub owners_from : ℕ → List FacetView → Owners
@@ -47,3 +48,13 @@ pub record IsCounted (w : State) : Type 0 where
   pub instances : length w.tables.instances ≤ most_made
   pub facets : length w.facets ≤ most_made
   pub purses : length w.rights.purses ≤ most_made
+
+-- the slots of a seat that was left have the names that they had then
+pub record LeftNamed (w : State) : Type 0 where
+  pub each : (n : ℕ) (rows : List Row) → n < length w.seats → (seat_at w.seats n).last ≡ Some rows
+      → map slot_name (slots_at w.rights.slots n) ≡ map slot_name rows
+
+-- both hold of a host's world, whatever is delivered
+pub record IsSteady (w : State) : Type 0 where
+  pub counted : IsCounted w
+  pub left : LeftNamed w

@@ -24,8 +24,8 @@ use Rattle.fair_causes.specs.Owed.{answered}
 use Rattle.fair_effects.specs.Places.{seat_told, seats_told, slot_content, slot_name}
 use Rattle.fair_effects.proofs.Held.{HoldsRow, held_there, slots_hold}
 use Rattle.fair_effects.proofs.Seats.{seat_read}
-use Rattle.fair_rows.specs.Amounts.{IsAllocation, IsAmountOf, IsCurrentAllocation, IsPaymentAmount, IsPurseAmount, IsReadByCall, IsSlotRead}
-use Rattle.fair_rows.specs.ExitCauses.{calls, name, serves}
+use Rattle.fair_rows.specs.Amounts.{IsAllocation, IsAmountOf, IsCurrentAllocation, IsFinalAllocation, IsPaymentAmount, IsPurseAmount, IsReadByCall, IsReadByTurn, IsSlotRead}
+use Rattle.fair_rows.specs.ExitCauses.{calls, is_ok, name, serves}
 use Rattle.fair_rows.specs.Seats as told
 use Rattle.fair_rows.specs.Seats.{SlotName}
 use Rattle.host_text.specs.Words.{is_keyword}
@@ -38,7 +38,7 @@ use Rattle.jessie_tree.specs.declared.data.ObjKind.TheVariants as kinds
 use Rattle.payments.specs.Papers.{Paper, paper_at, spent_paper}
 use Rattle.proposals.specs.Rows.{AreApart, AreRows, amount_under}
 use Rattle.proposals.specs.declared.allocations.Row.{Row}
-use Rattle.refusals.specs.Codes.{bad_keyword, wrong_brand, wrong_object}
+use Rattle.refusals.specs.Codes.{bad_keyword, dead_payment, pending, wrong_brand, wrong_object}
 use Rattle.refusals.specs.Outcomes.{bind, need, reading, wanted}
 use Rattle.refusals.specs.declared.codes.Refusal.{Refusal}
 use Rattle.refusals.proofs.Steps.{after_check, after_need, after_step, after_wanted, need_holds, ok_has, wanted_there}
@@ -56,16 +56,20 @@ use Rattle.trade_rows.specs.Trades as trades
 use Rattle.trade_rows.specs.Trades.{serve}
 use Rattle.turn_records.specs.Printed.{object, printed_call, printed_trees}
 use Rattle.turn_rows.specs.Rows.{brand_name, only, payment_name}
-use Rattle.turn_rows.specs.Turns.{ok}
+use Rattle.turn_rows.specs.Turns.{Turn, ok}
+use Rattle.service_rows.specs.ZoeRows.{TextReader}
+use Rattle.zoe_rows.specs.Host as hosts
+use Rattle.zoe_rows.specs.Host.{serve as service}
+use Rattle.zoe_rows.specs.Reads.{get_final_allocation}
 use Rattle.world_laws.proofs.Lists.{all_read, all_read_or}
-use Rattle.world_state.specs.Good.{AreNamed, AreRowsOf, AreRowsValued, IsAmountValued, IsGoodWorld, IsPaperValued}
-use Rattle.world_state.specs.Known.{ObjectKnown, known_as}
+use Rattle.world_state.specs.Good.{AreNamed, AreRowsOf, AreRowsValued, IsAmountValued, IsGoodWorld, IsLast, IsPaperValued, IsValued}
+use Rattle.world_state.specs.Known.{known_as, made_as}
 use Rattle.world_state.specs.Rights.{slots_at}
 use Rattle.world_state.specs.Worlds.{Effect, State, no_seat, seat_at}
-use Rattle.shown_reads.specs.Reads.{CallsRead}
-use Rattle.fair_steps.specs.Views.{IsCounted}
+use Rattle.shown_reads.specs.Reads.{CallsRead, IsAnsweredTurn, ServicesRead}
+use Rattle.fair_steps.specs.Views.{IsCounted, IsSteady, LeftNamed}
 use Rattle.shown_reads.proofs.Amounts.{allocation_is, amount_read}
-use Rattle.fair_steps.proofs.Names.{and_first, and_second, zseat_is}
+use Rattle.fair_steps.proofs.Names.{and_first, and_second, issuer_is, purse_is, seat_is, zseat_is}
 
 -- ---- rows that only read
 
@@ -277,3 +281,144 @@ module _ (w : State) (i : ℕ) (o : Obj) (m : List ℕ) (args : List Tree) (answ
 
 pub calls_read : CallsRead
 calls_read w i o m args answer es counted can so = reads_calls w i o m args answer es counted can so
+
+-- ---- purse.getCurrentAmount()
+
+amount_answer : (w : State) (n : ℕ) → IfOk (get_current_amount w n) (λ t. t ≡ amount_tree (purse_of w n))
+unfolding get_current_amount
+amount_answer w n = refl
+
+purse_read : (w : State) (n : ℕ) → IsGoodWorld w → n < length w.rights.purses → IsPurseAmount (table_of w.rights) n (ok (printed (amount_tree (purse_of w n))))
+purse_read w n good made =
+    let a = purse_of w n in
+    record {
+      brand = a.brand;
+      amount = amount_read (table_of w.rights) (Purse n) a (all_read IsAmountValued w.rights.purses n no_amount good.valued.purses made) ((table_agrees w.rights).each (Purse n) a.brand ∙ of_brand (right_in a) a.brand refl);
+      alone = λ b not. (table_agrees w.rights).each (Purse n) b ∙ of_other (right_in a) b (λ e. not (sym e));
+    }
+
+-- ---- issuer.getAmountOf(payment)
+
+record IsPaymentAt (w : State) (brand : ℕ) (args : List Tree) (p : ℕ) : Type 0 where
+  at : object_at kinds.Payment 1 args ≡ Ok p
+  of : (paper_of w p).brand ≡ brand
+
+payment_is : (w : State) (brand : ℕ) (args : List Tree) → IfOk (payment_at w brand 1 args) (IsPaymentAt w brand args)
+unfolding payment_at
+payment_is w brand args = after_step (IsPaymentAt w brand args) (object_at kinds.Payment 1 args) _ (λ p at. after_need (IsPaymentAt w brand args) ((paper_of w p).brand == brand) (wrong_brand (paper_of w p).brand) _ (λ same. record { at = at; of = eqb-true (paper_of w p).brand brand same }))
+
+record IsLiveAt (w : State) (brand : ℕ) (args : List Tree) (x : LivePayment) : Type 0 where
+  payment : IsPaymentAt w brand args x.number
+  held : (paper_of w x.number).held ≡ Some x.value
+
+live_is : (w : State) (brand : ℕ) (args : List Tree) → IfOk (live_at w brand 1 args) (IsLiveAt w brand args)
+unfolding live_at
+live_is w brand args =
+    after_step (IsLiveAt w brand args) (payment_at w brand 1 args) _ (λ p e.
+    after_wanted (IsLiveAt w brand args) (paper_of w p).held (dead_payment p) _ (λ v held. record { payment = ok_has (IsPaymentAt w brand args) (payment_at w brand 1 args) p e (payment_is w brand args); held = held }))
+
+record IsPaymentAnswer (w : State) (brand : ℕ) (args : List Tree) (t : Tree) : Type 0 where
+  given : LivePayment
+  live : IsLiveAt w brand args given
+  is : t ≡ amount_tree (amount_of brand given.value)
+
+payment_answer : (w : State) (brand : ℕ) (args : List Tree) → IfOk (get_amount_of w brand args) (IsPaymentAnswer w brand args)
+unfolding get_amount_of
+payment_answer w brand args = after_step (IsPaymentAnswer w brand args) (live_at w brand 1 args) _ (λ x e. record { given = x; live = ok_has (IsLiveAt w brand args) (live_at w brand 1 args) x e (live_is w brand args); is = refl })
+
+one_named : (args : List Tree) (o : Obj) (p : ℕ) → arg 1 args ≡ trees.object o → object_name o ≡ payment_name p
+    → (more : json.Items) × (printed_trees args ≡ json.item (only (codes "@") (json.string (payment_name p))) more)
+one_named [] o p first named = cc
+one_named (x ∷ rest) o p first named = (printed_items (items_of rest), ap (λ y. json.item (printed y) (printed_items (items_of rest))) first ∙ ap (λ s. json.item (only (codes "@") (json.string s)) (printed_items (items_of rest))) named)
+
+payment_read : (w : State) (brand : ℕ) (args : List Tree) (t : Tree) → IsGoodWorld w → IsPaymentAnswer w brand args t → IsPaymentAmount (table_of w.rights) brand (printed_trees args) (ok (printed t))
+payment_read w brand args t good is =
+    let p = is.given.number in
+    let at = object_there kinds.Payment 1 args p is.live.payment.at in
+    let one = one_named args at.obj p at.is (payment_kind at.obj.kind at.obj.number at.of ∙ ap payment_name at.number) in
+    let valued : IsValued is.given.value = subst (λ o. IfSome o IsValued) is.live.held (all_read_or IsPaperValued w.rights.payments p (spent_paper 0) good.valued.payments tt) in
+    record {
+      payment = p;
+      more = one.0;
+      named = one.1;
+      amount = subst (λ x. IsAmountOf (table_of w.rights) (Payment p) brand (ok (printed x))) (sym is.is)
+          (amount_read (table_of w.rights) (Payment p) (amount_of brand is.given.value) valued
+          ((table_agrees w.rights).each (Payment p) brand ∙ of_brand (right_on (paper_of w p)) brand is.live.payment.of ∙ ap content_held is.live.held));
+    }
+
+-- ---- seat.getFinalAllocation()
+
+record IsFinalAnswer (w : State) (n : ℕ) (t : Tree) : Type 0 where
+  rows : List Row
+  left : (seat_at w.seats n).last ≡ Some rows
+  is : t ≡ allocation_tree rows
+
+final_answer : (w : State) (n : ℕ) → IfOk (get_final_allocation w n) (IsFinalAnswer w n)
+unfolding get_final_allocation
+final_answer w n = after_wanted (IsFinalAnswer w n) (seat_at w.seats n).last pending _ (λ rows left. record { rows = rows; left = left; is = refl })
+
+final_read : (w : State) (n : ℕ) (t : Tree) → IsGoodWorld w → LeftNamed w → n < length w.seats → IsFinalAnswer w n t → IsFinalAllocation (seats_told w) n (ok (printed t))
+final_read w n t good names made is =
+    let seat = seat_at w.seats n in
+    let rs = slots_at w.rights.slots n in
+    let last : IsLast w.rights.out seat.proposal is.rows = subst (λ o. IfSome o (IsLast w.rights.out seat.proposal)) is.left (good.proposed.each n made).last in
+    record {
+      seat = seat_told n seat rs;
+      was_opened = seat_read 0 n w.seats w.rights.slots no_seat made good.seats.slotted ∙ ap (λ k. Some (seat_told k seat rs)) (let e : 0 + n ≡ n = omega arith in e);
+      last = map slot_content is.rows;
+      exited = ap (option_map (map slot_content)) is.left;
+      allocation = subst (λ x. IsAllocation (map slot_name rs) (map slot_content is.rows) (ok (printed x))) (sym is.is)
+          (subst (λ x. IsAllocation x (map slot_content is.rows) (ok (printed (allocation_tree is.rows)))) (sym (names.each n is.rows made is.left))
+          (allocation_is w is.rows good last.apart.apart last.named last.of_kinds last.valued));
+    }
+
+-- ---- turns in which methods of the host's own objects are called
+
+module _ (read : TextReader) (w : State) (o : Obj) (m : List ℕ) (args : List Tree) (answer : Tree) (es : List Effect) (t : Turn) (steady : IsSteady w) (can : CanCall w None o args) (so : service read w o m args ≡ Ok (answer, es)) (turned : IsAnsweredTurn o m args answer t) where
+  by_kind : hosts.of_kind read w o.kind o.number m args ≡ Ok (answer, es)
+  unfolding hosts.serve
+  by_kind = so
+
+  -- the tests of a turn that is answered
+  tested : (on method : List ℕ) → serves on method t ≡ true → (bytes_eq (object_name o) on && bytes_eq m method) ≡ true
+  tested on method e = sym (λ i. is_ok (turned.answered i) && bytes_eq (turned.on i) on && bytes_eq (turned.method i) method) ∙ e
+
+  module _ (n : ℕ) (word method : List ℕ) (e : serves (name word n) method t ≡ true) where
+    on_name : bytes_eq (object_name o) (name word n) ≡ true
+    on_name = and_first (bytes_eq (object_name o) (name word n)) (bytes_eq m method) (tested (name word n) method e)
+
+    of_its_method : m ≡ method
+    of_its_method = (bytes_eq-Decides m method).0 (and_second (bytes_eq (object_name o) (name word n)) (bytes_eq m method) (tested (name word n) method e))
+
+    its_row : (kind : ObjKind) → o ≡ object kind n → hosts.of_kind read w kind n method args ≡ Ok (answer, es)
+    its_row kind here = sym (ap (λ (x : Obj). hosts.of_kind read w x.kind x.number m args) here ∙ ap (λ x. hosts.of_kind read w kind n x args) of_its_method) ∙ by_kind
+
+  target_made : (kind : ObjKind) (n : ℕ) → o ≡ object kind n → made_as w kind n
+  target_made kind n here = subst (λ (x : Obj). made_as w x.kind x.number) here can.target
+
+  made_of_kind : (kind : ObjKind) → o.kind ≡ kind → made_as w kind o.number
+  made_of_kind kind e = subst (λ x. made_as w x o.number) e can.target
+
+  reads_turn : IsReadByTurn (table_of w.rights) (seats_told w) t
+  reads_turn = record {
+    purse = λ n kind e.
+        let here = purse_is n o (λ k. let made : o.number < length w.rights.purses = made_of_kind kinds.Purse k in omega (arith, made, steady.counted.purses)) (on_name n (codes "purse") (codes "getCurrentAmount") e) in
+        let got = reading_is (get_current_amount w n) (answer, es) (its_row n (codes "purse") (codes "getCurrentAmount") e kinds.Purse here) in
+        let is = ok_has (λ x. x ≡ amount_tree (purse_of w n)) (get_current_amount w n) answer got (amount_answer w n) in
+        subst (IsPurseAmount (table_of w.rights) n) (sym turned.answered)
+        (subst (λ x. IsPurseAmount (table_of w.rights) n (ok (printed x))) (sym is) (purse_read w n can.good (target_made kinds.Purse n here)));
+    payment = λ b kind e.
+        let here = issuer_is b o (λ k. let made : o.number < length w.brands = made_of_kind kinds.Issuer k in omega (arith, made, can.good.brands.few)) (on_name b (codes "issuer") (codes "getAmountOf") e) in
+        let got = reading_is (get_amount_of w b args) (answer, es) (its_row b (codes "issuer") (codes "getAmountOf") e kinds.Issuer here) in
+        let is = ok_has (IsPaymentAnswer w b args) (get_amount_of w b args) answer got (payment_answer w b args) in
+        subst (IsPaymentAmount (table_of w.rights) b t.arguments) (sym turned.answered)
+        (subst (λ x. IsPaymentAmount (table_of w.rights) b x (ok (printed answer))) (sym turned.arguments) (payment_read w b args answer can.good is));
+    final = λ n kind e.
+        let here = seat_is n o (λ k. let made : o.number < length w.seats = made_of_kind kinds.Seat k in omega (arith, made, steady.counted.seats)) (on_name n (codes "seat") (codes "getFinalAllocation") e) in
+        let got = reading_is (get_final_allocation w n) (answer, es) (its_row n (codes "seat") (codes "getFinalAllocation") e kinds.Seat here) in
+        let is = ok_has (IsFinalAnswer w n) (get_final_allocation w n) answer got (final_answer w n) in
+        subst (IsFinalAllocation (seats_told w) n) (sym turned.answered) (final_read w n answer can.good steady.left (target_made kinds.Seat n here) is);
+  }
+
+pub services_read : (read : TextReader) → ServicesRead read
+services_read read w o m args answer es t steady can so turned = reads_turn read w o m args answer es t steady can so turned

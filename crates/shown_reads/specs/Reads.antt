@@ -15,7 +15,7 @@ use Rattle.turn_records.specs.Printed.{printed_call, printed_trees}
 use Rattle.turn_rows.specs.Turns.{Turn, ok}
 use Rattle.world_state.specs.Worlds.{Effect, State}
 use Rattle.zoe_rows.specs.Host.{serve as service}
-use Rattle.fair_steps.specs.Views.{IsCounted}
+use Rattle.fair_steps.specs.Views.{IsCounted, IsSteady}
 
 -- by a call of an instance's function
 abbrev pub CallsRead : Type 0
@@ -35,5 +35,5 @@ pub record IsAnsweredTurn (o : Obj) (m : List ℕ) (args : List Tree) (answer : 
 abbrev pub ServicesRead : TextReader → Type 0
 ServicesRead read =
     (w : State) (o : Obj) (m : List ℕ) (args : List Tree) (answer : Tree) (es : List Effect) (t : Turn)
-    → IsCounted w → CanCall w None o args → service read w o m args ≡ Ok (answer, es)
+    → IsSteady w → CanCall w None o args → service read w o m args ≡ Ok (answer, es)
     → IsAnsweredTurn o m args answer t → IsReadByTurn (table_of w.rights) (seats_told w) t

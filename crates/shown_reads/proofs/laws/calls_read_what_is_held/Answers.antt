@@ -2,4 +2,4 @@ use Rattle.shown_reads.proofs.Reads.{calls_read}
 use Rattle.shown_reads.proofs.laws.calls_read_what_is_held.Goals as goal
 
 pub returns : goal.returns
-returns c = record { ensures = calls_read }
+returns c = calls_read
