@@ -302,5 +302,5 @@ module _ (w : State) (good : IsGoodWorld w) (i : ℕ) (has : ℕ → List Row) (
           licensed = all_map (IsInside w i zcf m args) (IsContractMove w i zcf m args) (λ move is. is.0.0) (movements_in (carried_out touched)) moves_inside;
           stored = all_map (IsInside w i zcf m args) IsStored (λ move is. is.0.1) (movements_in (carried_out touched)) moves_inside;
           issues = omega (arith, issued_by_them ms w seats, none_issued w i zcf m args (ms ++ []) inside, issued_end ms);
-          calls = omega (arith, called_by ms seats);
+          calls = subst (λ k. k ≤ 1) (sym (called_by ms seats)) (omega arith);
         }

@@ -6,7 +6,8 @@ use Rattle.std.proofs.lemmas.Bool.{leb-false, leb-true, ltb-false, ltb-true}
 use Rattle.plan_checks.specs.Plans.{can_take_over, can_take_part}
 use Rattle.plan_refusals.specs.Told.{seats_told}
 use Rattle.proposals.specs.declared.plans.SeatState.{SeatState}
-use Rattle.rearrange.specs.Seats.{staged_refusal, transfers_refusal}
+use Rattle.proposals.specs.Reading.{least}
+use Rattle.rearrange.specs.Seats.{has_exited, is_foreign, is_left_out, is_repeated, least_such, seats_such, staged_refusal, transfers_refusal}
 use Rattle.rearrange.specs.declared.seats.SeatsFault.{SeatsFault}
 use Rattle.rearrange.specs.declared.seats.SeatsFault.TheVariants.{OneSeat, RepeatedSeat, SeatExited, StagedLeftOut, WrongInstance}
 use Rattle.refusals.specs.Codes.{one_seat, repeated_seat, seat_exited, staged_left_out, wrong_instance}
@@ -46,15 +47,45 @@ both a b c d first second = ap (λ (t : Test). t >> b) first ∙ ap (λ (t : Tes
 then : (fault other : Option SeatsFault) (test next : Test) → answer fault ≡ test → answer other ≡ next → answer (option_or fault other) ≡ (test >> next)
 then fault other test next first second = either fault other ∙ both (answer fault) (answer other) test next first second
 
-pub staged_tests : (i : ℕ) (states : List SeatState) (seats : List ℕ) → can_take_over i states seats ≡ none_such (staged_refusal i states seats) seats_told
-unfolding can_take_over staged_refusal
-staged_tests i states seats = sym (
-  then _ _ _ _ (named WrongInstance _)
-  (then _ _ _ _ (few (length seats))
-  (then _ _ _ _ (named RepeatedSeat _)
-  (then _ _ _ _ (named SeatExited _) (named StagedLeftOut _))))
-)
+module _ (i : ℕ) (states : List SeatState) (seats : List ℕ) where
+  abbrev foreign : Option ℕ
+  foreign = least_such (is_foreign i states) seats
 
-pub transfers_tests : (i : ℕ) (states : List SeatState) (seats : List ℕ) → can_take_part i states seats ≡ none_such (transfers_refusal i states seats) seats_told
-unfolding can_take_part transfers_refusal
-transfers_tests i states seats = sym (then _ _ _ _ (named WrongInstance _) (named SeatExited _))
+  abbrev exited : Option ℕ
+  exited = least_such (has_exited states) seats
+
+  abbrev repeated : Option ℕ
+  repeated = least_such (is_repeated seats) seats
+
+  abbrev left_out : Option ℕ
+  left_out = least (seats_such (is_left_out i seats) states)
+
+  -- faults from the last on
+  abbrev from_exited : Option SeatsFault
+  from_exited = option_or (option_map SeatExited exited) (option_map StagedLeftOut left_out)
+
+  abbrev from_repeated : Option SeatsFault
+  from_repeated = option_or (option_map RepeatedSeat repeated) from_exited
+
+  abbrev too_few : Option SeatsFault
+  too_few = if nat_lt (length seats) 2 then Some OneSeat else None
+
+  exited_tests : answer from_exited ≡ (none_such exited seat_exited >> none_such left_out staged_left_out)
+  exited_tests = then (option_map SeatExited exited) (option_map StagedLeftOut left_out) (none_such exited seat_exited) (none_such left_out staged_left_out) (named SeatExited exited) (named StagedLeftOut left_out)
+
+  repeated_tests : answer from_repeated ≡ (none_such repeated repeated_seat >> (none_such exited seat_exited >> none_such left_out staged_left_out))
+  repeated_tests = then (option_map RepeatedSeat repeated) from_exited (none_such repeated repeated_seat) (none_such exited seat_exited >> none_such left_out staged_left_out) (named RepeatedSeat repeated) exited_tests
+
+  abbrev after_foreign : Test
+  after_foreign = need (nat_le 2 (length seats)) one_seat >> (none_such repeated repeated_seat >> (none_such exited seat_exited >> none_such left_out staged_left_out))
+
+  few_tests : answer (option_or too_few from_repeated) ≡ after_foreign
+  few_tests = then too_few from_repeated (need (nat_le 2 (length seats)) one_seat) (none_such repeated repeated_seat >> (none_such exited seat_exited >> none_such left_out staged_left_out)) (few (length seats)) repeated_tests
+
+  pub staged_tests : can_take_over i states seats ≡ none_such (staged_refusal i states seats) seats_told
+  unfolding can_take_over staged_refusal
+  staged_tests = sym (then (option_map WrongInstance foreign) (option_or too_few from_repeated) (none_such foreign wrong_instance) after_foreign (named WrongInstance foreign) few_tests)
+
+  pub transfers_tests : can_take_part i states seats ≡ none_such (transfers_refusal i states seats) seats_told
+  unfolding can_take_part transfers_refusal
+  transfers_tests = sym (then (option_map WrongInstance foreign) (option_map SeatExited exited) (none_such foreign wrong_instance) (none_such exited seat_exited) (named WrongInstance foreign) (named SeatExited exited))

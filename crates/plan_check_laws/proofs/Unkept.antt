@@ -2,10 +2,10 @@
 use Rattle.std.specs.Prelude.{not}
 use Rattle.std.specs.FinMap as fin
 use Rattle.std.specs.List.{find}
-use Rattle.std.proofs.Common.{◌≡◌, ◌≢◌, ℕ, pos, ◌+◌, ◌≤◌, ◌==◌, Bool, true, false, List, is_some, option_and_then, option_map, IfSome, Option, Some, None, refl, sym, ap, ◌∙◌, arith}
+use Rattle.std.proofs.Common.{◌≡◌, ◌≢◌, ℕ, pos, ◌+◌, ◌≤◌, ◌==◌, Bool, true, false, List, filter, is_some, option_and_then, option_map, IfSome, Option, Some, None, refl, sym, ap, ◌∙◌, arith}
 use Rattle.std.proofs.lemmas.Bool.{eq-eqb, false≢true, ne_eqb}
 use Rattle.amount_math.specs.Content.{Content, entries, key_cmp}
-use Rattle.plan_checks.specs.Plans.{brands_of, first_unkept, is_unkept, rows_of, unkept_at, unkept_brand, unkept_element, unkept_of, values_of}
+use Rattle.plan_checks.specs.Plans.{brands_of, elements_of, first_unkept, is_unkept, rows_of, unkept_at, unkept_brand, unkept_element, unkept_of, values_of}
 use Rattle.plan_refusals.specs.Told.{unkept_told}
 use Rattle.proposals.specs.declared.plans.Touched.{Touched}
 use Rattle.rearrange.specs.Sums.{IsFirstUnkept, count_after, count_before}
@@ -30,7 +30,7 @@ module _ (touched : List Touched) where
 
   differ_there : (brand : ℕ) → HasOne brand ≡ true → (n : ℕ) → ((k : List ℕ) → Differ brand k → n ≤ brand) → n ≤ brand
   unfolding unkept_element
-  differ_there brand is n from = by (unkept_element touched brand) (found_passes (is_unkept touched brand) _) is
+  differ_there brand is n from = by (unkept_element touched brand) (found_passes (is_unkept touched brand) (elements_of touched brand)) is
     where
       by : (o : Option (List ℕ)) → IfSome o (λ k. is_unkept touched brand k ≡ true) → is_some o ≡ true → n ≤ brand
       by None passes some = absurd (false≢true some)
@@ -52,7 +52,7 @@ module _ (touched : List Touched) where
 
     brand_is : unkept_brand touched ≡ Some u.brand
     unfolding unkept_brand
-    brand_is = least_is u.brand _
+    brand_is = least_is u.brand (filter HasOne (brands_of touched))
         (named_among HasOne u.brand (ap is_some element_is) (brands_of touched) brand_named)
         (all_among HasOne u.brand (λ brand has. differ_there brand has u.brand (λ k other. is.least brand k other)) (brands_of touched))
 
