@@ -69,6 +69,6 @@ MayAct w caller o m (publish i facet) = ⊥
 MayAct w caller o m (keep_state i values) = ⊥
 MayAct w caller o m (stop i) = IsBy caller i
 MayAct w caller o m (halt i) = IsBy caller i
-MayAct w caller o m (make_facet f) = IsBy caller f.instance
+MayAct w caller o m (make_facet f) = ⊥
 MayAct w caller o m (bind_label party label value) = ⊥
 MayAct w caller o m (note_call c) = ⊥

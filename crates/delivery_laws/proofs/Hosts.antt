@@ -145,7 +145,7 @@ turn_issues read served called meter few w d good room =
 
 -- ---- a step
 
-one_turn : (left : ℕ) → 0 < left → left * most_issued ≡ most_issued + (left - 1) * most_issued
+pub one_turn : (left : ℕ) → 0 < left → left * most_issued ≡ most_issued + (left - 1) * most_issued
 one_turn left some = let e : 1 + (left - 1) ≡ left = omega arith in let split = add-mul 1 (left - 1) most_issued in ap (λ k. k * most_issued) (sym e) ∙ (split ∙ omega arith)
 
 module _ (read : TextReader) (served : AreGoodServices (serve_call read)) (called : AreGoodHostCalls) where

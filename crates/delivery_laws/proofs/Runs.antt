@@ -84,11 +84,11 @@ issued_both w (e ∷ es) fs = let rest = issued_both (worlds.after w e) es fs in
 
 -- ---- answers so far
 
-have_end : (v : State) (i : ℕ) (rs : List Reply) (r : Reply) → RepliesHave (IsKnownTo v i) rs → ReplyHas (IsKnownTo v i) r → RepliesHave (IsKnownTo v i) (rs ++ r ∷ [])
+pub have_end : (v : State) (i : ℕ) (rs : List Reply) (r : Reply) → RepliesHave (IsKnownTo v i) rs → ReplyHas (IsKnownTo v i) r → RepliesHave (IsKnownTo v i) (rs ++ r ∷ [])
 have_end v i [] r h k = (k, tt)
 have_end v i (q ∷ rs) r h k = (h.0, have_end v i rs r h.1 k)
 
-after_more : (p : Play) (rs : List Reply) (c : Call) (go : Reply → Play) (r : Reply) → after p rs ≡ Asks c go → after p (rs ++ r ∷ []) ≡ go r
+pub after_more : (p : Play) (rs : List Reply) (c : Call) (go : Reply → Play) (r : Reply) → after p rs ≡ Asks c go → after p (rs ++ r ∷ []) ≡ go r
 after_more p [] c go r e = ap (λ q. after q (r ∷ [])) e
 after_more (Ends x s) (q ∷ rs) c go r e = cc
 after_more Spends (q ∷ rs) c go r e = cc
@@ -97,7 +97,7 @@ after_more (Asks d f) (q ∷ rs) c go r e = after_more (f q) rs c go r e
 -- ---- a run behind the calls before it
 
 -- so much and then so much is no more than all
-scaled : (k a b c : ℕ) → a + b ≤ c → k * a + k * b ≤ k * c
+pub scaled : (k a b c : ℕ) → a + b ≤ c → k * a + k * b ≤ k * c
 scaled k a b c le = let e = mul-add k a b in let h = mul-le-mul_left {m = a + b} {n = c} k le in omega (arith, e, h)
 
 then_run : (w : State) (i n c a m : ℕ) (es : List Effect) (r : Run) → c + a ≤ m → AreGood w es → AllByRecursion IsOfCall es → issued_by_all w es ≤ 2 ^ 63 * c

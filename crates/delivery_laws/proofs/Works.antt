@@ -236,7 +236,7 @@ module _ (read : TextReader) (served : AreGoodServices (serve_call read)) (calle
 
   -- ---- calls
 
-  known_all : (i : ℕ) (ts : List Tree) → AllByRecursion (IsHanded w) ts → AllHave (IsKnownTo w i) ts
+  pub known_all : (i : ℕ) (ts : List Tree) → AllByRecursion (IsHanded w) ts → AllHave (IsKnownTo w i) ts
   known_all i [] h = tt
   known_all i (t ∷ ts) h = (handed_held w (Some i) t h.0, known_all i ts h.1)
 
@@ -297,7 +297,7 @@ module _ (read : TextReader) (served : AreGoodServices (serve_call read)) (calle
 
   -- ---- what functions are called with
 
-  number_known : (i n : ℕ) → IsKnownTo w i (number_tree n)
+  pub number_known : (i n : ℕ) → IsKnownTo w i (number_tree n)
   number_known i n = record { objects = tt; functions = tt; named = tt; ordered = tt; shallow = tt }
 
   told_at : (t : Tree) → IsHanded w t → FormedAt w None 1 (told_value t)
@@ -323,7 +323,7 @@ module _ (read : TextReader) (served : AreGoodServices (serve_call read)) (calle
         shallow = (tt, (value.shallow, tt));
       }))
 
-  notice_handed : (s : SettlementView) → IsSettling w s → IsHanded w (notice_tree s)
+  pub notice_handed : (s : SettlementView) → IsSettling w s → IsHanded w (notice_tree s)
   notice_handed (ok t) is = notice_fields_handed true t is
   notice_handed (broken t) is = notice_fields_handed false t is
 
@@ -331,7 +331,7 @@ module _ (read : TextReader) (served : AreGoodServices (serve_call read)) (calle
   settled_read None is = null_formed w None
   settled_read (Some s) is = is.handed
 
-  settlement_handed : (p : ℕ) → p < length w.promises.settled → IsSettling w (settlement_of w p)
+  pub settlement_handed : (p : ℕ) → p < length w.promises.settled → IsSettling w (settlement_of w p)
   settlement_handed p made = settled_read (settlement_at w.promises.settled p) (all_read (IsSettled w) w.promises.settled p no_promise this_whole.settled made)
 
 -- ---- each delivery
