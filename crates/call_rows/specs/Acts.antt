@@ -1,7 +1,7 @@
 -- Which effects calls have, and whose things they touch: of an instance's, and of its seats, those of the caller
 -- alone. What lines of parties and the ends of turns do is no effect of a call: no call resolves a promise (a seat
 -- that is left, and one that an instance opens for itself, settle theirs in their own effects), sets the time, or
--- keeps state.
+-- keeps state, and no method makes a facet.
 use Rattle.std.specs.Prelude.{◌≡◌, ℕ, List, Option, Some, None, codes}
 use Rattle.invitations.specs.Details.{DetailsView}
 use Rattle.jessie_tree.specs.declared.data.Obj.{Obj}
