@@ -18,6 +18,7 @@ use Rattle.rearrange.specs.declared.plans.PlanFault.TheVariants as plan
 use Rattle.rearrange.specs.declared.seats.SeatsFault.{SeatsFault}
 use Rattle.refusals.specs.Outcomes.{Fails, ◌>>◌, bind, none_such}
 use Rattle.refusals.specs.declared.codes.Refusal.{Refusal}
+use Rattle.plan_check_laws.specs.Seated.{seated_changes}
 use Rattle.plan_check_laws.proofs.Kept.{plan_fails, plan_passes}
 use Rattle.plan_check_laws.proofs.Seats.{staged_tests, transfers_tests}
 use Rattle.plan_check_laws.proofs.Worked.{fails_then, work_fails, work_passes}
@@ -82,7 +83,7 @@ module _ (i : ℕ) (states : List SeatState) (list : List Transfer) where
   working = can_work (allocation_of states) list
 
   abbrev seated : Result (List Touched) Refusal
-  seated = can_take_part i states (seats_named list) >> transfer_changes states list
+  seated = seated_changes i states list
 
   past_part : transfers_refusal i states (seats_named list) ≡ None → seated ≡ (working >> (keeps states moving >> Ok moving))
   unfolding transfer_changes

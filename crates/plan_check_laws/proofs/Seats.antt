@@ -44,8 +44,8 @@ few n = by (nat_lt n 2) refl (nat_le 2 n) refl
 both : (a b c d : Test) → a ≡ c → b ≡ d → (a >> b) ≡ (c >> d)
 both a b c d first second = ap (λ (t : Test). t >> b) first ∙ ap (λ (t : Test). c >> t) second
 
-then : (fault other : Option SeatsFault) (test next : Test) → answer fault ≡ test → answer other ≡ next → answer (option_or fault other) ≡ (test >> next)
-then fault other test next first second = either fault other ∙ both (answer fault) (answer other) test next first second
+followed : (fault other : Option SeatsFault) (test next : Test) → answer fault ≡ test → answer other ≡ next → answer (option_or fault other) ≡ (test >> next)
+followed fault other test next first second = either fault other ∙ both (answer fault) (answer other) test next first second
 
 module _ (i : ℕ) (states : List SeatState) (seats : List ℕ) where
   abbrev foreign : Option ℕ
@@ -71,21 +71,21 @@ module _ (i : ℕ) (states : List SeatState) (seats : List ℕ) where
   too_few = if nat_lt (length seats) 2 then Some OneSeat else None
 
   exited_tests : answer from_exited ≡ (none_such exited seat_exited >> none_such left_out staged_left_out)
-  exited_tests = then (option_map SeatExited exited) (option_map StagedLeftOut left_out) (none_such exited seat_exited) (none_such left_out staged_left_out) (named SeatExited exited) (named StagedLeftOut left_out)
+  exited_tests = followed (option_map SeatExited exited) (option_map StagedLeftOut left_out) (none_such exited seat_exited) (none_such left_out staged_left_out) (named SeatExited exited) (named StagedLeftOut left_out)
 
   repeated_tests : answer from_repeated ≡ (none_such repeated repeated_seat >> (none_such exited seat_exited >> none_such left_out staged_left_out))
-  repeated_tests = then (option_map RepeatedSeat repeated) from_exited (none_such repeated repeated_seat) (none_such exited seat_exited >> none_such left_out staged_left_out) (named RepeatedSeat repeated) exited_tests
+  repeated_tests = followed (option_map RepeatedSeat repeated) from_exited (none_such repeated repeated_seat) (none_such exited seat_exited >> none_such left_out staged_left_out) (named RepeatedSeat repeated) exited_tests
 
   abbrev after_foreign : Test
   after_foreign = need (nat_le 2 (length seats)) one_seat >> (none_such repeated repeated_seat >> (none_such exited seat_exited >> none_such left_out staged_left_out))
 
   few_tests : answer (option_or too_few from_repeated) ≡ after_foreign
-  few_tests = then too_few from_repeated (need (nat_le 2 (length seats)) one_seat) (none_such repeated repeated_seat >> (none_such exited seat_exited >> none_such left_out staged_left_out)) (few (length seats)) repeated_tests
+  few_tests = followed too_few from_repeated (need (nat_le 2 (length seats)) one_seat) (none_such repeated repeated_seat >> (none_such exited seat_exited >> none_such left_out staged_left_out)) (few (length seats)) repeated_tests
 
   pub staged_tests : can_take_over i states seats ≡ none_such (staged_refusal i states seats) seats_told
   unfolding can_take_over staged_refusal
-  staged_tests = sym (then (option_map WrongInstance foreign) (option_or too_few from_repeated) (none_such foreign wrong_instance) after_foreign (named WrongInstance foreign) few_tests)
+  staged_tests = sym (followed (option_map WrongInstance foreign) (option_or too_few from_repeated) (none_such foreign wrong_instance) after_foreign (named WrongInstance foreign) few_tests)
 
   pub transfers_tests : can_take_part i states seats ≡ none_such (transfers_refusal i states seats) seats_told
   unfolding can_take_part transfers_refusal
-  transfers_tests = sym (then (option_map WrongInstance foreign) (option_map SeatExited exited) (none_such foreign wrong_instance) (none_such exited seat_exited) (named WrongInstance foreign) (named SeatExited exited))
+  transfers_tests = sym (followed (option_map WrongInstance foreign) (option_map SeatExited exited) (none_such foreign wrong_instance) (none_such exited seat_exited) (named WrongInstance foreign) (named SeatExited exited))

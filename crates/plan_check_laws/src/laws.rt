@@ -6,8 +6,9 @@ ghost use Rattle.allocation_changes.specs.Losses.{IsLossesRefusal};
 ghost use Rattle.amount_math.specs.declared.shortfall.LossFault.TheVariants as takes;
 ghost use Rattle.amount_math.specs.declared.TooMuch.{TooMuch};
 ghost use Rattle.amount_math.specs.declared.shortfall.Shortfall.{Shortfall};
+ghost use Rattle.plan_check_laws.specs.Seated.{seated_changes};
 ghost use Rattle.plan_check_laws.specs.Values.{AreValues, IsValued};
-ghost use Rattle.plan_checks.specs.Plans.{can_take_over, can_take_part, first_unkept, keeps, staged_changes, transfer_changes};
+ghost use Rattle.plan_checks.specs.Plans.{can_take_over, can_take_part, first_unkept, keeps, staged_changes};
 ghost use Rattle.plan_checks.specs.Slots.{are_covered, can_take, is_covered, is_safe};
 ghost use Rattle.plan_refusals.specs.Told.{plan_told, seats_told};
 ghost use Rattle.proposals.specs.OfferSafety.{AreCovered, IsCovered, IsOfferSafe};
@@ -25,7 +26,7 @@ ghost use Rattle.rearrange.specs.Sums.{AreConserved};
 ghost use Rattle.rearrange.specs.Transfers.{CanWork, HasOneBrand, IsTransfersRefusal, IsWorkRefusal, transfers_plan};
 ghost use Rattle.rearrange.specs.declared.plans.PlanFault.{PlanFault};
 ghost use Rattle.rearrange.specs.declared.plans.PlanFault.TheVariants as plan;
-ghost use Rattle.refusals.specs.Outcomes.{Fails, ◌>>◌, none_such};
+ghost use Rattle.refusals.specs.Outcomes.{Fails, none_such};
 ghost use Rattle.refusals.specs.Told.{CanShow};
 ghost use Rattle.refusals.specs.declared.codes.Refusal.TheVariants.{NotEnough};
 
@@ -80,11 +81,10 @@ pub fn transfers_are_worked_as_they_are_planned()
         transfers_refusal i states (seats_named list) ≡ None → CanWork (allocation_of states) list
         → AreConserved (transfers_plan states list) → AreSafe states (transfers_plan states list)
         → All (λ t. length t.after ≤ most_rows) (transfers_plan states list)
-        → (can_take_part i states (seats_named list) >> transfer_changes states list)
-            ≡ Ok (transfers_plan states list) }
+        → seated_changes i states list ≡ Ok (transfers_plan states list) }
     ensures refused { (i : ℕ) (states : List SeatState) (list : List Transfer) (fault : PlanFault) →
         IsTransfersRefusal i states list fault
-        → Fails (plan_told fault) (can_take_part i states (seats_named list) >> transfer_changes states list) }
+        → Fails (plan_told fault) (seated_changes i states list) }
 {}
 
 /// What transfers make too much can be shown, where what seats have and what transfers give are values, and all
