@@ -1,9 +1,9 @@
 -- A call of an instance's function shows what it does: its row shows the causes of the seats that it leaves, an empty
 -- seat stands right behind it, and a facet that is made is named by it.
-use Rattle.std.specs.Prelude.{decimal, ◌≡◌, ◌+◌, ◌*◌, ◌-◌, ◌^◌, ◌<◌, ◌≤◌, ◌++◌, ◌&&◌, ◌||◌, ℕ, suc, Bool, true, false, cond, List, [], ◌∷◌, Option, Some, None, Result, Ok, Err, IfOk, codes, length, map, not, refl}
+use Rattle.std.specs.Prelude.{◌⊎◌, decimal, ◌≡◌, ◌+◌, ◌*◌, ◌-◌, ◌^◌, ◌<◌, ◌≤◌, ◌++◌, ◌&&◌, ◌||◌, ℕ, suc, Bool, true, false, cond, List, [], ◌∷◌, Option, Some, None, Result, Ok, Err, IfOk, codes, length, map, not, refl}
 use Rattle.std.specs.List.{AllByRecursion}
 use Rattle.std.specs.Str.{bytes_eq}
-use Rattle.std.proofs.Common.{sym, ◌∙◌, ap, subst, arith}
+use Rattle.std.proofs.Common.{inl, inr, sym, ◌∙◌, ap, subst, arith}
 use Rattle.call_arguments.specs.Arguments.{arg}
 use Rattle.call_row_laws.proofs.Forms.{null_formed}
 use Rattle.call_row_laws.proofs.Next.{after_next_of}
@@ -183,25 +183,25 @@ kit_row w n args =
     after_need (λ d. IsKit n d.1) _ (limit most_made) _ (λ room. record { rule = rule; is = refl }))))
 
 -- the method that opens one
-abbrev pub IsKitCall : ObjKind → List ℕ → Type 0
-IsKitCall kinds.Zcf m = bytes_eq m (codes "makeEmptySeatKit") ≡ true
-IsKitCall kind m = ⊥
+record IsKitCall (kind : ObjKind) (n : ℕ) (m : List ℕ) (es : List Effect) : Type 0 where
+  zcf : kind ≡ kinds.Zcf
+  method : bytes_eq m (codes "makeEmptySeatKit") ≡ true
+  kit : IsKit n es
 
 -- either that, or none is opened
-data OpensAs (kind : ObjKind) (n : ℕ) (m : List ℕ) (es : List Effect) : Type 0 where
-  kit : kind ≡ kinds.Zcf → bytes_eq m (codes "makeEmptySeatKit") ≡ true → IsKit n es → OpensAs kind n m es
-  none : openings_in es ≡ 0 → OpensAs kind n m es
+abbrev OpensAs : ObjKind → ℕ → List ℕ → List Effect → Type 0
+OpensAs kind n m es = IsKitCall kind n m es ⊎ (openings_in es ≡ 0)
 
 opens_as : (w : State) (kind : ObjKind) (n : ℕ) (m : List ℕ) (args : List Tree) (answer : Tree) (es : List Effect) → trades.of_kind w kind n m args ≡ Ok (answer, es) → openings_in es ≡ openings_by (object kind n) m → OpensAs kind n m es
 opens_as w kinds.Zcf n m args answer es is opens = by (bytes_eq m (codes "makeEmptySeatKit")) refl
   where
     by : (b : Bool) → bytes_eq m (codes "makeEmptySeatKit") ≡ b → OpensAs kinds.Zcf n m es
     by true e =
-        let row : make_empty_seat_kit w n args ≡ Ok (answer, es) = sym (ap (λ b. cond b (make_empty_seat_kit w n args) _) e) ∙ is in
-        kit refl e (ok_has (λ d. IsKit n d.1) (make_empty_seat_kit w n args) (answer, es) row (kit_row w n args))
-    by false e = none (opens ∙ ap (λ b. cond b 1 0) e)
-opens_as w kinds.Zseat n m args answer es is opens = none opens
-opens_as w kinds.Zmint n m args answer es is opens = none opens
+        let row : make_empty_seat_kit w n args ≡ Ok (answer, es) = rw e at is in
+        inl (record { zcf = refl; method = e; kit = ok_has (λ d. IsKit n d.1) (make_empty_seat_kit w n args) (answer, es) row (kit_row w n args) })
+    by false e = inr (opens ∙ ap (λ b. cond b 1 0) e)
+opens_as w kinds.Zseat n m args answer es is opens = inr opens
+opens_as w kinds.Zmint n m args answer es is opens = inr opens
 opens_as w kind n m args answer es is opens = cc
 
 -- ---- what a call's effects show
@@ -267,12 +267,12 @@ module _ (owners : Owners) (t : Turn) where
     un = acts_uncalled w (Some i) o m es row.acts
 
     shown_behind : OpensAs o.kind o.number m es → AreShown owners t behind es
-    shown_behind (none opens) = shown_of w i o m behind es (causes owners t behind es good un owed_now) row.stored row.acts opens
-    shown_behind (kit zcf method is_kit) = subst (AreShown owners t behind) (sym is_kit.is) ((runs_none, record {
+    shown_behind (inr opens) = shown_of w i o m behind es (causes owners t behind es good un owed_now) row.stored row.acts opens
+    shown_behind (inl is_kit) = subst (AreShown owners t behind) (sym is_kit.kit.is) ((runs_none, record {
       more = rows_of w.log;
       call = printed_call c;
       last = rows_append w.log (events.called c ∷ []);
-      made = kit_called zcf method;
+      made = kit_called is_kit.zcf is_kit.method;
       gives = refl;
       wants = refl;
     }), tt)

@@ -133,15 +133,15 @@ module _ (k : ℕ) (l : List Event) (ss : List Sum) (owners : Owners) where
 pub closes : (v : State) (s : ℕ) (cause : Cause) → IsOpen (seat_at v.seats s) → WasLeft (seat_at (after v (exit s cause)).seats s)
 closes v s cause opens =
     let rows = slots_at v.rights.slots s in
-    subst (λ (x : Seat). IsSome x.last) (sym (read_set v.seats s (left_seat (seat_at v.seats s) rows) no_seat (open_made v.seats s opens))) tt
+    subst (λ (x : Seat). IsSome x.last) (sym (read_set v.seats s (left_seat (seat_at v.seats s) rows) no_seat (open_made v.seats s opens))) refl
 
 pub open_or_left : (last : Option (List Row)) → last ≡ None → IsSome last → ⊥
-open_or_left None e h = h
+open_or_left None e h = cc
 open_or_left (Some rows) e h = cc
 
 not_none : (last : Option (List Row)) → is_none last ≡ false → IsSome last
 not_none None e = cc
-not_none (Some rows) e = tt
+not_none (Some rows) e = refl
 
 -- a seat is left where it is still open
 pub closed_if : (v : State) (s : ℕ) (cause : Cause) → WasLeft (seat_at (after_all v (exit_if_open v s cause)).seats s)
@@ -151,7 +151,7 @@ closed_if v s cause = by (is_none (seat_at v.seats s).last) refl
     by true e = closes v s cause (open_there (seat_at v.seats s).last e)
     by false e = not_none (seat_at v.seats s).last e
 
-first_seat : List Departure → ℕ
+abbrev first_seat : List Departure → ℕ
 first_seat [] = 0
 first_seat (d ∷ ds) = d.seat
 
@@ -191,28 +191,32 @@ second_good v (e ∷ es) fs good = second_good (after v e) es fs good.1
 
 -- ---- what the ends of turns leave
 
-pub handler_closed : (u : State) (o : Offer) (x : Tree) → WasLeft (seat_at (after_all u (ending (deliveries.offer o) (threw x) u)).seats o.seat)
-unfolding ending
-handler_closed u o x = by (is_none (seat_at u.seats o.seat).last) refl
-  where
-    abbrev v : State
-    v = after u (resolve o.promise (without_cycle u.promises.follows o.promise (settled_after (deliveries.offer o) (threw x))))
+module _ (u : State) (o : Offer) (x : Tree) where
+  abbrev settled_there : State
+  settled_there = after u (resolve o.promise (without_cycle u.promises.follows o.promise (settled_after (deliveries.offer o) (threw x))))
 
-    by : (b : Bool) → is_none (seat_at u.seats o.seat).last ≡ b → WasLeft (seat_at (after_all v (cond b (exit o.seat causes.threw ∷ []) [] ++ end_staging ∷ [])).seats o.seat)
-    by true e = closes v o.seat causes.threw (open_there (seat_at u.seats o.seat).last e)
-    by false e = not_none (seat_at u.seats o.seat).last e
+  pub handler_closed : WasLeft (seat_at (after_all u (ending (deliveries.offer o) (threw x) u)).seats o.seat)
+  unfolding ending
+  handler_closed = by (is_none (seat_at u.seats o.seat).last) refl
+    where
+      by : (b : Bool) → is_none (seat_at u.seats o.seat).last ≡ b → WasLeft (seat_at (after_all settled_there (cond b (exit o.seat causes.threw ∷ []) [] ++ end_staging ∷ [])).seats o.seat)
+      by true e = closes settled_there o.seat causes.threw (open_there (seat_at u.seats o.seat).last e)
+      by false e = not_none (seat_at u.seats o.seat).last e
 
 -- no seat of an instance is open whose start threw
-pub start_left : (u : State) (s : Start) (x : Tree) → AreGood u (ending (deliveries.start s) (threw x) u) → (n : ℕ) → IsOpen (seat_at (after_all u (ending (deliveries.start s) (threw x) u)).seats n)
-    → (seat_at (after_all u (ending (deliveries.start s) (threw x) u)).seats n).instance ≢ s.instance
-unfolding ending
-start_left u s x good n = subst (λ (y : State). IsOpen (seat_at y.seats n) → (seat_at y.seats n).instance ≢ s.instance) (sym (after_both v halts (end_staging ∷ []))) (none_open s.instance causes.halted v (all_open u s.instance) (first_good v halts (end_staging ∷ []) good.1) n)
-  where
-    abbrev v : State
-    v = after u (resolve s.promise (without_cycle u.promises.follows s.promise (settled_after (deliveries.start s) (threw x))))
+module _ (u : State) (s : Start) (x : Tree) where
+  abbrev started_there : State
+  started_there = after u (resolve s.promise (without_cycle u.promises.follows s.promise (settled_after (deliveries.start s) (threw x))))
 
-    abbrev halts : List Effect
-    halts = exits_with causes.halted (all_open u s.instance) ++ halt s.instance ∷ []
+  abbrev halted_there : List Effect
+  halted_there = exits_with causes.halted (all_open u s.instance) ++ halt s.instance ∷ []
+
+  pub start_left : AreGood u (ending (deliveries.start s) (threw x) u) → (n : ℕ) → IsOpen (seat_at (after_all u (ending (deliveries.start s) (threw x) u)).seats n)
+      → (seat_at (after_all u (ending (deliveries.start s) (threw x) u)).seats n).instance ≢ s.instance
+  unfolding ending
+  start_left good n =
+      subst (λ (y : State). IsOpen (seat_at y.seats n) → (seat_at y.seats n).instance ≢ s.instance) (sym (after_both started_there halted_there (end_staging ∷ [])))
+      (none_open s.instance causes.halted started_there (all_open u s.instance) (first_good started_there halted_there (end_staging ∷ []) good.1) n)
 
 -- seats at the end of a turn whose meter was spent, and of a deadline's
 pub deadline_same : (s : ℕ) (u : State) → (after_all u (ending (deliveries.deadline s) (given null) u)).seats ≡ u.seats

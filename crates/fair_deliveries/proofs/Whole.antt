@@ -218,7 +218,7 @@ module _ (read : TextReader) (served : AreGoodServices (serve_call read)) (calle
     caused = caused_all z.log all.holds.causes;
     owners = all.holds.facets;
     refusal = refusal;
-    read = turned.reads;
+    read = turned.held;
   }
 
   pub steady_then : IsSteady z

@@ -1,6 +1,6 @@
 -- What is done for each delivery is shown by the rows of its turn, and at the turn's end no seat is open of which the
 -- turn's own row shows a cause.
-use Rattle.std.specs.Prelude.{◌≡◌, ◌≢◌, ◌+◌, ◌*◌, ◌^◌, ◌<◌, ◌≤◌, ◌++◌, ◌&&◌, ◌⊎◌, ℕ, zero, suc, Bool, true, false, cond, List, [], ◌∷◌, Option, Some, None, Result, Ok, Err, IfOk, codes, is_none, length, nat_lt, refl}
+use Rattle.std.specs.Prelude.{◌≡◌, ◌≢◌, ◌-◌, ◌+◌, ◌*◌, ◌^◌, ◌<◌, ◌≤◌, ◌++◌, ◌&&◌, ◌⊎◌, ℕ, zero, suc, Bool, true, false, cond, List, [], ◌∷◌, Option, Some, None, Result, Ok, Err, IfOk, codes, is_none, length, nat_lt, refl}
 use Rattle.std.specs.List.{AllByRecursion}
 use Rattle.std.specs.Str.{bytes_eq}
 use Rattle.std.proofs.Common.{inl, inr, sym, ◌∙◌, ap, subst, arith}
@@ -135,6 +135,7 @@ no_offer t of = by t.kind of
 -- ---- facets have the instances that made them
 
 owner_found : (q n : ℕ) (fs : List FacetView) → n < length fs → q + length fs < 2 ^ 128 → owner_in (named kinds.Facet (q + n)) (owners_from q fs) ≡ Some (named kinds.Instance (facet_at fs n).instance)
+unfolding object_name
 owner_found q n [] lt few = absurd (omega (arith, lt))
 owner_found q zero (f ∷ fs) lt few =
     ap (λ m. cond (bytes_eq (named kinds.Facet m) (named kinds.Facet q)) (Some (named kinds.Instance f.instance)) (owner_in (named kinds.Facet m) (owners_from (suc q) fs))) (let e : q + 0 ≡ q = omega arith in e)
@@ -145,7 +146,6 @@ owner_found q (suc n) (f ∷ fs) lt few =
     ∙ owner_found (suc q) n fs (omega (arith, lt)) (omega (arith, few))
   where
     same_number : bytes_eq (named kinds.Facet (suc q + n)) (named kinds.Facet q) ≡ true → suc q + n ≡ q
-    unfolding object_name
     same_number e = numbers_same (suc q + n) q (omega (arith, lt, few)) e
 
     apart : (b : Bool) → bytes_eq (named kinds.Facet (suc q + n)) (named kinds.Facet q) ≡ b → bytes_eq (named kinds.Facet (suc q + n)) (named kinds.Facet q) ≡ false
@@ -253,7 +253,7 @@ module _ (read : TextReader) (served : AreGoodServices (serve_call read)) (calle
     pub stays : Stays r a es
     -- what is refused does nothing; what is answered of holdings is held
     pub quiet : (e : Refusal) → a ≡ refused e → es ≡ []
-    pub reads : IsReadByTurn (table_of w.rights) (seats_told w) (turn r a)
+    pub held : IsReadByTurn (table_of w.rights) (seats_told w) (turn r a)
 
   abbrev TurnsBy : Reading → Work → Type 0
   TurnsBy r work = Turns r work.answer work.effects
@@ -274,7 +274,7 @@ module _ (read : TextReader) (served : AreGoodServices (serve_call read)) (calle
 
   -- turns of other kinds read nothing
   unread : (r : Reading) (a : Answer) → ((turn r a).kind ≡ turn_kinds.service → ⊥) → IsReadByTurn (table_of w.rights) (seats_told w) (turn r a)
-  unread r a no = record { purse = λ n e is. absurd (no e); payment = λ n e is. absurd (no e); final = λ n e is. absurd (no e) }
+  unread r a bare = record { purse = λ n e is. absurd (bare e); payment = λ n e is. absurd (bare e); final = λ n e is. absurd (bare e) }
 
   fits : (r : Reading) (a : Answer) (es : List Effect) → AreGood w es → AreFit (turn r a) (row r a) w es → Shows os (turn r a) (row r a) (ours r a) w es
   fits r a es are fit = fit_all os (turn r a) (row r a) (λ i n c e. e) (ours r a) w es (starts (row r a) (ours r a)) owes are fit
@@ -284,7 +284,7 @@ module _ (read : TextReader) (served : AreGoodServices (serve_call read)) (calle
     shows = record { shown = tt; stored = tt; owes = owes; holds = starts (row r (refused e)) (ours r (refused e)) };
     stays = λ n opens. none_by_refused (kind_of d r) un os (turn r (refused e)) (seat_at (last (refused e) []).seats n).instance n (code_of e) (printed_trees (shown_trees (shown_by e)));
     quiet = λ f is. refl;
-    reads = record { purse = λ n e is. cc; payment = λ n e is. cc; final = λ n e is. cc };
+    held = record { purse = λ n e is. cc; payment = λ n e is. cc; final = λ n e is. cc };
   }
 
   -- a seat that was left is so at the end
@@ -305,13 +305,13 @@ module _ (read : TextReader) (served : AreGoodServices (serve_call read)) (calle
     opens_by answer n kinds.Zoe e made is = by (bytes_eq m (codes "offer")) refl
       where
         by : (b : Bool) → bytes_eq m (codes "offer") ≡ b → (n ≡ 0) ⊎ (is_offer (turn at (given answer)) ≡ true)
-        by false no = inl (is ∙ ap (λ b. cond b 1 0) no)
-        by true yes =
+        by false bare = inl (is ∙ ap (λ b. cond b 1 0) bare)
+        by true offered =
             let t = turn at (given answer) in
             inr (ap (λ x. is_service x && (bytes_eq t.on (codes "zoe") && bytes_eq t.method (codes "offer"))) (kind_is (given answer))
             ∙ ap (λ x. bytes_eq x (codes "zoe") && bytes_eq t.method (codes "offer")) (calling.on o args ∙ ap (λ x. object_name (object x o.number)) e ∙ zoe_name o.number)
             ∙ ap (λ x. bytes_eq x (codes "offer")) calling.method
-            ∙ yes)
+            ∙ offered)
     opens_by answer n kinds.Zcf e made is = absurd made
     opens_by answer n kind e made is = inl is
 
@@ -323,39 +323,39 @@ module _ (read : TextReader) (served : AreGoodServices (serve_call read)) (calle
     asked answer kinds.Seat e made = by (bytes_eq m (codes "tryExit")) refl
       where
         by : (b : Bool) → bytes_eq m (codes "tryExit") ≡ b → AllByRecursion (Asked answer) (cond b (one_left o.number causes.asked) [])
-        by false no = tt
-        by true yes =
+        by false bare = tt
+        by true offered =
             let t = turn at (given answer) in ((λ i.
               ap (λ x. cause_by_row x t.answer os t i o.number) (kind_is (given answer))
               ∙ ap (λ x. cause_if (bytes_eq x (name (codes "seat") o.number) && bytes_eq t.method (codes "tryExit")) causes.asked) (calling.on o args ∙ ap (λ x. object_name (object x o.number)) e)
               ∙ ap (λ x. cause_if (x && bytes_eq t.method (codes "tryExit")) causes.asked) (seat_same o.number)
               ∙ ap (λ x. cause_if (bytes_eq x (codes "tryExit")) causes.asked) calling.method
-              ∙ ap (λ x. cause_if x causes.asked) yes), tt)
+              ∙ ap (λ x. cause_if x causes.asked) offered), tt)
     asked answer kinds.Zseat e made = absurd made
     asked answer kinds.Zcf e made = absurd made
     asked answer kind e made = tt
+
+    abbrev answered : Tree → Turn
+    answered answer = turn at (given answer)
+
+    wide : o.kind ≡ kinds.Seat → o.number < 2 ^ 128
+    wide e = let made : o.number < length w.seats = subst (λ x. made_as w x o.number) e known in omega (arith, made, steady.counted.seats)
 
     answered_turn : (answer : Tree) (es : List Effect) → CanCall w None o args → serve_call read w o m args ≡ Ok (answer, es) → IsRow w None o m args answer es → Turns at (given answer) es
     answered_turn answer es can so is = record {
       shows = fits at (given answer) es is.good (row_fit (turn at (given answer)) (row at (given answer)) w o m w es is.acts is.stored
           (opens_by answer (openings_in es) o.kind refl known is.opens)
           (subst (AllByRecursion (Asked answer)) (sym is.leaves) (asked answer o.kind refl known)));
-      stays = λ n opens. ap (λ x. cause_by_row x t.answer os t (seat_at (last (given answer) es).seats n).instance n) (kind_is (given answer)) ∙ by n opens (serves (name (codes "seat") n) (codes "tryExit") t) refl;
+      stays = λ n opens. ap (λ x. cause_by_row x (answered answer).answer os (answered answer) (seat_at (last (given answer) es).seats n).instance n) (kind_is (given answer)) ∙ by n opens (serves (name (codes "seat") n) (codes "tryExit") (answered answer)) refl;
       quiet = λ e is. cc;
-      reads = service_reads w o m args answer es t steady can so (record { on = calling.on o args; method = calling.method; arguments = calling.arguments o args; answered = refl });
+      held = service_reads w o m args answer es (answered answer) steady can so (record { on = calling.on o args; method = calling.method; arguments = calling.arguments o args; answered = refl });
     }
       where
-        abbrev t : Turn
-        t = turn at (given answer)
-
-        wide : o.kind ≡ kinds.Seat → o.number < 2 ^ 128
-        wide e = let made : o.number < length w.seats = subst (λ x. made_as w x o.number) e known in omega (arith, made, steady.counted.seats)
-
-        by : (n : ℕ) → IsOpen (seat_at (last (given answer) es).seats n) → (b : Bool) → serves (name (codes "seat") n) (codes "tryExit") t ≡ b → cause_if b causes.asked ≡ None
+        by : (n : ℕ) → IsOpen (seat_at (last (given answer) es).seats n) → (b : Bool) → serves (name (codes "seat") n) (codes "tryExit") (answered answer) ≡ b → cause_if b causes.asked ≡ None
         by n opens false e = refl
         by n opens true e =
-            let on = and_first (bytes_eq t.on (name (codes "seat") n)) (bytes_eq t.method (codes "tryExit")) e in
-            let method = and_second (bytes_eq t.on (name (codes "seat") n)) (bytes_eq t.method (codes "tryExit")) e in
+            let on = and_first (bytes_eq (answered answer).on (name (codes "seat") n)) (bytes_eq (answered answer).method (codes "tryExit")) e in
+            let method = and_second (bytes_eq (answered answer).on (name (codes "seat") n)) (bytes_eq (answered answer).method (codes "tryExit")) e in
             let here : o ≡ object kinds.Seat n = seat_is n o wide (sym (ap (λ x. bytes_eq x (name (codes "seat") n)) (calling.on o args)) ∙ on) in
             let left : departures_in es ≡ departure n causes.asked ∷ [] = is.leaves ∙ ap (λ x. departures_by w x m) here ∙ ap (λ x. cond x (one_left n causes.asked) []) (sym (ap (λ x. bytes_eq x (codes "tryExit")) calling.method) ∙ method) in
             absurd (not_open (given answer) es n (one_closed w es n causes.asked is.good left) opens)
@@ -404,7 +404,7 @@ module _ (read : TextReader) (served : AreGoodServices (serve_call read)) (calle
           shows = weaker_shows os (turn r a) (row r a) (ours r a) w all (subst (λ x. Shows os (turn r a) none_shown x w all) (sym (running.instance a)) both);
           stays = ended_stays r i running threw_so a (function_answer e) all (ending_good (done all) d a is.front is.out is.free);
           quiet = λ x is. absurd (subst IsGivenOrThrown is (function_answer e));
-          reads = unread r a no_service;
+          held = unread r a no_service;
         }
 
     abbrev spends : Answer
@@ -427,7 +427,7 @@ module _ (read : TextReader) (served : AreGoodServices (serve_call read)) (calle
           ∙ ap (λ x. cause_if (is_of x (seat_at (last spends halts).seats n).instance) causes.spent) (running.instance spends)
           ∙ by n opens (bytes_eq (named kinds.Instance i) (instance_name (seat_at (last spends halts).seats n).instance)) refl;
       quiet = λ e is. cc;
-      reads = unread r spends no_service;
+      held = unread r spends no_service;
     }
       where
         same : (last spends halts).seats ≡ (done halts).seats
@@ -463,10 +463,10 @@ module _ (read : TextReader) (served : AreGoodServices (serve_call read)) (calle
   -- an instance that has halted refuses
   task_turn : (r : Reading) (c : FunctionCall) → c.instance < length w.tables.instances → AllHave (IsKnownTo w c.instance) c.arguments → IsRunning r c.instance → ThrewStays r → IsUndated (kind_of d r)
       → IsTurnWork w d (task_work read meter w (run_task w c)) → TurnsBy r (task_work read meter w (run_task w c))
+  unfolding task_work
   task_turn r c made known running threw_so un = by (has_halted (standing_of w c.instance))
     where
       by : (b : Bool) → IsTurnWork w d (task_work read meter w (cond b (refuse (closed c.instance)) (tasks.run c))) → TurnsBy r (task_work read meter w (cond b (refuse (closed c.instance)) (tasks.run c)))
-      unfolding task_work
       by true is = refused_turn r (closed c.instance) un
       by false is = run_turn r c made known running threw_so is
 
@@ -511,10 +511,10 @@ module _ (read : TextReader) (served : AreGoodServices (serve_call read)) (calle
     method_turn (Some g) is = run_turn there (record { instance = f.instance; function = g; arguments = f.held ∷ args }) is_facet.made (is_facet.held, known_all args handed) facet_runs facet_threw is
 
     facet_turn : IsTurnWork w d (task_work read meter w (facet_task w f m args)) → TurnsBy there (task_work read meter w (facet_task w f m args))
+    unfolding task_work
     facet_turn = by (has_halted (standing_of w f.instance))
       where
         by : (b : Bool) → IsTurnWork w d (task_work read meter w (cond b (refuse (closed f.instance)) (method_task f m args (function_behind m f)))) → TurnsBy there (task_work read meter w (cond b (refuse (closed f.instance)) (method_task f m args (function_behind m f))))
-        unfolding task_work
         by true is = refused_turn there (closed f.instance) facet_undated
         by false is = method_turn (function_behind m f) is
 
@@ -551,21 +551,21 @@ module _ (read : TextReader) (served : AreGoodServices (serve_call read)) (calle
         shows = fits (deliveries.gift t) (given null) (bind_label g.to g.label t ∷ []) is.good (tt, tt);
         stays = λ n opens. let es : List Effect = bind_label g.to g.label t ∷ [] in ap (λ y. cause_by_row (kind_of y (deliveries.gift t)) (rows.ok (data_rows.printed null)) os (turn (deliveries.gift t) (given null)) (seat_at (last (given null) es).seats n).instance n) e;
         quiet = λ e is. cc;
-        reads = unread (deliveries.gift t) (given null) (λ x. subst IsOther (sym (ap (λ y. kind_of y (deliveries.gift t)) e) ∙ x) tt);
+        held = unread (deliveries.gift t) (given null) (λ x. subst IsOther (sym (ap (λ y. kind_of y (deliveries.gift t)) e) ∙ x) tt);
       }
   give_turn g e (Err r) is = refused_turn deliveries.nothing r (subst (λ x. IsUndated (kind_of x deliveries.nothing)) (sym e) tt)
 
   tick_turn : (t : ℕ) → d ≡ deliveries.tick t → IsTurnWork w d (task_work read meter w (tick_task w.schedule.time t)) → TurnsBy deliveries.nothing (task_work read meter w (tick_task w.schedule.time t))
+  unfolding task_work
   tick_turn t e = by (nat_lt t w.schedule.time)
     where
       by : (b : Bool) → IsTurnWork w d (task_work read meter w (cond b (refuse (Backwards w.schedule.time t)) (do_all (set_time t ∷ [])))) → TurnsBy deliveries.nothing (task_work read meter w (cond b (refuse (Backwards w.schedule.time t)) (do_all (set_time t ∷ []))))
-      unfolding task_work
       by true is = refused_turn deliveries.nothing (Backwards w.schedule.time t) (subst (λ x. IsUndated (kind_of x deliveries.nothing)) (sym e) tt)
       by false is = record {
         shows = fits deliveries.nothing (given null) (set_time t ∷ []) is.good (tt, tt);
         stays = λ n opens. let es : List Effect = set_time t ∷ [] in ap (λ y. cause_by_row (kind_of y deliveries.nothing) (rows.ok (data_rows.printed null)) os (turn deliveries.nothing (given null)) (seat_at (last (given null) es).seats n).instance n) e;
         quiet = λ e is. cc;
-        reads = unread deliveries.nothing (given null) (λ x. subst IsOther (sym (ap (λ y. kind_of y deliveries.nothing) e) ∙ x) tt);
+        held = unread deliveries.nothing (given null) (λ x. subst IsOther (sym (ap (λ y. kind_of y deliveries.nothing) e) ∙ x) tt);
       }
 
 -- ---- each delivery
@@ -585,80 +585,76 @@ module _ (read : TextReader) (served : AreGoodServices (serve_call read)) (calle
   abbrev work_there : (d : Delivery) → IsGoodWorld (in_front d w) → IsTurnWork w d (task_work read meter w (beginning w d).task)
   work_there d good = work_is read served called meter few w d good room
 
+  abbrev at_end : Delivery → Answer → List Effect → State
+  at_end d a es = after_all (after_all w es) (ending d a (after_all w es))
+
+  abbrev left_if : ℕ → List Effect
+  left_if seat = exit_if_open w seat causes.deadline
+
+  abbrev dated : ℕ → Turn
+  dated seat = turn_with k l ss (deliveries.deadline seat) deliveries.nothing (given null)
+
+  closed_then : (seat : ℕ) → WasLeft (seat_at (at_end (deliveries.deadline seat) (given null) (left_if seat)).seats seat)
+  closed_then seat = subst (λ (x : List Seat). WasLeft (seat_at x seat)) (sym (deadline_same seat (after_all w (left_if seat)))) (closed_if w seat causes.deadline)
+
   -- the seat whose deadline has come is left
-  deadline_turn : (seat : ℕ) (good : IsGoodWorld (in_front (deliveries.deadline seat) w)) → seat < length w.seats → IsTurnWork w (deliveries.deadline seat) (record { answer = given null; effects = exit_if_open w seat causes.deadline })
-      → Turns read served called reads service_reads meter few w (deliveries.deadline seat) good room steady empty k l ss deliveries.nothing (given null) (exit_if_open w seat causes.deadline)
+  deadline_turn : (seat : ℕ) (good : IsGoodWorld (in_front (deliveries.deadline seat) w)) → seat < length w.seats → IsTurnWork w (deliveries.deadline seat) (record { answer = given null; effects = left_if seat })
+      → Turns read served called reads service_reads meter few w (deliveries.deadline seat) good room steady empty k l ss deliveries.nothing (given null) (left_if seat)
   deadline_turn seat good made is = record {
-    shows = fits read served called reads service_reads meter few w d good room steady empty k l ss deliveries.nothing (given null) es is.good
-        (if_fit t (row_of (owners_told w) t) w (is_none (seat_at w.seats seat).last) (exit seat causes.deadline) (ap (λ b. cause_if b causes.deadline) (seat_same seat)));
+    shows = fits read served called reads service_reads meter few w (deliveries.deadline seat) good room steady empty k l ss deliveries.nothing (given null) (left_if seat) is.good
+        (if_fit (dated seat) (row_of (owners_told w) (dated seat)) w (is_none (seat_at w.seats seat).last) (exit seat causes.deadline) (ap (λ b. cause_if b causes.deadline) (seat_same seat)));
     stays = λ n opens. by n opens (bytes_eq (named kinds.Seat seat) (name (codes "seat") n)) refl;
     quiet = λ e is. cc;
-    reads = record { purse = λ n e is. cc; payment = λ n e is. cc; final = λ n e is. cc };
+    held = record { purse = λ n e is. cc; payment = λ n e is. cc; final = λ n e is. cc };
   }
     where
-      abbrev d : Delivery
-      d = deliveries.deadline seat
-
-      abbrev es : List Effect
-      es = exit_if_open w seat causes.deadline
-
-      abbrev t : Turn
-      t = turn_with k l ss d deliveries.nothing (given null)
-
-      abbrev end : State
-      end = after_all (after_all w es) (ending d (given null) (after_all w es))
-
-      closed_now : WasLeft (seat_at end.seats seat)
-      closed_now = subst (λ (x : List Seat). WasLeft (seat_at x seat)) (sym (deadline_same seat (after_all w es))) (closed_if w seat causes.deadline)
-
-      by : (n : ℕ) → IsOpen (seat_at end.seats n) → (b : Bool) → bytes_eq (named kinds.Seat seat) (name (codes "seat") n) ≡ b → cause_if b causes.deadline ≡ None
+      by : (n : ℕ) → IsOpen (seat_at (at_end (deliveries.deadline seat) (given null) (left_if seat)).seats n) → (b : Bool) → bytes_eq (named kinds.Seat seat) (name (codes "seat") n) ≡ b → cause_if b causes.deadline ≡ None
       by n opens false e = refl
       by n opens true e =
+          let end = at_end (deliveries.deadline seat) (given null) (left_if seat) in
           let here : seat ≡ n = seat_there seat n (omega (arith, made, steady.counted.seats)) e in
-          absurd (open_or_left (seat_at end.seats n).last opens (subst (λ m. WasLeft (seat_at end.seats m)) here closed_now))
+          absurd (open_or_left (seat_at end.seats n).last opens (subst (λ m. WasLeft (seat_at end.seats m)) here (closed_then seat)))
 
   start_turn : (s : Start) (good : IsGoodWorld (in_front (deliveries.start s) w)) → TurnsOf (deliveries.start s) good
   unfolding beginning
   start_turn s good =
-      let due = due_behind w d good in
-      task_turn read served called reads service_reads meter few w d good room steady empty k l ss deliveries.nothing (start_call s) due.made
+      let due = due_behind w (deliveries.start s) good in
+      task_turn read served called reads service_reads meter few w (deliveries.start s) good room steady empty k l ss deliveries.nothing (start_call s) due.made
       (object_formed w (Some s.instance) (record { kind = kinds.Zcf; number = s.instance }) refl, (handed_held w (Some s.instance) s.private_arguments due.arguments, tt))
       (record { of = tt; instance = λ a. refl })
-      (λ x es end n opens. by due.made x es end n opens (bytes_eq (named kinds.Instance s.instance) (instance_name (seat_at (at_end x es).seats n).instance)) refl)
-      tt (work_there d good)
+      (λ x es end n opens. by due.made x es end n opens (bytes_eq (named kinds.Instance s.instance) (instance_name (seat_at (at_end (deliveries.start s) (threw x) es).seats n).instance)) refl)
+      tt (work_there (deliveries.start s) good)
     where
-      abbrev d : Delivery
-      d = deliveries.start s
-
-      abbrev at_end : Tree → List Effect → State
-      at_end x es = after_all (after_all w es) (ending d (threw x) (after_all w es))
-
-      by : s.instance < length w.tables.instances → (x : Tree) (es : List Effect) → AreGood (after_all w es) (ending d (threw x) (after_all w es)) → (n : ℕ) → IsOpen (seat_at (at_end x es).seats n)
-          → (b : Bool) → bytes_eq (named kinds.Instance s.instance) (instance_name (seat_at (at_end x es).seats n).instance) ≡ b → cause_if b causes.halted ≡ None
+      by : s.instance < length w.tables.instances → (x : Tree) (es : List Effect) → AreGood (after_all w es) (ending (deliveries.start s) (threw x) (after_all w es)) → (n : ℕ) → IsOpen (seat_at (at_end (deliveries.start s) (threw x) es).seats n)
+          → (b : Bool) → bytes_eq (named kinds.Instance s.instance) (instance_name (seat_at (at_end (deliveries.start s) (threw x) es).seats n).instance) ≡ b → cause_if b causes.halted ≡ None
       by made x es end n opens false e = refl
-      by made x es end n opens true e = absurd (start_left (after_all w es) s x end n opens (sym (instance_there s.instance (seat_at (at_end x es).seats n).instance (omega (arith, made, steady.counted.instances)) e)))
+      by made x es end n opens true e =
+          absurd (start_left (after_all w es) s x end n opens (sym (instance_there s.instance (seat_at (at_end (deliveries.start s) (threw x) es).seats n).instance (omega (arith, made, steady.counted.instances)) e)))
 
   offer_turn : (o : Offer) (good : IsGoodWorld (in_front (deliveries.offer o) w)) → TurnsOf (deliveries.offer o) good
   unfolding beginning
   offer_turn o good =
-      let due = due_behind w d good in
-      task_turn read served called reads service_reads meter few w d good room steady empty k l ss deliveries.nothing (handler_call o) due.function.made
+      let due = due_behind w (deliveries.offer o) good in
+      task_turn read served called reads service_reads meter few w (deliveries.offer o) good room steady empty k l ss deliveries.nothing (handler_call o) due.function.made
       (object_formed w (Some o.instance) (record { kind = kinds.Zseat; number = o.seat }) due.seat, (handed_held w (Some o.instance) o.offer_arguments due.arguments, (due.held, tt)))
       (record { of = tt; instance = λ a. refl })
       (λ x es end n opens. by due.seat.made x es n opens (bytes_eq (named kinds.Zseat o.seat) (name (codes "zseat") n)) refl)
-      tt (work_there d good)
+      tt (work_there (deliveries.offer o) good)
     where
-      abbrev d : Delivery
-      d = deliveries.offer o
-
-      abbrev at_end : Tree → List Effect → State
-      at_end x es = after_all (after_all w es) (ending d (threw x) (after_all w es))
-
-      by : o.seat < length w.seats → (x : Tree) (es : List Effect) (n : ℕ) → IsOpen (seat_at (at_end x es).seats n) → (b : Bool) → bytes_eq (named kinds.Zseat o.seat) (name (codes "zseat") n) ≡ b → cause_if b causes.threw ≡ None
+      by : o.seat < length w.seats → (x : Tree) (es : List Effect) (n : ℕ) → IsOpen (seat_at (at_end (deliveries.offer o) (threw x) es).seats n) → (b : Bool) → bytes_eq (named kinds.Zseat o.seat) (name (codes "zseat") n) ≡ b → cause_if b causes.threw ≡ None
       by made x es n opens false e = refl
       by made x es n opens true e =
+          let end = at_end (deliveries.offer o) (threw x) es in
           let here : o.seat ≡ n = zseat_there o.seat n (omega (arith, made, steady.counted.seats)) e in
-          absurd (open_or_left (seat_at (at_end x es).seats n).last opens (subst (λ m. WasLeft (seat_at (at_end x es).seats m)) here (handler_closed (after_all w es) o x)))
+          absurd (open_or_left (seat_at end.seats n).last opens (subst (λ m. WasLeft (seat_at end.seats m)) here (handler_closed (after_all w es) o x)))
+
+  bad_turn : (r : Refusal) (good : IsGoodWorld (in_front (deliveries.bad r) w)) → TurnsOf (deliveries.bad r) good
+  unfolding beginning task_work
+  bad_turn r good = refused_turn read served called reads service_reads meter few w (deliveries.bad r) good room steady empty k l ss deliveries.nothing r tt
+
+  end_turn : (seat : ℕ) (good : IsGoodWorld (in_front (deliveries.deadline seat) w)) → TurnsOf (deliveries.deadline seat) good
+  unfolding beginning task_work
+  end_turn seat good = deadline_turn seat good (due_behind w (deliveries.deadline seat) good) (work_there (deliveries.deadline seat) good)
 
   pub turns_of : (d : Delivery) (good : IsGoodWorld (in_front d w)) → TurnsOf d good
   unfolding beginning
@@ -675,10 +671,6 @@ module _ (read : TextReader) (served : AreGoodServices (serve_call read)) (calle
   turns_of (deliveries.give g) good = give_turn read served called reads service_reads meter few w (deliveries.give g) good room steady empty k l ss g refl (gift_of w g) (work_there (deliveries.give g) good)
   turns_of (deliveries.tick t) good = tick_turn read served called reads service_reads meter few w (deliveries.tick t) good room steady empty k l ss t refl (work_there (deliveries.tick t) good)
   turns_of (deliveries.bad r) good = bad_turn r good
-    where
-      bad_turn : (r : Refusal) (good : IsGoodWorld (in_front (deliveries.bad r) w)) → TurnsOf (deliveries.bad r) good
-      unfolding beginning task_work
-      bad_turn r good = refused_turn read served called reads service_reads meter few w (deliveries.bad r) good room steady empty k l ss deliveries.nothing r tt
   turns_of (deliveries.start s) good = start_turn s good
   turns_of (deliveries.offer o) good = offer_turn o good
   turns_of (deliveries.wake x) good =
@@ -696,7 +688,3 @@ module _ (read : TextReader) (served : AreGoodServices (serve_call read)) (calle
       (due.notice.held, (handed_held w (Some n.instance) (notice_tree s) told, tt))
       (record { of = tt; instance = λ a. refl }) (λ y es end m opens. refl) tt (work_there d good)
   turns_of (deliveries.deadline seat) good = end_turn seat good
-    where
-      end_turn : (seat : ℕ) (good : IsGoodWorld (in_front (deliveries.deadline seat) w)) → TurnsOf (deliveries.deadline seat) good
-      unfolding beginning task_work
-      end_turn seat good = deadline_turn seat good (due_behind w (deliveries.deadline seat) good) (work_there (deliveries.deadline seat) good)

@@ -29,10 +29,10 @@ pub record Holds (row : Showing) (owners : Owners) (i : Option (List ℕ)) (w : 
   pub steady : IsSteady w
 
 pub holds_after : (row : Showing) (owners : Owners) (i : Option (List ℕ)) (w : State) (e : Effect) → IsUncalled e → IsNoFacet e → IsGoodEffect w e → LeavesFor row w e → Holds row owners i w → Holds row owners i (after w e)
-holds_after row owners i w e un no can leaves is = record {
+holds_after row owners i w e un bare can leaves is = record {
   good = good-after w e can is.good;
   causes = causes_after row w e un can leaves is.causes;
-  facets = facets_kept owners i w is.facets e un no;
+  facets = facets_kept owners i w is.facets e un bare;
   steady = record { counted = counted_after w e can is.steady.counted; left = left_after w e is.good can is.steady.left };
 }
 

@@ -82,24 +82,25 @@ opened_left w next new seats opens slots is = record { each = λ n rows lt left.
         let was : (seat_at w.seats n).last ≡ Some rows = sym (ap (λ (s : Seat). s.last) (ap (λ l. seat_at l n) seats ∙ read_before w.seats new no_seat n not)) ∙ left in
         ap (map slot_name) (slots n rows below left) ∙ is.each n rows below was
 
-exit_left : (w : State) (s : ℕ) (next : State) → IsGoodWorld w → s < length w.seats → next.seats ≡ slice_set w.seats s (left_seat (seat_at w.seats s) (slots_at w.rights.slots s)) → next.rights.slots ≡ slice_set w.rights.slots s (map emptied (slots_at w.rights.slots s)) → LeftNamed w → LeftNamed next
-exit_left w s next good made seats slots is = record { each = λ n rows lt left. by n rows lt left (s == n) refl }
-  where
-    abbrev closed : Seat
-    closed = left_seat (seat_at w.seats s) (slots_at w.rights.slots s)
+module _ (w : State) (s : ℕ) (next : State) (good : IsGoodWorld w) (made : s < length w.seats) where
+  abbrev closed : Seat
+  closed = left_seat (seat_at w.seats s) (slots_at w.rights.slots s)
 
-    by : (n : ℕ) (rows : List Row) → n < length next.seats → (seat_at next.seats n).last ≡ Some rows → (b : Bool) → (s == n) ≡ b → map slot_name (slots_at next.rights.slots n) ≡ map slot_name rows
-    by n rows lt left true here =
-        let e : s ≡ n = same_number s n here in
-        let at : seat_at next.seats s ≡ closed = ap (λ l. seat_at l s) seats ∙ read_set w.seats s closed no_seat made in
-        let had : slots_at w.rights.slots s ≡ rows = ap (λ o. unwrap_or o rows) (sym (ap (λ (x : Seat). x.last) at) ∙ subst (λ m. (seat_at next.seats m).last ≡ Some rows) (sym e) left) in
-        let now : slots_at next.rights.slots s ≡ map emptied (slots_at w.rights.slots s) = ap (λ l. slots_at l s) slots ∙ read_set w.rights.slots s (map emptied (slots_at w.rights.slots s)) [] (omega (arith, made, good.seats.slotted)) in
-        subst (λ m. map slot_name (slots_at next.rights.slots m) ≡ map slot_name rows) e (ap (map slot_name) now ∙ names_emptied (slots_at w.rights.slots s) ∙ ap (map slot_name) had)
-    by n rows lt left false apart =
-        let not = other_number s n apart in
-        let as_many : length next.seats ≡ length w.seats = ap length seats ∙ length_set w.seats s closed in
-        let was : (seat_at w.seats n).last ≡ Some rows = sym (ap (λ (x : Seat). x.last) (ap (λ l. seat_at l n) seats ∙ read_other w.seats s n closed no_seat not)) ∙ left in
-        ap (map slot_name) (ap (λ l. slots_at l n) slots ∙ read_other w.rights.slots s n (map emptied (slots_at w.rights.slots s)) [] not) ∙ is.each n rows (omega (arith, lt, as_many)) was
+  exit_left : next.seats ≡ slice_set w.seats s closed → next.rights.slots ≡ slice_set w.rights.slots s (map emptied (slots_at w.rights.slots s)) → LeftNamed w → LeftNamed next
+  exit_left seats slots is = record { each = λ n rows lt left. by n rows lt left (s == n) refl }
+    where
+      by : (n : ℕ) (rows : List Row) → n < length next.seats → (seat_at next.seats n).last ≡ Some rows → (b : Bool) → (s == n) ≡ b → map slot_name (slots_at next.rights.slots n) ≡ map slot_name rows
+      by n rows lt left true here =
+          let e : s ≡ n = same_number s n here in
+          let at : seat_at next.seats s ≡ closed = ap (λ l. seat_at l s) seats ∙ read_set w.seats s closed no_seat made in
+          let had : slots_at w.rights.slots s ≡ rows = ap (λ o. unwrap_or o rows) (sym (ap (λ (x : Seat). x.last) at) ∙ subst (λ m. (seat_at next.seats m).last ≡ Some rows) (sym e) left) in
+          let now : slots_at next.rights.slots s ≡ map emptied (slots_at w.rights.slots s) = ap (λ l. slots_at l s) slots ∙ read_set w.rights.slots s (map emptied (slots_at w.rights.slots s)) [] (omega (arith, made, good.seats.slotted)) in
+          subst (λ m. map slot_name (slots_at next.rights.slots m) ≡ map slot_name rows) e (ap (map slot_name) now ∙ names_emptied (slots_at w.rights.slots s) ∙ ap (map slot_name) had)
+      by n rows lt left false apart =
+          let not = other_number s n apart in
+          let as_many : length next.seats ≡ length w.seats = ap length seats ∙ length_set w.seats s closed in
+          let was : (seat_at w.seats n).last ≡ Some rows = sym (ap (λ (x : Seat). x.last) (ap (λ l. seat_at l n) seats ∙ read_other w.seats s n closed no_seat not)) ∙ left in
+          ap (map slot_name) (ap (λ l. slots_at l n) slots ∙ read_other w.rights.slots s n (map emptied (slots_at w.rights.slots s)) [] not) ∙ is.each n rows (omega (arith, lt, as_many)) was
 
 pub left_after : (w : State) (e : Effect) → IsGoodWorld w → IsGoodEffect w e → LeftNamed w → LeftNamed (after w e)
 left_after w (moves ms) good can is = record { each = λ n rows lt left. ap (map slot_name) (slots_stay w.seats n rows left w.rights ms can.good) ∙ is.each n rows lt left }

@@ -60,14 +60,14 @@ IsNoFacet (make_facet f) = ⊥
 IsNoFacet _ = Unit {0}
 
 facets_same : (w : State) (e : Effect) → IsNoFacet e → (after w e).facets ≡ w.facets
-facets_same w (make_facet f) no = absurd no
-facets_same w e no = refl
+facets_same w (make_facet f) bare = absurd bare
+facets_same w e bare = refl
 
 module _ (owners : Owners) (i : Option (List ℕ)) (w : State) (told : FacetsTold owners i w) where
   pub facets_kept : (e : Effect) → IsUncalled e → IsNoFacet e → FacetsTold owners i (after w e)
-  facets_kept e un no =
+  facets_kept e un bare =
       let t = effect_told w e un in
-      ap (owners_from 0) (facets_same w e no)
+      ap (owners_from 0) (facets_same w e bare)
       ∙ told
       ∙ ap (λ l. owners ++ l) (sym (
       ap (facets_made i) (ap rows_of t.told ∙ rows_append w.log t.events)

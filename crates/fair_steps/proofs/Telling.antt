@@ -224,42 +224,43 @@ causes_called w c all =
 some_rows : (xs : List Row) → Some xs ≡ None → ⊥
 some_rows xs e = cc
 
-exit_owes : (w : State) (s : ℕ) (cause : Cause) → IsOpen (seat_at w.seats s) → Owes w [] → Owes (after w (exit s cause)) []
-exit_owes w s cause opens owes = record {
-  shown = λ n is. by n is (s == n) refl;
-  made = tt;
-  opened = subst (AllByRecursion (OpensBelow (length left.seats))) (sym t.told)
-      (all_append (OpensBelow (length left.seats)) w.log t.events (subst (λ m. AllByRecursion (OpensBelow m) w.log) (sym as_many) owes.opened) (none_opened t.events t.are));
-}
-  where
-    abbrev left : State
-    left = after w (exit s cause)
+module _ (w : State) (s : ℕ) (cause : Cause) (opens : IsOpen (seat_at w.seats s)) where
+  abbrev left : State
+  left = after w (exit s cause)
 
-    t : Tells w (exit s cause)
-    t = effect_told w (exit s cause) tt
+  none_opened : (es : List Event) → AllByRecursion (IsToldBy (exit s cause) (length w.seats)) es → AllByRecursion (OpensBelow (length left.seats)) es
+  none_opened [] all = tt
+  none_opened (events.called c ∷ es) all = absurd all.0
+  none_opened (events.opened o ∷ es) all = absurd all.0
+  none_opened (events.moved m ∷ es) all = (tt, none_opened es all.1)
+  none_opened (events.exited x ∷ es) all = (tt, none_opened es all.1)
+  none_opened (events.settled p r ∷ es) all = (tt, none_opened es all.1)
 
-    as_many : length left.seats ≡ length w.seats
-    as_many = length_set w.seats s (left_seat (seat_at w.seats s) (slots_at w.rights.slots s))
+  exit_owes : Owes w [] → Owes left []
+  exit_owes owes = record {
+    shown = λ n is. by n is (s == n) refl;
+    made = tt;
+    opened = subst (AllByRecursion (OpensBelow (length left.seats))) (sym t.told)
+        (all_append (OpensBelow (length left.seats)) w.log t.events (subst (λ m. AllByRecursion (OpensBelow m) w.log) (sym as_many) owes.opened) (none_opened t.events t.are));
+  }
+    where
+      t : Tells w (exit s cause)
+      t = effect_told w (exit s cause) tt
 
-    none_opened : (es : List Event) → AllByRecursion (IsToldBy (exit s cause) (length w.seats)) es → AllByRecursion (OpensBelow (length left.seats)) es
-    none_opened [] all = tt
-    none_opened (events.called c ∷ es) all = absurd all.0
-    none_opened (events.opened o ∷ es) all = absurd all.0
-    none_opened (events.moved m ∷ es) all = (tt, none_opened es all.1)
-    none_opened (events.exited x ∷ es) all = (tt, none_opened es all.1)
-    none_opened (events.settled p r ∷ es) all = (tt, none_opened es all.1)
+      as_many : length left.seats ≡ length w.seats
+      as_many = length_set w.seats s (left_seat (seat_at w.seats s) (slots_at w.rights.slots s))
 
-    by : (n : ℕ) → IsOpen (seat_at left.seats n) → (c : Bool) → (s == n) ≡ c → cause_shown left n ≡ None
-    by n is true here =
-        let same : s ≡ n = same_number s n here in
-        let rows = slots_at w.rights.slots s in
-        let closed : seat_at left.seats s ≡ left_seat (seat_at w.seats s) rows = read_set w.seats s (left_seat (seat_at w.seats s) rows) no_seat (open_made w.seats s opens) in
-        let open_there : IsOpen (seat_at left.seats s) = subst (λ m. IsOpen (seat_at left.seats m)) (sym same) is in
-        absurd (some_rows rows (sym (ap (λ (x : Seat). x.last) closed) ∙ open_there))
-    by n is false apart =
-        let same : seat_at left.seats n ≡ seat_at w.seats n = read_other w.seats s n (left_seat (seat_at w.seats s) (slots_at w.rights.slots s)) no_seat (other_number s n apart) in
-        let was : IsOpen (seat_at w.seats n) = subst IsOpen same is in
-        shown_stays w (exit s cause) tt n (open_made w.seats n was) ∙ owes.shown n was
+      by : (n : ℕ) → IsOpen (seat_at left.seats n) → (c : Bool) → (s == n) ≡ c → cause_shown left n ≡ None
+      by n is true here =
+          let same : s ≡ n = same_number s n here in
+          let rows = slots_at w.rights.slots s in
+          let closed : seat_at left.seats s ≡ left_seat (seat_at w.seats s) rows = read_set w.seats s (left_seat (seat_at w.seats s) rows) no_seat (open_made w.seats s opens) in
+          let open_there : IsOpen (seat_at left.seats s) = subst (λ m. IsOpen (seat_at left.seats m)) (sym same) is in
+          absurd (some_rows rows (sym (ap (λ (x : Seat). x.last) closed) ∙ open_there))
+      by n is false apart =
+          let same : seat_at left.seats n ≡ seat_at w.seats n = read_other w.seats s n (left_seat (seat_at w.seats s) (slots_at w.rights.slots s)) no_seat (other_number s n apart) in
+          let was : IsOpen (seat_at w.seats n) = subst IsOpen same is in
+          shown_stays w (exit s cause) tt n (open_made w.seats n was) ∙ owes.shown n was
 
 pub owes_after_it : (w : State) (e : Effect) → IsGoodEffect w e → IsUncalled e → Owes w [] → Owes (after w e) []
 owes_after_it w (exit s cause) good un owes = exit_owes w s cause good owes

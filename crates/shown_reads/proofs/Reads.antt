@@ -22,7 +22,7 @@ use Rattle.ertp_mint.specs.Stocks.{empty_amount, no_amount}
 use Rattle.ertp_rows.specs.IssuerRows.{get_amount_of}
 use Rattle.fair_causes.specs.Owed.{answered}
 use Rattle.fair_effects.specs.Places.{seat_told, seats_told, slot_content, slot_name}
-use Rattle.fair_effects.proofs.Held.{HoldsRow, held_there, slots_hold}
+use Rattle.fair_effects.proofs.Held.{held_there, slots_hold}
 use Rattle.fair_effects.proofs.Seats.{seat_read}
 use Rattle.fair_rows.specs.Amounts.{IsAllocation, IsAmountOf, IsCurrentAllocation, IsFinalAllocation, IsPaymentAmount, IsPurseAmount, IsReadByCall, IsReadByTurn, IsSlotRead}
 use Rattle.fair_rows.specs.ExitCauses.{calls, is_ok, name, serves}
@@ -101,12 +101,12 @@ shown_is : (o : Option (List ℕ)) → is_keyword (unwrap_or o []) ≡ true → 
 shown_is (Some s) e = refl
 shown_is None e = cc
 
+keyword_text : (place : ℕ) (args : List Tree) → IfOk (keyword_at place args) (λ x. arg place args ≡ trees.text x)
+unfolding keyword_at
+keyword_text place args = after_need (λ x. arg place args ≡ trees.text x) (is_keyword (shown_text (arg place args))) _ _ (λ e. text_is (arg place args) (shown_text (arg place args)) (shown_is (text_of (arg place args)) e))
+
 keyword_is : (place : ℕ) (args : List Tree) (k : List ℕ) → keyword_at place args ≡ Ok k → arg place args ≡ trees.text k
-keyword_is place args k is = ok_has (λ x. arg place args ≡ trees.text x) (keyword_at place args) k is (by place args)
-  where
-    by : (place : ℕ) (args : List Tree) → IfOk (keyword_at place args) (λ x. arg place args ≡ trees.text x)
-    unfolding keyword_at
-    by place args = after_need (λ x. arg place args ≡ trees.text x) (is_keyword (shown_text (arg place args))) _ _ (λ e. text_is (arg place args) (shown_text (arg place args)) (shown_is (text_of (arg place args)) e))
+keyword_is place args k is = ok_has (λ x. arg place args ≡ trees.text x) (keyword_at place args) k is (keyword_text place args)
 
 -- an object of a kind, as it is printed
 record IsObjectAt (kind : ObjKind) (n : ℕ) (t : Tree) : Type 0 where
@@ -146,6 +146,9 @@ payment_kind k n e = cc
 
 -- ---- a seat's slots
 
+abbrev HoldsRow : Table → ℕ → Row → Type 0
+HoldsRow t n r = holds t (Slot n r.keyword) r.amount.brand ≡ r.amount.value.content
+
 contents_same : (t : Table) (n : ℕ) (rs : List Row) → AllByRecursion (HoldsRow t n) rs → map (λ slot. holds t (Slot n slot.keyword) slot.brand) (map slot_name rs) ≡ map slot_content rs
 contents_same t n [] all = refl
 contents_same t n (r ∷ rs) all = ap (λ c. c ∷ map (λ slot. holds t (Slot n slot.keyword) slot.brand) (map slot_name rs)) all.0 ∙ ap (λ l. slot_content r ∷ l) (contents_same t n rs all.1)
@@ -174,11 +177,8 @@ module _ (w : State) (good : IsGoodWorld w) (n : ℕ) (made : n < length w.seats
     seat = seat_told n (seat_at w.seats n) rows_there;
     was_opened = seat_read 0 n w.seats w.rights.slots no_seat made good.seats.slotted
         ∙ ap (λ k. Some (seat_told k (seat_at w.seats n) rows_there)) (let e : 0 + n ≡ n = omega arith in e);
-    allocation = subst (λ c. told_allocation c) (sym (contents_same (table_of w.rights) n rows_there (slots_hold w.rights n apart))) (allocation_is w rows_there good apart named kinds_are valued);
+    allocation = subst (λ c. IsAllocation (map slot_name rows_there) c (ok (printed (allocation_tree rows_there)))) (sym (contents_same (table_of w.rights) n rows_there (slots_hold w.rights n apart))) (allocation_is w rows_there good apart named kinds_are valued);
   }
-    where
-      abbrev told_allocation : List Content → Type 0
-      told_allocation c = IsAllocation (map slot_name rows_there) c (ok (printed (allocation_tree rows_there)))
 
 -- ---- zseat.getCurrentAllocation()
 
