@@ -6,13 +6,12 @@ use Rattle.std.specs.Ordering.{match_ordering, nat_cmp}
 use Rattle.std.specs.declared.cmp.Ordering.{Ordering}
 use Rattle.std.specs.declared.cmp.Ordering.TheVariants.{Equal, Greater, Less}
 use Rattle.std.proofs.Common.{sym, ◌∙◌, ap, subst, arith}
-use Rattle.amount_math.specs.Content.{Content, count-nothing, nothing, sum}
+use Rattle.amount_math.specs.Content.{count-nothing, nothing, sum}
 use Rattle.amount_math.specs.Counted.{counted as size}
-use Rattle.amount_math.specs.Worth.{Fits, IsValue, Worth}
+use Rattle.amount_math.specs.Worth.{IsValue, Worth}
 use Rattle.amount_math.specs.declared.Kind.TheVariants.{Nat}
 use Rattle.brands.specs.declared.Brand.{Brand}
 use Rattle.data_rows.specs.Values.{printed_value}
-use Rattle.delivery_turns.specs.Hosts.{sums_of}
 use Rattle.ertp_mint.specs.BrandSupply.{BrandSupply, new_supply}
 use Rattle.fair_effects.specs.Accounts.{AreStoredEffects, IsAccounted, IsKnownEvent, is_taken}
 use Rattle.fair_effects.specs.Places.{rows_of}
@@ -20,14 +19,14 @@ use Rattle.fair_effects.proofs.Accounted.{effects_accounted}
 use Rattle.fair_effects.proofs.Values.{printed_is, told_content}
 use Rattle.fair_rows.specs.Movements.{is_payment_at, movement_of, movements_in, names, takes_from}
 use Rattle.fair_rows.specs.SoFar.{amounts_at}
-use Rattle.fair_rows.specs.Steps.{IsKnown, World, sum_in}
+use Rattle.fair_rows.specs.Steps.{IsKnown, World}
 use Rattle.fair_rows.specs.Values.{Named, value_of}
 use Rattle.payments.specs.Papers.{Paper, paper_at}
 use Rattle.proposals.specs.declared.allocations.Row.{Row}
 use Rattle.right_steps.specs.Lists.{amount_of}
-use Rattle.right_steps.specs.Tables.{content_held, in_brand, no_hand, right_on}
+use Rattle.right_steps.specs.Tables.{content_held, in_brand, right_on}
 use Rattle.rights_model.specs.Supply.{burned, is_outside, minted}
-use Rattle.rights_model.specs.Table.{CanMoveAll, Table, holds, moved, table_after}
+use Rattle.rights_model.specs.Table.{CanMoveAll, Table, moved, table_after}
 use Rattle.rights_model.specs.Totals.{brands_of, placed}
 use Rattle.rights_model.specs.declared.Holder.TheVariants.{Hand, Payment}
 use Rattle.rights_model.specs.declared.Movement.{Movement}

@@ -1,6 +1,6 @@
 -- Good effects keep the numbers of seats, instances, facets and purses within 32 bits.
-use Rattle.std.specs.Prelude.{◌≡◌, ◌+◌, ◌<◌, ◌≤◌, ℕ, List, [], ◌∷◌, ◌++◌, length, refl}
-use Rattle.std.proofs.Common.{sym, ◌∙◌, arith}
+use Rattle.std.specs.Prelude.{◌≡◌, ℕ, List, [], ◌∷◌, length, refl}
+use Rattle.std.proofs.Common.{◌∙◌, arith}
 use Rattle.amount_math.specs.Worth.{Worth}
 use Rattle.instance_store.specs.Tables.{module_at, new_instance}
 use Rattle.list_edits.proofs.ListEdits.{length_push, length_set}

@@ -1,9 +1,9 @@
 -- What holds of a world within a turn, and that effects which tell no call keep it, where the turn's own row shows what
 -- they need.
-use Rattle.std.specs.Prelude.{◌≡◌, ◌++◌, ℕ, List, [], ◌∷◌, Option, Some, None, true, refl}
+use Rattle.std.specs.Prelude.{◌≡◌, ◌++◌, ℕ, List, [], ◌∷◌, Option, Some, true}
 use Rattle.std.specs.List.{AllByRecursion}
 use Rattle.std.proofs.Common.{sym, ◌∙◌, ap, subst}
-use Rattle.fair_causes.specs.Owed.{AreUncalled, IsUncalled, Owes, cause_shown}
+use Rattle.fair_causes.specs.Owed.{IsUncalled, Owes}
 use Rattle.fair_effects.specs.Accounts.{AreStoredEffects, IsStoredEffect}
 use Rattle.fair_effects.specs.Shown.{AreShown, IsShown}
 use Rattle.call_rows.specs.Licence.{IsStored}
@@ -18,7 +18,7 @@ use Rattle.fair_steps.specs.Views.{IsSteady}
 use Rattle.fair_steps.proofs.Counts.{counted_after}
 use Rattle.fair_steps.proofs.Left.{left_after}
 use Rattle.fair_steps.proofs.Owned.{FacetsTold, IsNoFacet, facets_kept}
-use Rattle.fair_steps.proofs.Telling.{AllHaveCauses, LeavesFor, Showing, causes_after, none_shown, owes_after_it}
+use Rattle.fair_steps.proofs.Telling.{AllHaveCauses, LeavesFor, Showing, causes_after, owes_after_it}
 
 -- the world is good, all seats that were left in the turn have their causes, facets that were made are told, numbers
 -- are of 32 bits, and slots keep their names

@@ -1,5 +1,5 @@
 -- The slots of a seat that was left keep the names that they had when it was left.
-use Rattle.std.specs.Prelude.{◌≡◌, ◌≢◌, ◌+◌, ◌<◌, ◌≤◌, ◌==◌, ◌++◌, ℕ, Bool, true, false, List, [], ◌∷◌, Some, None, length, map, slice_set, unwrap_or, refl}
+use Rattle.std.specs.Prelude.{◌≡◌, ◌≢◌, ◌+◌, ◌<◌, ◌==◌, ◌++◌, ℕ, Bool, true, false, List, [], ◌∷◌, Some, None, length, map, slice_set, unwrap_or, refl}
 use Rattle.std.specs.List.{AllByRecursion}
 use Rattle.std.proofs.Common.{sym, ◌∙◌, ap, subst, arith}
 use Rattle.amount_math.specs.Worth.{Worth}
@@ -15,7 +15,7 @@ use Rattle.rights_model.specs.declared.Movement.{Movement}
 use Rattle.world_laws.proofs.Instances.{open_made}
 use Rattle.world_state.specs.Good.{IsAtOpen, IsGoodEffect, IsGoodMove, IsGoodWorld, rights_for, seats_for}
 use Rattle.world_state.specs.Rights.{Rights, all_moved, given, moved, rows_less, rows_more, slots_at, taken}
-use Rattle.world_state.specs.Worlds.{Effect, Seat, State, after, burn_and_escrows, empty_seat, empty_slots, exit, invitation_move, invite, left_seat, moves, new_seat, no_seat, of_own, offer, offered_by, seat_at}
+use Rattle.world_state.specs.Worlds.{Effect, Seat, State, after, burn_and_escrows, empty_seat, empty_slots, exit, invite, left_seat, moves, new_seat, no_seat, of_own, offer, offered_by, seat_at}
 use Rattle.fair_steps.specs.Views.{LeftNamed}
 
 -- ---- movements leave the slots of seats that they don't name

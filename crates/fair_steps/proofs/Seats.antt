@@ -9,7 +9,7 @@ use Rattle.fair_effects.specs.Shown.{AreShown, TellsActs}
 use Rattle.fair_effects.proofs.Effects.{effects_tell}
 use Rattle.fair_effects.proofs.Held.{open_safe}
 use Rattle.fair_effects.proofs.Seats.{seat_read}
-use Rattle.fair_rows.specs.Acts.{AreActs, Place, place_after, rows_of_acts}
+use Rattle.fair_rows.specs.Acts.{AreActs, Place, rows_of_acts}
 use Rattle.fair_rows.specs.Seats as told
 use Rattle.fair_rows.specs.Seats.{IsOpen, IsSafe}
 use Rattle.fair_rows.specs.Steps.{ShowsRows, World}

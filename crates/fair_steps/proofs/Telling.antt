@@ -1,10 +1,9 @@
 -- What each effect tells: no call but a call's own, openings of new seats alone, and of a seat that is left its exit.
-use Rattle.std.specs.Prelude.{◌≡◌, ◌==◌, ◌+◌, ◌<◌, ◌≤◌, ℕ, Bool, true, false, cond, List, [], ◌∷◌, ◌++◌, Option, Some, None, length, map, refl}
+use Rattle.std.specs.Prelude.{◌≡◌, ◌==◌, ◌<◌, ◌≤◌, ℕ, Bool, true, false, cond, List, [], ◌∷◌, ◌++◌, Option, Some, None, length, map, refl}
 use Rattle.std.specs.List.{AllByRecursion}
 use Rattle.std.proofs.Common.{append_assoc, sym, ◌∙◌, ap, subst, arith}
 use Rattle.std.proofs.lemmas.Bool.{ne_eqb}
 use Rattle.std.proofs.lemmas.List.{append-nil}
-use Rattle.call_rows.specs.Traces.{departures_in}
 use Rattle.fair_causes.specs.Owed.{IsUncalled, OpensBelow, Owes, cause_shown}
 use Rattle.fair_causes.proofs.Owing.{other_number, owes_none, same_number}
 use Rattle.fair_causes.proofs.Shown.{IsNoCall, either_none, shown_more, shown_still}
@@ -25,7 +24,6 @@ use Rattle.world_laws.proofs.Growing.{grows-after}
 use Rattle.world_laws.proofs.Instances.{open_made}
 use Rattle.world_laws.proofs.Lists.{all_append, all_map}
 use Rattle.world_state.specs.Good.{IsGoodEffect}
-use Rattle.world_state.specs.Known.{Grows}
 use Rattle.world_state.specs.Rights.{slots_at}
 use Rattle.world_state.specs.Worlds.{Effect, IsOpen, Seat, State, after, burn_and_escrows, empty_seat, exit, invitation_move, invite, leaving_events, left_seat, moves, moves_out, no_seat, note_call, of_own, offer, offer_events, opening_of, payouts_tree, promises_made, resolve, seat_at}
 use Rattle.jessie_tree.specs.Tree.{null}
