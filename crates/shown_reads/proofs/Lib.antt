@@ -1,2 +1,2 @@
 pub mod Amounts
-pub mod Reads
+pub mod Held
