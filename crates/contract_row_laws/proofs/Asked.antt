@@ -168,13 +168,13 @@ given_trees ts = filter (λ t. not (is_null t)) ts
 
 seats_collect : (ts : List Tree) (seats : List ℕ) → read_all (object_in kinds.Zseat) (given_trees ts) ≡ Some seats → flat_map seat_in_part ts ≡ seats
 seats_collect [] seats is = same_Some [] seats is
-seats_collect (t ∷ ts) seats is = by (is_null t) refl is
+seats_collect (t ∷ ts) seats is = by (is_null t) refl is (seats_collect ts)
   where
-    by : (b : Bool) → is_null t ≡ b → read_all (object_in kinds.Zseat) (cond (not b) (t ∷ given_trees ts) (given_trees ts)) ≡ Some seats → seat_in_part t ++ flat_map seat_in_part ts ≡ seats
-    by true e reads = ap (λ o. option_to_list o ++ flat_map seat_in_part ts) (no_seat t e) ∙ seats_collect ts seats reads
-    by false e reads =
+    by : (b : Bool) → is_null t ≡ b → read_all (object_in kinds.Zseat) (cond (not b) (t ∷ given_trees ts) (given_trees ts)) ≡ Some seats → ((ns : List ℕ) → read_all (object_in kinds.Zseat) (given_trees ts) ≡ Some ns → flat_map seat_in_part ts ≡ ns) → seat_in_part t ++ flat_map seat_in_part ts ≡ seats
+    by true e reads later = ap (λ o. option_to_list o ++ flat_map seat_in_part ts) (no_seat t e) ∙ later seats reads
+    by false e reads later =
         one_list {A = ℕ} (λ l. seat_in_part t ++ flat_map seat_in_part ts ≡ l) (object_in kinds.Zseat t) (read_all (object_in kinds.Zseat) (given_trees ts)) seats
-        (λ n ns at rest. ap (λ o. option_to_list o ++ flat_map seat_in_part ts) at ∙ ap (λ l. n ∷ l) (seats_collect ts ns rest)) reads
+        (λ n ns at rest. ap (λ o. option_to_list o ++ flat_map seat_in_part ts) at ∙ ap (λ l. n ∷ l) (later ns rest)) reads
 
 parts_flat : (list : List Parts) → flat_map seat_in_part (flat_map (λ (p : Parts). p.from ∷ p.to ∷ []) list) ≡ flat_map named_in list
 parts_flat [] = refl
@@ -315,15 +315,15 @@ module _ (a : Asked) (t : Transfer) (is : IsValued a t) where
 abbrev data_tags : Option ℕ → List RowData → List Tag
 data_tags o rows = map data_tag (rows_for o rows)
 
-valued_tags : (n : ℕ) (data : List RowData) (values : List Worth) → read_all row_value data ≡ Some values → map (row_tag n) (with_values data values) ≡ map data_tag (map (row_for n) data)
+valued_tags : (n : ℕ) (found : List RowData) (values : List Worth) → read_all row_value found ≡ Some values → map (row_tag n) (with_values found values) ≡ map data_tag (map (row_for n) found)
 valued_tags n [] values is = refl
 valued_tags n (d ∷ ds) values is =
     one_list {A = Worth} (λ l. map (row_tag n) (with_values (d ∷ ds) l) ≡ map data_tag (map (row_for n) (d ∷ ds))) (row_value d) (read_all row_value ds) values
     (λ v vs at rest. ap (λ l. tag n d.keyword d.amount.brand ∷ l) (valued_tags n ds vs rest)) is
 
-same_tags : (o : Option ℕ) (data : List RowData) (rows : List Row) → valued data ≡ Ok rows → tags_at o rows ≡ data_tags o data
-same_tags None data rows is = refl
-same_tags (Some n) data rows is = values_there data rows (λ rs. map (row_tag n) rs ≡ map data_tag (map (row_for n) data)) is (valued_tags n data)
+same_tags : (o : Option ℕ) (found : List RowData) (rows : List Row) → valued found ≡ Ok rows → tags_at o rows ≡ data_tags o found
+same_tags None found rows is = refl
+same_tags (Some n) found rows is = values_there found rows (λ rs. map (row_tag n) rs ≡ map data_tag (map (row_for n) found)) is (valued_tags n found)
 
 transfer_tags : (a : Asked) (t : Transfer) → IsValued a t → tags_of t ≡ map data_tag (rows_asked a)
 transfer_tags a t is =
@@ -355,17 +355,17 @@ all_seats_are w i (p ∷ ps) (a ∷ rest) (t ∷ ts) asked are =
 
 -- ---- rows that fit their slots
 
-no_ill : (n : ℕ) (data : List RowData) (w : State) → AllByRecursion (IsRight w) (map data_tag (map (row_for n) data)) → first_ill (keywords data) ≡ None
+no_ill : (n : ℕ) (found : List RowData) (w : State) → AllByRecursion (IsRight w) (map data_tag (map (row_for n) found)) → first_ill (keywords found) ≡ None
 unfolding first_ill
 no_ill n [] w all = refl
 no_ill n (d ∷ ds) w all = ap (λ b. cond (not b) (Some d.keyword) (find (λ k. not (is_keyword k)) (keywords ds))) all.0.named ∙ no_ill n ds w all.1
 
 module _ (w : State) (i : ℕ) where
-  right_fit : (n : ℕ) (data : List RowData) (rows : List Row) → AreRowsOf w i data → valued data ≡ Ok rows → AllByRecursion (IsRight w) (map data_tag (map (row_for n) data)) → AreFitting w (allocation_of w n) rows
-  right_fit n data rows are values right =
-      let tags : AllByRecursion (IsRight w) (map (row_tag n) rows) = subst (AllByRecursion (IsRight w)) (sym (same_tags (Some n) data rows values)) right in
+  right_fit : (n : ℕ) (found : List RowData) (rows : List Row) → AreRowsOf w i found → valued found ≡ Ok rows → AllByRecursion (IsRight w) (map data_tag (map (row_for n) found)) → AreFitting w (allocation_of w n) rows
+  right_fit n found rows are values right =
+      let tags : AllByRecursion (IsRight w) (map (row_tag n) rows) = subst (AllByRecursion (IsRight w)) (sym (same_tags (Some n) found rows values)) right in
       let each = all_from (row_tag n) (IsRight w) rows tags in
-      let read : AreRead w rows (names (paired are.of)) = record_read w (Some i) are.of data rows are.known are.ordered are.reads (no_ill n data w right) values in
+      let read : AreRead w rows (names (paired are.of)) = record_read w (Some i) are.of found rows are.known are.ordered are.reads (no_ill n found w right) values in
       record {
         each = read.each;
         apart = rising_apart rows read.rising;
@@ -373,9 +373,9 @@ module _ (w : State) (i : ℕ) where
         of_slots = all_map (λ (r : Row). IsRight w (row_tag n r)) (IsOfSlot (allocation_of w n)) (λ r is. is.of_slot) rows each;
       }
 
-  fit_at : (o : Option ℕ) (data : List RowData) (rows : List Row) → AreRowsOf w i data → valued data ≡ Ok rows → AllByRecursion (IsRight w) (data_tags o data) → IfSome o (λ n. AreFitting w (allocation_of w n) rows)
-  fit_at None data rows are values right = tt
-  fit_at (Some n) data rows are values right = right_fit n data rows are values right
+  fit_at : (o : Option ℕ) (found : List RowData) (rows : List Row) → AreRowsOf w i found → valued found ≡ Ok rows → AllByRecursion (IsRight w) (data_tags o found) → IfSome o (λ n. AreFitting w (allocation_of w n) rows)
+  fit_at None found rows are values right = tt
+  fit_at (Some n) found rows are values right = right_fit n found rows are values right
 
   none_asked : AreRowsOf w i []
   none_asked = record { of = trees.no_fields; known = tt; ordered = tt; reads = refl }

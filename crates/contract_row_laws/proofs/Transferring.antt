@@ -1,6 +1,6 @@
 -- Rearranging by transfers is a good row: each seat that is named is settled with what it has once they are worked.
-use Rattle.std.specs.Prelude.{find, flat_map, is_none, list_any, map, not, ◌==◌, ◌||◌}
-use Rattle.std.specs.List.{AllByRecursion, fold, list_all}
+use Rattle.std.specs.Prelude.{find, flat_map, is_none, map, not, ◌==◌, ◌||◌}
+use Rattle.std.specs.List.{AllByRecursion, fold, list_all, list_any}
 use Rattle.std.proofs.Common.{◌≡◌, ◌≢◌, ◌⊎◌, ℕ, Bool, true, false, cond, List, [], ◌∷◌, ◌++◌, length, ◌≤◌, Option, Some, None, Ok, IfOk, codes, inl, inr, refl, sym, ap, subst, ◌∙◌}
 use Rattle.std.proofs.lemmas.Bool.{eq-eqb, eqb-true, false≢true}
 use Rattle.call_arguments.specs.Arguments.{arg, list_at, object_in}
