@@ -3,3 +3,4 @@ pub mod Runs
 pub mod Ends
 pub mod Works
 pub mod Whole
+pub mod Fair

@@ -1,5 +1,5 @@
 -- Amounts that are answered, as rows print them: each as the amount itself, those of slots as a map in byte order.
-use Rattle.std.specs.Prelude.{◌≡◌, ◌≢◌, ◌+◌, ◌<◌, ◌≤◌, ◌++◌, ◌==◌, ℕ, zero, suc, Bool, true, false, cond, codes, List, [], ◌∷◌, Option, Some, None, length, map, refl, unwrap_or, decimal, if◌then◌else◌}
+use Rattle.std.specs.Prelude.{◌≡◌, ◌++◌, ℕ, suc, Bool, true, false, cond, codes, List, [], ◌∷◌, Some, None, length, map, refl, unwrap_or, decimal, if◌then◌else◌}
 use Rattle.std.specs.Cmp.Lexicographic.{slice_cmp}
 use Rattle.std.specs.FinMap.{nat_cmp-IsAntisymmetric, slice_cmp-IsAntisymmetric}
 use Rattle.std.specs.List.{AllByRecursion, AllZip}
@@ -10,9 +10,8 @@ use Rattle.std.specs.declared.cmp.Ordering.TheVariants.{Equal, Greater, Less}
 use Rattle.std.proofs.Common.{sym, ◌∙◌, ap, subst, arith}
 use Rattle.std.proofs.lemmas.Cmp.{nat_list_cmp_total}
 use Rattle.std.proofs.lemmas.Slice.Eq.{bytes_eq-Decides}
-use Rattle.amount_math.specs.Content.{Content, nothing}
 use Rattle.amount_math.specs.declared.Amount.{Amount}
-use Rattle.call_data.specs.Values.{amount_tree, value_tree}
+use Rattle.call_data.specs.Values.{amount_tree}
 use Rattle.call_row_laws.proofs.Amounts.{allocation_formed}
 use Rattle.call_row_laws.proofs.Fields.{HasNoField, no_field_placed, other_name}
 use Rattle.contract_rows.specs.SeatRows.{allocation_tree, amount_fields}
@@ -27,9 +26,8 @@ use Rattle.fair_effects.proofs.Openings.{rows_ordered}
 use Rattle.fair_effects.proofs.Values.{printed_is}
 use Rattle.fair_rows.specs.Amounts.{IsAllocation, IsAmountOf, IsPrinted, IsSlotAmount}
 use Rattle.fair_rows.specs.Amounts as told
-use Rattle.fair_rows.specs.Seats.{SlotName}
 use Rattle.jessie_tree.specs.Tree.{Before, Fields, Tree, field, no_fields}
-use Rattle.proposals.specs.Rows.{AreApart, AreRows, amount_under}
+use Rattle.proposals.specs.Rows.{AreApart, amount_under}
 use Rattle.proposals.proofs.SlotLists.{AreApart-in_byte_order}
 use Rattle.proposals.specs.Slots.{in_byte_order, is_upto, placed}
 use Rattle.proposals.specs.declared.allocations.Row.{Row}

@@ -1,17 +1,16 @@
 -- What is answered of holdings is what is held.
-use Rattle.std.specs.Prelude.{◌≡◌, ◌≢◌, ◌+◌, ◌-◌, ◌^◌, ◌<◌, ◌≤◌, ◌==◌, ◌&&◌, ◌++◌, ℕ, zero, suc, Bool, true, false, not, cond, codes, decimal, List, [], ◌∷◌, Option, Some, None, IfSome, Result, Ok, Err, IfOk, length, map, slice_index_or, unwrap_or, refl}
+use Rattle.std.specs.Prelude.{◌≡◌, ◌+◌, ◌^◌, ◌<◌, ◌==◌, ◌&&◌, ℕ, Bool, true, false, cond, codes, List, [], ◌∷◌, Option, Some, None, IfSome, Result, Ok, Err, IfOk, length, map, unwrap_or, refl}
 use Rattle.std.specs.List.{AllByRecursion}
 use Rattle.std.specs.Option.{option_map}
 use Rattle.std.specs.Str.{bytes_eq}
 use Rattle.std.proofs.Common.{sym, ◌∙◌, ap, subst, arith}
 use Rattle.std.proofs.lemmas.Bool.{eqb-true}
 use Rattle.std.proofs.lemmas.Slice.Eq.{bytes_eq-Decides}
-use Rattle.amount_math.specs.Content.{Content, nothing}
 use Rattle.amount_math.specs.KindLaws.{nothing_is_value}
 use Rattle.amount_math.specs.declared.Amount.{Amount}
 use Rattle.amount_math.specs.declared.Kind.TheVariants.{Nat}
 use Rattle.brands.specs.Brands.{brand_at}
-use Rattle.call_arguments.specs.Arguments.{arg, is_kind, number_of_kind, object_at, object_in}
+use Rattle.call_arguments.specs.Arguments.{arg, is_kind, object_at, object_in}
 use Rattle.call_data.specs.Values.{amount_tree}
 use Rattle.call_rows.specs.Obligations.{CanCall}
 use Rattle.call_rows.specs.Words.{keyword_at, shown_text}
@@ -26,8 +25,6 @@ use Rattle.fair_effects.proofs.Held.{held_there, slots_hold}
 use Rattle.fair_effects.proofs.Seats.{seat_read}
 use Rattle.fair_rows.specs.Amounts.{IsAllocation, IsAmountOf, IsCurrentAllocation, IsFinalAllocation, IsPaymentAmount, IsPurseAmount, IsReadByCall, IsReadByTurn, IsSlotRead}
 use Rattle.fair_rows.specs.ExitCauses.{calls, is_ok, name, serves}
-use Rattle.fair_rows.specs.Seats as told
-use Rattle.fair_rows.specs.Seats.{SlotName}
 use Rattle.host_text.specs.Words.{is_keyword}
 use Rattle.jessie_tree.specs.Tree as trees
 use Rattle.jessie_tree.specs.Tree.{Tree, object_of, text_of}
@@ -35,15 +32,15 @@ use Rattle.jessie_tree.specs.View.{items_of}
 use Rattle.jessie_tree.specs.declared.data.Obj.{Obj}
 use Rattle.jessie_tree.specs.declared.data.ObjKind.{ObjKind}
 use Rattle.jessie_tree.specs.declared.data.ObjKind.TheVariants as kinds
-use Rattle.payments.specs.Papers.{Paper, paper_at, spent_paper}
+use Rattle.payments.specs.Papers.{spent_paper}
 use Rattle.proposals.specs.Rows.{AreApart, AreRows, amount_under}
 use Rattle.proposals.specs.declared.allocations.Row.{Row}
-use Rattle.refusals.specs.Codes.{bad_keyword, dead_payment, pending, wrong_brand, wrong_object}
-use Rattle.refusals.specs.Outcomes.{bind, need, reading, wanted}
+use Rattle.refusals.specs.Codes.{dead_payment, pending, wrong_brand, wrong_object}
+use Rattle.refusals.specs.Outcomes.{bind, reading}
 use Rattle.refusals.specs.declared.codes.Refusal.{Refusal}
-use Rattle.refusals.proofs.Steps.{after_check, after_need, after_step, after_wanted, need_holds, ok_has, wanted_there}
-use Rattle.right_steps.specs.Lists.{amount_of, purse_at}
-use Rattle.right_steps.specs.Tables.{content_held, in_brand, right_in, right_on}
+use Rattle.refusals.proofs.Steps.{after_check, after_need, after_step, after_wanted, ok_has, wanted_there}
+use Rattle.right_steps.specs.Lists.{amount_of}
+use Rattle.right_steps.specs.Tables.{content_held, right_in, right_on}
 use Rattle.rights_model.specs.Table.{Table, holds}
 use Rattle.rights_model.specs.declared.Holder.TheVariants.{Payment, Purse, Slot}
 use Rattle.rights_tables.specs.Tables.{in_slot, table_of}
