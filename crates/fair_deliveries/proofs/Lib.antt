@@ -1,5 +1,3 @@
-pub mod Calls
-pub mod Runs
 pub mod Ends
 pub mod Works
 pub mod Whole

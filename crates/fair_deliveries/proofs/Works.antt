@@ -77,12 +77,12 @@ use Rattle.world_state.specs.Worlds.{Effect, IsOpen, Seat, State, after, after_a
 use Rattle.zoe_rows.specs.Host.{serve as serve_call}
 use Rattle.shown_reads.specs.Reads.{CallsRead, ServicesRead}
 use Rattle.fair_steps.specs.Views.{IsSteady, owners_from, owners_told}
-use Rattle.fair_deliveries.proofs.Calls.{act_no_facet, first_all, second_all}
+use Rattle.fair_runs.proofs.Calls.{act_no_facet, first_all, second_all}
 use Rattle.fair_deliveries.proofs.Ends.{IsClosed, closed_if, deadline_same, halts_fit, handler_closed, if_fit, instance_same, none_open, one_closed, open_or_left, seat_same, second_good, spent_same, start_left, turn_with}
 use Rattle.fair_steps.proofs.Holding.{AreFit, Holds, IsFit, Shows, fit_all, row_of, shows_both}
 use Rattle.fair_steps.proofs.Names.{and_first, and_second, numbers_same, same_bytes, seat_is}
 use Rattle.fair_steps.proofs.Owned.{FacetsTold}
-use Rattle.fair_deliveries.proofs.Runs.{RunShows, run_shows}
+use Rattle.fair_runs.proofs.Runs.{RunShows, holds_at_start, run_shows}
 use Rattle.fair_steps.proofs.Telling.{AllHaveCauses, HasItsCause, Showing, none_shown}
 
 -- ---- what rows of turns show
@@ -262,12 +262,7 @@ module _ (read : TextReader) (served : AreGoodServices (serve_call read)) (calle
   whole = good_behind w d good
 
   starts : (by : Showing) (i : Option (List ℕ)) → Holds by os i w
-  starts by i = record {
-    good = whole;
-    causes = subst (AllByRecursion (HasItsCause by w)) (sym empty) tt;
-    facets = sym (ap (λ x. os ++ facets_made i (rows_of x)) empty ∙ append-nil os);
-    steady = steady;
-  }
+  starts by i = holds_at_start by i w whole steady empty
 
   owes : Owes w []
   owes = owes_at_start w empty

@@ -1,14 +1,19 @@
 -- What the function of an instance does is shown by the rows of its calls, one after another.
-use Rattle.std.specs.Prelude.{◌≡◌, ◌+◌, ◌*◌, ◌-◌, ◌^◌, ◌<◌, ◌≤◌, ◌++◌, ℕ, false, List, [], ◌∷◌, Some, length, refl}
+use Rattle.std.specs.Prelude.{Option, ◌≡◌, ◌+◌, ◌*◌, ◌-◌, ◌^◌, ◌<◌, ◌≤◌, ◌++◌, ℕ, false, List, [], ◌∷◌, Some, length, refl}
+use Rattle.std.specs.List.{AllByRecursion}
 use Rattle.std.proofs.Common.{sym, ◌∙◌, ap, subst, arith}
+use Rattle.std.proofs.lemmas.List.{append-nil}
+use Rattle.contract_row_laws.proofs.Calls.{calls_are}
 use Rattle.delivery_laws.specs.Works.{AreGoodHostCalls, Evaluates}
 use Rattle.delivery_laws.proofs.Asking.{replies_so}
 use Rattle.delivery_laws.proofs.Replies.{call_is}
-use Rattle.delivery_laws.proofs.Runs.{after_both, after_more, all_grow, grows_on, have_end, scaled}
+use Rattle.delivery_laws.proofs.Runs.{after_both, after_more, all_grow, grows_itself, grows_on, have_end, scaled}
 use Rattle.delivery_turns.specs.Functions.{Run, ended, ran_out, run, run_after}
 use Rattle.delivery_turns.specs.HostCalls.{call_effects, call_reply}
 use Rattle.fair_causes.specs.Owed.{Owes}
-use Rattle.fair_rows.specs.ExitCauses.{Owners}
+use Rattle.fair_causes.proofs.Others.{owes_at_start}
+use Rattle.fair_effects.specs.Places.{rows_of}
+use Rattle.fair_rows.specs.ExitCauses.{Owners, facets_made}
 use Rattle.fair_rows.specs.Rows.{is_offer}
 use Rattle.jessie_semantics.specs.Keeping.{CallHas, Fits, NextHas, RepliesHave}
 use Rattle.jessie_semantics.specs.Play.{Asks, Ends, Play, Reply, Spends, after, cost, reply_size}
@@ -17,13 +22,17 @@ use Rattle.turn_records.specs.Printed.{named}
 use Rattle.turn_rows.specs.Turns.{Turn}
 use Rattle.world_laws.proofs.Forms.{formed_grows}
 use Rattle.world_laws.proofs.Roomy.{roomy-after_all}
+use Rattle.world_state.specs.Good.{IsGoodWorld}
 use Rattle.world_state.specs.Known.{Grows, IsKnownTo}
 use Rattle.world_state.specs.Rights.{IsRoomy}
 use Rattle.world_state.specs.Worlds.{Effect, State, after_all}
+use Rattle.fair_runs.specs.Shown.{IsShownRun}
+use Rattle.fair_steps.specs.Views.{IsSteady, owners_told}
+use Rattle.shown_reads.proofs.Held.{calls_read}
 use Rattle.shown_reads.specs.Reads.{CallsRead}
-use Rattle.fair_deliveries.proofs.Calls.{call_shows}
+use Rattle.fair_runs.proofs.Calls.{call_shows}
 use Rattle.fair_steps.proofs.Holding.{Holds, Shows, shows_both}
-use Rattle.fair_steps.proofs.Telling.{none_shown}
+use Rattle.fair_steps.proofs.Telling.{HasItsCause, Showing, none_shown}
 
 module _ (owners : Owners) (t : Turn) (i : ℕ) where
   abbrev pub RunShows : State → Run → Type 0
@@ -55,3 +64,25 @@ module _ (owners : Owners) (t : Turn) (i : ℕ) where
         let known_then : RepliesHave (IsKnownTo (after_all w es) i) (rs ++ r ∷ []) = have_end (after_all w es) i rs r (replies_so (formed_grows w (after_all w es) (all_grow w es) (Some i)) rs known) work.known in
         then_shows w es (run (after_all w es) i (go r)) shows
         (run_shows (go r) (rs ++ r ∷ []) (after_all w es) left (after_more p0 rs c go r is) (fits.1 r) shows.holds shows.owes (grows_on start w (after_all w es) grown (all_grow w es)) known_then room_then)
+
+-- ---- from a turn's start
+
+-- no seat was left, and no facet was made
+pub holds_at_start : (row : Showing) (i : Option (List ℕ)) (w : State) → IsGoodWorld w → IsSteady w → w.log ≡ [] → Holds row (owners_told w) i w
+holds_at_start row i w good steady empty = record {
+  good = good;
+  causes = subst (AllByRecursion (HasItsCause row w)) (sym empty) tt;
+  facets = sym (ap (λ l. owners_told w ++ facets_made i (rows_of l)) empty ∙ append-nil (owners_told w));
+  steady = steady;
+}
+
+shown_there : (owners : Owners) (t : Turn) (i : ℕ) (w : State) (r : Run) → RunShows owners t i w r → IsShownRun owners t w r
+shown_there owners t i w (ended e values es) is = is.shown
+shown_there owners t i w ran_out is = tt
+
+pub run_is_shown : (t : Turn) (start : State) (i n : ℕ) (p : Play) (m : ℕ) → is_offer t ≡ false → i < length start.tables.instances → Evaluates start i n p → Fits m p
+    → IsGoodWorld start → IsSteady start → start.log ≡ [] → IsRoomy start.rights.out (2 ^ 63 * m) → IsShownRun (owners_told start) t start (run start i p)
+run_is_shown t start i n p m runs_none made asks fits good steady empty room =
+    shown_there (owners_told start) t i start (run start i p)
+    (run_shows (owners_told start) t i calls_are calls_read runs_none start n made p asks p [] start m refl fits
+    (holds_at_start none_shown (Some (named kinds.Instance i)) start good steady empty) (owes_at_start start empty) (grows_itself start) tt room)
