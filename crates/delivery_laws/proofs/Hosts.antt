@@ -16,7 +16,7 @@ use Rattle.turn_records.specs.Events.{Answer, Event, given, threw}
 use Rattle.turn_rows.specs.Causes.{Cause}
 use Rattle.world_state.specs.Good.{IsDue, IsFacet, IsGoodWorld, IsInvitation, IsLabel, IsNotice, IsSettled, IsTimedEntry}
 use Rattle.world_state.specs.Rights.{IsRoomy, most_issued, most_turns}
-use Rattle.world_state.specs.Worlds.{Effect, State, after, after_all, behind, end_staging, halt, in_front, invite, issued_by, issued_by_all, moves, offer, seat_at}
+use Rattle.world_state.specs.Worlds.{Effect, State, after, after_all, behind, end_staging, halt, in_front, invite, issued_by, issued_by_all, moves, note_call, offer, seat_at}
 use Rattle.world_laws.proofs.Forms.{due_grows, facet_grows, instance_grows, invitation_grows, label_grows, notice_grows, settled_grows, timed_grows}
 use Rattle.world_laws.proofs.Fronts.{begins, good_behind}
 use Rattle.world_laws.proofs.Kept.{good-after_all}
@@ -73,25 +73,27 @@ good_told l w is =
       waiting = all_map (IsDue w) (IsDue v) (due_grows w v g) w.waiting is.waiting;
     }
 
--- ---- a turn's end issues nothing
+-- ---- a turn's end issues nothing, and tells of no call
 
-abbrev IsQuiet : Effect → Type 0
+abbrev pub IsQuiet : Effect → Type 0
 IsQuiet (moves ms) = ⊥
 IsQuiet (offer o) = ⊥
 IsQuiet (invite d) = ⊥
+IsQuiet (note_call c) = ⊥
 IsQuiet _ = Unit {0}
 
 quiet_one : (w : State) (e : Effect) → IsQuiet e → issued_by w e ≡ 0
 quiet_one w (moves ms) q = absurd q
 quiet_one w (offer o) q = absurd q
 quiet_one w (invite d) q = absurd q
+quiet_one w (note_call c) q = absurd q
 quiet_one w e q = refl
 
 quiet_all : (w : State) (es : List Effect) → AllByRecursion IsQuiet es → issued_by_all w es ≡ 0
 quiet_all w [] q = refl
 quiet_all w (e ∷ es) q = let here = quiet_one w e q.0 in let rest = quiet_all (after w e) es q.1 in omega (arith, here, rest)
 
-quiet_both : (es fs : List Effect) → AllByRecursion IsQuiet es → AllByRecursion IsQuiet fs → AllByRecursion IsQuiet (es ++ fs)
+pub quiet_both : (es fs : List Effect) → AllByRecursion IsQuiet es → AllByRecursion IsQuiet fs → AllByRecursion IsQuiet (es ++ fs)
 quiet_both [] fs q r = r
 quiet_both (e ∷ es) fs q r = (q.0, quiet_both es fs q.1 r)
 
@@ -99,7 +101,7 @@ quiet_if : (b : Bool) (e : Effect) → IsQuiet e → AllByRecursion IsQuiet (con
 quiet_if true e q = (q, tt)
 quiet_if false e q = tt
 
-quiet_exits : (cause : Cause) (ns : List ℕ) → AllByRecursion IsQuiet (exits_with cause ns)
+pub quiet_exits : (cause : Cause) (ns : List ℕ) → AllByRecursion IsQuiet (exits_with cause ns)
 quiet_exits cause [] = tt
 quiet_exits cause (n ∷ ns) = (tt, quiet_exits cause ns)
 
@@ -124,7 +126,7 @@ quiet_binding : (d : Delivery) (a : Answer) → AllByRecursion IsQuiet (binds d 
 quiet_binding (deliveries.call c) (given t) = quiet_label c.by c.label t
 quiet_binding d a = tt
 
-quiet_end : (w : State) (d : Delivery) (a : Answer) → AllByRecursion IsQuiet (ending d a w)
+pub quiet_end : (w : State) (d : Delivery) (a : Answer) → AllByRecursion IsQuiet (ending d a w)
 unfolding ending
 quiet_end w d a =
     quiet_both (publishes d a) _ (quiet_publication d a)
@@ -148,13 +150,19 @@ turn_issues read served called meter few w d good room =
 pub one_turn : (left : ℕ) → 0 < left → left * most_issued ≡ most_issued + (left - 1) * most_issued
 one_turn left some = let e : 1 + (left - 1) ≡ left = omega arith in let split = add-mul 1 (left - 1) most_issued in ap (λ k. k * most_issued) (sym e) ∙ (split ∙ omega arith)
 
+-- there is room for a turn that isn't run yet
+pub host_room : (s : HostState) → IsGoodHost s → s.turns < most_turns → IsRoomy s.world.rights.out most_issued
+host_room s host before =
+    let split = one_turn (most_turns - s.turns) (omega (arith, before)) in
+    record { each = λ b. let r = host.room.each b in omega (arith, r, split) }
+
 module _ (read : TextReader) (served : AreGoodServices (serve_call read)) (called : AreGoodHostCalls) where
   step_good : (s : HostState) (d : Delivery) (ds : List Delivery) → s.world.waiting ≡ d ∷ ds → IsGoodHost s → s.turns < most_turns → IsGoodHost (step_after s d (delivery_turn read s.meter (behind s.world) d)).next
   step_good s d ds front host before =
       let w = behind s.world in
       let good : IsGoodWorld (in_front d w) = subst IsGoodWorld (begins s.world d ds front) host.world in
       let split = one_turn (most_turns - s.turns) (omega (arith, before)) in
-      let room : IsRoomy w.rights.out most_issued = record { each = λ b. let r = host.room.each b in omega (arith, r, split) } in
+      let room : IsRoomy w.rights.out most_issued = host_room s host before in
       let es = (delivery_turn read s.meter w d).effects in
       let are = turn_good read served called s.meter host.meter w d good room in
       let issues = turn_issues read served called s.meter host.meter w d good room in

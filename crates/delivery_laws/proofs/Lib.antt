@@ -1,6 +1,7 @@
 pub mod Logs
 pub mod Knowing
 pub mod Asking
+pub mod Printing
 pub mod Replies
 pub mod Runs
 pub mod Ends

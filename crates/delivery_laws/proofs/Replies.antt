@@ -2,7 +2,7 @@
 -- issues no more than the call was charged for.
 use Rattle.std.specs.Prelude.{IfOk, IfSome, nat_lt}
 use Rattle.std.specs.List.{AllByRecursion}
-use Rattle.std.proofs.Common.{◌≡◌, ℕ, ◌+◌, ◌*◌, ◌^◌, ◌-◌, ◌≤◌, ◌<◌, Bool, true, false, not, ◌||◌, List, [], ◌∷◌, ◌++◌, Option, Some, None, Result, Ok, Err, length, refl, sym, subst, arith}
+use Rattle.std.proofs.Common.{◌≡◌, ℕ, ◌+◌, ◌*◌, ◌^◌, ◌-◌, ◌≤◌, ◌<◌, Bool, true, false, not, ◌||◌, List, [], ◌∷◌, ◌++◌, Option, Some, None, Result, Ok, Err, length, refl, sym, ap, subst, arith}
 use Rattle.std.specs.Prelude.{slice_index_or}
 use Rattle.call_arguments.specs.Arguments.{arg}
 use Rattle.call_rows.specs.Acts.{MayAct}
@@ -28,11 +28,13 @@ use Rattle.refusals.specs.declared.codes.Refusal.{Refusal}
 use Rattle.refusals.proofs.Plainly.{in_order, plain, shallow}
 use Rattle.refusals.proofs.Steps.{after_need}
 use Rattle.trade_rows.specs.Trades.{serve}
-use Rattle.turn_form.specs.Printing.{CanPrintNode}
+use Rattle.turn_form.specs.Printing.{CanPrintAll, CanPrintAnswer, CanPrintCall, CanPrintData, CanPrintNode, CanPrintObject}
 use Rattle.turn_form.proofs.Brought.{refusal_prints}
 use Rattle.promise_store.specs.States.{SettlementView}
 use Rattle.turn_records.specs.Deliveries.{Notice}
 use Rattle.turn_records.specs.Events.{called}
+use Rattle.turn_records.specs.Printed.{printed_answer}
+use Rattle.turn_rows.specs.Form.{IsCallAnswer}
 use Rattle.world_state.specs.Promises.{PromiseBook, asking, settlement_at, with_promise}
 use Rattle.world_state.specs.Good.{AreGood, IsGoodWorld, IsMethod}
 use Rattle.world_state.specs.Known.{FunctionKnown, HasNames, IsFormed, IsHanded, IsKnownTo, ObjectKnown, known_as, made_as}
@@ -40,12 +42,15 @@ use Rattle.world_state.specs.Rights.{IsRoomy}
 use Rattle.world_state.specs.Worlds as worlds
 use Rattle.world_state.specs.Worlds.{Effect, State, after, after_all, bind_label, issued_by_all, note_call, promises_made, request_of, resolve}
 use Rattle.world_laws.proofs.Forms.{formed_grows}
+use Rattle.world_laws.proofs.Kept.{good-after_all}
 use Rattle.world_laws.proofs.Lists.{all_read_or, length_append}
+use Rattle.delivery_turns.specs.HostCalls.{method_fields as told_fields}
 use Rattle.delivery_turns.specs.HostCalls.{answer_of, call_effects, call_reply, call_row, effects_of, far_row, reply_of, send_row, told_call, told_effects, when_row}
 use Rattle.delivery_laws.specs.Told.{with_log}
 use Rattle.delivery_laws.specs.Works.{AreGoodHostCalls, IsCallWork, IsOfCall}
 use Rattle.delivery_laws.proofs.Asking.{all_have, have_all}
 use Rattle.delivery_laws.proofs.Knowing.{handed_of}
+use Rattle.delivery_laws.proofs.Printing.{all_print, below, formed_prints}
 use Rattle.delivery_laws.proofs.Logs.{all_good_untold, all_issued_untold, effects_untold, log_grows}
 
 -- ---- refusals
@@ -83,6 +88,7 @@ module _ (w : State) (h : Option ℕ) where
 calm_act : (w : State) (caller : Option ℕ) (o : Obj) (m : List ℕ) (e : Effect) → MayAct w caller o m e → IsOfCall e
 calm_act w caller o m (resolve p v) is = is
 calm_act w caller o m (bind_label party label value) is = is
+calm_act w caller o m (note_call c) is = absurd is
 calm_act w caller o m _ is = tt
 
 pub calm_acts : (w : State) (caller : Option ℕ) (o : Obj) (m : List ℕ) (es : List Effect) → AllByRecursion (MayAct w caller o m) es → AllByRecursion IsOfCall es
@@ -100,6 +106,51 @@ pub record IsWork (w : State) (i n : ℕ) (answer : Tree) (es : List Effect) : T
 abbrev IsWorkOf : State → ℕ → ℕ → Outcome → Type 0
 IsWorkOf w i n row = IfOk row (λ d. IsWork w i n d.0 d.1)
 
+-- ---- how a call is told can be printed
+
+promise_kind : (k : ObjKind) → is_promise k ≡ true → k ≡ kinds.Promise
+promise_kind kinds.Promise e = refl
+promise_kind k e = cc
+
+fields_same : (ms : List (List ℕ × List ℕ)) → told_fields ms ≡ method_fields ms
+fields_same [] = refl
+fields_same (m ∷ ms) = ap (trees.field m.0 (trees.function m.1)) (fields_same ms)
+
+call_answer : (row : Outcome) → IsCallAnswer (printed_answer (answer_of row))
+call_answer (Ok (answer, es)) = tt
+call_answer (Err r) = tt
+
+module _ (w : State) (i : ℕ) (good : IsGoodWorld w) where
+  answer_prints : (n : ℕ) (row : Outcome) → IsWorkOf w i n row → CanPrintAnswer (answer_of row)
+  answer_prints n (Err r) is = tt
+  answer_prints n (Ok (answer, es)) is = formed_prints (after_all w es) (good-after_all w es is.good good) (Some i) answer is.known
+
+  called_prints : (o : Obj) (args : List Tree) → IsKnownTo w i (object o) → AllHave (IsKnownTo w i) args → CanPrintObject (Some o) × CanPrintAll args
+  called_prints o args target known = (below w good (Some i) o target.objects, all_print w good (Some i) args (all_have (IsKnownTo w i) args known))
+
+  facet_prints : (ms : List (List ℕ × List ℕ)) → IsKnownTo w i (trees.fields (method_fields ms)) → CanPrintData (trees.fields (told_fields ms))
+  facet_prints ms known = subst (λ fs. CanPrintData (trees.fields fs)) (sym (fields_same ms)) (formed_prints w good (Some i) (trees.fields (method_fields ms)) known)
+
+  told_prints : (c : Call) (row : Outcome) → CallHas (IsKnownTo w i) c → CanPrintAnswer (answer_of row) → CanPrintCall (told_call c (answer_of row))
+  told_prints (call o m args) row known answer =
+      let is = called_prints o args known.0 known.1 in
+      record { called = is.0; arguments = is.1; answered = call_answer row; answer = answer }
+  told_prints (send o m args) row known answer =
+      let is = called_prints o args known.0 known.1 in
+      record { called = is.0; arguments = is.1; answered = call_answer row; answer = answer }
+  told_prints (when o f held) row known answer = record {
+    called = (promise_kind o.kind known.0, (known.2.named, refl));
+    arguments = (formed_prints w good (Some i) held known.3, tt);
+    answered = call_answer row;
+    answer = answer;
+  }
+  told_prints (far x ms held) row known answer = record {
+    called = (refl, refl);
+    arguments = (facet_prints ms known.0, (formed_prints w good (Some i) held known.1, tt));
+    answered = call_answer row;
+    answer = answer;
+  }
+
 -- ---- and once it is told
 
 record IsTold (w : State) (i n : ℕ) (c : Call) (row : Outcome) : Type 0 where
@@ -108,15 +159,15 @@ record IsTold (w : State) (i n : ℕ) (c : Call) (row : Outcome) : Type 0 where
   calm : AllByRecursion IsOfCall (told_effects c row)
   issues : issued_by_all w (told_effects c row) ≤ n
 
-told_is : (w : State) (i n : ℕ) (c : Call) (row : Outcome) → IsWorkOf w i n row → IsTold w i n c row
-told_is w i n c (Err r) is = record { good = (tt, tt); known = refusal_formed _ (Some i) r; calm = (tt, tt); issues = omega arith }
-told_is w i n c (Ok (answer, es)) is =
+told_is : (w : State) (i n : ℕ) (c : Call) (row : Outcome) → IsWorkOf w i n row → CanPrintCall (told_call c (answer_of row)) → IsTold w i n c row
+told_is w i n c (Err r) is prints = record { good = (tt, tt); known = refusal_formed _ (Some i) r; calm = (prints, tt); issues = omega arith }
+told_is w i n c (Ok (answer, es)) is prints =
     let l = w.log ++ called (told_call c (answer_of (Ok (answer, es)))) ∷ [] in
     let u = after_all (with_log l w) es in
     record {
       good = (tt, all_good_untold l w es is.good);
       known = subst (λ (x : State). IsKnownTo x i answer) (sym (effects_untold l w es)) (formed_grows (after_all w es) (with_log u.log (after_all w es)) (log_grows u.log (after_all w es)) (Some i) answer is.known);
-      calm = (tt, is.calm);
+      calm = (prints, is.calm);
       issues = omega (arith, all_issued_untold l w es, is.issues);
     }
 
@@ -219,5 +270,8 @@ module _ (served : AreGoodHostCalls) (w : State) (i : ℕ) (good : IsGoodWorld w
 
   pub call_is : (c : Call) → CallHas (IsKnownTo w i) c → IsRoomy w.rights.out (2 ^ 63 * cost c) → IsCallWork w i (2 ^ 63 * cost c) c
   call_is c known room =
-      let is = told_is w i (2 ^ 63 * cost c) c (call_row w i c) (row_is c known room) in
+      let row = call_row w i c in
+      let work = row_is c known room in
+      let prints = told_prints w i good c row known (answer_prints w i good (2 ^ 63 * cost c) row work) in
+      let is = told_is w i (2 ^ 63 * cost c) c row work prints in
       record { good = is.good; known = is.known; calm = is.calm; issues = is.issues }

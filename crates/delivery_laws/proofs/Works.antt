@@ -52,7 +52,7 @@ use Rattle.world_state.specs.Known.{Grows, IsHanded, IsKnownTo, made_as, module_
 use Rattle.turn_rows.specs.Form.{times_end}
 use Rattle.world_state.specs.Promises.{no_promise, settlement_at}
 use Rattle.world_state.specs.Rights.{IsRoomy, most_issued}
-use Rattle.world_state.specs.Worlds.{Effect, State, after, after_all, bind_label, end_staging, exit, halt, in_front, issued_by_all, keep_state, resolve, seat_at, set_time}
+use Rattle.world_state.specs.Worlds.{Effect, State, after, after_all, bind_label, end_staging, exit, halt, in_front, issued_by_all, keep_state, note_call, resolve, seat_at, set_time}
 use Rattle.world_laws.proofs.Forms.{formed_grows, module_stays}
 use Rattle.world_laws.proofs.Fronts.{due_behind, front-after_all, good_behind}
 use Rattle.world_laws.proofs.Growing.{grows-after}
@@ -66,7 +66,7 @@ use Rattle.delivery_turns.specs.Messages.{Addressed, addressed, gift_of, sent_to
 use Rattle.delivery_turns.specs.Tasks.{Task, Work, answer_of_ending, beginning, call_beginning, do_all, exit_if_open, exits_with, facet_task, function_behind, gift_beginning, halt_with, handler_call, method_task, notice_call, refuse, row_work, run_task, run_work, serve, settlement_of, start_call, task_on, task_work, tick_task, wakeup_call}
 use Rattle.delivery_turns.specs.Turns.{delivery_turn}
 use Rattle.delivery_turns.specs.Tasks as tasks
-use Rattle.delivery_laws.specs.Works.{AreGoodHostCalls, IsEnded, IsOfCall, IsOut, IsRun, IsTurnWork, LabelIsFree, most_meter}
+use Rattle.delivery_laws.specs.Works.{AreGoodHostCalls, CanPrintNote, IsEnded, IsOfCall, IsOut, IsRun, IsTurnWork, LabelIsFree, most_meter}
 use Rattle.delivery_laws.proofs.Asking.{all_have, evaluates, have_all}
 use Rattle.delivery_laws.proofs.Ends.{ending_good, halts_good, open_there}
 use Rattle.delivery_laws.proofs.Knowing.{handed_of}
@@ -106,6 +106,14 @@ free_then : (u w : State) (d : Delivery) (a : Answer) → u.labels ≡ w.labels 
 free_then u w (deliveries.call c) (given t) same free = subst (λ bs. IfSome c.label (λ l. bound_to bs c.by l ≡ None)) (sym same) free
 free_then u w d a same free = tt
 
+calm_tells : (e : Effect) → IsOfCall e → CanPrintNote e
+calm_tells (note_call c) calm = calm
+calm_tells e calm = tt
+
+all_tell : (es : List Effect) → AllByRecursion IsOfCall es → AllByRecursion CanPrintNote es
+all_tell [] calm = tt
+all_tell (e ∷ es) calm = (calm_tells e calm.0, all_tell es calm.1)
+
 calm_work : (w : State) (d : Delivery) (a : Answer) (es : List Effect) → IsGoodWorld (in_front d w) → WantsFree w d → AreGood w es → AllByRecursion IsOfCall es → IsOut (after_all w es) a → issued_by_all w es ≤ most_issued
     → IsTurnWork w d (record { answer = a; effects = es })
 calm_work w d a es good free are calm out issues = record {
@@ -113,6 +121,7 @@ calm_work w d a es good free are calm out issues = record {
   front = front-after_all w d es are (all_leave d es calm) good;
   out = out;
   free = free_then (after_all w es) w d a (all_labels_stay w es calm) free;
+  told = all_tell es calm;
   issues = issues;
 }
 
@@ -123,17 +132,21 @@ served_work w d o m args (Err r) good free is = calm_work w d (refused r) [] goo
 served_work w d o m args (Ok (answer, es)) good free is =
     calm_work w d (given answer) es good free is.good (calm_acts w None o m es is.acts) is.known (let n = is.issues in omega (arith, n))
 
-pub service_work : (read : TextReader) (w : State) (d : Delivery) (o : Obj) (m : List ℕ) (args : List Tree) → AreGoodServices (serve_call read) → IsGoodWorld (in_front d w) → WantsFree w d → IsRoomy w.rights.out most_issued
-    → IsHanded w (trees.object o) → AllByRecursion (IsHanded w) args → IsTurnWork w d (row_work (serve_call read w o m args))
-service_work read w d o m args served good free room target handed =
-    served_work w d o m args (serve_call read w o m args) good free
-    (served w o m args (record {
+pub service_row : (read : TextReader) (w : State) (d : Delivery) (o : Obj) (m : List ℕ) (args : List Tree) → AreGoodServices (serve_call read) → IsGoodWorld (in_front d w) → IsRoomy w.rights.out most_issued
+    → IsHanded w (trees.object o) → AllByRecursion (IsHanded w) args → IfOk (serve_call read w o m args) (λ x. IsRow w None o m args x.0 x.1)
+service_row read w d o m args served good room target handed =
+    served w o m args (record {
       good = good_behind w d good;
       hosted = tt;
       target = target.objects;
       arguments = λ place. all_read_or (IsHanded w) args (place - 1) trees.null handed (null_formed w None);
       room = record { each = λ b. omega (arith, room.each b) };
-    }))
+    })
+
+pub service_work : (read : TextReader) (w : State) (d : Delivery) (o : Obj) (m : List ℕ) (args : List Tree) → AreGoodServices (serve_call read) → IsGoodWorld (in_front d w) → WantsFree w d → IsRoomy w.rights.out most_issued
+    → IsHanded w (trees.object o) → AllByRecursion (IsHanded w) args → IsTurnWork w d (row_work (serve_call read w o m args))
+service_work read w d o m args served good free room target handed =
+    served_work w d o m args (serve_call read w o m args) good free (service_row read w d o m args served good room target handed)
 
 -- ---- functions
 
@@ -199,6 +212,15 @@ module _ (w : State) (d : Delivery) (i meter : ℕ) (good : IsGoodWorld (in_fron
   ran_work (ended e values es) is = ended_work e values es is
   ran_work ran_out is = spent_work
 
+-- ---- what promises were settled with
+
+settled_read : (w : State) (o : Option SettlementView) → IsSettled w o → IsSettling w (unwrap_or o (broken null))
+settled_read w None is = null_formed w None
+settled_read w (Some s) is = is.handed
+
+pub settlement_handed : (w : State) → IsGoodWorld w → (p : ℕ) → p < length w.promises.settled → IsSettling w (settlement_of w p)
+settlement_handed w good p made = settled_read w (settlement_at w.promises.settled p) (all_read (IsSettled w) w.promises.settled p no_promise good.settled made)
+
 module _ (read : TextReader) (served : AreGoodServices (serve_call read)) (called : AreGoodHostCalls) (meter : ℕ) (few : meter ≤ most_meter) (w : State) (d : Delivery) (good : IsGoodWorld (in_front d w)) (room : IsRoomy w.rights.out most_issued) where
   abbrev Done : Task → Type 0
   Done task = IsTurnWork w d (task_work read meter w task)
@@ -212,7 +234,7 @@ module _ (read : TextReader) (served : AreGoodServices (serve_call read)) (calle
 
   refused_done : (r : Refusal) → Done (refuse r)
   unfolding task_work
-  refused_done r = record { good = tt; front = good; out = tt; free = refused_free d r; issues = omega arith }
+  refused_done r = record { good = tt; front = good; out = tt; free = refused_free d r; told = tt; issues = omega arith }
 
   run_done : (c : FunctionCall) → WantsFree w d → c.instance < length w.tables.instances → AllHave (IsKnownTo w c.instance) c.arguments → Done (tasks.run c)
   unfolding task_work function_run
@@ -267,13 +289,13 @@ module _ (read : TextReader) (served : AreGoodServices (serve_call read)) (calle
 
   -- ---- what else is delivered
 
-  effects_done : (es : List Effect) → AreGood w es → AllByRecursion (LeavesAnswer d) es → LabelIsFree (after_all w es) d (given null) → issued_by_all w es ≡ 0 → Done (do_all es)
+  effects_done : (es : List Effect) → AreGood w es → AllByRecursion (LeavesAnswer d) es → LabelIsFree (after_all w es) d (given null) → AllByRecursion CanPrintNote es → issued_by_all w es ≡ 0 → Done (do_all es)
   unfolding task_work
-  effects_done es are leave free none = record { good = are; front = front-after_all w d es are leave good; out = null_formed _ None; free = free; issues = omega (arith, none) }
+  effects_done es are leave free told none = record { good = are; front = front-after_all w d es are leave good; out = null_formed _ None; free = free; told = told; issues = omega (arith, none) }
 
   give_done : (g : LineGift) (r : Result Tree Refusal) → d ≡ deliveries.give g → IfOk r (IsGift w this_whole g) → Done (gift_beginning g r).task
   give_done g (Ok t) e is =
-      effects_done (bind_label g.to g.label t ∷ []) (record { free = is.free; handed = is.handed }, tt) (tt, tt) (gift_free e) refl
+      effects_done (bind_label g.to g.label t ∷ []) (record { free = is.free; handed = is.handed }, tt) (tt, tt) (gift_free e) (tt, tt) refl
     where
       gift_free : d ≡ deliveries.give g → LabelIsFree (after_all w (bind_label g.to g.label t ∷ [])) d (given null)
       gift_free e = subst (λ x. LabelIsFree (after_all w (bind_label g.to g.label t ∷ [])) x (given null)) (sym e) tt
@@ -286,14 +308,14 @@ module _ (read : TextReader) (served : AreGoodServices (serve_call read)) (calle
       by true is = refused_done (Backwards w.schedule.time t)
       by false is =
           effects_done (set_time t ∷ []) (record { later = ltb-false t w.schedule.time is; timely = timely }, tt) (tt, tt)
-          (subst (λ x. LabelIsFree (after_all w (set_time t ∷ [])) x (given null)) (sym e) tt) refl
+          (subst (λ x. LabelIsFree (after_all w (set_time t ∷ [])) x (given null)) (sym e) tt) (tt, tt) refl
 
   deadline_done : (seat : ℕ) → d ≡ deliveries.deadline seat → Done (do_all (exit_if_open w seat causes.deadline))
   deadline_done seat e = by (is_none (seat_at w.seats seat).last) refl
     where
       by : (b : Bool) → is_none (seat_at w.seats seat).last ≡ b → Done (do_all (cond b (exit seat causes.deadline ∷ []) []))
-      by true is = effects_done (exit seat causes.deadline ∷ []) (open_there (seat_at w.seats seat).last is, tt) (tt, tt) (subst (λ x. LabelIsFree (after_all w (exit seat causes.deadline ∷ [])) x (given null)) (sym e) tt) refl
-      by false is = effects_done [] tt tt (subst (λ x. LabelIsFree w x (given null)) (sym e) tt) refl
+      by true is = effects_done (exit seat causes.deadline ∷ []) (open_there (seat_at w.seats seat).last is, tt) (tt, tt) (subst (λ x. LabelIsFree (after_all w (exit seat causes.deadline ∷ [])) x (given null)) (sym e) tt) (tt, tt) refl
+      by false is = effects_done [] tt tt (subst (λ x. LabelIsFree w x (given null)) (sym e) tt) tt refl
 
   -- ---- what functions are called with
 
@@ -327,6 +349,7 @@ module _ (read : TextReader) (served : AreGoodServices (serve_call read)) (calle
   notice_handed (ok t) is = notice_fields_handed true t is
   notice_handed (broken t) is = notice_fields_handed false t is
 
+<<<<<<< ours
   settled_read : (o : Option SettlementView) → IsSettled w o → IsSettling w (unwrap_or o (broken null))
   settled_read None is = null_formed w None
   settled_read (Some s) is = is.handed
@@ -334,6 +357,8 @@ module _ (read : TextReader) (served : AreGoodServices (serve_call read)) (calle
   pub settlement_handed : (p : ℕ) → p < length w.promises.settled → IsSettling w (settlement_of w p)
   settlement_handed p made = settled_read (settlement_at w.promises.settled p) (all_read (IsSettled w) w.promises.settled p no_promise this_whole.settled made)
 
+=======
+>>>>>>> theirs
 -- ---- each delivery
 
 pub work_is : (read : TextReader) (served : AreGoodServices (serve_call read)) (called : AreGoodHostCalls) (meter : ℕ) (few : meter ≤ most_meter) (w : State) (d : Delivery) → IsGoodWorld (in_front d w) → IsRoomy w.rights.out most_issued
@@ -371,7 +396,7 @@ work_is read served called meter few w (deliveries.notify n) good room =
     let d = deliveries.notify n in
     let due = due_behind w d good in
     let s = settlement_of w n.promise in
-    let told : IsHanded w (notice_tree s) = notice_handed read served called meter few w d good room s (settlement_handed read served called meter few w d good room n.promise due.notice.promise) in
+    let told : IsHanded w (notice_tree s) = notice_handed read served called meter few w d good room s (settlement_handed w (good_behind w d good) n.promise due.notice.promise) in
     task_done read served called meter few w d good room (notice_call n s) tt due.notice.function.made
     (due.notice.held, (handed_held w (Some n.instance) (notice_tree s) told, tt))
 work_is read served called meter few w (deliveries.deadline seat) good room = deadline_done read served called meter few w (deliveries.deadline seat) good room seat refl

@@ -8,6 +8,7 @@ use Rattle.jessie_semantics.specs.Play.{Call, Ending, Play, Reply, after}
 use Rattle.jessie_tree.specs.Tree.{Tree}
 use Rattle.jessie_tree.specs.declared.data.Obj.{Obj}
 use Rattle.trade_rows.specs.Trades.{serve}
+use Rattle.turn_form.specs.Printing.{CanPrintCall}
 use Rattle.turn_records.specs.Deliveries.{Delivery, call}
 use Rattle.turn_records.specs.Events.{Answer, given, refused, spent, threw}
 use Rattle.delivery_turns.specs.Functions.{Run, ended, ran_out}
@@ -17,7 +18,7 @@ use Rattle.world_state.specs.Good.{AreGood, IsGoodWorld}
 use Rattle.world_state.specs.Known.{Grows, IsHanded, IsKnownTo}
 use Rattle.world_state.specs.Rights.{most_issued}
 use Rattle.world_state.specs.Worlds.{Effect, State, after_all, bind_label, in_front, issued_by_all}
-use Rattle.world_state.specs.Worlds.{resolve}
+use Rattle.world_state.specs.Worlds.{note_call, resolve}
 
 -- each call that a function of an instance makes is a good row
 abbrev pub AreGoodHostCalls : Type 0
@@ -25,11 +26,16 @@ AreGoodHostCalls =
     (w : State) (i : ℕ) (o : Obj) (m : List ℕ) (args : List Tree) →
     CanCall w (Some i) o args → IsGoodOutcome w (Some i) o m args (serve w o m args)
 
--- calls resolve no promise, and bind no label
+-- a call that is told can be printed
+abbrev pub CanPrintNote : Effect → Type 0
+CanPrintNote (note_call c) = CanPrintCall c
+CanPrintNote _ = Unit {0}
+
+-- calls resolve no promise, and bind no label; what is told of them can be printed
 abbrev pub IsOfCall : Effect → Type 0
 IsOfCall (resolve p v) = ⊥
 IsOfCall (bind_label party label value) = ⊥
-IsOfCall _ = Unit {0}
+IsOfCall e = CanPrintNote e
 
 -- what the host does for a call is good; what it answers the instance may know; it issues so much at most
 pub record IsCallWork (w : State) (i n : ℕ) (c : Call) : Type 0 where
@@ -81,10 +87,11 @@ abbrev pub most_meter : ℕ
 most_meter = 10000000
 
 -- its effects are good; the delivery's promise and the label that is wanted are left to the turn's end; what is
--- answered can be handed out; and little is issued
+-- answered can be handed out; what is told of calls can be printed; and little is issued
 pub record IsTurnWork (w : State) (d : Delivery) (work : Work) : Type 0 where
   pub good : AreGood w work.effects
   pub front : IsGoodWorld (in_front d (after_all w work.effects))
   pub out : IsOut (after_all w work.effects) work.answer
   pub free : LabelIsFree (after_all w work.effects) d work.answer
+  pub told : AllByRecursion CanPrintNote work.effects
   pub issues : issued_by_all w work.effects ≤ most_issued
