@@ -349,16 +349,6 @@ module _ (read : TextReader) (served : AreGoodServices (serve_call read)) (calle
   notice_handed (ok t) is = notice_fields_handed true t is
   notice_handed (broken t) is = notice_fields_handed false t is
 
-<<<<<<< ours
-  settled_read : (o : Option SettlementView) → IsSettled w o → IsSettling w (unwrap_or o (broken null))
-  settled_read None is = null_formed w None
-  settled_read (Some s) is = is.handed
-
-  pub settlement_handed : (p : ℕ) → p < length w.promises.settled → IsSettling w (settlement_of w p)
-  settlement_handed p made = settled_read (settlement_at w.promises.settled p) (all_read (IsSettled w) w.promises.settled p no_promise this_whole.settled made)
-
-=======
->>>>>>> theirs
 -- ---- each delivery
 
 pub work_is : (read : TextReader) (served : AreGoodServices (serve_call read)) (called : AreGoodHostCalls) (meter : ℕ) (few : meter ≤ most_meter) (w : State) (d : Delivery) → IsGoodWorld (in_front d w) → IsRoomy w.rights.out most_issued

@@ -678,7 +678,7 @@ module _ (read : TextReader) (served : AreGoodServices (serve_call read)) (calle
       let d = deliveries.notify n in
       let due = due_behind w d good in
       let s = settlement_of w n.promise in
-      let told : IsHanded w (notice_tree s) = notice_handed read served called meter few w d good room s (settlement_handed read served called meter few w d good room n.promise due.notice.promise) in
+      let told : IsHanded w (notice_tree s) = notice_handed read served called meter few w d good room s (settlement_handed w (good_behind w d good) n.promise due.notice.promise) in
       task_turn read served called reads service_reads meter few w d good room steady empty k l ss (deliveries.settlement s) (notice_call n s) due.notice.function.made
       (due.notice.held, (handed_held w (Some n.instance) (notice_tree s) told, tt))
       (record { of = tt; instance = λ a. refl }) (λ y es end m opens. refl) tt (work_there d good)

@@ -1,0 +1,5 @@
+pub mod Growing
+pub mod Reading
+pub mod Endings
+pub mod Calls
+pub mod Steps
