@@ -1,5 +1,5 @@
 -- Transfers as they are read: the seats that they name are those that are given, and each record is one of the data.
-use Rattle.std.specs.Prelude.{IfSome, filter, find, flat_map, is_some, map, not, option_and_then, option_map, unwrap_or}
+use Rattle.std.specs.Prelude.{IfSome, filter, find, flat_map, map, not, option_and_then, option_map, unwrap_or}
 use Rattle.std.specs.List.{AllByRecursion}
 use Rattle.std.specs.Option.{option_to_list}
 use Rattle.std.proofs.Common.{◌≡◌, ℕ, ◌+◌, Bool, true, false, cond, List, [], ◌∷◌, ◌++◌, append_assoc, Option, Some, None, Result, Ok, Err, IfOk, refl, sym, ap, subst, ◌∙◌, if◌then◌else◌}
@@ -23,15 +23,15 @@ use Rattle.refusals.proofs.Steps.{after_step, ok_has}
 use Rattle.refusals.specs.Outcomes.{bind, wanted}
 use Rattle.refusals.specs.declared.codes.Refusal.{Refusal}
 use Rattle.service_rows.specs.Proposals.{valued, with_values}
-use Rattle.trade_rows.specs.Rearranging.{Asked, Parts, SeatRow, asked, asked_in, gains_of, losses_of, parts_from, parts_in, row_for, rows_asked, rows_for, rows_of, rows_or_none, seat_trees, transfer_of, transfers_of, valued_or_none, where_whole, is_whole}
-use Rattle.world_laws.proofs.Lists.{all_append, all_filter, all_map}
+use Rattle.trade_rows.specs.Rearranging.{Asked, Parts, asked, asked_in, gains_of, losses_of, parts_from, parts_in, row_for, rows_asked, rows_for, rows_of, rows_or_none, seat_trees, transfer_of, transfers_of, valued_or_none, where_whole, is_whole}
+use Rattle.world_laws.proofs.Lists.{all_filter, all_map}
 use Rattle.world_state.specs.Known.{IsSeatOf, ObjectKnown}
 use Rattle.world_state.specs.Worlds.{State}
 use Rattle.call_row_laws.proofs.Records.{all_so, fields_each, fields_in}
 use Rattle.call_row_laws.proofs.RowsRead.{AreRead, mapped_given, one_list, record_read, rising_apart, then_given, values_there}
 use Rattle.contract_rows.specs.SeatRows.{allocation_of}
 use Rattle.contract_row_laws.proofs.Changed.{AreFitting}
-use Rattle.contract_row_laws.proofs.Given.{OfBrand, pairs_are, seat_in}
+use Rattle.contract_row_laws.proofs.Given.{pairs_are, seat_in}
 use Rattle.contract_row_laws.proofs.Tags.{IsRight, Tag, all_first, all_from, all_second, all_tags, data_tag, row_tag, tag, tags_at, tags_of}
 use Rattle.contract_row_laws.proofs.Working.{IsReadTransfer}
 use Rattle.world_state.specs.Good.{IsKeyword, IsOfSlot}

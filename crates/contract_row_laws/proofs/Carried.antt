@@ -1,12 +1,11 @@
 -- A rearrangement of what several seats have can be carried out.
-use Rattle.std.specs.Prelude.{IsSome, flat_map, map, slice_set, sum_by}
+use Rattle.std.specs.Prelude.{IsSome, flat_map, map}
 use Rattle.std.specs.List.{AllByRecursion}
-use Rattle.std.proofs.Common.{◌≡◌, ◌≢◌, ◌⊎◌, ℕ, ◌+◌, ◌<◌, ◌≤◌, List, [], ◌∷◌, ◌++◌, length, Option, Some, None, inl, inr, refl, sym, ap, subst, ◌∙◌, arith}
+use Rattle.std.proofs.Common.{◌≡◌, ◌≢◌, ◌⊎◌, ℕ, ◌+◌, ◌<◌, ◌≤◌, List, [], ◌∷◌, ◌++◌, length, Option, None, inl, inr, refl, sym, ap, subst, ◌∙◌, arith}
 use Rattle.std.proofs.lemmas.Bool.{cases_eq, false≢true}
 use Rattle.std.proofs.lemmas.List.Sums.{sum_by-cons}
 use Rattle.amount_math.specs.Content.{Content, count, count-nothing}
 use Rattle.call_arguments.specs.Numbers.{AreApart, IsNoneOf}
-use Rattle.ertp_mint.specs.BrandSupply.{BrandSupply}
 use Rattle.ertp_mint.specs.Stocks.{most_made}
 use Rattle.list_edits.proofs.ListEdits.{length_set, read_other, read_set}
 use Rattle.payments.specs.Papers.{Paper}
@@ -20,12 +19,12 @@ use Rattle.right_steps.specs.Tables.{no_hand}
 use Rattle.world_laws.proofs.Lists as lists
 use Rattle.world_laws.proofs.Lists.{all_map}
 use Rattle.world_state.specs.Good.{AreNamed, CanMoveTogether, HasNothing, IsFresh, IsGoodMove, IsKeyword, LeavesSafe, LeavesSlots, open_slots}
-use Rattle.world_state.specs.Rights.{CanMoveAll, IsEmptyHand, Rights, all_moved, slots_at}
+use Rattle.world_state.specs.Rights.{CanMoveAll, Rights, all_moved, slots_at}
 use Rattle.world_state.specs.Worlds.{IsOpen, Seat, seat_at, staged_at}
 use Rattle.call_row_laws.proofs.SlotMoves.{open_slots_set}
 use Rattle.call_row_laws.proofs.Spending.{spent_length}
-use Rattle.contract_row_laws.proofs.Rearranged.{AllAt, HandIs, IsReady, MovesIn, after_of, all_append, all_outs, at_others, before_of, hand_all, hand_append, in_move, ins, ins_hand, ins_in, ins_out, ins_payments, ins_slots, left_of, moves_append, moves_end, out_move, outs, outs_at, outs_hand, outs_keep, outs_out, outs_payments, outs_slots, seats_of}
-use Rattle.contract_row_laws.proofs.Shares.{gained, gained_kinds, gains, had, lost, new_safe, part_row, parts_count, share_balance, some_all, some_sum}
+use Rattle.contract_row_laws.proofs.Rearranged.{AllAt, IsReady, MovesIn, after_of, all_append, all_outs, at_others, before_of, hand_all, hand_append, in_move, ins, ins_hand, ins_in, ins_out, ins_payments, ins_slots, left_of, moves_append, moves_end, out_move, outs, outs_at, outs_hand, outs_keep, outs_out, outs_payments, outs_slots, seats_of}
+use Rattle.contract_row_laws.proofs.Shares.{gained, gained_kinds, gains, had, lost, new_safe, parts_count, share_balance, some_all, some_sum}
 
 -- ---- how much goes to the hand, and comes from it
 

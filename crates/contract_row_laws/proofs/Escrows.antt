@@ -1,7 +1,6 @@
 -- What goes between payments and slots is a good row.
-use Rattle.std.specs.Prelude.{map, ◌||◌, not}
 use Rattle.std.specs.List.{AllByRecursion}
-use Rattle.std.proofs.Common.{◌≡◌, ℕ, suc, ◌+◌, ◌<◌, ◌≤◌, Bool, true, false, List, [], ◌∷◌, ◌++◌, length, Some, None, Ok, IfOk, codes, refl, sym, ap, subst, ◌∙◌, arith}
+use Rattle.std.proofs.Common.{◌≡◌, ℕ, suc, ◌<◌, ◌≤◌, false, List, [], ◌∷◌, ◌++◌, length, Some, IfOk, codes, refl, ap, subst, arith}
 use Rattle.allocation_changes.specs.Gains.{with_gains}
 use Rattle.allocation_changes.specs.Losses.{with_losses}
 use Rattle.call_arguments.proofs.Lists.{none_twice}
@@ -11,7 +10,6 @@ use Rattle.jessie_tree.specs.Tree.{Tree, paired}
 use Rattle.jessie_tree.specs.declared.data.ObjKind.TheVariants as kinds
 use Rattle.list_edits.proofs.ListEdits.{length_map}
 use Rattle.plan_check_laws.proofs.Slots.{taken_if}
-use Rattle.plan_checks.specs.Slots.{can_take, each_passes, fits_slot, is_safe}
 use Rattle.proposals.specs.OfferSafety.{IsCovered}
 use Rattle.proposals.specs.declared.allocations.Row.{Row}
 use Rattle.record_arguments.specs.Records.{RowData, names}
@@ -19,15 +17,12 @@ use Rattle.refusals.proofs.Steps.{after_check, after_known, after_need, after_no
 use Rattle.service_rows.specs.OfferRows.{escrows_of, is_live_in}
 use Rattle.trade_rows.specs.Escrows.{deposit_to_seat, payments_for, withdraw_from_seat}
 use Rattle.trade_rows.specs.Given.{is_misfit, is_other, issuers_of}
-use Rattle.world_laws.proofs.Forms.{formed_grows}
-use Rattle.world_laws.proofs.Growing.{grows-after}
 use Rattle.world_laws.proofs.Payouts.{payouts_handed}
 use Rattle.world_state.specs.Good.{IsGoodWorld, IsValued}
 use Rattle.world_state.specs.Known.{IsFormed}
 use Rattle.world_state.specs.Rights.{all_moved}
 use Rattle.world_state.specs.Worlds.{State, after, moves, payments_tree, payout_moves, unstage}
 use Rattle.call_rows.specs.Licence.{AreLicensed, NamesPayment}
-use Rattle.call_rows.specs.Obligations.{CanCall}
 use Rattle.call_row_laws.proofs.Forms.{null_formed}
 use Rattle.call_row_laws.proofs.PaidRows as paid_rows
 use Rattle.call_row_laws.proofs.PaidRows.{ArePayments, payments_under, rows_paid, same_where_none_alone}

@@ -1,5 +1,5 @@
 -- What the readers of a contract's arguments give: seats of the instance, rows that fit, room for changes.
-use Rattle.std.specs.Prelude.{IfSome, filter, map, nat_le, not, ◌==◌, ◌&&◌, ◌||◌, ◌*◌, ◌-◌, ◌^◌}
+use Rattle.std.specs.Prelude.{IfSome, filter, map, nat_le, not, ◌==◌, ◌||◌, ◌*◌, ◌-◌, ◌^◌}
 use Rattle.std.specs.List.{AllByRecursion}
 use Rattle.std.specs.Option.{option_map_or}
 use Rattle.std.specs.Str.{bytes_eq}

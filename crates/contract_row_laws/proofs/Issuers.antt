@@ -1,6 +1,6 @@
 -- Calls for issuers are good rows.
 use Rattle.std.specs.Prelude.{is_none, nat_lt}
-use Rattle.std.proofs.Common.{◌≡◌, ℕ, ◌+◌, ◌<◌, List, [], ◌∷◌, ◌++◌, length, None, Some, Ok, IfOk, codes, refl, sym, ◌∙◌, ap, arith}
+use Rattle.std.proofs.Common.{◌≡◌, ℕ, ◌<◌, List, [], ◌∷◌, ◌++◌, length, None, Some, Ok, IfOk, codes, refl, sym, ◌∙◌, ap, arith}
 use Rattle.std.proofs.lemmas.Bool.{ltb-true}
 use Rattle.amount_math.specs.declared.Kind.{Kind}
 use Rattle.brands.specs.Brands.{brand_of}

@@ -1,14 +1,13 @@
 -- Slots from which rows were taken one after another have what they have once the whole record is taken.
-use Rattle.std.specs.List.{All, AllByRecursion}
 use Rattle.std.specs.Option.{option_map_or}
 use Rattle.std.specs.Str.{bytes_eq}
-use Rattle.std.proofs.Common.{◌≡◌, ℕ, ◌-◌, ◌≤◌, Bool, true, false, cond, List, [], ◌∷◌, Option, Some, None, refl, sym, ap, subst, ◌∙◌, arith}
+use Rattle.std.proofs.Common.{◌≡◌, ℕ, ◌-◌, Bool, true, false, cond, List, [], ◌∷◌, Option, Some, None, refl, sym, ap, subst, ◌∙◌, arith}
 use Rattle.std.proofs.lemmas.Slice.Eq.{bytes_eq-Decides}
 use Rattle.allocation_changes.specs.Losses.{with_losses, without}
 use Rattle.allocation_changes.proofs.Apart.{none_under-map}
 use Rattle.allocation_changes.proofs.Under.{content_under-with_losses, under_map}
 use Rattle.amount_math.specs.Amount.{holding}
-use Rattle.amount_math.specs.Content.{Content, Contains, count, count-difference, count-nothing, difference, nothing}
+use Rattle.amount_math.specs.Content.{Content, count, count-difference, count-nothing, difference, nothing}
 use Rattle.amount_math.specs.declared.Amount.{Amount}
 use Rattle.plan_checks.specs.Slots.{is_safe}
 use Rattle.plan_check_laws.proofs.Slots.{safe_if}

@@ -1,7 +1,7 @@
 -- Minting to slots and burning of them are good rows.
-use Rattle.std.specs.Prelude.{map, ◌==◌, ◌||◌, not}
+use Rattle.std.specs.Prelude.{map, ◌==◌, not}
 use Rattle.std.specs.List.{AllByRecursion}
-use Rattle.std.proofs.Common.{◌≡◌, ℕ, ◌+◌, ◌<◌, ◌≤◌, ◌^◌, Bool, true, false, List, [], ◌∷◌, ◌++◌, length, Some, None, Ok, IfOk, codes, refl, sym, ap, subst, ◌∙◌, arith}
+use Rattle.std.proofs.Common.{◌≡◌, ℕ, ◌<◌, Bool, true, false, List, [], ◌∷◌, ◌++◌, length, Some, Ok, codes, refl, sym, ap, subst, ◌∙◌, arith}
 use Rattle.std.proofs.lemmas.Bool.{eqb-true}
 use Rattle.allocation_changes.specs.Gains.{with_gains}
 use Rattle.allocation_changes.specs.Losses.{with_losses}
@@ -9,7 +9,7 @@ use Rattle.amount_math.specs.Content.{sum}
 use Rattle.ertp_mint.specs.BrandSupply.{supply_at}
 use Rattle.jessie_tree.specs.Tree.{Tree}
 use Rattle.jessie_tree.specs.declared.data.ObjKind.TheVariants as kinds
-use Rattle.plan_checks.specs.Slots.{can_give, can_take, each_passes, fits_slot, is_safe}
+use Rattle.plan_checks.specs.Slots.{can_give, each_passes, fits_slot}
 use Rattle.plan_check_laws.proofs.Slots.{taken_if}
 use Rattle.proposals.specs.OfferSafety.{IsCovered}
 use Rattle.proposals.specs.declared.allocations.Row.{Row}
@@ -17,7 +17,6 @@ use Rattle.record_arguments.specs.Records.{RowData}
 use Rattle.refusals.proofs.Steps.{after_check, after_known, after_need, after_step, ok_has}
 use Rattle.trade_rows.specs.Given.{is_other}
 use Rattle.trade_rows.specs.Mints.{burn_losses, gain, is_not_of, loss, mint_gains, minting, values_of}
-use Rattle.trade_rows.specs.States.{changing}
 use Rattle.value_totals.specs.Totals.{total_of}
 use Rattle.world_laws.proofs.Forms.{formed_grows}
 use Rattle.world_laws.proofs.Growing.{grows-after}
@@ -26,7 +25,6 @@ use Rattle.world_state.specs.Known.{IsMadeBy}
 use Rattle.world_state.specs.Rights.{all_moved, kind_at}
 use Rattle.world_state.specs.Worlds.{State, after, maker_at, moves, of_host, of_instance, unstage}
 use Rattle.call_rows.specs.Licence.{AreLicensed}
-use Rattle.call_rows.specs.Obligations.{CanCall}
 use Rattle.call_arguments.specs.Arguments.{arg}
 use Rattle.call_row_laws.proofs.Forms.{null_formed}
 use Rattle.call_row_laws.proofs.RowsRead.{read_of_kinds, rising_apart}

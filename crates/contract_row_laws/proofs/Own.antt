@@ -1,6 +1,6 @@
 -- Calls by which an instance opens a seat for itself, asks to be woken, or asks what would be safe are good rows.
 use Rattle.std.specs.Prelude.{not, ◌-◌, ◌^◌}
-use Rattle.std.proofs.Common.{◌≡◌, ◌≢◌, ℕ, ℤ, pos, negsuc, ◌+◌, ◌≤◌, Bool, true, false, List, [], ◌∷◌, ◌++◌, length, Option, None, Some, Ok, IfOk, IfSome, if◌then◌else◌, codes, refl, sym, ◌∙◌, ap, subst, arith}
+use Rattle.std.proofs.Common.{◌≡◌, ◌≢◌, ℕ, ◌+◌, true, List, [], ◌∷◌, ◌++◌, length, Option, Some, Ok, IfOk, IfSome, codes, refl, sym, ◌∙◌, ap, subst, arith}
 use Rattle.std.proofs.lemmas.Bool.{false≢true, leb-true}
 use Rattle.call_arguments.specs.Arguments.{arg}
 use Rattle.ertp_mint.specs.Stocks.{most_made}
@@ -17,7 +17,6 @@ use Rattle.world_state.specs.Good.{IsAtWork, IsRule}
 use Rattle.world_state.specs.Known.{IsFormed, IsSeatOf}
 use Rattle.world_state.specs.Worlds.{Seat, State, new_seat, no_seat, of_own, promises_made}
 use Rattle.call_rows.specs.Obligations.{CanCall, IsGoodOutcome}
-use Rattle.call_rows.specs.Rows.{Outcome}
 use Rattle.call_rows.specs.Words.{has_halted, runs, standing_of}
 use Rattle.call_row_laws.proofs.Forms.{boolean_formed, null_formed}
 use Rattle.call_row_laws.proofs.Next.{after_next_of}

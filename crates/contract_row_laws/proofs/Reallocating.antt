@@ -1,5 +1,5 @@
 -- Reallocating is a good row: the seats, each once and open, are settled with what is staged of them.
-use Rattle.std.specs.Prelude.{find, filter, map, not, option_and_then, slice_index_or, unwrap_or, ◌==◌, ◌-◌}
+use Rattle.std.specs.Prelude.{find, filter, map, option_and_then, slice_index_or, unwrap_or, ◌==◌, ◌-◌}
 use Rattle.std.specs.List.{AllByRecursion, count_by, list_all}
 use Rattle.std.specs.Option.{option_map_or}
 use Rattle.std.proofs.Common.{◌≡◌, ◌≢◌, ℕ, zero, suc, ◌+◌, ◌<◌, ◌≤◌, Bool, true, false, cond, List, [], ◌∷◌, length, Option, Some, None, Ok, IfOk, codes, refl, sym, ap, subst, ◌∙◌, arith}
@@ -189,7 +189,7 @@ module _ (w : State) (good : IsGoodWorld w) (i : ℕ) (args : List Tree) (argume
       let conserved = conserved_if (map (touch_of w (rows_now w)) seats) (subst (λ ts. first_unkept ts ≡ None) same plan.unkept) in
       subst (λ ts. IsRow w (Some i) (numbered kinds.Zcf i) (codes "reallocate") args null (carried_out ts)) (sym same)
       (rearranged w good i (rows_now w) seats (settles w good i seats own are small safe) (codes "reallocate") args refl refl plan.apart conserved
-          (subst (λ ts. has_room w ts 0 ≡ Ok tt) same room))))))
+      (subst (λ ts. has_room w ts 0 ≡ Ok tt) same room))))))
 
 pub reallocate_is : IsGoodCall kinds.Zcf (codes "reallocate") reallocate
 reallocate_is w i n args can = of_caller w i n (codes "reallocate") args (λ k. reallocate w k args) can.target (taken_over_is w can.good i args can.arguments)

@@ -1,10 +1,10 @@
 -- Rearrangements: what several seats lose goes to the hand, then what each gains comes from it.
-use Rattle.std.specs.Prelude.{IsSome, flat_map, map, slice_set, sum_by, ◌==◌}
+use Rattle.std.specs.Prelude.{flat_map, map, slice_set}
 use Rattle.std.specs.List.{AllByRecursion}
-use Rattle.std.proofs.Common.{◌≡◌, ◌≢◌, ◌⊎◌, ℕ, ◌+◌, ◌<◌, ◌≤◌, cond, List, [], ◌∷◌, ◌++◌, length, Option, Some, None, inl, inr, refl, sym, ap, subst, ◌∙◌, arith}
-use Rattle.std.proofs.lemmas.Bool.{cases_eq, eq-eqb}
+use Rattle.std.proofs.Common.{◌≡◌, ℕ, ◌+◌, ◌<◌, cond, List, [], ◌∷◌, ◌++◌, length, refl, sym, ap, subst, ◌∙◌, arith}
+use Rattle.std.proofs.lemmas.Bool.{eq-eqb}
 use Rattle.std.proofs.lemmas.List.Sums.{sum_by-cons}
-use Rattle.amount_math.specs.Content.{Content, Contains, count, count-nothing}
+use Rattle.amount_math.specs.Content.{Content, Contains, count}
 use Rattle.call_arguments.specs.Numbers.{AreApart, IsNoneOf}
 use Rattle.ertp_mint.specs.BrandSupply.{BrandSupply}
 use Rattle.list_edits.proofs.ListEdits.{length_set, read_other, read_set, set_same, set_set}
@@ -17,11 +17,11 @@ use Rattle.rights_model.specs.declared.Holder.TheVariants.{Hand, Slot}
 use Rattle.rights_model.specs.declared.Movement.{Movement}
 use Rattle.right_steps.proofs.Sound.{minus_count, plus_count}
 use Rattle.world_state.specs.Good.{AreRowsOf, IsOfKind}
-use Rattle.world_state.specs.Rights.{CanMove, CanMoveAll, HasOrOpens, IsEmptyHand, Rights, TakesOrOpens, all_moved, given, hand_after, moved, rows_less, rows_more, slots_at, taken}
+use Rattle.world_state.specs.Rights.{CanMove, CanMoveAll, HasOrOpens, IsEmptyHand, Rights, TakesOrOpens, all_moved, hand_after, moved, rows_less, rows_more, slots_at}
 use Rattle.call_row_laws.proofs.SlotLists.{CanAddAll, CanTakeAll, moved_amount, with_less, with_more}
 use Rattle.call_row_laws.proofs.SlotMoves.{at_seat}
 use Rattle.contract_row_laws.proofs.SeatMoves.{less_at}
-use Rattle.contract_row_laws.proofs.Shares.{CanBecome, changed_rows, gained, gained_kinds, gains, loses, lost, lost_kinds}
+use Rattle.contract_row_laws.proofs.Shares.{CanBecome, changed_rows, gained, loses, lost, lost_kinds}
 
 -- ---- movements that can be made one after another, whatever is in the hand then
 

@@ -1,6 +1,6 @@
 -- A rearrangement of what seats of an instance have is a good row, whichever rows the seats are settled with, where each
 -- may be.
-use Rattle.std.specs.Prelude.{flat_map, is_none, map, nat_le, not, sum_by, unwrap_or}
+use Rattle.std.specs.Prelude.{flat_map, is_none, map, not, sum_by, unwrap_or}
 use Rattle.std.specs.List.{AllByRecursion, filter, list_all}
 use Rattle.std.specs.Option.{option_map_or}
 use Rattle.std.proofs.Common.{◌≡◌, ℕ, ◌+◌, ◌<◌, ◌≤◌, Bool, true, false, cond, List, [], ◌∷◌, ◌++◌, length, Option, Some, None, Ok, inl, inr, refl, sym, ap, subst, ◌∙◌, arith}
@@ -265,15 +265,15 @@ module _ (w : State) (good : IsGoodWorld w) (i : ℕ) (has : ℕ → List Row) (
       changing_good (seats_of touched) w (moves_of touched)
       (subst (CanMoveTogether w.rights w.seats unstaged) (sym (moves_are touched))
       (carry_together w.rights w.seats unstaged (by_number touched)
-          (all_by_number (IsTouch w.rights w.seats unstaged) touched (each_touch w good i has unstaged ns all (all_unstaged touched w.staging (each_made w good i has ns all))))
-          (apart_by_number touched (subst AreApart (sym (seats_same w good i has ns)) apart))
-          (conserved_by_number touched conserved)
-          (omega (
-            arith,
-            room_left room,
-            total_few (by_number touched) (all_by_number Few touched (each_few w good i has ns all)),
-            sum_by_number opened_at touched,
-          ))))
+      (all_by_number (IsTouch w.rights w.seats unstaged) touched (each_touch w good i has unstaged ns all (all_unstaged touched w.staging (each_made w good i has ns all))))
+      (apart_by_number touched (subst AreApart (sym (seats_same w good i has ns)) apart))
+      (conserved_by_number touched conserved)
+      (omega (
+        arith,
+        room_left room,
+        total_few (by_number touched) (all_by_number Few touched (each_few w good i has ns all)),
+        sum_by_number opened_at touched,
+      ))))
 
   module _ (m : List ℕ) (args : List Tree) where
     abbrev zcf : Obj

@@ -1,5 +1,5 @@
 -- Movements between the slots of one seat and outside, and from its slots to payments that they make.
-use Rattle.std.specs.Prelude.{map, slice_set, ◌==◌}
+use Rattle.std.specs.Prelude.{map, slice_set}
 use Rattle.std.specs.List.{AllByRecursion}
 use Rattle.std.proofs.Common.{◌≡◌, ℕ, suc, ◌+◌, ◌<◌, ◌≤◌, ◌^◌, cond, List, [], ◌∷◌, length, None, inl, inr, ◌++◌, refl, sym, ap, subst, ◌∙◌, arith}
 use Rattle.std.proofs.lemmas.Bool.{eq-eqb}
@@ -23,8 +23,8 @@ use Rattle.trade_rows.specs.States.{changing}
 use Rattle.value_totals.specs.Totals.{total_of}
 use Rattle.world_laws.proofs.Balanced.{WithHand, taken_with, with-moved}
 use Rattle.world_laws.proofs.OfKinds.{rows_stay, same_moved, stay_same}
-use Rattle.world_state.specs.Good.{AreGood, AreNamed, AreRowsOf, HasNothing, IsBalanced, IsFresh, IsGoodMove, IsGoodWorld, open_slots}
-use Rattle.world_state.specs.Rights.{CanMove, CanMoveAll, CanTake, HasOrOpens, IsNextOr, MayCome, PaymentTakes, Rights, TakesOrOpens, all_moved, given, issued_in, kind_at, moved, paid, rows_less, rows_more, slots_at, taken}
+use Rattle.world_state.specs.Good.{AreGood, AreNamed, AreRowsOf, HasNothing, IsFresh, IsGoodMove, IsGoodWorld, open_slots}
+use Rattle.world_state.specs.Rights.{CanMove, CanMoveAll, CanTake, HasOrOpens, IsNextOr, MayCome, Rights, TakesOrOpens, all_moved, given, issued_in, kind_at, paid, rows_less, rows_more, slots_at, taken}
 use Rattle.world_state.specs.Worlds.{IsOpen, Seat, State, payout_moves, seat_at}
 use Rattle.call_rows.specs.Licence.{IsStored}
 use Rattle.call_row_laws.proofs.Moving.{paid_next}

@@ -1,12 +1,12 @@
 -- What a seat loses and gains where its slots become others: rows of it, what the slots have once those are taken and
 -- added, and how much there is of each element together.
-use Rattle.std.specs.Prelude.{IfSome, IsSomeAnd, is_none, map, sum_by, ◌==◌}
+use Rattle.std.specs.Prelude.{IfSome, IsSomeAnd, is_none, map, ◌==◌}
 use Rattle.std.specs.List.{AllByRecursion}
 use Rattle.std.specs.Option.{option_map_or}
 use Rattle.std.specs.Str.{bytes_eq}
 use Rattle.std.proofs.Common.{◌≡◌, ℕ, suc, ◌+◌, ◌-◌, ◌≤◌, Bool, true, false, cond, List, [], ◌∷◌, ◌++◌, length, Option, Some, None, refl, sym, ap, subst, ◌∙◌, arith, if◌then◌else◌}
 use Rattle.std.proofs.lemmas.Bool.{false≢true}
-use Rattle.std.proofs.lemmas.List.Sums.{sum_by-append, sum_by-cons}
+use Rattle.std.proofs.lemmas.List.Sums.{sum_by-cons}
 use Rattle.std.proofs.lemmas.Slice.Eq.{bytes_eq-Decides}
 use Rattle.amount_math.specs.Amount.{Meet}
 use Rattle.amount_math.specs.Content.{Content, Contains, count, count-difference, count-nothing, count-sum, difference, nothing, same_content, sum}
@@ -23,13 +23,13 @@ use Rattle.allocation_changes.proofs.Apart.{free_further}
 use Rattle.rearrange.specs.Settled.{filled, has_some, opened, settled}
 use Rattle.rearrange.specs.Sums.{row_count, rows_count}
 use Rattle.right_steps.specs.Lists.{amount_of, more}
-use Rattle.value_checks.proofs.Contents.{is_nothing-true, nothing_is, true-is_nothing}
+use Rattle.value_checks.proofs.Contents.{is_nothing-true, true-is_nothing}
 use Rattle.value_checks.specs.Tests.{is_nothing}
 use Rattle.world_laws.proofs.Lists.{all_filter, length_append, length_map}
 use Rattle.world_laws.proofs.Proposed.{under_own}
 use Rattle.world_laws.proofs.Valued.{less_valued}
 use Rattle.world_state.specs.Good.{IsOfKind}
-use Rattle.world_state.specs.Rights.{kind_at, rows_less, rows_more}
+use Rattle.world_state.specs.Rights.{kind_at, rows_more}
 use Rattle.call_row_laws.proofs.SlotLists.{CanAddAll, CanAddTo, CanTakeAll, CanTakeFrom, can_add_all, can_take_all, changed_to, each_of_all, fresh_in, moved_amount, other_first, still_safe, under_other, under_same, with_less, with_less_many, with_more, with_more_many}
 use Rattle.contract_row_laws.proofs.Given.{OfBrand, under_all}
 use Rattle.contract_row_laws.proofs.Losses.{count_less, lower, next_of, opened_by_loss}

@@ -2,7 +2,7 @@
 use Rattle.std.specs.Prelude.{IfSome, map, option_and_then, option_map, ◌*◌}
 use Rattle.std.specs.List.{AllByRecursion}
 use Rattle.std.proofs.lemmas.List.Sorted.{length_permutation}
-use Rattle.std.proofs.Common.{◌≡◌, ℕ, ℤ, pos, negsuc, zero, suc, ◌+◌, ◌-◌, ◌≤◌, ◌^◌, nat_le, Bool, true, false, cond, List, [], ◌∷◌, length, Option, Some, None, Result, Ok, Err, IfOk, codes, refl, sym, ap, subst, ◌∙◌, arith}
+use Rattle.std.proofs.Common.{◌≡◌, ℕ, ℤ, pos, negsuc, zero, suc, ◌+◌, ◌-◌, ◌≤◌, ◌^◌, nat_le, Bool, true, false, cond, List, [], ◌∷◌, length, Option, Some, None, Result, Ok, Err, IfOk, codes, refl, sym, ap, subst, arith}
 use Rattle.std.specs.Prelude.{slice_index_or}
 use Rattle.std.specs.Str.{bytes_eq}
 use Rattle.std.proofs.lemmas.Bool.{leb-true}
@@ -25,7 +25,6 @@ use Rattle.call_data.specs.declared.refusals.Refusal.TheVariants.{BadValue}
 use Rattle.jessie_tree.specs.Tree as trees
 use Rattle.jessie_tree.specs.Tree.{Fields, Items, Tree, field_count, field_of, fields_size, get, items_size, list_of, listed, number_of, object_of, paired, size, text_of}
 use Rattle.jessie_tree.specs.View.{items_of}
-use Rattle.jessie_tree.specs.declared.data.Obj.{Obj}
 use Rattle.proposals.specs.declared.allocations.Row.{Row}
 use Rattle.record_arguments.specs.Records.{RowData, row_in, row_value}
 use Rattle.service_rows.specs.Proposals.{with_values}

@@ -1,19 +1,19 @@
 -- Touched seats by their numbers, the staging that is dropped, and the movements that a plan is written as.
-use Rattle.std.specs.Prelude.{flat_map, map, nat_le, slice_set, sum_by, ◌-◌}
+use Rattle.std.specs.Prelude.{flat_map, map, nat_le, slice_set, sum_by}
 use Rattle.std.specs.List.{AllByRecursion}
-use Rattle.std.proofs.Common.{◌≡◌, ◌≢◌, ℕ, zero, suc, ◌+◌, ◌<◌, ◌≤◌, Bool, true, false, cond, List, [], ◌∷◌, ◌++◌, length, Option, None, refl, sym, ap, subst, ◌∙◌, arith, if◌then◌else◌}
+use Rattle.std.proofs.Common.{◌≡◌, ◌≢◌, ℕ, zero, suc, ◌+◌, ◌<◌, Bool, true, false, List, [], ◌∷◌, ◌++◌, length, Option, None, refl, sym, ap, ◌∙◌, arith, if◌then◌else◌}
 use Rattle.std.proofs.lemmas.List.Sums.{sum_by-cons}
 use Rattle.amount_math.specs.Content.{Content}
 use Rattle.call_arguments.specs.Numbers.{AreApart, IsNoneOf}
 use Rattle.list_edits.proofs.ListEdits.{length_set, read_set}
-use Rattle.plan_checks.specs.Moves.{by_number, from_hand, gained_by, gains_in, if_some, losses_in, lost_by, moves_of, opened_at, placed, to_hand}
+use Rattle.plan_checks.specs.Moves.{by_number, from_hand, gained_by, gains_in, if_some, losses_in, lost_by, moves_of, placed, to_hand}
 use Rattle.proposals.specs.declared.allocations.Row.{Row}
 use Rattle.proposals.specs.declared.plans.Touched.{Touched}
 use Rattle.rearrange.specs.Sums.{AreConserved, rows_count}
 use Rattle.rights_model.specs.declared.Movement.{Movement}
 use Rattle.value_checks.specs.Tests.{is_nothing}
 use Rattle.world_state.specs.Good.{AreGood, CanMoveTogether}
-use Rattle.world_state.specs.Worlds.{State, moves, staged_at, unstage}
+use Rattle.world_state.specs.Worlds.{State, staged_at}
 use Rattle.trade_rows.specs.States.{changing}
 use Rattle.contract_row_laws.proofs.Carried.{carried}
 use Rattle.contract_row_laws.proofs.Rearranged.{in_move, ins, out_move, outs, seats_of}

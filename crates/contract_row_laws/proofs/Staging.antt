@@ -1,7 +1,7 @@
 -- Staging is a good row.
 use Rattle.std.specs.Prelude.{nat_le, unwrap_or}
 use Rattle.std.specs.List.{AllByRecursion}
-use Rattle.std.proofs.Common.{◌≡◌, ℕ, ◌<◌, ◌≤◌, false, List, [], ◌∷◌, length, Option, Some, None, Result, Ok, IfOk, codes, refl, sym, arith}
+use Rattle.std.proofs.Common.{◌≡◌, ℕ, ◌≤◌, false, List, [], ◌∷◌, length, Option, Some, None, Ok, codes, refl, sym, arith}
 use Rattle.std.proofs.lemmas.Bool.{leb-true}
 use Rattle.allocation_changes.specs.Gains.{with_gains}
 use Rattle.allocation_changes.specs.Losses.{with_losses}
@@ -18,7 +18,6 @@ use Rattle.world_laws.proofs.Forms.{formed_grows}
 use Rattle.world_laws.proofs.Growing.{grows-after}
 use Rattle.world_laws.proofs.Lists.{all_map}
 use Rattle.world_state.specs.Good.{IsGoodWorld, IsOfSlot, IsStaged}
-use Rattle.world_state.specs.Known.{IsFormed, IsSeatOf}
 use Rattle.world_state.specs.Worlds.{IsOpen, State, after, stage, staged_at}
 use Rattle.call_rows.specs.Obligations.{CanCall, IsRow}
 use Rattle.call_rows.specs.Traces.{departures_by, openings_by}

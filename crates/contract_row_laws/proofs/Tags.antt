@@ -1,9 +1,9 @@
 -- What rows that transfers ask for are told by: the seat, the keyword and the brand. Tests over them say that each fits
 -- its slot, and that two of one seat and keyword are of one brand.
-use Rattle.std.specs.Prelude.{not, flat_map, map, unwrap_or, ◌==◌, ◌&&◌, ◌||◌}
+use Rattle.std.specs.Prelude.{not, flat_map, map, ◌==◌, ◌&&◌}
 use Rattle.std.specs.List.{AllByRecursion, list_any}
 use Rattle.std.specs.Str.{bytes_eq}
-use Rattle.std.proofs.Common.{◌≡◌, ℕ, Bool, true, false, cond, List, [], ◌∷◌, ◌++◌, Option, Some, None, refl, sym, ap, subst, ◌∙◌}
+use Rattle.std.proofs.Common.{◌≡◌, ℕ, Bool, true, false, cond, List, [], ◌∷◌, ◌++◌, Option, Some, None, refl, sym, ap, ◌∙◌}
 use Rattle.std.proofs.lemmas.Bool.{eq-eqb, eqb-true, false≢true}
 use Rattle.std.proofs.lemmas.Slice.Eq.{bytes_eq-Decides}
 use Rattle.call_arguments.specs.Numbers.{least, least_of}
@@ -13,7 +13,6 @@ use Rattle.proposals.specs.declared.plans.Transfer.{Transfer}
 use Rattle.rearrange.specs.Transfers.{gains_of, losses_of}
 use Rattle.trade_rows.specs.Given.{is_misfit, is_other, issuers_of}
 use Rattle.trade_rows.specs.Rearranging.{SeatRow, is_against, is_wrong, wrong_brands}
-use Rattle.world_laws.proofs.Lists.{all_map}
 use Rattle.world_state.specs.Worlds.{State}
 use Rattle.contract_rows.specs.SeatRows.{allocation_of}
 use Rattle.contract_row_laws.proofs.Given.{OfBrand, neither, of_slot}

@@ -1,7 +1,7 @@
 -- Rearranging by transfers is a good row: each seat that is named is settled with what it has once they are worked.
-use Rattle.std.specs.Prelude.{find, flat_map, is_none, map, not, ◌==◌, ◌||◌}
+use Rattle.std.specs.Prelude.{flat_map, map, ◌==◌}
 use Rattle.std.specs.List.{AllByRecursion, fold, list_all, list_any}
-use Rattle.std.proofs.Common.{◌≡◌, ◌≢◌, ◌⊎◌, ℕ, Bool, true, false, cond, List, [], ◌∷◌, ◌++◌, length, ◌≤◌, Option, Some, None, Ok, IfOk, codes, inl, inr, refl, sym, ap, subst, ◌∙◌}
+use Rattle.std.proofs.Common.{◌≡◌, ◌≢◌, ℕ, Bool, true, false, cond, List, [], ◌∷◌, ◌++◌, length, ◌≤◌, Some, None, Ok, IfOk, codes, inl, inr, refl, sym, ap, subst, ◌∙◌}
 use Rattle.std.proofs.lemmas.Bool.{eq-eqb, eqb-true, false≢true}
 use Rattle.call_arguments.specs.Arguments.{arg, list_at, object_in}
 use Rattle.call_arguments.specs.Numbers.{AreApart, IsNoneOf}
@@ -10,7 +10,7 @@ use Rattle.host_text.specs.Words.{is_keyword}
 use Rattle.jessie_tree.specs.Tree.{Tree, list_of, null}
 use Rattle.jessie_tree.specs.declared.data.ObjKind.TheVariants as kinds
 use Rattle.plan_check_laws.proofs.Conserved.{Named, conserved_if}
-use Rattle.plan_checks.specs.Plans.{can_take_part, can_work, first_unkept, is_small, keeps, least_unsafe, transfer_changes}
+use Rattle.plan_checks.specs.Plans.{can_take_part, can_work, first_unkept, is_small, least_unsafe, transfer_changes}
 use Rattle.proposals.specs.OfferSafety.{IsOfferSafe}
 use Rattle.proposals.specs.Rows.{most_rows}
 use Rattle.proposals.specs.declared.allocations.Row.{Row}
@@ -23,9 +23,8 @@ use Rattle.rearrange.specs.Settled.{settled}
 use Rattle.rearrange.specs.Staged.{touched_with}
 use Rattle.rearrange.specs.Transfers.{once, transfers_plan, with_seat, worked}
 use Rattle.record_arguments.specs.Lists.{objects_in}
-use Rattle.record_arguments.specs.Records.{are_keywords, first_ill}
 use Rattle.refusals.proofs.Steps.{after_check, after_known, after_none_such, after_step, after_wanted, none_is, ok_has, wanted_there}
-use Rattle.trade_rows.specs.Rearranging.{Asked, Parts, SeatRow, asked_in, atomic_rearrange, carried_out, parts_in, rows_asked, seat_trees, states_for, transfers_in, transfers_of, wrong_brands}
+use Rattle.trade_rows.specs.Rearranging.{Parts, SeatRow, atomic_rearrange, carried_out, rows_asked, seat_trees, states_for, transfers_in, transfers_of}
 use Rattle.trade_rows.specs.States.{has_room, state_of, touched_seat, unstaged}
 use Rattle.world_laws.proofs.Lists.{all_map}
 use Rattle.world_state.specs.Good.{IsGoodWorld}
@@ -41,7 +40,7 @@ use Rattle.contract_row_laws.proofs.Given.{OfBrand, if_given, neither, passed, s
 use Rattle.contract_row_laws.proofs.Read.{of_caller}
 use Rattle.contract_row_laws.proofs.Reallocating.{kept_is, none_such_each}
 use Rattle.contract_row_laws.proofs.Rearranging.{IsSettling, IsStateOf, rearranged, safe_each, slots_there, small_each, stays_open, touch_of}
-use Rattle.contract_row_laws.proofs.Tags.{AreAgreed, IsRight, Tag, all_from, all_tags, data_tag, rows_agreed, rows_right}
+use Rattle.contract_row_laws.proofs.Tags.{AreAgreed, IsRight, Tag, all_from, all_tags, rows_agreed, rows_right}
 use Rattle.contract_row_laws.proofs.Working.{IsReadTransfer, works}
 
 -- ---- seats, each once
@@ -239,7 +238,7 @@ module _ (w : State) (good : IsGoodWorld w) (i : ℕ) (args : List Tree) (formed
       let conserved = conserved_if (map (touch_of w has) ns) (subst (λ ts. first_unkept ts ≡ None) same plan.unkept) in
       subst (λ ts. IsRow w (Some i) (numbered kinds.Zcf i) (codes "atomicRearrange") args null (carried_out ts)) (sym same)
       (rearranged w good i has ns (seats_settle w good i states parts list transfers plan.work ns takes small safe) (codes "atomicRearrange") args refl refl (once_apart (seats_named list)) conserved
-          (subst (λ ts. has_room w ts 0 ≡ Ok tt) same room))))))))))
+      (subst (λ ts. has_room w ts 0 ≡ Ok tt) same room))))))))))
 
 pub rearrange_is : IsGoodCall kinds.Zcf (codes "atomicRearrange") atomic_rearrange
 rearrange_is w i n args can = of_caller w i n (codes "atomicRearrange") args (λ k. atomic_rearrange w k args) can.target (worked_is w can.good i args (can.arguments 1))

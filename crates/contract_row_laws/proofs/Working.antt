@@ -1,15 +1,14 @@
 -- While transfers are worked, each seat has rows that its slots may be settled with.
-use Rattle.std.specs.Prelude.{IfSome, map, not, ◌==◌}
+use Rattle.std.specs.Prelude.{IfSome, map, ◌==◌}
 use Rattle.std.specs.List.{AllByRecursion}
 use Rattle.std.specs.Str.{bytes_eq}
-use Rattle.std.proofs.Common.{◌≡◌, ℕ, Bool, true, false, cond, List, [], ◌∷◌, ◌++◌, append_assoc, Option, Some, None, Ok, refl, sym, ap, subst, ◌∙◌, if◌then◌else◌}
+use Rattle.std.proofs.Common.{◌≡◌, ℕ, Bool, true, false, cond, List, [], ◌∷◌, ◌++◌, append_assoc, Option, Some, None, Ok, refl, sym, subst, if◌then◌else◌}
 use Rattle.std.proofs.lemmas.Bool.{eqb-true}
 use Rattle.std.proofs.lemmas.Slice.Eq.{bytes_eq-Decides}
 use Rattle.allocation_changes.specs.Gains.{raised, with_gains}
-use Rattle.allocation_changes.specs.Losses.{lowered, without}
+use Rattle.allocation_changes.specs.Losses.{without}
 use Rattle.allocation_changes.specs.Rows.{further}
 use Rattle.amount_math.specs.Content.{Content, difference, sum}
-use Rattle.amount_math.specs.declared.Amount.{Amount}
 use Rattle.plan_checks.specs.Plans.{can_gain, can_lose, can_work, passes_at}
 use Rattle.plan_checks.specs.Slots.{can_give, each_passes, fits_slot}
 use Rattle.proposals.specs.Rows.{amount_under, content_under}
@@ -18,12 +17,12 @@ use Rattle.proposals.specs.declared.plans.Transfer.{Transfer}
 use Rattle.rearrange.specs.Transfers.{gains_of, losses_of, lowered_by, with_rows, worked, worked_by}
 use Rattle.refusals.specs.Outcomes.{◌>>◌}
 use Rattle.world_laws.proofs.Lists.{all_map}
-use Rattle.world_state.specs.Good.{IsGoodWorld, IsOfSlot}
+use Rattle.world_state.specs.Good.{IsGoodWorld}
 use Rattle.world_state.specs.Worlds.{State}
 use Rattle.contract_rows.specs.SeatRows.{allocation_of}
 use Rattle.contract_row_laws.proofs.Changed.{AreFitting, MaySettle, further_all, gains_may, other, without_may}
 use Rattle.contract_row_laws.proofs.Given.{OfBrand, passed}
-use Rattle.contract_row_laws.proofs.Tags.{Agree, AreAgreed, IsRight, Tag, agreed_across, agreed_second, all_first, all_from, all_second, all_tags, row_tag, tags_at, tags_of}
+use Rattle.contract_row_laws.proofs.Tags.{Agree, AreAgreed, Tag, agreed_across, agreed_second, all_first, all_from, all_second, all_tags, row_tag, tags_at, tags_of}
 
 -- ---- brands under keywords
 

@@ -1,20 +1,17 @@
 -- Calls of zcf are good rows.
-use Rattle.std.proofs.Common.{◌≡◌, ℕ, List, length, Some, Ok, IfOk, codes, refl, sym, ap, arith}
+use Rattle.std.proofs.Common.{◌≡◌, ℕ, List, length, Some, IfOk, codes, refl, sym, ap, arith}
 use Rattle.amount_math.specs.Content.{count-nothing, counts, nothing, one_of}
 use Rattle.amount_math.specs.Counted.{counted, counted-nothing}
 use Rattle.amount_math.specs.Totals.{total-put}
 use Rattle.invitations.specs.Elements.{element}
-use Rattle.call_arguments.specs.Arguments.{arg, function_at}
-use Rattle.data_nodes.specs.Nodes.{EachNode, FunctionIs}
-use Rattle.jessie_tree.specs.Tree.{Tree, array, boolean, fields, function, function_of, null, number, object, text}
+use Rattle.jessie_tree.specs.Tree.{Tree}
 use Rattle.jessie_tree.specs.declared.data.ObjKind.TheVariants as kinds
-use Rattle.refusals.proofs.Steps.{after_check, after_step, wanted_there}
+use Rattle.refusals.proofs.Steps.{after_check, after_step}
 use Rattle.refusals.specs.Outcomes.{reading}
 use Rattle.right_steps.specs.Lists.{amount_of}
-use Rattle.world_state.specs.Known.{HasFunction, IsFormed}
+use Rattle.world_state.specs.Known.{IsFormed}
 use Rattle.world_state.specs.Worlds.{State, invitation_value}
 use Rattle.call_rows.specs.Obligations.{CanCall, IsGoodOutcome}
-use Rattle.call_rows.specs.Rows.{Outcome}
 use Rattle.call_row_laws.proofs.Forms.{null_formed, object_formed}
 use Rattle.call_row_laws.proofs.Moving.{paid_next}
 use Rattle.call_row_laws.proofs.Next.{after_next_of, after_next_payment}
