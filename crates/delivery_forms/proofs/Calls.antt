@@ -22,7 +22,7 @@ use Rattle.service_rows.specs.ZoeRows.{TextReader}
 use Rattle.turn_answers.specs.Ends.{CanTell, IsOfFacet, IsUnspent, RunsFunction}
 use Rattle.turn_records.specs.Deliveries as deliveries
 use Rattle.turn_records.specs.Deliveries.{Delivery, Reading, target}
-use Rattle.turn_records.specs.Events.{Answer, given, threw}
+use Rattle.turn_records.specs.Events.{Answer, given, spent, threw}
 use Rattle.turn_records.specs.Messages.{LineGift}
 use Rattle.turn_rows.specs.Causes as causes
 use Rattle.world_state.specs.Good.{IsGoodWorld}
@@ -91,7 +91,7 @@ module _ (read : TextReader) (meter : ℕ) (w : State) (d : Delivery) where
   ran_tells : (r : Reading) → RunsFunction d r → (i : ℕ) (ran : Run) → TellsWell r (run_work meter w i ran)
   ran_tells r runs i (ended e values es) = all_run_tell d r (answer_of_ending e) runs (ending_unspent e) (es ++ keep_state i values ∷ [])
   ran_tells r runs i ran_out =
-      all_quiet_tell d r _ (exits_with causes.spent (all_open w i) ++ halt i ∷ [])
+      all_quiet_tell d r (spent meter) (exits_with causes.spent (all_open w i) ++ halt i ∷ [])
       (quiet_both (exits_with causes.spent (all_open w i)) (halt i ∷ []) (quiet_exits causes.spent (all_open w i)) (tt, tt))
 
   function_tells : (r : Reading) → RunsFunction d r → (c : FunctionCall) → TellsWell r (task_work read meter w (tasks.run c))

@@ -12,13 +12,14 @@ use Rattle.turn_form.specs.Printing.{CanPrintOpening, CanPrintSettlement}
 use Rattle.turn_records.specs.Deliveries.{Delivery}
 use Rattle.turn_records.specs.Events.{Event, Leaving, Opening, called, exited, moved, opened, settled}
 use Rattle.turn_records.specs.Tellable.{IsTellableRule}
-use Rattle.world_state.specs.Good.{AreGood, AreNamed, AreRows, IsGoodEffect, IsGoodWorld, IsRule, IsSettled, IsSettling}
+use Rattle.proposals.specs.Rows.{AreRows}
+use Rattle.world_state.specs.Good.{AreGood, AreNamed, IsGoodEffect, IsGoodWorld, IsRule, IsSettled, IsSettling}
 use Rattle.world_state.specs.Known.{IsHanded}
 use Rattle.world_state.specs.Promises.{CascadeStep, Flow, PromiseBook, all_stepped, cascade, flowing, following, no_promise, notifies, resolving, resolving_to, settlement_at, settles, settling, stepped, target_of}
 use Rattle.world_state.specs.Rights.{slots_at}
 use Rattle.world_state.specs.Worlds.{Effect, State, after, after_all, burn_and_escrows, empty_seat, exit, invitation_move, invite, leaving_events, moves, moves_out, note_call, offer, offer_events, of_own, opening_of, paid_out, payouts_tree, promises_made, resolve}
 use Rattle.world_laws.proofs.Kept.{good-after}
-use Rattle.world_laws.proofs.Lists.{all_append, all_read_or, length_append, length_map}
+use Rattle.world_laws.proofs.Lists.{all_append, all_map, all_read_or, length_append, length_map}
 use Rattle.world_laws.proofs.Payouts.{payouts_handed}
 use Rattle.delivery_laws.proofs.Printing.{formed_prints}
 
@@ -82,7 +83,9 @@ module _ (Q : Event → Type 0) (move : (m : Movement) → Q (moved m)) (leave :
 
   module _ (w : State) (good : IsGoodWorld w) where
     known_so : (q : ℕ) → IfSome (settlement_at w.promises.settled q) CanPrintSettlement
-    known_so q = settled_prints w good (settlement_at w.promises.settled q) (all_read_or (IsSettled w) w.promises.settled q no_promise good.settled tt)
+    known_so q =
+        let prints = λ (s : Option SettlementView). IfSome s CanPrintSettlement in
+        all_read_or prints w.promises.settled q no_promise (all_map (IsSettled w) prints (settled_prints w good) w.promises.settled good.settled) tt
 
     resolving_so : (p : ℕ) (v : SettlementView) (l : List Event) → CanPrintSettlement v → All l → All (resolving p v w.promises w.waiting l).log
     resolving_so p v l can log = to_so (target_of v) p v w.promises w.waiting l can known_so log

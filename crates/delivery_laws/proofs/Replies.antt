@@ -139,7 +139,7 @@ module _ (w : State) (i : ℕ) (good : IsGoodWorld w) where
       let is = called_prints o args known.0 known.1 in
       record { called = is.0; arguments = is.1; answered = call_answer row; answer = answer }
   told_prints (when o f held) row known answer = record {
-    called = (promise_kind o.kind known.0, (known.2.named, refl));
+    called = (promise_kind o.kind known.0, known.2.named, refl);
     arguments = (formed_prints w good (Some i) held known.3, tt);
     answered = call_answer row;
     answer = answer;
