@@ -1,6 +1,6 @@
 -- How a turn ends: the seats that its end leaves are left for what the turn's own row shows, and then none is open of
 -- which the row shows a cause.
-use Rattle.std.specs.Prelude.{◌≡◌, ◌≢◌, ◌+◌, ◌<◌, ◌≤◌, ◌++◌, ◌⊎◌, ℕ, Bool, true, false, cond, List, [], ◌∷◌, Option, Some, None, IsSome, codes, decimal, is_none, length, refl}
+use Rattle.std.specs.Prelude.{◌≡◌, ◌≢◌, ◌<◌, ◌++◌, ℕ, Bool, true, false, cond, List, [], ◌∷◌, Option, Some, None, IsSome, codes, decimal, is_none, length, refl}
 use Rattle.std.specs.List.{AllByRecursion}
 use Rattle.std.specs.Str.{bytes_eq}
 use Rattle.std.proofs.Common.{sym, ◌∙◌, ap, subst, arith}
@@ -10,7 +10,7 @@ use Rattle.data_rows.specs.Names.{object_name}
 use Rattle.delivery_laws.proofs.Ends.{open_there}
 use Rattle.delivery_laws.proofs.Runs.{after_both, all_grow}
 use Rattle.delivery_turns.specs.Endings.{binds, binds_to, departs, ending, publishes, settles, without_cycle}
-use Rattle.delivery_turns.specs.Tasks.{exit_if_open, exits_with, halt_with}
+use Rattle.delivery_turns.specs.Tasks.{exit_if_open, exits_with}
 use Rattle.fair_rows.specs.ExitCauses.{Owners, cause_if, name}
 use Rattle.jessie_tree.specs.Tree.{Tree, null}
 use Rattle.jessie_tree.specs.declared.data.ObjKind.TheVariants as kinds
@@ -22,8 +22,8 @@ use Rattle.rights_model.specs.declared.Sum.{Sum}
 use Rattle.turn_answers.specs.Settlements.{settled_after}
 use Rattle.turn_records.specs.Deliveries as deliveries
 use Rattle.turn_records.specs.Deliveries.{Delivery, Offer, Reading, Start, promise_of}
-use Rattle.turn_records.specs.Events.{Answer, Event, given, refused, spent, threw}
-use Rattle.turn_records.specs.Printed.{named, object, printed}
+use Rattle.turn_records.specs.Events.{Answer, Event, given, spent, threw}
+use Rattle.turn_records.specs.Printed.{named, printed}
 use Rattle.turn_rows.specs.Causes as causes
 use Rattle.turn_rows.specs.Causes.{Cause}
 use Rattle.turn_rows.specs.Rows.{instance_name}
@@ -35,7 +35,7 @@ use Rattle.world_laws.proofs.Lists.{all_map}
 use Rattle.world_state.specs.Good.{AreGood}
 use Rattle.world_state.specs.Known.{IsSeatOf, WasLeft}
 use Rattle.world_state.specs.Rights.{slots_at}
-use Rattle.world_state.specs.Worlds.{Effect, IsOpen, Seat, State, after, after_all, bind_label, end_staging, exit, halt, left_seat, no_seat, publish, resolve, seat_at}
+use Rattle.world_state.specs.Worlds.{Effect, IsOpen, Seat, State, after, after_all, end_staging, exit, halt, left_seat, no_seat, resolve, seat_at}
 use Rattle.fair_steps.proofs.Holding.{AreFit, IsFit, fit_both, row_of}
 use Rattle.fair_steps.proofs.Names.{same_bytes}
 use Rattle.fair_steps.proofs.Telling.{Showing}

@@ -1,8 +1,8 @@
 -- Turns of a host stay fair, turn by turn, from those of a new host, which are none.
-use Rattle.std.specs.Prelude.{◌≡◌, ◌+◌, ◌<◌, ℕ, zero, suc, List, [], ◌∷◌, Option, Some, None, IfSome, refl}
+use Rattle.std.specs.Prelude.{◌≡◌, ℕ, zero, suc, List, Option, Some, None, IfSome, refl}
 use Rattle.std.proofs.Common.{sym, ◌∙◌, arith}
-use Rattle.amount_math.specs.Content.{nothing, sum, sum-nothing}
-use Rattle.amount_math.specs.Counted.{counted as size, counted-nothing}
+use Rattle.amount_math.specs.Content.{nothing, sum-nothing}
+use Rattle.amount_math.specs.Counted.{counted-nothing}
 use Rattle.delivery_turns.specs.Hosts.{HostState, Step, step_of}
 use Rattle.fair_effects.specs.Accounts.{burned_of, minted_of, out_of}
 use Rattle.fair_rows.specs.SoFar.{nothing_so_far}

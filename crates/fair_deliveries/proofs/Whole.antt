@@ -1,5 +1,5 @@
 -- The turn of the delivery in front is a step from the world of the host to that of the host after it.
-use Rattle.std.specs.Prelude.{◌≡◌, ◌+◌, ◌-◌, ◌*◌, ◌<◌, ◌≤◌, ◌++◌, ℕ, List, [], ◌∷◌, Option, Some, None, IfSome, length, map, refl}
+use Rattle.std.specs.Prelude.{◌≡◌, ◌+◌, ◌-◌, ◌<◌, ◌≤◌, ◌++◌, ℕ, List, [], ◌∷◌, Option, Some, None, IfSome, length, map, refl}
 use Rattle.std.specs.List.{AllByRecursion}
 use Rattle.std.proofs.Common.{sym, ◌∙◌, ap, subst, arith}
 use Rattle.std.proofs.lemmas.List.{append-nil}
@@ -13,17 +13,15 @@ use Rattle.delivery_turns.specs.Endings.{ending, without_cycle}
 use Rattle.delivery_turns.specs.Hosts.{HostState, step_after, step_from, step_of, sums_of}
 use Rattle.delivery_turns.specs.Tasks.{beginning, task_work}
 use Rattle.delivery_turns.specs.Turns.{delivery_turn}
-use Rattle.fair_causes.specs.Owed.{cause_shown}
 use Rattle.ertp_mint.specs.Stocks.{most_made}
 use Rattle.fair_effects.specs.Places.{rows_of, seat_told, seats_told, slot_name}
 use Rattle.fair_effects.proofs.Rows.{Settles, resolving_settles}
 use Rattle.fair_effects.proofs.Seats.{seat_read}
-use Rattle.fair_rows.specs.Amounts.{IsReadByTurn}
 use Rattle.fair_rows.specs.ExitCauses.{Owners, either, first_cause, instance_of}
 use Rattle.fair_rows.specs.Rows.{ChangesNothing}
 use Rattle.fair_rows.specs.Seats as told
 use Rattle.fair_rows.specs.Seats.{IsOpen}
-use Rattle.fair_rows.specs.Steps.{IsStep, World}
+use Rattle.fair_rows.specs.Steps.{IsStep}
 use Rattle.fair_rows.specs.Turns.{IsCaused}
 use Rattle.instance_store.specs.Facets.{FacetView}
 use Rattle.instance_store.specs.Tables.{Tables}
@@ -31,7 +29,6 @@ use Rattle.promise_store.specs.States.{SettlementView}
 use Rattle.proposals.specs.declared.allocations.Row.{Row}
 use Rattle.refusals.specs.declared.codes.Refusal.{Refusal}
 use Rattle.rights_model.specs.declared.Sum.{Sum}
-use Rattle.rights_tables.specs.Tables.{table_of}
 use Rattle.serde_json.specs.Data as json
 use Rattle.service_row_laws.specs.Good.{AreGoodServices}
 use Rattle.service_rows.specs.ZoeRows.{TextReader}
@@ -40,7 +37,7 @@ use Rattle.turn_records.specs.Deliveries as deliveries
 use Rattle.turn_records.specs.Deliveries.{Delivery, Reading}
 use Rattle.turn_records.specs.Events as events
 use Rattle.turn_records.specs.Events.{Answer, Event, given, moves_in, refused, spent, threw}
-use Rattle.turn_records.specs.Printed.{printed, printed_answer}
+use Rattle.turn_records.specs.Printed.{printed_answer}
 use Rattle.turn_rows.specs.Turns as rows
 use Rattle.turn_rows.specs.Turns.{Turn}
 use Rattle.world_laws.proofs.Fronts.{begins, good_behind}
@@ -52,12 +49,12 @@ use Rattle.zoe_rows.specs.Host.{serve as serve_call}
 use Rattle.shown_reads.specs.Reads.{CallsRead, ServicesRead}
 use Rattle.fair_deliveries.specs.Turns.{IsTurnStep}
 use Rattle.fair_steps.specs.Steps.{AccountsFor, ShowsSeats, TellsLog}
-use Rattle.fair_steps.specs.Views.{IsSteady, owners_told, world_in, world_of}
+use Rattle.fair_steps.specs.Views.{IsSteady, owners_told, world_in}
 use Rattle.fair_steps.proofs.Accounting.{accounts_for}
 use Rattle.fair_deliveries.proofs.Ends.{ending_fit, turn_with}
 use Rattle.fair_steps.proofs.Holding.{Shows, fit_all, row_of, shows_both}
 use Rattle.fair_steps.proofs.Seats.{open_is, shows_seats}
-use Rattle.fair_steps.proofs.Telling.{HasItsCause, Showing, shown_by}
+use Rattle.fair_steps.proofs.Telling.{HasItsCause, Showing}
 use Rattle.fair_deliveries.proofs.Works.{Turns, turns_of}
 
 -- ---- a turn that is refused tells settlements alone
@@ -163,12 +160,15 @@ module _ (read : TextReader) (served : AreGoodServices (serve_call read)) (calle
   -- a seat that was left has its cause
   caused_all : (xs : List Event) → AllByRecursion (HasItsCause row z) xs → AllByRecursion (IsCaused (seats_told z) os t t.events) (rows_of xs)
   caused_all [] have = tt
-  caused_all (events.exited x ∷ xs) have = (record {
-    seat = seat_told x.seat (seat_at z.seats x.seat) (slots_at z.rights.slots x.seat);
-    was_opened = seat_read 0 x.seat z.seats z.rights.slots no_seat have.0.0 all.holds.good.seats.slotted
-        ∙ ap (λ n. Some (seat_told n (seat_at z.seats x.seat) (slots_at z.rights.slots x.seat))) (let e : 0 + x.seat ≡ x.seat = omega arith in e);
-    first = have.0.1;
-  }, caused_all xs have.1)
+  caused_all (events.exited x ∷ xs) have = (
+    record {
+      seat = seat_told x.seat (seat_at z.seats x.seat) (slots_at z.rights.slots x.seat);
+      was_opened = seat_read 0 x.seat z.seats z.rights.slots no_seat have.0.0 all.holds.good.seats.slotted
+          ∙ ap (λ n. Some (seat_told n (seat_at z.seats x.seat) (slots_at z.rights.slots x.seat))) (let e : 0 + x.seat ≡ x.seat = omega arith in e);
+      first = have.0.1;
+    },
+    caused_all xs have.1,
+  )
   caused_all (events.called c ∷ xs) have = (tt, caused_all xs have.1)
   caused_all (events.opened o ∷ xs) have = (tt, caused_all xs have.1)
   caused_all (events.moved m ∷ xs) have = (tt, caused_all xs have.1)

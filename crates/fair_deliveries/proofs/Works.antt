@@ -1,17 +1,16 @@
 -- What is done for each delivery is shown by the rows of its turn, and at the turn's end no seat is open of which the
 -- turn's own row shows a cause.
-use Rattle.std.specs.Prelude.{◌≡◌, ◌≢◌, ◌-◌, ◌+◌, ◌*◌, ◌^◌, ◌<◌, ◌≤◌, ◌++◌, ◌&&◌, ◌⊎◌, ℕ, zero, suc, Bool, true, false, cond, List, [], ◌∷◌, Option, Some, None, Result, Ok, Err, IfOk, codes, is_none, length, nat_lt, refl}
+use Rattle.std.specs.Prelude.{◌≡◌, ◌≢◌, ◌-◌, ◌+◌, ◌^◌, ◌<◌, ◌≤◌, ◌++◌, ◌&&◌, ◌⊎◌, ℕ, zero, suc, Bool, true, false, cond, List, [], ◌∷◌, Option, Some, None, Result, Ok, Err, IfOk, codes, is_none, length, nat_lt, refl}
 use Rattle.std.specs.List.{AllByRecursion}
 use Rattle.std.specs.Str.{bytes_eq}
 use Rattle.std.proofs.Common.{inl, inr, sym, ◌∙◌, ap, subst, arith}
-use Rattle.std.proofs.lemmas.List.{append-nil}
 use Rattle.call_row_laws.proofs.Forms.{null_formed, object_formed}
 use Rattle.call_row_laws.proofs.Shown.{handed_held}
 use Rattle.call_rows.specs.Acts.{MayAct}
 use Rattle.call_rows.specs.Licence.{IsStored}
 use Rattle.call_rows.specs.Obligations.{CanCall, IsRow}
 use Rattle.call_rows.specs.Rows.{Outcome}
-use Rattle.call_rows.specs.Traces.{Departure, all_open, departure, departures_as, departures_by, departures_in, movements_in, one_left, openings_as, openings_by, openings_in}
+use Rattle.call_rows.specs.Traces.{Departure, all_open, departure, departures_as, departures_by, departures_in, movements_in, one_left, openings_as, openings_in}
 use Rattle.call_rows.specs.Words.{has_halted, standing_of}
 use Rattle.contract_row_laws.proofs.OpenSeats.{all_own}
 use Rattle.data_rows.specs.Names.{object_name}
@@ -23,17 +22,16 @@ use Rattle.delivery_laws.proofs.Reading.{IsAddressed, IsCalled, addressed_there,
 use Rattle.delivery_laws.proofs.Works.{at_most, notice_handed, number_known, settlement_handed, work_is}
 use Rattle.delivery_turns.specs.Endings.{ending}
 use Rattle.delivery_turns.specs.Functions.{FunctionCall, Run, ended, function_run, module_play, ran_out, run}
-use Rattle.delivery_turns.specs.HostCalls.{answer_of, effects_of}
 use Rattle.delivery_turns.specs.Tasks as tasks
 use Rattle.delivery_turns.specs.Messages.{Addressed, addressed, gift_of, sent_to}
 use Rattle.delivery_turns.specs.Tasks.{Beginning, Task, Work, answer_of_ending, beginning, call_beginning, do_all, exit_if_open, exits_with, facet_task, function_behind, gift_beginning, halt_with, handler_call, method_task, notice_call, refuse, row_work, run_task, run_work, serve, settlement_of, start_call, task_on, task_work, tick_task, wakeup_call}
 use Rattle.fair_causes.specs.Owed.{Owes}
 use Rattle.fair_causes.proofs.Others.{owes_at_start}
 use Rattle.fair_causes.proofs.Shown.{either_none}
-use Rattle.fair_effects.specs.Places.{rows_of, seats_told}
+use Rattle.fair_effects.specs.Places.{seats_told}
 use Rattle.fair_rows.specs.Amounts.{IsReadByTurn}
 use Rattle.rights_tables.specs.Tables.{table_of}
-use Rattle.fair_rows.specs.ExitCauses.{Owners, cause_by_row, cause_if, either, facets_made, instance_of, is_of, name, owner_in, serves}
+use Rattle.fair_rows.specs.ExitCauses.{Owners, cause_by_row, cause_if, either, instance_of, is_of, name, owner_in, serves}
 use Rattle.fair_rows.specs.Rows.{is_offer, is_service}
 use Rattle.instance_store.specs.Facets.{FacetView, facet_at, no_facet}
 use Rattle.instance_store.specs.Tables.{instance_at}
@@ -71,19 +69,18 @@ use Rattle.turn_rows.specs.Turns.{Turn}
 use Rattle.world_laws.proofs.Fronts.{due_behind, good_behind}
 use Rattle.world_laws.proofs.Lists.{all_map, all_read, all_read_or}
 use Rattle.world_state.specs.Good.{AreGood, IsFacet, IsGoodWorld}
-use Rattle.world_state.specs.Known.{IsHanded, IsKnownTo, IsSeatOf, WasLeft, made_as, module_of}
+use Rattle.world_state.specs.Known.{IsHanded, IsKnownTo, WasLeft, made_as, module_of}
 use Rattle.world_state.specs.Rights.{IsRoomy, most_issued}
-use Rattle.world_state.specs.Worlds.{Effect, IsOpen, Seat, State, after, after_all, bind_label, burn_and_escrows, set_time, empty_seat, exit, halt, in_front, keep_state, make_facet, moves, note_call, offer, seat_at}
+use Rattle.world_state.specs.Worlds.{Effect, IsOpen, Seat, State, after, after_all, bind_label, burn_and_escrows, set_time, empty_seat, exit, in_front, keep_state, make_facet, moves, note_call, offer, seat_at}
 use Rattle.zoe_rows.specs.Host.{serve as serve_call}
 use Rattle.shown_reads.specs.Reads.{CallsRead, ServicesRead}
 use Rattle.fair_steps.specs.Views.{IsSteady, owners_from, owners_told}
 use Rattle.fair_runs.proofs.Calls.{act_no_facet, first_all, second_all}
 use Rattle.fair_deliveries.proofs.Ends.{IsClosed, closed_if, deadline_same, halts_fit, handler_closed, if_fit, instance_same, none_open, one_closed, open_or_left, seat_same, second_good, spent_same, start_left, turn_with}
-use Rattle.fair_steps.proofs.Holding.{AreFit, Holds, IsFit, Shows, fit_all, row_of, shows_both}
+use Rattle.fair_steps.proofs.Holding.{AreFit, Holds, Shows, fit_all, row_of, shows_both}
 use Rattle.fair_steps.proofs.Names.{and_first, and_second, numbers_same, same_bytes, seat_is}
-use Rattle.fair_steps.proofs.Owned.{FacetsTold}
 use Rattle.fair_runs.proofs.Runs.{RunShows, holds_at_start, run_shows}
-use Rattle.fair_steps.proofs.Telling.{AllHaveCauses, HasItsCause, Showing, none_shown}
+use Rattle.fair_steps.proofs.Telling.{HasItsCause, Showing, none_shown}
 
 -- ---- what rows of turns show
 
@@ -320,12 +317,15 @@ module _ (read : TextReader) (served : AreGoodServices (serve_call read)) (calle
         by : (b : Bool) → bytes_eq m (codes "tryExit") ≡ b → AllByRecursion (Asked answer) (cond b (one_left o.number causes.asked) [])
         by false bare = tt
         by true offered =
-            let t = turn at (given answer) in ((λ i.
-              ap (λ x. cause_by_row x t.answer os t i o.number) (kind_is (given answer))
-              ∙ ap (λ x. cause_if (bytes_eq x (name (codes "seat") o.number) && bytes_eq t.method (codes "tryExit")) causes.asked) (calling.on o args ∙ ap (λ x. object_name (object x o.number)) e)
-              ∙ ap (λ x. cause_if (x && bytes_eq t.method (codes "tryExit")) causes.asked) (seat_same o.number)
-              ∙ ap (λ x. cause_if (bytes_eq x (codes "tryExit")) causes.asked) calling.method
-              ∙ ap (λ x. cause_if x causes.asked) offered), tt)
+            let t = turn at (given answer) in (
+              (λ i.
+                  ap (λ x. cause_by_row x t.answer os t i o.number) (kind_is (given answer))
+                  ∙ ap (λ x. cause_if (bytes_eq x (name (codes "seat") o.number) && bytes_eq t.method (codes "tryExit")) causes.asked) (calling.on o args ∙ ap (λ x. object_name (object x o.number)) e)
+                  ∙ ap (λ x. cause_if (x && bytes_eq t.method (codes "tryExit")) causes.asked) (seat_same o.number)
+                  ∙ ap (λ x. cause_if (bytes_eq x (codes "tryExit")) causes.asked) calling.method
+                  ∙ ap (λ x. cause_if x causes.asked) offered),
+              tt,
+            )
     asked answer kinds.Zseat e made = absurd made
     asked answer kinds.Zcf e made = absurd made
     asked answer kind e made = tt
@@ -543,11 +543,11 @@ module _ (read : TextReader) (served : AreGoodServices (serve_call read)) (calle
   give_turn : (g : LineGift) → d ≡ deliveries.give g → (res : Result Tree Refusal) → IsTurnWork w d (task_work read meter w (gift_beginning g res).task) → beginning_turn (gift_beginning g res)
   unfolding task_work
   give_turn g e (Ok t) is = record {
-        shows = fits (deliveries.gift t) (given null) (bind_label g.to g.label t ∷ []) is.good (tt, tt);
-        stays = λ n opens. let es : List Effect = bind_label g.to g.label t ∷ [] in ap (λ y. cause_by_row (kind_of y (deliveries.gift t)) (rows.ok (data_rows.printed null)) os (turn (deliveries.gift t) (given null)) (seat_at (last (given null) es).seats n).instance n) e;
-        quiet = λ e is. cc;
-        held = unread (deliveries.gift t) (given null) (λ x. subst IsOther (sym (ap (λ y. kind_of y (deliveries.gift t)) e) ∙ x) tt);
-      }
+    shows = fits (deliveries.gift t) (given null) (bind_label g.to g.label t ∷ []) is.good (tt, tt);
+    stays = λ n opens. let es : List Effect = bind_label g.to g.label t ∷ [] in ap (λ y. cause_by_row (kind_of y (deliveries.gift t)) (rows.ok (data_rows.printed null)) os (turn (deliveries.gift t) (given null)) (seat_at (last (given null) es).seats n).instance n) e;
+    quiet = λ e is. cc;
+    held = unread (deliveries.gift t) (given null) (λ x. subst IsOther (sym (ap (λ y. kind_of y (deliveries.gift t)) e) ∙ x) tt);
+  }
   give_turn g e (Err r) is = refused_turn deliveries.nothing r (subst (λ x. IsUndated (kind_of x deliveries.nothing)) (sym e) tt)
 
   tick_turn : (t : ℕ) → d ≡ deliveries.tick t → IsTurnWork w d (task_work read meter w (tick_task w.schedule.time t)) → TurnsBy deliveries.nothing (task_work read meter w (tick_task w.schedule.time t))

@@ -1,6 +1,6 @@
 -- A call of an instance's function shows what it does: its row shows the causes of the seats that it leaves, an empty
 -- seat stands right behind it, and a facet that is made is named by it.
-use Rattle.std.specs.Prelude.{◌⊎◌, decimal, ◌≡◌, ◌+◌, ◌*◌, ◌-◌, ◌^◌, ◌<◌, ◌≤◌, ◌++◌, ◌&&◌, ◌||◌, ℕ, suc, Bool, true, false, cond, List, [], ◌∷◌, Option, Some, None, Result, Ok, Err, IfOk, codes, length, map, not, refl}
+use Rattle.std.specs.Prelude.{◌⊎◌, decimal, ◌≡◌, ◌*◌, ◌-◌, ◌^◌, ◌<◌, ◌++◌, ◌&&◌, ◌||◌, ℕ, Bool, true, false, cond, List, [], ◌∷◌, Option, Some, Ok, Err, IfOk, codes, length, map, refl}
 use Rattle.std.specs.List.{AllByRecursion}
 use Rattle.std.specs.Str.{bytes_eq}
 use Rattle.std.proofs.Common.{inl, inr, sym, ◌∙◌, ap, subst, arith}
@@ -11,16 +11,15 @@ use Rattle.call_rows.specs.Acts.{MayAct}
 use Rattle.call_rows.specs.Licence.{IsStored}
 use Rattle.call_rows.specs.Obligations.{CanCall, IsRow}
 use Rattle.call_rows.specs.Rows.{Outcome}
-use Rattle.call_rows.specs.Traces.{Departure, all_halted, all_open, departure, departures_by, departures_in, movements_in, one_left, open_from, openings_by, openings_in}
+use Rattle.call_rows.specs.Traces.{Departure, all_halted, all_open, departure, departures_by, departures_in, movements_in, one_left, openings_by, openings_in}
 use Rattle.call_rows.specs.Words.{runs}
 use Rattle.contract_row_laws.proofs.OpenSeats.{all_own}
-use Rattle.contract_rows.specs.Contracts as contracts
 use Rattle.data_rows.specs.Names.{object_name}
 use Rattle.delivery_laws.specs.Works.{AreGoodHostCalls}
 use Rattle.delivery_laws.proofs.Asking.{all_have}
 use Rattle.delivery_laws.proofs.Logs.{all_good_untold}
 use Rattle.delivery_laws.proofs.Replies.{call_is}
-use Rattle.delivery_turns.specs.HostCalls.{answer_of, call_effects, call_row, effects_of, far_row, send_row, told_call, told_effects, when_row}
+use Rattle.delivery_turns.specs.HostCalls.{call_effects, far_row, send_row, told_call, told_effects, when_row}
 use Rattle.ertp_mint.specs.Stocks.{most_made}
 use Rattle.exit_arguments.specs.Exits as exits
 use Rattle.fair_causes.specs.Owed.{AreUncalled, HasCause, HaveCauses, IsNoUserSeat, IsUncalled, Owes, ShowsNothing, answered}
@@ -30,7 +29,7 @@ use Rattle.fair_causes.proofs.Others.{owes_nothing_more}
 use Rattle.fair_causes.proofs.Owing.{causes, owes_none}
 use Rattle.fair_effects.specs.Accounts.{AreStoredEffects}
 use Rattle.fair_effects.specs.Places.{rows_of, seats_told}
-use Rattle.fair_effects.specs.Shown.{AreShown, IsShown}
+use Rattle.fair_effects.specs.Shown.{AreShown}
 use Rattle.fair_effects.proofs.Rows.{rows_append}
 use Rattle.fair_rows.specs.Amounts.{IsReadByCall}
 use Rattle.fair_rows.specs.Seats as told
@@ -38,11 +37,10 @@ use Rattle.instance_store.specs.Facets.{FacetView}
 use Rattle.rights_model.specs.Table.{Table}
 use Rattle.fair_rows.specs.ExitCauses.{Owners, calls, facets_at, name}
 use Rattle.fair_rows.specs.Rows.{is_offer}
-use Rattle.jessie_semantics.specs.Keeping.{AllHave, CallHas}
+use Rattle.jessie_semantics.specs.Keeping.{CallHas}
 use Rattle.jessie_semantics.specs.Play.{Call, call, cost, far, send, when}
 use Rattle.jessie_tree.specs.Tree as trees
 use Rattle.jessie_tree.specs.Tree.{Tree, some_local, stays}
-use Rattle.jessie_tree.specs.View.{items_of}
 use Rattle.jessie_tree.specs.declared.data.Obj.{Obj}
 use Rattle.jessie_tree.specs.declared.data.ObjKind.{ObjKind}
 use Rattle.jessie_tree.specs.declared.data.ObjKind.TheVariants as kinds
@@ -51,7 +49,6 @@ use Rattle.proposals.specs.declared.offers.Exit.{Exit}
 use Rattle.refusals.specs.Codes.{limit}
 use Rattle.refusals.specs.declared.codes.Refusal.{Refusal}
 use Rattle.refusals.proofs.Steps.{after_check, after_need, after_step, ok_has}
-use Rattle.rights_model.specs.declared.Movement.{Movement}
 use Rattle.rights_tables.specs.Tables.{table_of}
 use Rattle.serde_json.specs.Data as json
 use Rattle.trade_rows.specs.Own.{make_empty_seat_kit}
@@ -65,7 +62,7 @@ use Rattle.turn_rows.specs.Kinds as hows
 use Rattle.turn_rows.specs.Turns as rows
 use Rattle.turn_rows.specs.Turns.{Turn}
 use Rattle.world_laws.proofs.Instances.{open_made}
-use Rattle.world_laws.proofs.Kept.{good-after, good-after_all}
+use Rattle.world_laws.proofs.Kept.{good-after}
 use Rattle.world_laws.proofs.Lists.{all_read, all_read_or}
 use Rattle.world_state.specs.Good.{AreGood, IsGoodWorld, IsPlaced}
 use Rattle.world_state.specs.Known.{IsKnownTo, IsSeatOf, known_as}
@@ -76,10 +73,10 @@ use Rattle.shown_reads.specs.Reads.{CallsRead}
 use Rattle.fair_steps.specs.Views.{IsCounted}
 use Rattle.fair_steps.proofs.Counts.{counted_after}
 use Rattle.fair_steps.proofs.Left.{left_after}
-use Rattle.fair_steps.proofs.Holding.{AreFit, Holds, IsFit, Shows, fit_all, holds_after}
+use Rattle.fair_steps.proofs.Holding.{AreFit, Holds, Shows, fit_all, holds_after}
 use Rattle.fair_steps.proofs.Names.{same_bytes}
 use Rattle.fair_steps.proofs.Owned.{FacetsTold, IsNoFacet, facets_called, facets_far}
-use Rattle.fair_steps.proofs.Telling.{AllHaveCauses, LeavesFor, causes_after, causes_called, none_shown, owes_after_it}
+use Rattle.fair_steps.proofs.Telling.{LeavesFor, causes_after, causes_called, none_shown, owes_after_it}
 
 -- ---- lists
 
@@ -268,14 +265,20 @@ module _ (owners : Owners) (t : Turn) where
 
     shown_behind : OpensAs o.kind o.number m es → AreShown owners t behind es
     shown_behind (inr opens) = shown_of w i o m behind es (causes owners t behind es good un owed_now) row.stored row.acts opens
-    shown_behind (inl is_kit) = subst (AreShown owners t behind) (sym is_kit.kit.is) ((runs_none, record {
-      more = rows_of w.log;
-      call = printed_call c;
-      last = rows_append w.log (events.called c ∷ []);
-      made = kit_called is_kit.zcf is_kit.method;
-      gives = refl;
-      wants = refl;
-    }), tt)
+    shown_behind (inl is_kit) = subst (AreShown owners t behind) (sym is_kit.kit.is) (
+      (
+        runs_none,
+        record {
+          more = rows_of w.log;
+          call = printed_call c;
+          last = rows_append w.log (events.called c ∷ []);
+          made = kit_called is_kit.zcf is_kit.method;
+          gives = refl;
+          wants = refl;
+        },
+      ),
+      tt,
+    )
       where
         kit_called : o.kind ≡ kinds.Zcf → bytes_eq m (codes "makeEmptySeatKit") ≡ true → calls (name (codes "zcf") o.number) (codes "makeEmptySeatKit") (printed_call c) ≡ true
         kit_called zcf method = ap (λ b. b && bytes_eq m (codes "makeEmptySeatKit")) (ap (λ k. bytes_eq (object_name (object k o.number)) (name (codes "zcf") o.number)) zcf ∙ zcf_name o.number) ∙ method
