@@ -100,8 +100,8 @@ module _ (states : List SeatState) where
     unsafe_least touched is =
         let any = is.unsafe in
         least_is seat (unsafe_seats touched)
-            (unsafe_named touched any.0 any.1 any.2 any.3 any.4.0 (unsafe_fails any.1 any.4.1))
-            (all_from touched (recursion_from_All (λ (t : Touched). ¬ IsSafeAfter states t → seat ≤ t.seat) touched is.least))
+        (unsafe_named touched any.0 any.1 any.2 any.3 any.4.0 (unsafe_fails any.1 any.4.1))
+        (all_from touched (recursion_from_All (λ (t : Touched). ¬ IsSafeAfter states t → seat ≤ t.seat) touched is.least))
 
 -- ---- size
 

@@ -128,7 +128,7 @@ module _ (states : List SeatState) (list : List Transfer) (each : All (HasOneBra
   all_meet before (t ∷ rest) same = (
     meets_at before t rest same,
     subst (λ had. AllMeet had rest) (worked-push (allocation_of states) before t)
-    (all_meet (before ++ t ∷ []) rest (same ∙ sym (append_assoc before (t ∷ []) rest))),
+        (all_meet (before ++ t ∷ []) rest (same ∙ sym (append_assoc before (t ∷ []) rest))),
   )
 
   pub too_much_shown : ((n : ℕ) → AreValues (allocation_of states n)) → AllByRecursion IsValued list → (over : TooMuch) → IsWorkRefusal (allocation_of states) list (plan.TooMuch over) → CanShow over.sum over.bound

@@ -45,7 +45,7 @@ module _ (touched : List Touched) where
     element_is =
         let c : Content = total_of (values_of u.brand (rows_of touched)) in
         first_in (is_unkept touched u.brand) u.element (unlike u.brand u.element differs) (λ q other. is.first q (differ_if u.brand q other))
-            (entries c) (fin.entries_sorted c.held) (listed_if touched u.brand u.element differs)
+        (entries c) (fin.entries_sorted c.held) (listed_if touched u.brand u.element differs)
 
     brand_named : Named u.brand (brands_of touched)
     brand_named = named_if u.brand u.element (rows_of touched) (λ none. differs (omega (arith, both_sides u.brand u.element touched, none)))
