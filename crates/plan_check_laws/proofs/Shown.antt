@@ -6,7 +6,7 @@ use Rattle.std.specs.Option.{ForSome, option_map_or}
 use Rattle.std.proofs.Math.Seq.{get_or-append_seam}
 use Rattle.std.proofs.lemmas.List.{take_at}
 use Rattle.std.proofs.lemmas.List.Elements.{All-append, All-map}
-use Rattle.allocation_changes.specs.Gains.{CanGain, CanRaise, CanSum, IsGainsRefusal, raised, with_gains}
+use Rattle.allocation_changes.specs.Gains.{CanGain, CanSum, IsGainsRefusal, raised, with_gains}
 use Rattle.allocation_changes.specs.Losses.{lowered, without}
 use Rattle.allocation_changes.specs.Rows.{further}
 use Rattle.allocation_changes.proofs.Apart.{AreApart-further, AreApart-map}
@@ -18,9 +18,8 @@ use Rattle.amount_math.specs.declared.Amount.{Amount}
 use Rattle.amount_math.specs.declared.PutFault.TheVariants as puts
 use Rattle.amount_math.specs.declared.TooMuch.{TooMuch}
 use Rattle.plan_refusals.specs.Bounds.{HasValue}
-use Rattle.plan_refusals.specs.Told.{PlanCanShow}
-use Rattle.proposals.specs.OfferSafety.{AreCovered, MeetSlots}
-use Rattle.proposals.specs.Rows.{AreApart, amount_under, content_under}
+use Rattle.proposals.specs.OfferSafety.{MeetSlots}
+use Rattle.proposals.specs.Rows.{amount_under, content_under}
 use Rattle.proposals.specs.declared.allocations.Row.{Row}
 use Rattle.proposals.specs.declared.plans.SeatState.{SeatState}
 use Rattle.proposals.specs.declared.plans.Transfer.{Transfer}
@@ -29,7 +28,6 @@ use Rattle.rearrange.proofs.Worked.{can_meet, worked-push}
 use Rattle.rearrange.specs.Seats.{allocation_of, seats_named}
 use Rattle.rearrange.specs.Transfers.{CanGive, HasOneBrand, IsWorkRefusal, gains_of, losses_of, lowered_by, with_rows, worked, worked_by}
 use Rattle.rearrange.specs.Working.{CanMeet}
-use Rattle.rearrange.specs.declared.plans.PlanFault.{PlanFault}
 use Rattle.rearrange.specs.declared.plans.PlanFault.TheVariants as plan
 use Rattle.refusals.specs.Told.{CanShow}
 use Rattle.plan_check_laws.specs.Values.{AreValues, IsValued}
@@ -128,7 +126,7 @@ module _ (states : List SeatState) (list : List Transfer) (each : All (HasOneBra
   all_meet before (t ∷ rest) same = (
     meets_at before t rest same,
     subst (λ had. AllMeet had rest) (worked-push (allocation_of states) before t)
-    (all_meet (before ++ t ∷ []) rest (same ∙ sym (append_assoc before (t ∷ []) rest))),
+        (all_meet (before ++ t ∷ []) rest (same ∙ sym (append_assoc before (t ∷ []) rest))),
   )
 
   pub too_much_shown : ((n : ℕ) → AreValues (allocation_of states n)) → AllByRecursion IsValued list → (over : TooMuch) → IsWorkRefusal (allocation_of states) list (plan.TooMuch over) → CanShow over.sum over.bound

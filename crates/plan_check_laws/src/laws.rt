@@ -95,4 +95,3 @@ pub fn what_transfers_make_too_much_can_be_shown()
         → AllByRecursion IsValued list → IsWorkRefusal (allocation_of states) list (plan.TooMuch over)
         → CanShow over.sum over.bound }
 {}
-
