@@ -1,5 +1,5 @@
 -- What plans of staging and of transfers answer is what their definitions test.
-use Rattle.std.proofs.Common.{◌≡◌, ℕ, List, length, ◌≤◌, Option, Some, None, Result, Ok, Err, refl, sym, ap, subst, ◌∙◌}
+use Rattle.std.proofs.Common.{◌≡◌, ℕ, List, length, ◌≤◌, Option, Some, None, Result, Ok, Err, sym, ap, subst, ◌∙◌}
 use Rattle.std.specs.List.{All}
 use Rattle.plan_checks.specs.Plans.{can_take_over, can_take_part, can_work, keeps, staged_changes, transfer_changes}
 use Rattle.plan_refusals.specs.Told.{plan_told, seats_told}

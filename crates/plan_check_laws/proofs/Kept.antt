@@ -1,14 +1,14 @@
 -- A plan passes its tests where it keeps what there is, is safe and small, and is refused else as plans say.
 use Rattle.std.specs.Prelude.{not, slice_index_or}
-use Rattle.std.specs.List.{All, AllByRecursion, Any, find, list_all}
+use Rattle.std.specs.List.{All, AllByRecursion, Any, list_all}
 use Rattle.std.specs.Option.{option_map_or}
-use Rattle.std.proofs.Common.{◌≡◌, ℕ, zero, suc, ◌<◌, ◌≤◌, Bool, true, false, cond, List, [], ◌∷◌, length, filter, map, IfSome, Option, Some, None, Result, Ok, Err, inl, inr, refl, sym, ap, subst, ◌∙◌, arith}
+use Rattle.std.proofs.Common.{◌≡◌, ℕ, zero, suc, ◌<◌, ◌≤◌, Bool, true, false, cond, List, [], ◌∷◌, length, filter, map, IfSome, Option, Some, None, Result, Ok, inl, inr, refl, sym, ap, subst, ◌∙◌, arith}
 use Rattle.std.proofs.lemmas.Bool.{and_from, le-leb, lt-leb}
 use Rattle.std.proofs.lemmas.List.Elements.{recursion_from_All}
 use Rattle.std.proofs.lemmas.List.Folds.{list_all_at}
-use Rattle.plan_checks.specs.Plans.{first_unkept, is_safe_after, is_small, keeps, least_unsafe}
+use Rattle.plan_checks.specs.Plans.{is_safe_after, is_small, keeps, least_unsafe}
 use Rattle.plan_checks.specs.Slots.{is_safe}
-use Rattle.plan_refusals.specs.Told.{plan_told, unkept_told}
+use Rattle.plan_refusals.specs.Told.{plan_told}
 use Rattle.proposals.specs.OfferSafety.{IsOfferSafe}
 use Rattle.proposals.specs.Reading.{least}
 use Rattle.proposals.specs.Rows.{most_rows}

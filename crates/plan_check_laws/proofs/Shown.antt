@@ -6,7 +6,7 @@ use Rattle.std.specs.Option.{ForSome, option_map_or}
 use Rattle.std.proofs.Math.Seq.{get_or-append_seam}
 use Rattle.std.proofs.lemmas.List.{take_at}
 use Rattle.std.proofs.lemmas.List.Elements.{All-append, All-map}
-use Rattle.allocation_changes.specs.Gains.{CanGain, CanRaise, CanSum, IsGainsRefusal, raised, with_gains}
+use Rattle.allocation_changes.specs.Gains.{CanGain, CanSum, IsGainsRefusal, raised, with_gains}
 use Rattle.allocation_changes.specs.Losses.{lowered, without}
 use Rattle.allocation_changes.specs.Rows.{further}
 use Rattle.allocation_changes.proofs.Apart.{AreApart-further, AreApart-map}
@@ -18,9 +18,8 @@ use Rattle.amount_math.specs.declared.Amount.{Amount}
 use Rattle.amount_math.specs.declared.PutFault.TheVariants as puts
 use Rattle.amount_math.specs.declared.TooMuch.{TooMuch}
 use Rattle.plan_refusals.specs.Bounds.{HasValue}
-use Rattle.plan_refusals.specs.Told.{PlanCanShow}
-use Rattle.proposals.specs.OfferSafety.{AreCovered, MeetSlots}
-use Rattle.proposals.specs.Rows.{AreApart, amount_under, content_under}
+use Rattle.proposals.specs.OfferSafety.{MeetSlots}
+use Rattle.proposals.specs.Rows.{amount_under, content_under}
 use Rattle.proposals.specs.declared.allocations.Row.{Row}
 use Rattle.proposals.specs.declared.plans.SeatState.{SeatState}
 use Rattle.proposals.specs.declared.plans.Transfer.{Transfer}
@@ -29,7 +28,6 @@ use Rattle.rearrange.proofs.Worked.{can_meet, worked-push}
 use Rattle.rearrange.specs.Seats.{allocation_of, seats_named}
 use Rattle.rearrange.specs.Transfers.{CanGive, HasOneBrand, IsWorkRefusal, gains_of, losses_of, lowered_by, with_rows, worked, worked_by}
 use Rattle.rearrange.specs.Working.{CanMeet}
-use Rattle.rearrange.specs.declared.plans.PlanFault.{PlanFault}
 use Rattle.rearrange.specs.declared.plans.PlanFault.TheVariants as plan
 use Rattle.refusals.specs.Told.{CanShow}
 use Rattle.plan_check_laws.specs.Values.{AreValues, IsValued}

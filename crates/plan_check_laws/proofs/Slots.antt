@@ -1,8 +1,7 @@
 -- Tests of slots beside what they stand for.
 use Rattle.std.specs.Prelude.{◌&&◌, ◌||◌, not, cond}
-use Rattle.std.specs.List.{All, find, list_all}
-use Rattle.std.proofs.Common.{◌≡◌, ◌⊎◌, ℕ, zero, suc, ◌<◌, Bool, true, false, List, [], ◌∷◌, length, Option, Some, None, Result, Ok, Err, inl, inr, refl, sym, ap, subst, ◌∙◌, arith}
-use Rattle.std.specs.Prelude.{slice_index_or}
+use Rattle.std.specs.List.{find}
+use Rattle.std.proofs.Common.{◌≡◌, zero, suc, Bool, true, false, List, [], ◌∷◌, Option, Some, Result, Ok, Err, inl, inr, refl, sym, ap, subst, ◌∙◌, arith}
 use Rattle.std.proofs.lemmas.Bool.{and_from, and_parts, false≢true, false_from_ne_true, or_left, or_right}
 use Rattle.allocation_changes.specs.Losses.{IsLossesRefusal, IsShort, held_under}
 use Rattle.allocation_changes.specs.Rows.{FirstShows}

@@ -1,10 +1,9 @@
 -- What isn't conserved is told as plans tell it: the least brand, and of its elements the first in byte order.
 use Rattle.std.specs.Prelude.{not}
 use Rattle.std.specs.FinMap as fin
-use Rattle.std.specs.List.{find}
-use Rattle.std.proofs.Common.{◌≡◌, ◌≢◌, ℕ, pos, ◌+◌, ◌≤◌, ◌==◌, Bool, true, false, List, filter, is_some, option_and_then, option_map, IfSome, Option, Some, None, refl, sym, ap, ◌∙◌, arith}
+use Rattle.std.proofs.Common.{◌≡◌, ◌≢◌, ℕ, pos, ◌≤◌, Bool, true, List, filter, is_some, option_and_then, option_map, IfSome, Option, Some, None, sym, ap, ◌∙◌, arith}
 use Rattle.std.proofs.lemmas.Bool.{eq-eqb, false≢true, ne_eqb}
-use Rattle.amount_math.specs.Content.{Content, entries, key_cmp}
+use Rattle.amount_math.specs.Content.{Content, entries}
 use Rattle.plan_checks.specs.Plans.{brands_of, elements_of, first_unkept, is_unkept, rows_of, unkept_at, unkept_brand, unkept_element, unkept_of, values_of}
 use Rattle.plan_refusals.specs.Told.{unkept_told}
 use Rattle.proposals.specs.declared.plans.Touched.{Touched}
