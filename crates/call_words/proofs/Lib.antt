@@ -1,0 +1,2 @@
+pub mod HandedObjects
+pub mod KeywordReads

@@ -1,0 +1,4 @@
+pub mod NoFault
+pub mod Numbers
+pub mod RowsFit
+pub mod Taken

@@ -1,0 +1,3 @@
+pub mod KnownObjects
+pub mod Opened
+pub mod Allocated

@@ -1,0 +1,64 @@
+-- The turns that were written so far are in form where they can be printed: once those that are left are so too, all
+-- are.
+use Rattle.std.proofs.Common.{◌≡◌, ◌≤◌, ◌<◌, ◌^◌, ℕ, suc, length, arith, List, [], ◌∷◌, ◌++◌, Some, None, map, sym, ap, subst, ◌∙◌, append-nil}
+use Rattle.std.specs.List.{AllByRecursion}
+use Rattle.contract_texts.specs.Reader.{reader}
+use Rattle.delivery_turns.specs.Hosts.{HostState, Step, step_of}
+use Rattle.message_lines.specs.InputLines.{lines_of}
+use Rattle.message_lines.specs.Meanings.{Meaning, meaning_of}
+use Rattle.turn_events.specs.Views.{turn_view}
+use Rattle.turn_events.specs.declared.turns.TurnRecord.{TurnRecord}
+use Rattle.turn_form.specs.Printing.{CanPrint}
+use Rattle.turn_records.specs.Printed.{printed}
+use Rattle.turn_rows.specs.Form.{AreInForm, IsInForm}
+use Rattle.turn_rows.specs.Turns.{Turn}
+use Rattle.world_state.specs.Rights.{most_turns}
+use Rattle.host_runs.specs.Runs.{HostTurn, Run, drained, first_host, line_run, left_of, lines_run, run_of, turn_then, turns_of}
+use Rattle.input_runs.specs.Forms.{PrintsInForm}
+use Rattle.input_runs.proofs.Drained.{drained_more, drained_none, drained_zero}
+use Rattle.input_runs.proofs.RunWritten.{meant, run_parts}
+
+abbrev pub PrintInForm : Run → Type 0
+PrintInForm r = AllByRecursion PrintsInForm r.turns
+
+both_in_form : (xs ys : List HostTurn) → AllByRecursion PrintsInForm xs → AllByRecursion PrintsInForm ys → AllByRecursion PrintsInForm (xs ++ ys)
+both_in_form [] ys p q = q
+both_in_form (x ∷ xs) ys p q = (p.0, both_in_form xs ys p.1 q)
+
+pub form_none : (k : ℕ) (s : HostState) → step_of reader s ≡ None → PrintInForm (drained reader k s)
+form_none k s none = subst PrintInForm (sym (drained_none k s none)) tt
+
+pub form_over : (k : ℕ) (s : HostState) → k ≡ 0 → PrintInForm (drained reader k s)
+form_over k s over = subst (λ n. PrintInForm (drained reader n s)) (sym over) (subst PrintInForm (sym (drained_zero s)) tt)
+
+pub form_turn : (k m : ℕ) (s : HostState) (t : Step) → k ≡ suc m → step_of reader s ≡ Some t → PrintsInForm (record { before = s; step = t }) → PrintInForm (drained reader m t.next) → PrintInForm (drained reader k s)
+form_turn k m s t left made first rest = subst (λ n. PrintInForm (drained reader n s)) (sym left) (subst PrintInForm (sym (drained_more m s t made)) (first, rest))
+
+pub form_line : (s : HostState) (ms : List Meaning) (m : Meaning) (left : List Meaning) → ms ≡ m ∷ left → (v : HostState) → v ≡ (line_run reader s m).end
+    → PrintInForm (line_run reader s m) → PrintInForm (lines_run reader v left) → PrintInForm (lines_run reader s ms)
+form_line s ms m left e v is one rest =
+    subst (λ ls. PrintInForm (lines_run reader s ls)) (sym e)
+    (both_in_form (line_run reader s m).turns (lines_run reader (line_run reader s m).end left).turns one (subst (λ u. PrintInForm (lines_run reader u left)) is rest))
+
+pub form_run : (meter most : ℕ) (input : List ℕ) (s t : HostState) → s ≡ first_host meter → t ≡ (lines_run reader s (map meaning_of (lines_of input))).end
+    → PrintInForm (lines_run reader s (map meaning_of (lines_of input))) → PrintInForm (drained reader most t) → PrintInForm (run_of reader meter most input)
+form_run meter most input s t e is lines last =
+    let there : t ≡ (lines_run reader (first_host meter) (meant input)).end = is ∙ ap (λ u. (lines_run reader u (meant input)).end) e in
+    subst PrintInForm (sym (run_parts meter most input))
+    (both_in_form (lines_run reader (first_host meter) (meant input)).turns ((drained reader most (lines_run reader (first_host meter) (meant input)).end).turns ++ [])
+    (subst (λ u. PrintInForm (lines_run reader u (meant input))) e lines)
+    (subst (AllByRecursion PrintsInForm) (sym (append-nil (drained reader most (lines_run reader (first_host meter) (meant input)).end).turns)) (subst (λ u. PrintInForm (drained reader most u)) there last)))
+
+-- ---- turns that can be printed
+
+abbrev pub CanBePrinted : HostTurn → Type 0
+CanBePrinted t = CanPrint t.step.turn
+
+turns_in_form : (ts : List HostTurn) → AllByRecursion PrintsInForm ts → AllByRecursion CanBePrinted ts → AllByRecursion IsInForm (map (λ (t : HostTurn). printed t.step.turn) ts)
+turns_in_form [] prints can = tt
+turns_in_form (t ∷ ts) prints can = (prints.0 can.0, turns_in_form ts prints.1 can.1)
+
+-- where the turns of a run can be printed, and were, the journal is in form
+pub run_in_form : (meter most : ℕ) (input : List ℕ) → PrintInForm (run_of reader meter most input) → AllByRecursion CanBePrinted (run_of reader meter most input).turns
+    → length (turns_of reader meter most input) ≤ most_turns → left_of reader meter most input < 2 ^ 64 → AreInForm (turns_of reader meter most input) (left_of reader meter most input)
+run_in_form meter most input prints can few left = record { turns = turns_in_form (run_of reader meter most input).turns prints can; as_many = omega (arith, few); few = left }

@@ -1,0 +1,3 @@
+pub mod Installed
+pub mod NamedObjects
+pub mod Known

@@ -1,0 +1,2 @@
+pub mod OrderedJson
+pub mod FormedLines

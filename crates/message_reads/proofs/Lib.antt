@@ -1,0 +1,3 @@
+pub mod StatesMet
+pub mod PartsResolved
+pub mod Sent

@@ -1,0 +1,82 @@
+//! How all open seats of an instance are left, by number, as effects. It stands on the draft of the vault's seats and on
+//! plans. Its one contract: the exits are just those of the seats that the world has open, each with the cause that is
+//! given; where the instance halts, that comes last.
+#![tactic(auto)]
+
+ghost use Rattle.std.specs.Prelude.{◌≡◌, ◌++◌, ◌<◌, IfOk, OnOk, length};
+ghost use Rattle.call_plans.specs.Views.{AreShaped, effect_views};
+ghost use Rattle.call_rows.specs.Traces.{all_open};
+ghost use Rattle.delivery_turns.specs.Tasks.{exit_if_open, exits_with, halt_with};
+ghost use Rattle.host_world.specs.Worlds.{world_of};
+ghost use Rattle.turn_events.specs.Views.{cause_view};
+
+use call_plans::effects::{Effect, InstancesEffect, SeatsEffect};
+use host_world::World;
+use right_reads::seat_reads::is_open;
+use std::alloc::{AllocError, Global};
+use turn_events::events::Cause;
+
+/// Adds that a seat is left with a cause, if it is still open.
+pub fn add_exit(
+    world: &World,
+    seat: u32,
+    cause: Cause,
+    effects: &mut Vec<Effect>,
+) -> Result<(), AllocError>
+    requires { seat < length (world_of world.now).seats }
+    ensures { OnOk result (effect_views effects.new.items ≡ effect_views effects.old.items
+        ++ exit_if_open (world_of world.now) seat (cause_view cause)) }
+{
+    if is_open(&world.draft, seat) {
+        effects.push(Effect::Seats(SeatsEffect::Exit(seat, cause)))?;
+    }
+    Ok(())
+}
+
+/// Adds the exits of all open seats of an instance with a cause, by number.
+pub fn add_exits(
+    world: &World,
+    instance: u32,
+    cause: Cause,
+    effects: &mut Vec<Effect>,
+) -> Result<(), AllocError>
+    ensures { OnOk result (effect_views effects.new.items ≡ effect_views effects.old.items
+        ++ exits_with (cause_view cause) (all_open (world_of world.now) instance)) }
+{
+    for seat in world.draft.seats().seats_of(instance) {
+        add_exit(world, *seat, cause, effects)?;
+    }
+    Ok(())
+}
+
+/// Adds that all open seats of an instance are left with a cause, and then the instance halts (Zoe's shutdown; that a
+/// throwing start and a spent meter halt is our own).
+pub fn add_halt(
+    world: &World,
+    instance: u32,
+    cause: Cause,
+    effects: &mut Vec<Effect>,
+) -> Result<(), AllocError>
+    ensures { OnOk result (effect_views effects.new.items ≡ effect_views effects.old.items
+        ++ halt_with (cause_view cause) (world_of world.now) instance) }
+{
+    add_exits(world, instance, cause, effects)?;
+    effects.push(Effect::Instances(InstancesEffect::Halt(instance)))?;
+    Ok(())
+}
+
+/// The effects by which an instance halts with a cause.
+pub fn halt_with(
+    alloc: Global,
+    world: &World,
+    instance: u32,
+    cause: Cause,
+) -> Result<Vec<Effect>, AllocError>
+    ensures effects { IfOk result (λ es. effect_views es.items
+        ≡ halt_with (cause_view cause) (world_of world.now) instance) }
+    ensures shaped { IfOk result (λ es. AreShaped es.items) }
+{
+    let mut effects = Vec::new(alloc);
+    add_halt(world, instance, cause, &mut effects)?;
+    Ok(effects)
+}

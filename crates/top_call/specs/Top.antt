@@ -1,0 +1,164 @@
+-- What each status of the top call says.
+use Rattle.std.specs.Prelude.{◌≡◌, ◌<◌, ◌≤◌, ℕ, List, length, true, false, codes, Option, IfSome}
+use Rattle.std.specs.Io.KnownBytes.{Appends, Keeps}
+use Rattle.command_words.specs.declared.words.Options.{Options}
+use Rattle.contract_texts.specs.Reader.{reader}
+use Rattle.host_io.specs.Causes.{Rose}
+use Rattle.host_io.specs.Fronts.{AppendsFront}
+use Rattle.host_runs.specs.Runs.{AppendsToLimit, AppendsTurns, journal_of, turns_of}
+use Rattle.message_lines.specs.InputLines.{is_too_long}
+use Rattle.turn_rows.specs.Turns.{Turn}
+use Rattle.world_state.specs.Rights.{most_turns}
+use Rattle.top_call.specs.declared.top.Status.{Status}
+use Rattle.top_call.specs.declared.top.Status.TheVariants.{Done, Usage, ReadFault, WriteFault, NoMemory, TurnLimit, TooLong}
+
+-- the exit status
+abbrev pub exit_code : Status → ℕ
+exit_code Done = 0
+exit_code Usage = 2
+exit_code ReadFault = 3
+exit_code WriteFault = 4
+exit_code NoMemory = 5
+exit_code TurnLimit = 6
+exit_code TooLong = 7
+
+-- what is shown on standard error
+abbrev pub status_name : Status → List ℕ
+status_name Done = codes "Done"
+status_name Usage = codes "Usage"
+status_name ReadFault = codes "ReadFault"
+status_name WriteFault = codes "WriteFault"
+status_name NoMemory = codes "NoMemory"
+status_name TurnLimit = codes "TurnLimit"
+status_name TooLong = codes "TooLong"
+
+-- ---- a call, as far as it is seen
+
+-- a count of faults, and the bytes that were written, before the call and after it
+pub record Counts : Type 0 where
+  pub before : ℕ
+  pub now : ℕ
+
+pub record Bytes : Type 0 where
+  pub before : Option (List ℕ)
+  pub now : Option (List ℕ)
+
+-- what was asked for, what the source held where that is told, what the sink has, and the faults of both
+pub record Seen : Type 0 where
+  pub options : Options
+  pub held : Option (List ℕ)
+  pub written : Bytes
+  pub source : Counts
+  pub sink : Counts
+
+abbrev pub IsQuiet : Counts → Type 0
+IsQuiet c = c.now ≡ c.before
+
+abbrev pub HasRisen : Counts → Type 0
+HasRisen c = Rose c.before c.now
+
+pub record AreQuiet (c : Seen) : Type 0 where
+  pub source : IsQuiet c.source
+  pub sink : IsQuiet c.sink
+
+-- the journal of the input, and its turns, under the options
+abbrev pub journal_for : Seen → List ℕ → List ℕ
+journal_for c input = journal_of reader c.options.meter c.options.turns input
+
+abbrev pub turns_for : Seen → List ℕ → List Turn
+turns_for c input = turns_of reader c.options.meter c.options.turns input
+
+-- nothing was written, whatever the source held
+abbrev pub WroteNothing : Seen → Type 0
+WroteNothing c = Keeps c.written.before c.written.now
+
+-- ---- the limits
+
+pub record IsWithin (o : Options) (input : List ℕ) : Type 0 where
+  pub bytes : is_too_long input ≡ false
+  pub turns : length (turns_of reader o.meter o.turns input) ≤ most_turns
+
+pub record IsPast (o : Options) (input : List ℕ) : Type 0 where
+  pub bytes : is_too_long input ≡ false
+  pub turns : most_turns < length (turns_of reader o.meter o.turns input)
+
+-- ---- what each status says
+
+-- the journal of the input was written, which passes no limit
+pub record Completes (c : Seen) (input : List ℕ) : Type 0 where
+  pub journal : Appends c.written.before c.written.now (journal_for c input)
+  pub within : IsWithin c.options input
+
+pub record IsDone (c : Seen) : Type 0 where
+  pub completes : IfSome c.held (Completes c)
+  pub quiet : AreQuiet c
+
+pub record IsUnread (c : Seen) : Type 0 where
+  pub nothing : WroteNothing c
+  pub quiet : AreQuiet c
+
+-- the source failed
+pub record IsReadFault (c : Seen) : Type 0 where
+  pub nothing : WroteNothing c
+  pub source : HasRisen c.source
+  pub sink : IsQuiet c.sink
+
+-- the sink failed, and a front of the journal was written
+pub record BreaksOff (c : Seen) (input : List ℕ) : Type 0 where
+  pub front : AppendsFront c.written.before c.written.now (journal_for c input)
+  pub bytes : is_too_long input ≡ false
+
+pub record IsWriteFault (c : Seen) : Type 0 where
+  pub breaks_off : IfSome c.held (BreaksOff c)
+  pub source : IsQuiet c.source
+  pub sink : HasRisen c.sink
+
+-- memory ran out, and the rows of the first turns were written, whole
+pub record IsOutOfMemory (c : Seen) : Type 0 where
+  pub turns : IfSome c.held
+      (λ input. AppendsTurns c.written.before c.written.now (turns_for c input))
+  pub quiet : AreQuiet c
+
+-- the last turn was run, and another is left: just the turns up to there were written
+pub record Stops (c : Seen) (input : List ℕ) : Type 0 where
+  pub turns : AppendsToLimit c.written.before c.written.now 0 (turns_for c input)
+  pub past : IsPast c.options input
+
+pub record IsAtTurnLimit (c : Seen) : Type 0 where
+  pub stops : IfSome c.held (Stops c)
+  pub quiet : AreQuiet c
+
+-- the input has too many bytes, or a line of it has
+pub record IsTooLong (c : Seen) : Type 0 where
+  pub nothing : WroteNothing c
+  pub long : IfSome c.held (λ input. is_too_long input ≡ true)
+  pub quiet : AreQuiet c
+
+abbrev pub Says : Status → Seen → Type 0
+Says Done c = IsDone c
+Says Usage c = IsUnread c
+Says ReadFault c = IsReadFault c
+Says WriteFault c = IsWriteFault c
+Says NoMemory c = IsOutOfMemory c
+Says TurnLimit c = IsAtTurnLimit c
+Says TooLong c = IsTooLong c
+
+-- ---- which status comes
+
+-- the words are refused, unless memory ran out
+abbrev pub IsRefused : Status → Type 0
+IsRefused Usage = Unit {0}
+IsRefused NoMemory = Unit {0}
+IsRefused _ = ⊥
+
+-- done, unless memory ran out
+abbrev pub Ends : Status → Type 0
+Ends Done = Unit {0}
+Ends NoMemory = Unit {0}
+Ends _ = ⊥
+
+-- where nothing stands against it, the run is done
+pub record IsFree (c : Seen) (input : List ℕ) : Type 0 where
+  pub within : IsWithin c.options input
+  pub source : HasRisen c.source → ⊥
+  pub sink : HasRisen c.sink → ⊥

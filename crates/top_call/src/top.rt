@@ -1,0 +1,147 @@
+//! The top call.
+
+ghost use Rattle.std.specs.Prelude.{◌≡◌, ℕ, List, map, true, false, string_bytes, IfSome};
+ghost use Rattle.std.specs.Io.KnownBytes.{IsAtEnd};
+ghost use Rattle.command_words.specs.Words.{options_of, takes_words};
+ghost use Rattle.contract_texts.specs.Reader.{reader};
+ghost use Rattle.host_runs.specs.Order.{AreInOrder};
+ghost use Rattle.host_runs.specs.Runs.{meanings_of, run_of};
+ghost use Rattle.top_call.specs.Top.{Ends, IsFree, IsRefused, Says, exit_code, status_name};
+
+use command_words::words::{WordsFault, read_words};
+use host_io::{ReadError, Sink, Source, read_all};
+use input_runs::hosts::HostSteps;
+use input_runs::run::{RunFault, run_input};
+use message_lines::lines::{MAX_INPUT, has_long_line};
+use std::alloc::Global;
+
+/// How the program ended.
+#[derive(Clone, Copy, PartialEq, Eq)]
+pub enum Status {
+    Done,
+    Usage,
+    ReadFault,
+    WriteFault,
+    NoMemory,
+    TurnLimit,
+    TooLong,
+}
+
+impl Status {
+    /// The program's exit status.
+    pub fn code(self) -> u8
+        ensures { result ≡ exit_code self }
+    {
+        match self {
+            Status::Done => 0,
+            Status::Usage => 2,
+            Status::ReadFault => 3,
+            Status::WriteFault => 4,
+            Status::NoMemory => 5,
+            Status::TurnLimit => 6,
+            Status::TooLong => 7,
+        }
+    }
+
+    pub fn name(self) -> &'static str
+        ensures { result.now ≡ status_name self }
+    {
+        match self {
+            Status::Done => "Done",
+            Status::Usage => "Usage",
+            Status::ReadFault => "ReadFault",
+            Status::WriteFault => "WriteFault",
+            Status::NoMemory => "NoMemory",
+            Status::TurnLimit => "TurnLimit",
+            Status::TooLong => "TooLong",
+        }
+    }
+
+    /// What the status says of the run, to be shown on standard error.
+    pub fn meaning(self) -> &'static str {
+        match self {
+            Status::Done => "all was read, and the whole journal was written",
+            Status::Usage => {
+                "the words after the program's name are none that it takes; \
+                 nothing was read or written"
+            }
+            Status::ReadFault => "the input could not be read to its end; nothing was written",
+            Status::WriteFault => {
+                "the output could not be written; a front of the journal at most is there"
+            }
+            Status::NoMemory => {
+                "memory ran out; what was written are the rows of the first turns, if any, whole, \
+                 without a close row"
+            }
+            Status::TurnLimit => {
+                "turn 4000000000, the last that is run, was run and a delivery is left to be run; \
+                 what was written are the rows of those turns, without a close row"
+            }
+            Status::TooLong => {
+                "the input has more than 1073741824 bytes, or a line of it more than 1048576; \
+                 nothing was written"
+            }
+        }
+    }
+}
+
+/// Reads the whole input and writes the journal of the run on it.
+#[tactic(auto, using(host_runs::proofs::RunOrder::runs_in_order))]
+pub fn zoe_top<H: HostSteps, S: Source, K: Sink>(
+    alloc: Global,
+    words: &[String],
+    source: &mut S,
+    sink: &mut K,
+) -> Status
+    // What was written, and why each status comes.
+    ensures says { Says result (record {
+      options = options_of (map (λ w. string_bytes w) words.now);
+      held = S.left source.old;
+      written = record { before = K.written sink.old; now = K.written sink.new };
+      source = record { before = S.faults source.old; now = S.faults source.new };
+      sink = record { before = K.faults sink.old; now = K.faults sink.new };
+    }) }
+    ensures all_read { result ≡ Status.Done → IsAtEnd (S.left source.new) }
+
+    // The words aren't taken, and nothing is read or written.
+    ensures usage { result ≡ Status.Usage
+        → takes_words (map (λ w. string_bytes w) words.now) ≡ false }
+    ensures refused { takes_words (map (λ w. string_bytes w) words.now) ≡ false → IsRefused result }
+    ensures untouched { takes_words (map (λ w. string_bytes w) words.now) ≡ false
+        → (source.new ≡ source.old) × (sink.new ≡ sink.old) }
+
+    // Where nothing stands against it, the run is done.
+    ensures complete { IfSome (S.left source.old) (λ input.
+        takes_words (map (λ w. string_bytes w) words.now) ≡ true → IsFree (record {
+          options = options_of (map (λ w. string_bytes w) words.now);
+          held = S.left source.old;
+          written = record { before = K.written sink.old; now = K.written sink.new };
+          source = record { before = S.faults source.old; now = S.faults source.new };
+          sink = record { before = K.faults sink.old; now = K.faults sink.new };
+        }) input → Ends result) }
+
+    // Deliveries have their turns in order, whatever the input.
+    ensures in_order { (meter most : ℕ) (input : List ℕ)
+        → AreInOrder reader meter (meanings_of most input) (run_of reader meter most input) }
+{
+    let options = match read_words(alloc, words) {
+        Ok(options) => options,
+        Err(WordsFault::Usage) => return Status::Usage,
+        Err(WordsFault::NoMemory) => return Status::NoMemory,
+    };
+    let input = match read_all(alloc, source, MAX_INPUT) {
+        Ok(input) => input,
+        Err(ReadError::Failed) => return Status::ReadFault,
+        Err(ReadError::TooLong) => return Status::TooLong,
+        Err(ReadError::NoMemory) => return Status::NoMemory,
+    };
+    if has_long_line(&input) {
+        return Status::TooLong;
+    }
+    match run_input::<H, K>(alloc, &input, options.meter, options.turns, sink) {
+        Ok(()) => Status::Done,
+        Err(RunFault::Failed) => Status::WriteFault,
+        Err(RunFault::TurnLimit) => Status::TurnLimit,
+        Err(RunFault::NoMemory) => Status::NoMemory,
+    }
+}

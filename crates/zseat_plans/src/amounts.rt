@@ -1,0 +1,102 @@
+//! What a seat was opened for, what it has, and what is staged of it.
+
+ghost use Rattle.std.specs.Prelude.{◌≡◌, ◌<◌, length};
+ghost use Rattle.std.specs.Option.{option_copied};
+ghost use Rattle.call_plans.specs.Plans.{Reads};
+ghost use Rattle.contract_rows.specs.SeatRows.{get_amount_allocated, get_current_allocation, get_staged_allocation};
+ghost use Rattle.contract_words.specs.Known.{AreKnown};
+ghost use Rattle.host_world.specs.Worlds.{world_of};
+ghost use Rattle.jessie_tree.specs.View.{trees};
+ghost use Rattle.trade_rows.specs.Own.{get_proposal};
+ghost use Rattle.zseat_plans.specs.Shown.{amount_shown};
+
+use allocation_changes::slots::amount_of;
+use amount_math::{Amount, Value};
+use call_data::values::amount_data;
+use call_words::words::keyword_at;
+use contract_words::allocations::{current_allocation, staged_allocation};
+use contract_words::given::brand_number;
+use contract_words::own_seats::check_open;
+use host_world::World;
+use jessie_tree::data::Data;
+use record_data::allocation_data;
+use refusals::codes::NumberCode;
+use refusals::stops::Stop;
+use right_reads::seat_reads::seat_proposal;
+use row_arguments::texts::keyword_of;
+use seat_plans::proposal_reads::proposal_data;
+use std::alloc::Global;
+
+/// zseat.getProposal() (Zoe).
+#[tactic(auto, unfolding(trade_rows::specs::Own::get_proposal))]
+pub fn get_proposal(alloc: Global, world: &World, seat: u32) -> Result<Data, Stop>
+    requires { seat < length (world_of world.now).seats }
+    ensures { Reads (get_proposal (world_of world.now) seat) result }
+{
+    Ok(proposal_data(alloc, seat_proposal(&world.draft, seat))?)
+}
+
+/// zseat.getCurrentAllocation() (Zoe).
+#[tactic(auto, unfolding(contract_rows::specs::SeatRows::get_current_allocation, refusals::specs::Outcomes::bind))]
+pub fn get_current_allocation(alloc: Global, world: &World, seat: u32) -> Result<Data, Stop>
+    requires { seat < length (world_of world.now).seats }
+    ensures { Reads (get_current_allocation (world_of world.now) seat) result }
+{
+    check_open(world, seat)?;
+    let allocation = current_allocation(world, seat)?;
+    Ok(allocation_data(alloc, allocation.rows())?)
+}
+
+/// zseat.getStagedAllocation(): what is staged, else what the seat has (Zoe).
+#[tactic(auto, unfolding(contract_rows::specs::SeatRows::get_staged_allocation, refusals::specs::Outcomes::bind))]
+pub fn get_staged_allocation(alloc: Global, world: &World, seat: u32) -> Result<Data, Stop>
+    requires { seat < length (world_of world.now).seats }
+    ensures { Reads (get_staged_allocation (world_of world.now) seat) result }
+{
+    check_open(world, seat)?;
+    if let Some(staged) = staged_allocation(world, seat) {
+        return Ok(allocation_data(alloc, staged.rows())?);
+    }
+    let allocation = current_allocation(world, seat)?;
+    Ok(allocation_data(alloc, allocation.rows())?)
+}
+
+/// zseat.getAmountAllocated(keyword, brand): nothing of the brand where the keyword has no slot (Zoe).
+#[tactic(auto, unfolding(contract_rows::specs::SeatRows::get_amount_allocated, crate::specs::Shown::amount_shown, refusals::specs::Outcomes::bind))]
+pub fn get_amount_allocated(
+    alloc: Global,
+    world: &World,
+    seat: u32,
+    args: &[Data],
+) -> Result<Data, Stop>
+    requires made { seat < length (world_of world.now).seats }
+    requires known { AreKnown (world_of world.now) (trees args.now) }
+    ensures { Reads (get_amount_allocated (world_of world.now) seat (trees args.now)) result }
+{
+    check_open(world, seat)?;
+    let keyword = keyword_of(alloc, keyword_at(alloc, 1, args)?)?;
+    let brand = brand_number(world, 2, args)?;
+    let allocation = current_allocation(world, seat)?;
+    amount_shown(alloc, world, brand, amount_of(allocation.rows(), &keyword))
+}
+
+/// An amount of a brand that is held, or nothing of it: else `WrongBrand`.
+#[tactic(auto, unfolding(crate::specs::Shown::amount_shown, refusals::specs::Outcomes::bind, refusals::specs::Outcomes::need))]
+fn amount_shown(
+    alloc: Global,
+    world: &World,
+    brand: u16,
+    held: Option<&Amount>,
+) -> Result<Data, Stop>
+    requires { brand < length (world_of world.now).brands }
+    ensures { Reads (amount_shown (world_of world.now) brand (option_copied held.entry)) result }
+{
+    let Some(held) = held else {
+        let nothing = Value::empty(world.plain.brands.kind(brand));
+        return Ok(amount_data(alloc, brand, &nothing)?);
+    };
+    if held.brand != brand {
+        return Err(Stop::numbered(NumberCode::WrongBrand, u32::from(brand)));
+    }
+    Ok(amount_data(alloc, brand, &held.value)?)
+}
