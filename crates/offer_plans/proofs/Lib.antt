@@ -1,0 +1,5 @@
+pub mod Inviting
+pub mod KeywordTests
+pub mod Pairs
+pub mod ReadRows
+pub mod Steps

@@ -1,0 +1,102 @@
+//! The methods of purses, of their deposit facets and of payments (ERTP), as plans. It stands on what rows read of
+//! the world. Its one contract: each reads or plans what its row's definition says.
+#![tactic(auto)]
+
+ghost use Rattle.std.specs.Prelude.{◌≡◌, ◌<◌, length};
+ghost use Rattle.call_plans.specs.Plans.{Plans, Reads};
+ghost use Rattle.call_words.specs.Handed.{AreHanded};
+ghost use Rattle.ertp_rows.specs.PaymentRows as payment_rows;
+ghost use Rattle.host_world.specs.Worlds.{world_of};
+ghost use Rattle.jessie_tree.specs.View.{trees};
+ghost use Rattle.service_rows.specs.PurseRows.{deposit, get_alleged_brand, get_current_amount, withdraw};
+ghost use Rattle.world_state.specs.Good.{IsGoodWorld};
+
+use call_arguments::amounts::{amount, check_held};
+use call_arguments::places::argument;
+use call_data::values::{amount_data, object_data};
+use call_plans::plans::Plan;
+use call_words::moves::{moving_amount, paying};
+use call_words::words::next_payment;
+use holding_checks::{check_has, check_sum};
+use host_world::World;
+use jessie_tree::data::{Data, ObjKind};
+use refusals::stops::Stop;
+use right_reads::payment_reads::payment_brand;
+use right_reads::purse_reads::{purse_amount, purse_brand};
+use rights_model::{Holder, Movement};
+use service_reads::brand_reads::brand_data;
+use service_reads::payment_reads::live_at;
+use std::alloc::Global;
+
+/// `purse.getAllegedBrand()` (ERTP).
+#[tactic(auto, using(service_reads::proofs::HeldKinds::purse_brand_made), unfolding(service_rows::specs::PurseRows::get_alleged_brand))]
+pub fn get_alleged_brand(world: &World, purse: u32) -> Result<Data, Stop>
+    requires good { IsGoodWorld (world_of world.now) }
+    requires made { purse < length (world_of world.now).rights.purses }
+    ensures { Reads (get_alleged_brand (world_of world.now) purse) result }
+{
+    Ok(brand_data(world, purse_brand(&world.draft, purse)))
+}
+
+/// `purse.getCurrentAmount()` (ERTP).
+#[tactic(auto, unfolding(service_rows::specs::PurseRows::get_current_amount))]
+pub fn get_current_amount(alloc: Global, world: &World, purse: u32) -> Result<Data, Stop>
+    requires { purse < length (world_of world.now).rights.purses }
+    ensures { Reads (get_current_amount (world_of world.now) purse) result }
+{
+    let held = purse_amount(&world.draft, purse).copy()?;
+    Ok(amount_data(alloc, purse_brand(&world.draft, purse), &held)?)
+}
+
+/// `purse.deposit(payment, amount)`, and `deposit.receive(payment, amount)` (ERTP).
+#[tactic(auto, using(service_reads::proofs::HeldKinds::purse_kind), unfolding(service_rows::specs::PurseRows::deposit, refusals::specs::Outcomes::bind))]
+pub fn deposit(alloc: Global, world: &World, purse: u32, args: &[Data]) -> Result<Plan, Stop>
+    requires good { IsGoodWorld (world_of world.now) }
+    requires made { purse < length (world_of world.now).rights.purses }
+    requires handed { AreHanded (world_of world.now) (trees args.now) }
+    ensures { Plans (deposit (world_of world.now) purse (trees args.now)) result }
+{
+    let brand = purse_brand(&world.draft, purse);
+    let given = live_at(world, brand, 1, args)?;
+    check_held(alloc, brand, &given.value, 2, argument(args, 2))?;
+    check_sum(purse_amount(&world.draft, purse), &given.value)?;
+    let deposits = Movement {
+        brand,
+        from: Holder::Payment(given.number),
+        to: Holder::Purse(purse),
+        value: given.value,
+    };
+    Ok(moving_amount(alloc, deposits)?)
+}
+
+/// `purse.withdraw(amount)` (ERTP).
+#[tactic(auto, unfolding(service_rows::specs::PurseRows::withdraw, refusals::specs::Outcomes::bind))]
+pub fn withdraw(alloc: Global, world: &World, purse: u32, args: &[Data]) -> Result<Plan, Stop>
+    requires { purse < length (world_of world.now).rights.purses }
+    ensures { Plans (withdraw (world_of world.now) purse (trees args.now)) result }
+{
+    let brand = purse_brand(&world.draft, purse);
+    let held = purse_amount(&world.draft, purse);
+    let value = amount(alloc, brand, held.kind(), 1, argument(args, 1))?;
+    check_has(held, &value)?;
+    let payment = next_payment(world)?;
+    Ok(paying(alloc, brand, Holder::Purse(purse), payment, value)?)
+}
+
+/// `purse.getDepositFacet()`: it has the purse's number (ERTP).
+#[tactic(auto, unfolding(ertp_rows::specs::PaymentRows::get_deposit_facet))]
+pub fn get_deposit_facet(purse: u32) -> Result<Data, Stop>
+    ensures { Reads (payment_rows.get_deposit_facet purse) result }
+{
+    Ok(object_data(ObjKind::Deposit, purse))
+}
+
+/// `payment.getAllegedBrand()`, of one that was spent too (ERTP).
+#[tactic(auto, using(service_reads::proofs::HeldKinds::payment_brand_made), unfolding(ertp_rows::specs::PaymentRows::get_alleged_brand))]
+pub fn get_brand_of_payment(world: &World, payment: u32) -> Result<Data, Stop>
+    requires good { IsGoodWorld (world_of world.now) }
+    requires made { payment < length (world_of world.now).rights.payments }
+    ensures { Reads (payment_rows.get_alleged_brand (world_of world.now) payment) result }
+{
+    Ok(brand_data(world, payment_brand(&world.draft, payment)))
+}

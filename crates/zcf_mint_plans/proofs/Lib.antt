@@ -1,0 +1,2 @@
+pub mod MakersCounted
+pub mod Shapes
