@@ -1,5 +1,0 @@
-pub mod Inviting
-pub mod KeywordTests
-pub mod Pairs
-pub mod ReadRows
-pub mod Steps

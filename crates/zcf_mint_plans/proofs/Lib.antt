@@ -1,2 +1,0 @@
-pub mod MakersCounted
-pub mod Shapes

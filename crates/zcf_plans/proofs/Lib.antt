@@ -1,2 +1,0 @@
-pub mod OpenSeats
-pub mod Shaped
