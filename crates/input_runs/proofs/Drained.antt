@@ -1,36 +1,67 @@
 -- What a step makes of the turns that a drain has still to run.
-use Rattle.std.proofs.Common.{◌≡◌, ◌+◌, ℕ, zero, suc, ◌<◌, ◌≤◌, List, [], ◌∷◌, length, Option, Some, None, Ok, Err, refl, subst, arith, append-nil}
+use Rattle.std.specs.Prelude.{String, string_bytes}
+use Rattle.std.specs.declared.alloc.Global.{Global}
+use Rattle.std.proofs.Common.{◌≡◌, ℕ, zero, suc, ◌≤◌, List, [], ◌∷◌, length, Option, Some, None, Ok, Err, refl, subst, arith, append-nil}
 use Rattle.std.specs.Io.KnownBytes.{Appends}
 use Rattle.std.specs.Option.{option_map_or}
 use Rattle.contract_texts.specs.Reader.{reader}
 use Rattle.delivery_turns.specs.Hosts.{HostState, Step, step_from, step_of}
 use Rattle.host_io.specs.Fronts.{AppendsFront}
 use Rattle.turn_events.specs.Views.{turn_view}
+use Rattle.turn_form.specs.Printing.{CanPrint}
+use Rattle.turn_rows.specs.Form.{IsInForm}
 use Rattle.turn_events.specs.declared.turns.TurnRecord.{TurnRecord}
 use Rattle.turn_records.specs.Deliveries.{Delivery}
 use Rattle.turn_records.specs.Printed.{printed}
 use Rattle.turn_rows.specs.Turns.{Turn}
 use Rattle.world_state.specs.Rights.{most_turns}
 use Rattle.host_runs.proofs.RunOrder.{step_count}
-use Rattle.host_runs.specs.Runs.{AppendsToLimit, Run, drained, left_in, no_turn, turn_text, turn_then, turns_in, turns_text}
+use Rattle.host_runs.specs.Runs.{AppendsToLimit, drained, left_in, no_turn, turn_text, turn_then, turns_in, turns_text}
 use Rattle.input_runs.specs.Faults.{run_fault}
 use Rattle.input_runs.specs.Steps.{IsAtLimit, IsStep, IsTurn, NoneWaits}
+use Rattle.input_runs.specs.Texts.{IsNextText, IsTurnText}
 use Rattle.input_runs.specs.declared.hosts.StepFault.{StepFault}
 use Rattle.input_runs.specs.declared.hosts.StepFault.TheVariants as step
+use Rattle.input_runs.specs.declared.run.RunFault.{RunFault}
 use Rattle.input_runs.specs.declared.run.RunFault.TheVariants as fault
 use Rattle.input_runs.proofs.TurnsWritten.{Written, failed_next, limit_left, written_all, written_more}
 
--- ---- a step's answer
+-- ---- the rows of the next turn
 
-pub stepped_some : (old new : HostState) (turn : TurnRecord) (stepped : Option TurnRecord) → stepped ≡ Some turn → IsStep old new (Ok stepped) → IsTurn old new turn
+-- why no step is made, as a fault of the run
+pub fault_text : (old new : HostState) (f : StepFault) (g : RunFault) → g ≡ run_fault f → IsStep old new (Err f) → IsNextText old new (Err g)
+fault_text old new step.TurnLimit fault.TurnLimit e h = h
+fault_text old new step.TurnLimit fault.NoMemory e h = tt
+fault_text old new step.TurnLimit fault.Failed e h = absurd (cc)
+fault_text old new step.NoMemory fault.TurnLimit e h = absurd (cc)
+fault_text old new step.NoMemory fault.NoMemory e h = tt
+fault_text old new step.NoMemory fault.Failed e h = absurd (cc)
+
+stepped_some : (old new : HostState) (turn : TurnRecord) (stepped : Option TurnRecord) → stepped ≡ Some turn → IsStep old new (Ok stepped) → IsTurn old new turn
 stepped_some old new turn stepped e h = let P : Option TurnRecord → Type 0 = λ o. IsStep old new (Ok o) in subst P e h
 
 pub stepped_none : (old new : HostState) (stepped : Option TurnRecord) → stepped ≡ None → IsStep old new (Ok stepped) → NoneWaits old new
 stepped_none old new stepped e h = let P : Option TurnRecord → Type 0 = λ o. IsStep old new (Ok o) in subst P e h
 
-pub stepped_limit : (old new : HostState) (f : StepFault) → run_fault f ≡ fault.TurnLimit → IsStep old new (Err f) → IsAtLimit old new
-stepped_limit old new step.TurnLimit e h = h
-stepped_limit old new step.NoMemory e h = absurd (cc)
+pub turn_text_of : (old new : HostState) (turn : TurnRecord) (stepped : Option TurnRecord) (text : List ℕ) → stepped ≡ Some turn → IsStep old new (Ok stepped) → text ≡ turn_text (printed (turn_view turn))
+    → (CanPrint (turn_view turn) → IsInForm (printed (turn_view turn))) → IsTurnText old new text
+turn_text_of old new turn stepped text e h is form =
+    let made = stepped_some old new turn stepped e h in
+    record { turn = turn_view turn; step = made.step; early = made.early; text = is; form = form }
+
+-- what a drain meets
+
+pub text_some : (old new : HostState) (text : String Global) (next : Option (String Global)) → next ≡ Some text → IsNextText old new (Ok next) → IsTurnText old new (string_bytes text)
+text_some old new text next e h = let P : Option (String Global) → Type 0 = λ o. IsNextText old new (Ok o) in subst P e h
+
+pub text_none : (old new : HostState) (next : Option (String Global)) → next ≡ None → IsNextText old new (Ok next) → NoneWaits old new
+text_none old new next e h = let P : Option (String Global) → Type 0 = λ o. IsNextText old new (Ok o) in subst P e h
+
+pub text_limit : (old new : HostState) (f : RunFault) → f ≡ fault.TurnLimit → IsNextText old new (Err f) → IsAtLimit old new
+text_limit old new f e h = let P : RunFault → Type 0 = λ g. IsNextText old new (Err g) in subst P e h
+
+pub text_failed : (old new : HostState) (f : RunFault) → f ≡ fault.Failed → IsNextText old new (Err f) → ⊥
+text_failed old new f e h = let P : RunFault → Type 0 = λ g. IsNextText old new (Err g) in subst P e h
 
 -- ---- what is left to run
 

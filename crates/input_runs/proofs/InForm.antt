@@ -2,18 +2,19 @@
 -- are.
 use Rattle.std.proofs.Common.{◌≡◌, ◌≤◌, ◌<◌, ◌^◌, ℕ, suc, length, arith, List, [], ◌∷◌, ◌++◌, Some, None, map, sym, ap, subst, ◌∙◌, append-nil}
 use Rattle.std.specs.List.{AllByRecursion}
+use Rattle.std.proofs.lemmas.List.{length-map}
 use Rattle.contract_texts.specs.Reader.{reader}
+use Rattle.contract_texts.proofs.Modules.{reads_modules}
 use Rattle.delivery_turns.specs.Hosts.{HostState, Step, step_of}
+use Rattle.fair_rows.specs.Turns.{IsFairJournal}
+use Rattle.fair_run_laws.specs.Limits.{AreFairToLimit, CanBePrinted}
+use Rattle.fair_run_laws.proofs.RunsFair.{run_fair, run_journal, run_prints}
 use Rattle.message_lines.specs.InputLines.{lines_of}
 use Rattle.message_lines.specs.Meanings.{Meaning, meaning_of}
-use Rattle.turn_events.specs.Views.{turn_view}
-use Rattle.turn_events.specs.declared.turns.TurnRecord.{TurnRecord}
-use Rattle.turn_form.specs.Printing.{CanPrint}
 use Rattle.turn_records.specs.Printed.{printed}
-use Rattle.turn_rows.specs.Form.{AreInForm, IsInForm}
-use Rattle.turn_rows.specs.Turns.{Turn}
+use Rattle.turn_rows.specs.Form.{IsInForm}
 use Rattle.world_state.specs.Rights.{most_turns}
-use Rattle.host_runs.specs.Runs.{HostTurn, Run, drained, first_host, line_run, left_of, lines_run, run_of, turn_then, turns_of}
+use Rattle.host_runs.specs.Runs.{HostTurn, Run, drained, first_host, journal_of, left_of, line_run, lines_run, most_meter, run_of, turns_of}
 use Rattle.input_runs.specs.Forms.{PrintsInForm}
 use Rattle.input_runs.proofs.Drained.{drained_more, drained_none, drained_zero}
 use Rattle.input_runs.proofs.RunWritten.{meant, run_parts}
@@ -51,14 +52,19 @@ form_run meter most input s t e is lines last =
 
 -- ---- turns that can be printed
 
-abbrev pub CanBePrinted : HostTurn → Type 0
-CanBePrinted t = CanPrint t.step.turn
-
 turns_in_form : (ts : List HostTurn) → AllByRecursion PrintsInForm ts → AllByRecursion CanBePrinted ts → AllByRecursion IsInForm (map (λ (t : HostTurn). printed t.step.turn) ts)
 turns_in_form [] prints can = tt
 turns_in_form (t ∷ ts) prints can = (prints.0 can.0, turns_in_form ts prints.1 can.1)
 
--- where the turns of a run can be printed, and were, the journal is in form
-pub run_in_form : (meter most : ℕ) (input : List ℕ) → PrintInForm (run_of reader meter most input) → AllByRecursion CanBePrinted (run_of reader meter most input).turns
-    → length (turns_of reader meter most input) ≤ most_turns → left_of reader meter most input < 2 ^ 64 → AreInForm (turns_of reader meter most input) (left_of reader meter most input)
-run_in_form meter most input prints can few left = record { turns = turns_in_form (run_of reader meter most input).turns prints can; as_many = omega (arith, few); few = left }
+-- where the turns of a run were printed, its journal is the text of a fair one
+pub fair_journal : (meter most : ℕ) (input : List ℕ) → meter ≤ most_meter → PrintInForm (run_of reader meter most input) → length (turns_of reader meter most input) ≤ most_turns → left_of reader meter most input < 2 ^ 64
+    → IsFairJournal (journal_of reader meter most input) (turns_of reader meter most input) (left_of reader meter most input)
+fair_journal meter most input few prints short left =
+    let r = run_of reader meter most input in
+    let can = run_prints reader reads_modules meter most input few r.turns [] (sym (append-nil r.turns)) (omega (arith, short, length-map r.turns (λ (t : HostTurn). printed t.step.turn))) in
+    run_journal reader reads_modules meter most input few short (record { turns = turns_in_form r.turns prints can; as_many = omega (arith, short); few = left })
+
+-- ---- whatever the input
+
+pub runs_fair : (meter most : ℕ) (input : List ℕ) → meter ≤ most_meter → AreFairToLimit (turns_of reader meter most input)
+runs_fair meter most input few = run_fair reader reads_modules meter most input few

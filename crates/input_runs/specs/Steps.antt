@@ -1,5 +1,5 @@
 -- What a host's calls make of it.
-use Rattle.std.specs.Prelude.{◌≡◌, ◌<◌, ◌≤◌, ℕ, List, length, Option, Some, None, Result, Ok, Err}
+use Rattle.std.specs.Prelude.{◌≡◌, ◌<◌, ◌≤◌, ℕ, List, Option, Some, None, Result, Ok, Err}
 use Rattle.std.specs.declared.alloc.AllocError.{AllocError}
 use Rattle.contract_texts.specs.Reader.{reader}
 use Rattle.delivery_turns.specs.Hosts.{HostState, step_of, with_line}

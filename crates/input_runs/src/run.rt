@@ -4,12 +4,14 @@ ghost use Rattle.std.specs.Prelude.{◌≡◌, ◌≤◌, ◌<◌, ◌^◌, leng
 ghost use Rattle.std.specs.Io.KnownBytes.{Appends, Keeps};
 ghost use Rattle.std.specs.List.{AllByRecursion};
 ghost use Rattle.contract_texts.specs.Reader.{reader};
+ghost use Rattle.fair_rows.specs.Turns.{IsFairJournal};
 ghost use Rattle.host_io.specs.Causes.{Rose};
 ghost use Rattle.host_io.specs.Fronts.{AppendsFront};
 ghost use Rattle.host_runs.specs.Runs.{AppendsToLimit, AppendsTurns, close_text, drained, journal_of};
-ghost use Rattle.host_runs.specs.Runs.{left_in, left_of, line_run, lines_run, run_of, turn_text};
+ghost use Rattle.host_runs.specs.Runs.{left_in, left_of, line_run, lines_run, turn_text};
 ghost use Rattle.host_runs.specs.Runs.{most_meter, turns_in, turns_of, turns_text};
 ghost use Rattle.input_runs.specs.Forms.{PrintsInForm};
+ghost use Rattle.input_runs.specs.Texts.{IsNextText};
 ghost use Rattle.message_lines.specs.InputLines.{lines_of};
 ghost use Rattle.message_lines.specs.Meanings.{meaning_of};
 ghost use Rattle.turn_events.specs.Views.{turn_view};
@@ -75,6 +77,19 @@ fn text_of(alloc: Global, turn: TurnRecord) -> Result<String, AllocError>
     text
 }
 
+/// The rows of the turn of the delivery in front, or `None` exactly where none waits.
+fn next_text<H: HostSteps>(alloc: Global, host: &mut H) -> Result<Option<String>, RunFault>
+    ensures { IsNextText (H.state host.old) (H.state host.new) result }
+{
+    let Some(turn) = host.step(alloc)? else {
+        return Ok(None);
+    };
+    match text_of(alloc, turn) {
+        Ok(text) => Ok(Some(text)),
+        Err(_) => Err(RunFault::NoMemory),
+    }
+}
+
 /// Runs at most so many deliveries. A turn is written only once all its rows are there.
 fn drain<H: HostSteps, K: Sink>(
     alloc: Global,
@@ -103,11 +118,8 @@ fn drain<H: HostSteps, K: Sink>(
         OnOk result (AllByRecursion PrintsInForm run.turns) }
 {
     for _ in 0..most {
-        let Some(turn) = host.step(alloc)? else {
+        let Some(text) = next_text(alloc, host)? else {
             return Ok(());
-        };
-        let Ok(text) = text_of(alloc, turn) else {
-            return Err(RunFault::NoMemory);
         };
         write(sink, text.as_str())?;
     }
@@ -229,9 +241,10 @@ pub fn run_input<H: HostSteps, K: Sink>(
     ensures cause { IsErrOf result RunFault.Failed → Rose (K.faults sink.old) (K.faults sink.new) }
     ensures quiet { (IsErrOf result RunFault.Failed → ⊥)
         → K.faults sink.new ≡ K.faults sink.old }
-    // Each turn that can be printed is in form, and the close row has numbers of 64 bits.
-    ensures form { OnOk result (AllByRecursion PrintsInForm (run_of reader meter most input.now).turns) }
-    ensures left { OnOk result (left_of reader meter most input.now < 2 ^ 64) }
+    // It is the text of a fair journal: of turns in form, which are fair, with so many deliveries left.
+    ensures fair { let turns = turns_of reader meter most input.now in
+        let left = left_of reader meter most input.now in
+        OnOk result (IsFairJournal (journal_of reader meter most input.now) turns left) }
 {
     let Ok(mut host) = H::first(alloc, meter) else {
         return Err(RunFault::NoMemory);

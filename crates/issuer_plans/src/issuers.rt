@@ -1,11 +1,18 @@
 //! The methods of issuers that name one payment at most (ERTP).
 
-ghost use Rattle.std.specs.Prelude.{◌≡◌, ◌<◌, length};
-ghost use Rattle.call_plans.specs.Plans.{Plans, Reads};
+ghost use Rattle.std.specs.Prelude.{◌≡◌, ◌<◌, IfOk, Ok, length};
+ghost use Rattle.call_data.specs.Values.{amount_tree, object_tree};
+ghost use Rattle.call_plans.specs.Plans.{Plans, Reads, plan_view};
+ghost use Rattle.call_plans.specs.Views.{AreShaped};
+ghost use Rattle.call_rows.specs.Words.{next_payment, one_move};
 ghost use Rattle.call_words.specs.Handed.{AreHanded};
 ghost use Rattle.ertp_rows.specs.IssuerRows.{claim, get_amount_of};
 ghost use Rattle.host_world.specs.Worlds.{world_of};
 ghost use Rattle.jessie_tree.specs.View.{trees};
+ghost use Rattle.jessie_tree.specs.declared.data.ObjKind.TheVariants as kinds;
+ghost use Rattle.refusals.specs.Outcomes.{bind};
+ghost use Rattle.right_steps.specs.Lists.{amount_of};
+ghost use Rattle.rights_model.specs.declared.Holder.TheVariants as holders;
 ghost use Rattle.service_rows.specs.ErtpRows.{burn, is_live, make_empty_purse};
 ghost use Rattle.world_state.specs.Good.{IsGoodWorld};
 
@@ -22,8 +29,8 @@ use refusals::stops::Stop;
 use right_reads::payment_reads;
 use right_reads::purse_reads::purses_made;
 use rights_model::{Holder, Movement};
-use service_reads::payment_reads::{live_at, payment_at};
-use std::alloc::Global;
+use service_reads::payment_reads::{LivePayment, live_at, payment_at};
+use std::alloc::{AllocError, Global};
 
 /// `issuer.makeEmptyPurse()` (ERTP).
 #[tactic(auto, unfolding(service_rows::specs::ErtpRows::make_empty_purse, refusals::specs::Outcomes::bind))]
@@ -54,7 +61,26 @@ pub fn get_amount_of(alloc: Global, world: &World, brand: u16, args: &[Data]) ->
     ensures { Reads (get_amount_of (world_of world.now) brand (trees args.now)) result }
 {
     let given = live_at(world, brand, 1, args)?;
-    Ok(amount_data(alloc, brand, &given.value)?)
+    let amount = amount_data(alloc, brand, &given.value);
+    drop(given);
+    Ok(amount?)
+}
+
+/// The value of a live payment goes outside.
+fn burning(alloc: Global, brand: u16, given: LivePayment) -> Result<Plan, AllocError>
+    ensures plan { IfOk result (λ plan. plan_view plan ≡ (
+      amount_tree (amount_of brand given.value),
+      one_move brand (holders.Payment given.number) holders.Outside given.value,
+    )) }
+    ensures shaped { IfOk result (λ plan. AreShaped plan.effects.items) }
+{
+    let burns = Movement {
+        brand,
+        from: Holder::Payment(given.number),
+        to: Holder::Outside,
+        value: given.value,
+    };
+    moving_amount(alloc, burns)
 }
 
 /// `issuer.burn(payment, amount)` (ERTP).
@@ -65,14 +91,33 @@ pub fn burn(alloc: Global, world: &World, brand: u16, args: &[Data]) -> Result<P
     ensures { Plans (burn (world_of world.now) brand (trees args.now)) result }
 {
     let given = live_at(world, brand, 1, args)?;
-    check_held(alloc, brand, &given.value, 2, argument(args, 2))?;
-    let burns = Movement {
-        brand,
-        from: Holder::Payment(given.number),
-        to: Holder::Outside,
-        value: given.value,
-    };
-    Ok(moving_amount(alloc, burns)?)
+    match check_held(alloc, brand, &given.value, 2, argument(args, 2)) {
+        Ok(()) => Ok(burning(alloc, brand, given)?),
+        Err(stop) => {
+            drop(given);
+            Err(stop)
+        }
+    }
+}
+
+/// The value of a live payment goes to the next payment: else `Limit` (own).
+#[tactic(auto, unfolding(refusals::specs::Outcomes::bind))]
+fn claimed(alloc: Global, world: &World, brand: u16, given: LivePayment) -> Result<Plan, Stop>
+    ensures { Plans (bind (next_payment (world_of world.now)) (λ payment. Ok (
+      object_tree kinds.Payment payment,
+      one_move brand (holders.Payment given.number) (holders.Payment payment) given.value,
+    ))) result }
+{
+    match next_payment(world) {
+        Ok(payment) => {
+            let from = Holder::Payment(given.number);
+            Ok(paying(alloc, brand, from, payment, given.value)?)
+        }
+        Err(stop) => {
+            drop(given);
+            Err(stop)
+        }
+    }
 }
 
 /// `issuer.claim(payment, amount)` (ERTP).
@@ -83,8 +128,11 @@ pub fn claim(alloc: Global, world: &World, brand: u16, args: &[Data]) -> Result<
     ensures { Plans (claim (world_of world.now) brand (trees args.now)) result }
 {
     let given = live_at(world, brand, 1, args)?;
-    check_held(alloc, brand, &given.value, 2, argument(args, 2))?;
-    let payment = next_payment(world)?;
-    let from = Holder::Payment(given.number);
-    Ok(paying(alloc, brand, from, payment, given.value)?)
+    match check_held(alloc, brand, &given.value, 2, argument(args, 2)) {
+        Ok(()) => claimed(alloc, world, brand, given),
+        Err(stop) => {
+            drop(given);
+            Err(stop)
+        }
+    }
 }

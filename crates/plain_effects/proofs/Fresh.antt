@@ -1,10 +1,10 @@
--- The promise that was made last: none follows it, and none is to be told of it, so that settling it settles it alone. And what is read of those before it.
+-- The promise that was made last: none follows it, and none is to be told of it, so that settling it settles it alone.
 use Rattle.std.specs.Prelude.{not, slice_set}
 use Rattle.std.specs.List.{AllByRecursion, filter, flat_map}
-use Rattle.std.proofs.Common.{◌≡◌, ℕ, zero, suc, ◌+◌, ◌<◌, ◌==◌, Bool, true, false, cond, List, [], ◌∷◌, ◌++◌, Some, None, Option, length, map, refl, sym, ◌∙◌, ap, subst, arith}
+use Rattle.std.proofs.Common.{◌≡◌, ℕ, zero, suc, ◌<◌, cond, List, [], ◌∷◌, ◌++◌, Some, None, length, map, refl, sym, ◌∙◌, ap, subst, arith}
 use Rattle.std.proofs.lemmas.Bool.{ne_eqb}
-use Rattle.list_edits.proofs.ListEdits.{length_push, read_before, read_pushed}
-use Rattle.jessie_tree.specs.Tree.{Tree, null}
+use Rattle.list_edits.proofs.ListEdits.{read_pushed}
+use Rattle.jessie_tree.specs.Tree.{null}
 use Rattle.promise_store.specs.Linked.{followers, leader}
 use Rattle.plain_stores.specs.Plain.{PlainState, plain_of}
 use Rattle.promise_store.specs.States.{SettlementView, broken, ok}
@@ -14,17 +14,13 @@ use Rattle.turn_records.specs.Deliveries.{Delivery, Notice, notify}
 use Rattle.turn_records.specs.Events as events
 use Rattle.turn_records.specs.Events.{Event}
 use Rattle.world_state.specs.Good.{IsFollowing}
-use Rattle.world_state.specs.Promises.{CascadeStep, Flow, IsPending, PromiseBook, Resolved, all_stepped, as_resolved, asking, asks, cascade, flowing, notifies, settlement_at, settles, settling, told_at_once, with_promise}
+use Rattle.world_state.specs.Promises.{CascadeStep, IsPending, PromiseBook, Resolved, all_stepped, as_resolved, asks, cascade, flowing, notifies, settles, settling, with_promise}
 use Rattle.proposals.specs.declared.offers.Exit.{Exit}
 use Rattle.proposals.specs.declared.offers.Proposal.{Proposal}
 use Rattle.state_parts.specs.Parts.{Staged, state_of}
 use Rattle.world_state.specs.Rights.{Rights}
 use Rattle.world_state.specs.Worlds.{Seat, after, empty_seat, of_own}
 use Rattle.plain_effects.specs.After.{AreMade, waited, with_null_promise, with_settled_pair}
-
--- what was promised before is as it was
-pub settled_before : (b : PromiseBook) (s : Option SettlementView) (p : ℕ) → p < length b.settled → settlement_at (with_promise s b).settled p ≡ settlement_at b.settled p
-settled_before b s p made = read_before b.settled s (Some (broken null)) p (λ (e : length b.settled ≡ p). absurd (omega (arith, e, made)))
 
 no_leader : (fs : List Following) (n : ℕ) → AllByRecursion (IsFollowing n) fs → leader fs n ≡ None
 no_leader [] n all = refl
@@ -87,28 +83,6 @@ null_promised p made_book then_book n v waiting log made is number of_null settl
 
 pub pends_now : (b made_book : PromiseBook) (n : ℕ) → AreMade b → made_book ≡ with_promise None b → n ≡ length b.settled → IsPending made_book n
 pends_now b made_book n made is number = subst (λ (x : PromiseBook). IsPending x n) (sym is) (subst (λ m. IsPending (with_promise None b) m) (sym number) (fresh_pends b made))
-
--- ---- a request, for the promise that was just made
-
-pub still_made : (b made_book : PromiseBook) (p : ℕ) → made_book ≡ with_promise None b → p < length b.settled → p < length made_book.settled
-still_made b made_book p is made = omega (arith, ap (λ (x : PromiseBook). length x.settled) is, length_push b.settled None, made)
-
-abbrev request : ℕ → ℕ → List ℕ → Tree → ℕ → Notice
-request i p f held n = record { instance = i; promise = p; function = f; held = held; answer = n }
-
-module _ (b made_book : PromiseBook) where
-  settled_there : (p : ℕ) → p < length b.settled → made_book ≡ with_promise None b → settlement_at made_book.settled p ≡ settlement_at b.settled p
-  settled_there p made is = ap (λ (x : PromiseBook). settlement_at x.settled p) is ∙ settled_before b None p made
-
-  pub asked_book : (then_book : PromiseBook) (i p : ℕ) (f : List ℕ) (held : Tree) (n : ℕ) → p < length b.settled → made_book ≡ with_promise None b → n ≡ length b.settled
-      → then_book ≡ asking (settlement_at made_book.settled p) (request i p f held n) made_book
-      → then_book ≡ asking (settlement_at b.settled p) (request i p f held (length b.settled)) (with_promise None b)
-  asked_book then_book i p f held n made is number asked = asked ∙ λ j. asking (settled_there p made is j) (request i p f held (number j)) (is j)
-
-  pub asked_queue : (was now : List Delivery) (i p : ℕ) (f : List ℕ) (held : Tree) (n : ℕ) → p < length b.settled → made_book ≡ with_promise None b → n ≡ length b.settled
-      → now ≡ was ++ told_at_once (settlement_at made_book.settled p) (request i p f held n)
-      → now ≡ was ++ told_at_once (settlement_at b.settled p) (request i p f held (length b.settled))
-  asked_queue was now i p f held n made is number told = told ∙ λ j. was ++ told_at_once (settled_there p made is j) (request i p f held (number j))
 
 -- ---- a seat of an instance's own
 

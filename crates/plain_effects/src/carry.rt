@@ -44,7 +44,7 @@ pub fn carry_instances(stores: &mut PlainStores, effect: InstancesEffect) -> Res
         InstancesEffect::Install(module) => instances::install(stores, module),
         InstancesEffect::Start(starting) => instances::start(stores, starting),
         InstancesEffect::AddIssuer(instance, keyword, brand) => {
-            instances::add_issuer(stores, instance, &keyword, brand)
+            instances::enter_issuer(stores, instance, keyword, brand)
         }
         InstancesEffect::Publish(instance, facet) => instances::publish(stores, instance, facet),
         InstancesEffect::KeepState(instance, values) => {

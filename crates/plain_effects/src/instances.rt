@@ -28,7 +28,10 @@ pub fn install(stores: &mut PlainStores, module: Module) -> Result<(), AllocErro
 {
     match stores.instances.install(module) {
         Ok(_) => Ok(()),
-        Err(_) => Err(AllocError),
+        Err(back) => {
+            drop(back);
+            Err(AllocError)
+        }
     }
 }
 
@@ -48,7 +51,10 @@ fn make_instance(
 {
     match stores.instances.start(installation, issuers, terms) {
         Ok(number) => Ok(number),
-        Err(_) => Err(AllocError),
+        Err(back) => {
+            drop(back);
+            Err(AllocError)
+        }
     }
 }
 
@@ -68,16 +74,16 @@ fn queue_start(
     }) }
     ensures start { plain_at_start stores.new ≡ plain_at_start stores.old }
 {
-    let promise = match stores.promises.make() {
-        Ok(promise) => promise,
-        Err(_) => return Err(AllocError),
-    };
     let start = Start {
         instance,
         private_arguments,
-        promise,
+        promise: stores.promises.made(),
     };
-    queue_delivery(&mut stores.queue, Delivery::Start(start))
+    queue_delivery(&mut stores.queue, Delivery::Start(start))?;
+    match stores.promises.make() {
+        Ok(_) => Ok(()),
+        Err(_) => Err(AllocError),
+    }
 }
 
 /// An instance is started, and its start is to be delivered, for the next promise.
@@ -92,8 +98,13 @@ pub fn start(stores: &mut PlainStores, starting: Starting) -> Result<(), AllocEr
         terms,
         private_arguments,
     } = starting;
-    let instance = make_instance(stores, installation, issuers, terms)?;
-    queue_start(stores, instance, private_arguments)
+    match make_instance(stores, installation, issuers, terms) {
+        Ok(instance) => queue_start(stores, instance, private_arguments),
+        Err(fault) => {
+            drop(private_arguments);
+            Err(fault)
+        }
+    }
 }
 
 /// An instance keeps an issuer under a keyword.
@@ -114,6 +125,21 @@ pub fn add_issuer(
     }
 }
 
+/// An instance keeps an issuer under a keyword that is used up.
+pub(crate) fn enter_issuer(
+    stores: &mut PlainStores,
+    instance: u32,
+    keyword: Keyword,
+    brand: u16,
+) -> Result<(), AllocError>
+    requires { instance < length (plain_now stores.old).tables.instances }
+    ensures ok { OnOk result (Becomes stores.old stores.new
+        (worlds.add_issuer instance (issuer_of keyword brand))) }
+    ensures start { plain_at_start stores.new ≡ plain_at_start stores.old }
+{
+    add_issuer(stores, instance, &keyword, brand)
+}
+
 /// An instance keeps its public facet.
 pub fn publish(stores: &mut PlainStores, instance: u32, facet: Data) -> Result<(), AllocError>
     requires { instance < length (plain_now stores.old).tables.instances }
@@ -122,7 +148,10 @@ pub fn publish(stores: &mut PlainStores, instance: u32, facet: Data) -> Result<(
 {
     match stores.instances.keep_public_facet(instance, facet) {
         Ok(()) => Ok(()),
-        Err(_) => Err(AllocError),
+        Err(back) => {
+            drop(back);
+            Err(AllocError)
+        }
     }
 }
 
@@ -141,7 +170,10 @@ pub fn keep_state(
 {
     match stores.instances.keep(instance, values) {
         Ok(()) => Ok(()),
-        Err(_) => Err(AllocError),
+        Err(back) => {
+            drop(back);
+            Err(AllocError)
+        }
     }
 }
 

@@ -22,7 +22,10 @@ pub fn make_facet(stores: &mut PlainStores, facet: Facet) -> Result<(), AllocErr
 {
     match stores.facets.add(facet) {
         Ok(_) => Ok(()),
-        Err(_) => Err(AllocError),
+        Err(back) => {
+            drop(back);
+            Err(AllocError)
+        }
     }
 }
 
@@ -39,7 +42,10 @@ pub fn bind_label(
 {
     match stores.parties.bind(party, label, value) {
         Ok(()) => Ok(()),
-        Err(_) => Err(AllocError),
+        Err(back) => {
+            drop(back);
+            Err(AllocError)
+        }
     }
 }
 
@@ -48,6 +54,11 @@ pub fn note_call(stores: &mut PlainStores, call: Call) -> Result<(), AllocError>
     ensures ok { OnOk result (Becomes stores.old stores.new (worlds.note_call (call_view call))) }
     ensures start { plain_at_start stores.new ≡ plain_at_start stores.old }
 {
-    stores.log.push(Event::Called(call))?;
-    Ok(())
+    match stores.log.push(Event::Called(call)) {
+        Ok(()) => Ok(()),
+        Err(failed) => {
+            drop(failed);
+            Err(AllocError)
+        }
+    }
 }

@@ -5,7 +5,7 @@ ghost use Rattle.jessie_tree.specs.View.{tree, trees};
 ghost use Rattle.plain_effects.specs.After.{Becomes};
 ghost use Rattle.plain_stores.specs.Stores.{plain_at_start, plain_now};
 ghost use Rattle.promise_store.specs.States.{settlement_view};
-ghost use Rattle.turn_events.specs.Views.{delivery_view, wakeup_view};
+ghost use Rattle.turn_events.specs.Views.{delivery_view, notice_view, wakeup_view};
 ghost use Rattle.world_state.specs.Promises.{IsPending, target_of};
 ghost use Rattle.world_state.specs.Worlds as worlds;
 
@@ -82,25 +82,36 @@ pub fn when(stores: &mut PlainStores, asking: Asking) -> Result<(), AllocError>
         asking.promise asking.function (tree asking.held))) }
     ensures start { plain_at_start stores.new ≡ plain_at_start stores.old }
 {
-    let Ok(answer) = stores.promises.make() else {
-        return Err(AllocError);
-    };
+    let request = notice_of(asking, stores.promises.made());
+    stores.promises.ask(request, &mut stores.queue)?;
+    match stores.promises.make() {
+        Ok(_) => Ok(()),
+        Err(_) => Err(AllocError),
+    }
+}
+
+/// What is told of a promise that a function asks for, with the promise of what it answers.
+fn notice_of(asking: Asking, answer: u32) -> Notice
+    ensures { notice_view result ≡ record {
+      instance = asking.instance;
+      promise = asking.promise;
+      function = asking.function;
+      held = tree asking.held;
+      answer = answer;
+    } }
+{
     let Asking {
         instance,
         promise,
         function,
         held,
     } = asking;
-    let request = Notice {
+    Notice {
         instance,
         promise,
         function,
         held,
         answer,
-    };
-    match stores.promises.ask(request, &mut stores.queue) {
-        Ok(()) => Ok(()),
-        Err(fault) => Err(fault),
     }
 }
 

@@ -2,17 +2,18 @@
 
 ghost use Rattle.std.specs.Prelude.{◌≡◌, ◌<◌, ◌+◌, ◌++◌, ◌∷◌, [], None, length, map, IfOk, OnOk};
 ghost use Rattle.invitations.specs.Details.{details_at, details_view};
+ghost use Rattle.invitations.specs.Turns.{invitations_of};
 ghost use Rattle.brand_makers.specs.Makers.{maker_view};
 ghost use Rattle.instance_store.specs.SeatPromises.{pair_at};
 ghost use Rattle.jessie_tree.specs.Tree.{fields, null};
 ghost use Rattle.jessie_tree.specs.View.{fields_of, named_trees, tree};
-ghost use Rattle.plain_effects.specs.After.{AreMade, IsAfterWhere, IsPaid, promises_in, queued};
+ghost use Rattle.plain_effects.specs.After.{AreMade, IsAfterWhere, IsPaid, call_of, promises_in, queued};
 ghost use Rattle.plain_effects.specs.After.{waited, with_null_promise, with_settled_pair};
 ghost use Rattle.call_plans.specs.Views.{offering_view};
 ghost use Rattle.plain_stores.specs.Stores.{plain_at_start, plain_now};
 ghost use Rattle.promise_store.specs.States.{ok, settlement_view};
 ghost use Rattle.turn_events.specs.Logs.{log_of};
-ghost use Rattle.turn_events.specs.Views.{cause_view, delivery_view, payout_views};
+ghost use Rattle.turn_events.specs.Views.{cause_view, delivery_view, event_view, payout_views};
 ghost use Rattle.turn_records.specs.Deliveries as deliveries;
 ghost use Rattle.turn_records.specs.Events as events;
 ghost use Rattle.world_state.specs.Promises.{IsPending, with_promise};
@@ -25,7 +26,7 @@ use brands::Brand;
 use call_plans::effects::Offering;
 use host_text::text::Text;
 use instance_store::seat_promises::SeatPair;
-use invitations::Details;
+use invitations::{Details, Invitations};
 use jessie_tree::data::{Data, Obj, ObjKind};
 use plain_stores::PlainStores;
 use promise_store::Settlement;
@@ -48,11 +49,13 @@ pub fn new_brand(stores: &mut PlainStores, brand: Brand, maker: Maker) -> Result
         (worlds.new_brand brand (maker_view maker))) }
     ensures start { plain_at_start stores.new ≡ plain_at_start stores.old }
 {
-    stores.makers.add(maker)?;
     let Brand { name, kind } = brand;
     match stores.brands.add(name, kind) {
-        Ok(_) => Ok(()),
-        Err(_) => Err(AllocError),
+        Ok(_) => stores.makers.add(maker),
+        Err(back) => {
+            drop(back);
+            Err(AllocError)
+        }
     }
 }
 
@@ -67,21 +70,59 @@ pub fn invite(
         (worlds.invite (details_view details))) }
     ensures start { plain_at_start stores.new ≡ plain_at_start stores.old }
 {
-    stores.log.push(Event::Moved(movement))?;
-    match stores.invitations.add(details) {
+    match keep_details(&mut stores.invitations, details) {
+        Ok(()) => log_move(&mut stores.log, movement),
+        Err(fault) => {
+            drop(movement);
+            Err(fault)
+        }
+    }
+}
+
+/// The details of the next invitation are kept.
+fn keep_details(invitations: &mut Invitations, details: Details) -> Result<(), AllocError>
+    ensures ok { OnOk result (invitations_of invitations.new ≡ record (invitations_of invitations.old) {
+      now = (invitations_of invitations.old).now ++ details_view details ∷ [];
+    }) }
+    ensures start { (invitations_of invitations.new).start ≡ (invitations_of invitations.old).start }
+{
+    match invitations.add(details) {
         Ok(_) => Ok(()),
-        Err(_) => Err(AllocError),
+        Err(back) => {
+            drop(back);
+            Err(AllocError)
+        }
     }
 }
 
 // ---- the log
+
+/// What happened is told, last.
+fn log_event(log: &mut Log, event: Event) -> Result<(), AllocError>
+    ensures { OnOk result (log_of log.new ≡ log_of log.old ++ event_view event ∷ []) }
+{
+    match log.push(event) {
+        Ok(()) => Ok(()),
+        Err(failed) => {
+            drop(failed);
+            Err(AllocError)
+        }
+    }
+}
+
+/// A movement is told.
+fn log_move(log: &mut Log, movement: Movement) -> Result<(), AllocError>
+    ensures { OnOk result (log_of log.new ≡ log_of log.old ++ events.moved movement ∷ []) }
+{
+    log_event(log, Event::Moved(movement))
+}
 
 /// Movements are told, in order.
 pub fn log_moves(log: &mut Log, moves: Vec<Movement>) -> Result<(), AllocError>
     ensures { OnOk result (log_of log.new ≡ log_of log.old ++ map events.moved moves.items) }
 {
     for movement in moves {
-        log.push(Event::Moved(movement))?;
+        log_move(log, movement)?;
     }
     Ok(())
 }
@@ -99,12 +140,12 @@ fn log_opening(
       proposal = proposal;
     }) ∷ []) }
 {
-    log.push(Event::Opened(Opening {
+    let opening = Opening {
         seat,
         instance,
         proposal,
-    }))?;
-    Ok(())
+    };
+    log_event(log, Event::Opened(opening))
 }
 
 // ---- what a new seat has
@@ -150,6 +191,21 @@ fn keep_deadline(stores: &mut PlainStores, rule: Exit, seat: u32) -> Result<(), 
 
 // ---- offers
 
+/// The function that an invitation's offers are handed to, and what was put by for it.
+fn handler_of(alloc: Global, details: &Details) -> Result<(Text, Data), AllocError>
+    ensures handler { IfOk result (λ (handler, _). handler ≡ (details_view details.now).handler) }
+    ensures held { IfOk result (λ (_, held). tree held ≡ (details_view details.now).held) }
+{
+    let handler = details.handler.copy(alloc)?;
+    match details.held.copy(alloc) {
+        Ok(held) => Ok((handler, held)),
+        Err(fault) => {
+            drop(handler);
+            Err(fault)
+        }
+    }
+}
+
 /// What goes to the handler of an invitation that was made.
 fn handler_call(
     stores: &PlainStores,
@@ -170,16 +226,40 @@ fn handler_call(
     })) }
 {
     let details = stores.invitations.details(invitation);
-    let function = details.handler.copy(alloc)?;
-    let held = details.held.copy(alloc)?;
-    Ok(Delivery::Offer(Offer {
-        instance: details.instance,
-        seat,
-        function,
-        offer_arguments: arguments,
-        held,
-        promise,
-    }))
+    match handler_of(alloc, details) {
+        Ok((function, held)) => Ok(Delivery::Offer(Offer {
+            instance: details.instance,
+            seat,
+            function,
+            offer_arguments: arguments,
+            held,
+            promise,
+        })),
+        Err(fault) => {
+            drop(arguments);
+            Err(fault)
+        }
+    }
+}
+
+/// The handler of an invitation is to be called, for the next promise.
+fn queue_handler(
+    stores: &mut PlainStores,
+    alloc: Global,
+    seat: u32,
+    invitation: u32,
+    arguments: Data,
+) -> Result<(), AllocError>
+    requires { invitation < length (plain_now stores.old).invitations }
+    ensures ok { OnOk result (plain_now stores.new ≡ record (plain_now stores.old) {
+      waiting = (plain_now stores.old).waiting
+          ++ call_of (plain_now stores.old) seat invitation (tree arguments) ∷ [];
+    }) }
+    ensures start { plain_at_start stores.new ≡ plain_at_start stores.old }
+{
+    let promise = stores.promises.made();
+    let call = handler_call(stores, alloc, seat, promise, invitation, arguments)?;
+    queue_delivery(&mut stores.queue, call)
 }
 
 /// A seat that an offer opened gets its promises, its handler is to be called, and its deadline waits.
@@ -196,9 +276,8 @@ fn queue_offer(
         ≡ queued (plain_now stores.old) seat invitation rule (tree arguments)) }
     ensures start { plain_at_start stores.new ≡ plain_at_start stores.old }
 {
-    let pair = open_pair(stores)?;
-    let call = handler_call(stores, alloc, seat, pair.result, invitation, arguments)?;
-    queue_delivery(&mut stores.queue, call)?;
+    queue_handler(stores, alloc, seat, invitation, arguments)?;
+    let _pair = open_pair(stores)?;
     keep_deadline(stores, rule, seat)
 }
 
@@ -224,8 +303,27 @@ pub fn offer(
         escrows,
         arguments,
     } = offering;
-    queue_offer(stores, alloc, seat, invitation, proposal.exit, arguments)?;
-    log_offer(&mut stores.log, seat, instance, proposal, burn, escrows)
+    let rule = proposal.exit;
+    match log_offer(&mut stores.log, seat, instance, proposal, burn, escrows) {
+        Ok(()) => queue_offer(stores, alloc, seat, invitation, rule, arguments),
+        Err(fault) => {
+            drop(arguments);
+            Err(fault)
+        }
+    }
+}
+
+/// A movement is told, and then others.
+fn log_moves_after(log: &mut Log, first: Movement, others: Vec<Movement>) -> Result<(), AllocError>
+    ensures { OnOk result (log_of log.new ≡ log_of log.old ++ map events.moved (first ∷ others.items)) }
+{
+    match log_move(log, first) {
+        Ok(()) => log_moves(log, others),
+        Err(fault) => {
+            drop(others);
+            Err(fault)
+        }
+    }
 }
 
 /// The opening of a seat is told, and then the movements of its offer.
@@ -244,9 +342,14 @@ fn log_offer(
     })
         ∷ map events.moved (burn ∷ escrows.items)) }
 {
-    log_opening(log, seat, instance, proposal)?;
-    log.push(Event::Moved(burn))?;
-    log_moves(log, escrows)
+    match log_opening(log, seat, instance, proposal) {
+        Ok(()) => log_moves_after(log, burn, escrows),
+        Err(fault) => {
+            drop(burn);
+            drop(escrows);
+            Err(fault)
+        }
+    }
 }
 
 // ---- seats of an instance's own
@@ -385,8 +488,7 @@ pub fn exit(
         stores.old stores.new (worlds.exit seat (cause_view cause))) }
     ensures start { plain_at_start stores.new ≡ plain_at_start stores.old }
 {
-    let record = payments_data(alloc, &payouts)?;
-    log_exit(&mut stores.log, seat, cause, payouts, moves)?;
+    let record = told_payouts(&mut stores.log, alloc, seat, cause, payouts, moves)?;
     let promise = stores.pairs.of(seat).payouts;
     stores.promises.settle(
         promise,
@@ -394,6 +496,40 @@ pub fn exit(
         &mut stores.queue,
         &mut stores.log,
     )
+}
+
+/// That a seat is left is told, and then the movements that pay it out. It answers the record of its payments.
+fn told_payouts(
+    log: &mut Log,
+    alloc: Global,
+    seat: u32,
+    cause: Cause,
+    payouts: Vec<Payout>,
+    moves: Vec<Movement>,
+) -> Result<Data, AllocError>
+    ensures told { OnOk result (log_of log.new ≡ log_of log.old ++ events.exited (record {
+      seat = seat;
+      cause = cause_view cause;
+      payouts = payout_views payouts.items;
+    })
+        ∷ map events.moved moves.items) }
+    ensures record { IfOk result (λ made. tree made ≡ fields (payout_fields (payout_views payouts.items))) }
+{
+    let record = match payments_data(alloc, &payouts) {
+        Ok(record) => record,
+        Err(fault) => {
+            drop(payouts);
+            drop(moves);
+            return Err(fault);
+        }
+    };
+    match log_exit(log, seat, cause, payouts, moves) {
+        Ok(()) => Ok(record),
+        Err(fault) => {
+            drop(record);
+            Err(fault)
+        }
+    }
 }
 
 /// That a seat is left is told, and then the movements that pay it out.
@@ -411,10 +547,16 @@ fn log_exit(
     })
         ∷ map events.moved moves.items) }
 {
-    log.push(Event::Exited(Leaving {
+    let leaving = Leaving {
         seat,
         cause,
         payouts,
-    }))?;
-    log_moves(log, moves)
+    };
+    match log_event(log, Event::Exited(leaving)) {
+        Ok(()) => log_moves(log, moves),
+        Err(fault) => {
+            drop(moves);
+            Err(fault)
+        }
+    }
 }

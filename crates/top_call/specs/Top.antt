@@ -2,10 +2,13 @@
 use Rattle.std.specs.Prelude.{◌≡◌, ◌<◌, ◌≤◌, ℕ, List, length, true, false, codes, Option, IfSome}
 use Rattle.std.specs.Io.KnownBytes.{Appends, Keeps}
 use Rattle.command_words.specs.declared.words.Options.{Options}
+use Rattle.command_words.specs.declared.words.WordsFault.{WordsFault}
+use Rattle.command_words.specs.declared.words.WordsFault.TheVariants as words
 use Rattle.contract_texts.specs.Reader.{reader}
+use Rattle.fair_rows.specs.Turns.{IsFairJournal}
 use Rattle.host_io.specs.Causes.{Rose}
 use Rattle.host_io.specs.Fronts.{AppendsFront}
-use Rattle.host_runs.specs.Runs.{AppendsToLimit, AppendsTurns, journal_of, turns_of}
+use Rattle.host_runs.specs.Runs.{AppendsToLimit, AppendsTurns, journal_of, left_of, turns_of}
 use Rattle.message_lines.specs.InputLines.{is_too_long}
 use Rattle.turn_rows.specs.Turns.{Turn}
 use Rattle.world_state.specs.Rights.{most_turns}
@@ -68,6 +71,10 @@ journal_for c input = journal_of reader c.options.meter c.options.turns input
 abbrev pub turns_for : Seen → List ℕ → List Turn
 turns_for c input = turns_of reader c.options.meter c.options.turns input
 
+-- how many deliveries are left
+abbrev pub left_for : Seen → List ℕ → ℕ
+left_for c input = left_of reader c.options.meter c.options.turns input
+
 -- nothing was written, whatever the source held
 abbrev pub WroteNothing : Seen → Type 0
 WroteNothing c = Keeps c.written.before c.written.now
@@ -84,9 +91,10 @@ pub record IsPast (o : Options) (input : List ℕ) : Type 0 where
 
 -- ---- what each status says
 
--- the journal of the input was written, which passes no limit
+-- the journal of the input was written, which passes no limit; it is the text of a fair journal, of turns in form
 pub record Completes (c : Seen) (input : List ℕ) : Type 0 where
   pub journal : Appends c.written.before c.written.now (journal_for c input)
+  pub fair : IsFairJournal (journal_for c input) (turns_for c input) (left_for c input)
   pub within : IsWithin c.options input
 
 pub record IsDone (c : Seen) : Type 0 where
@@ -142,6 +150,37 @@ Says WriteFault c = IsWriteFault c
 Says NoMemory c = IsOutOfMemory c
 Says TurnLimit c = IsAtTurnLimit c
 Says TooLong c = IsTooLong c
+
+-- ---- before anything is run
+
+-- why the words give no options
+abbrev pub words_status : WordsFault → Status
+words_status words.Usage = Usage
+words_status words.NoMemory = NoMemory
+
+-- no fault was counted
+abbrev pub no_faults : Counts
+no_faults = record { before = 0; now = 0 }
+
+-- it has too many bytes, or a line of it has
+pub record IsLong (held : Option (List ℕ)) (source : Counts) : Type 0 where
+  pub long : IfSome held (λ input. is_too_long input ≡ true)
+  pub quiet : IsQuiet source
+
+-- why the input isn't run
+abbrev pub IsNotRun : Status → Option (List ℕ) → Counts → Type 0
+IsNotRun ReadFault held source = HasRisen source
+IsNotRun NoMemory held source = IsQuiet source
+IsNotRun TooLong held source = IsLong held source
+IsNotRun _ held source = ⊥
+
+-- how a run may end
+abbrev pub IsOfRun : Status → Type 0
+IsOfRun Done = Unit {0}
+IsOfRun WriteFault = Unit {0}
+IsOfRun NoMemory = Unit {0}
+IsOfRun TurnLimit = Unit {0}
+IsOfRun _ = ⊥
 
 -- ---- which status comes
 

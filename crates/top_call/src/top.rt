@@ -1,14 +1,18 @@
 //! The top call.
 
-ghost use Rattle.std.specs.Prelude.{◌≡◌, ℕ, List, map, true, false, string_bytes, IfSome};
+ghost use Rattle.std.specs.Prelude.{◌≡◌, ◌≤◌, ℕ, List, map, true, false, string_bytes, IfErr, IfOk};
+ghost use Rattle.std.specs.Prelude.{IfSome, OnOk, Some};
 ghost use Rattle.std.specs.Io.KnownBytes.{IsAtEnd};
 ghost use Rattle.command_words.specs.Words.{options_of, takes_words};
 ghost use Rattle.contract_texts.specs.Reader.{reader};
+ghost use Rattle.fair_run_laws.specs.Limits.{AreFairToLimit};
 ghost use Rattle.host_runs.specs.Order.{AreInOrder};
-ghost use Rattle.host_runs.specs.Runs.{meanings_of, run_of};
-ghost use Rattle.top_call.specs.Top.{Ends, IsFree, IsRefused, Says, exit_code, status_name};
+ghost use Rattle.host_runs.specs.Runs.{meanings_of, most_meter, run_of, turns_of};
+ghost use Rattle.message_lines.specs.InputLines.{is_too_long};
+ghost use Rattle.top_call.specs.Top.{Ends, IsFree, IsNotRun, IsOfRun, IsRefused, Says, exit_code};
+ghost use Rattle.top_call.specs.Top.{no_faults, status_name, words_status};
 
-use command_words::words::{WordsFault, read_words};
+use command_words::words::{Options, WordsFault, read_words};
 use host_io::{ReadError, Sink, Source, read_all};
 use input_runs::hosts::HostSteps;
 use input_runs::run::{RunFault, run_input};
@@ -85,8 +89,65 @@ impl Status {
     }
 }
 
+/// Why the words give no options.
+fn unread(fault: WordsFault) -> Status
+    ensures { result ≡ words_status fault }
+{
+    match fault {
+        WordsFault::Usage => Status::Usage,
+        WordsFault::NoMemory => Status::NoMemory,
+    }
+}
+
+/// The whole input, which has not too many bytes and no line that has, or why it isn't run.
+fn read_input<S: Source>(alloc: Global, source: &mut S) -> Result<Vec<u8>, Status>
+    ensures short { IfOk result (λ input. is_too_long input.items ≡ false) }
+    ensures all { IfOk result (λ input. IfSome (S.left source.old) (λ held. input.items ≡ held)) }
+    ensures end { OnOk result (IsAtEnd (S.left source.new)) }
+    ensures quiet { OnOk result (S.faults source.new ≡ S.faults source.old) }
+    ensures why { IfErr result (λ status. IsNotRun status (S.left source.old)
+        (record { before = S.faults source.old; now = S.faults source.new })) }
+{
+    let input = match read_all(alloc, source, MAX_INPUT) {
+        Ok(input) => input,
+        Err(ReadError::Failed) => return Err(Status::ReadFault),
+        Err(ReadError::TooLong) => return Err(Status::TooLong),
+        Err(ReadError::NoMemory) => return Err(Status::NoMemory),
+    };
+    if has_long_line(&input) {
+        return Err(Status::TooLong);
+    }
+    Ok(input)
+}
+
+/// Writes the journal of the run on an input.
+fn run_on<H: HostSteps, K: Sink>(
+    alloc: Global,
+    input: &[u8],
+    options: Options,
+    sink: &mut K,
+) -> Status
+    requires meter { options.meter ≤ most_meter }
+    requires short { is_too_long input.now ≡ false }
+    ensures run { IsOfRun result }
+    ensures says { Says result (record {
+      options = options;
+      held = Some input.now;
+      written = record { before = K.written sink.old; now = K.written sink.new };
+      source = no_faults;
+      sink = record { before = K.faults sink.old; now = K.faults sink.new };
+    }) }
+{
+    match run_input::<H, K>(alloc, input, options.meter, options.turns, sink) {
+        Ok(()) => Status::Done,
+        Err(RunFault::Failed) => Status::WriteFault,
+        Err(RunFault::TurnLimit) => Status::TurnLimit,
+        Err(RunFault::NoMemory) => Status::NoMemory,
+    }
+}
+
 /// Reads the whole input and writes the journal of the run on it.
-#[tactic(auto, using(host_runs::proofs::RunOrder::runs_in_order))]
+#[tactic(auto, using(host_runs::proofs::RunOrder::runs_in_order, input_runs::proofs::InForm::runs_fair))]
 pub fn zoe_top<H: HostSteps, S: Source, K: Sink>(
     alloc: Global,
     words: &[String],
@@ -120,28 +181,20 @@ pub fn zoe_top<H: HostSteps, S: Source, K: Sink>(
           sink = record { before = K.faults sink.old; now = K.faults sink.new };
         }) input → Ends result) }
 
+    // The turns of the run are fair, whatever the input, up to the last that may be run.
+    ensures fair { (meter most : ℕ) (input : List ℕ) → meter ≤ most_meter
+        → AreFairToLimit (turns_of reader meter most input) }
+
     // Deliveries have their turns in order, whatever the input.
     ensures in_order { (meter most : ℕ) (input : List ℕ)
         → AreInOrder reader meter (meanings_of most input) (run_of reader meter most input) }
 {
     let options = match read_words(alloc, words) {
         Ok(options) => options,
-        Err(WordsFault::Usage) => return Status::Usage,
-        Err(WordsFault::NoMemory) => return Status::NoMemory,
+        Err(fault) => return unread(fault),
     };
-    let input = match read_all(alloc, source, MAX_INPUT) {
-        Ok(input) => input,
-        Err(ReadError::Failed) => return Status::ReadFault,
-        Err(ReadError::TooLong) => return Status::TooLong,
-        Err(ReadError::NoMemory) => return Status::NoMemory,
-    };
-    if has_long_line(&input) {
-        return Status::TooLong;
-    }
-    match run_input::<H, K>(alloc, &input, options.meter, options.turns, sink) {
-        Ok(()) => Status::Done,
-        Err(RunFault::Failed) => Status::WriteFault,
-        Err(RunFault::TurnLimit) => Status::TurnLimit,
-        Err(RunFault::NoMemory) => Status::NoMemory,
+    match read_input(alloc, source) {
+        Ok(input) => run_on::<H, K>(alloc, &input, options, sink),
+        Err(status) => status,
     }
 }

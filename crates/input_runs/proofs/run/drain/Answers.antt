@@ -2,38 +2,37 @@ use Rattle.std.proofs.Common.{◌≡◌, ◌+◌, ◌-◌, suc, refl, sym, ◌�
 use Rattle.std.proofs.lemmas.Result.{err_from_is_err_and}
 use Rattle.contract_texts.specs.Reader.{reader}
 use Rattle.host_runs.proofs.RunOrder.{step_count}
-use Rattle.input_runs.proofs.Drained.{drain_empty, drain_failed, drain_limit, drain_over, drain_turn, end_turn, stepped_limit, stepped_none, stepped_some}
+use Rattle.input_runs.proofs.Drained.{drain_empty, drain_failed, drain_limit, drain_over, drain_turn, end_turn, text_limit, text_none, text_some}
 use Rattle.input_runs.proofs.InForm.{form_none, form_over, form_turn}
-use Rattle.turn_events.specs.Views.{turn_view}
 use Rattle.input_runs.specs.declared.run.RunFault.{RunFault}
 use Rattle.input_runs.specs.declared.run.RunFault.TheVariants.{Failed, NoMemory, TurnLimit}
 use Rattle.input_runs.proofs.run.drain.Goals as goal
 
-pub returns-in_err-turn-clause-limit : goal.returns-in_err-turn-clause-limit
-returns-in_err-turn-clause-limit g c =
+pub returns-in_err-text-clause-limit : goal.returns-in_err-text-clause-limit
+returns-in_err-text-clause-limit g c =
     let p = err_from_is_err_and c.from_residual.result c.from_residual.ensures.1 in
     let left : c.args.most - c.loop.counter ≡ suc (c.args.most - (c.loop.counter + 1)) = omega arith in
     λ e.
-    let at = stepped_limit _ _ c.in_err-turn.field-0.0 (cc (p.1, p.2, e)) c.in_err-turn.ensures in
+    let at = text_limit _ _ c.in_err-text.field-0.0 (cc (p.1, p.2, e)) c.in_err-text.ensures in
     drain_limit _ _ _ _ _ _ c.loop.invariant.worked _ left c.loop.invariant.few at.turns at.left
 
 pub returns-in_default-clause-host : goal.returns-in_default-clause-host
 returns-in_default-clause-host g c =
-    let none = stepped_none _ _ _ c.in_default.is c.in_ok-turn.ensures in
+    let none = text_none _ _ _ c.in_default.is c.in_ok-text.ensures in
     none.same ∙ sym (c.loop.invariant.ends ∙ (drain_empty _ _ _ _ _ _ c.loop.invariant.worked none.none).1)
 
 pub returns-in_default-clause-ok : goal.returns-in_default-clause-ok
 returns-in_default-clause-ok g c =
-    let none = stepped_none _ _ _ c.in_default.is c.in_ok-turn.ensures in
+    let none = text_none _ _ _ c.in_default.is c.in_ok-text.ensures in
     (drain_empty _ _ _ _ _ _ c.loop.invariant.worked none.none).0
 
 pub returns-in_err-write-clause-failed : goal.returns-in_err-write-clause-failed
 returns-in_err-write-clause-failed g c =
     let p = err_from_is_err_and c.from_residual-in_err-write.result c.from_residual-in_err-write.ensures.1 in
     let left : c.args.most - c.loop.counter ≡ suc (c.args.most - (c.loop.counter + 1)) = omega arith in
-    let stepped = stepped_some _ _ _ _ c.in-Some.is c.in_ok-turn.ensures in
+    let stepped = text_some _ _ _ _ c.in-Some.is c.in_ok-text.ensures in
     λ e. drain_failed _ _ _ _ _ _ c.loop.invariant.worked _ left _ stepped.step _
-    (rw (c.as_str.ensures.value, c.in-Ok.ensures.text) at (c.in_err-write.ensures.failed (cc (p.1, p.2, e))))
+    (rw (c.as_str.ensures.value, stepped.text) at (c.in_err-write.ensures.failed (cc (p.1, p.2, e))))
 
 -- a write has no other fault
 only_failed : (fault : RunFault) → (fault ≡ NoMemory → ⊥) → (fault ≡ TurnLimit → ⊥) → fault ≡ Failed
@@ -50,12 +49,12 @@ returns-in_err-write-clause-quiet g c =
 pub loop-preserved : goal.loop-preserved
 loop-preserved g c =
     let left : c.args.most - c.loop.counter ≡ suc (c.args.most - (c.loop.counter + 1)) = omega arith in
-    let stepped = stepped_some _ _ _ _ c.in-Some.is c.in_ok-turn.ensures in
+    let stepped = text_some _ _ _ _ c.in-Some.is c.in_ok-text.ensures in
     record {
-      worked = drain_turn _ _ _ _ _ _ c.loop.invariant.worked _ left _ stepped.step _ (rw (c.as_str.ensures.value, c.in-Ok.ensures.text) at c.in_ok-write.ensures.ok);
+      worked = drain_turn _ _ _ _ _ _ c.loop.invariant.worked _ left _ stepped.step _ (rw (c.as_str.ensures.value, stepped.text) at c.in_ok-write.ensures.ok);
       ends = c.loop.invariant.ends ∙ end_turn _ _ _ _ left stepped.step;
       few = omega (arith, step_count reader _ _ stepped.step, stepped.early);
-      form = λ rest. c.loop.invariant.form (form_turn _ _ _ _ left stepped.step c.text_of.ensures.form rest);
+      form = λ rest. c.loop.invariant.form (form_turn _ _ _ _ left stepped.step stepped.form rest);
       quiet = c.in_ok-write.ensures.quiet ∙ c.loop.invariant.quiet;
     }
 
@@ -71,7 +70,7 @@ returns-clause-ok g c =
 
 pub returns-in_default-clause-form : goal.returns-in_default-clause-form
 returns-in_default-clause-form g c =
-    let none = stepped_none _ _ _ c.in_default.is c.in_ok-turn.ensures in
+    let none = text_none _ _ _ c.in_default.is c.in_ok-text.ensures in
     c.loop.invariant.form (form_none _ _ none.none)
 
 pub returns-clause-form : goal.returns-clause-form

@@ -1,7 +1,7 @@
 use Rattle.std.proofs.Common.{Result, Ok, Err, OnOk, ◌<◌, ◌^◌, subst}
 use Rattle.host_runs.specs.Runs.{left_in}
 use Rattle.std.proofs.lemmas.Result.{err_from_is_err_and, on_ok_weaker}
-use Rattle.input_runs.proofs.InForm.{form_run}
+use Rattle.input_runs.proofs.InForm.{fair_journal, form_run}
 use Rattle.input_runs.proofs.RunWritten.{run_close_failed, run_close_kept, run_closed, run_ends, run_few, run_lines, run_start, run_turns_failed, run_written}
 use Rattle.input_runs.proofs.TurnsWritten.{failed_next, limit_next, memory_next}
 use Rattle.input_runs.proofs.run.run_input.Goals as goal
@@ -74,10 +74,9 @@ returns-clause-failed g c =
     let turns = run_written c.args.meter c.args.most c.args.input.now _ _ c.in-Ok.ensures c.in_ok-work_lines.ensures.host _ _ _ c.in_ok-work_lines.ensures.ok c.in_ok-drain.ensures.ok in
     λ e. run_close_failed _ _ _ _ ends _ _ _ turns (c.close.ensures.failed e)
 
-pub returns-clause-form : goal.returns-clause-form
-returns-clause-form g c = on_ok c.close.result _ (form_run _ _ _ _ _ c.in-Ok.ensures c.in_ok-work_lines.ensures.host c.in_ok-work_lines.ensures.form c.in_ok-drain.ensures.form)
-
-pub returns-clause-left : goal.returns-clause-left
-returns-clause-left g c =
+pub returns-clause-fair : goal.returns-clause-fair
+returns-clause-fair g c =
     let ends = run_ends c.args.meter c.args.most c.args.input.now _ _ c.in-Ok.ensures c.in_ok-work_lines.ensures.host _ c.in_ok-drain.ensures.host in
-    on_ok_weaker c.close.result (λ h. subst (λ u. left_in u < 2 ^ 64) ends h) c.close.ensures.left
+    let short = run_few _ _ _ _ ends c.in_ok-drain.ensures.few in
+    let prints = form_run _ _ _ _ _ c.in-Ok.ensures c.in_ok-work_lines.ensures.host c.in_ok-work_lines.ensures.form c.in_ok-drain.ensures.form in
+    on_ok_weaker c.close.result (λ h. fair_journal c.args.meter c.args.most c.args.input.now c.requires prints short (subst (λ u. left_in u < 2 ^ 64) ends h)) c.close.ensures.left

@@ -11,7 +11,7 @@ pub returns-in-Start-clause-ok : goal.returns-in-Start-clause-ok
 returns-in-Start-clause-ok c = subst (λ (e : InstancesEffect). OnOk c.start.result (Becomes c.args.stores.now c.start.new.stores (instances_view e))) (sym c.in-Start.is) c.start.ensures.ok
 
 pub returns-in-AddIssuer-clause-ok : goal.returns-in-AddIssuer-clause-ok
-returns-in-AddIssuer-clause-ok c = subst (λ (e : InstancesEffect). OnOk c.add_issuer.result (Becomes c.args.stores.now c.add_issuer.new.stores (instances_view e))) (sym c.in-AddIssuer.is) c.add_issuer.ensures.ok
+returns-in-AddIssuer-clause-ok c = subst (λ (e : InstancesEffect). OnOk c.enter_issuer.result (Becomes c.args.stores.now c.enter_issuer.new.stores (instances_view e))) (sym c.in-AddIssuer.is) c.enter_issuer.ensures.ok
 
 pub returns-in-Publish-clause-ok : goal.returns-in-Publish-clause-ok
 returns-in-Publish-clause-ok c = subst (λ (e : InstancesEffect). OnOk c.publish.result (Becomes c.args.stores.now c.publish.new.stores (instances_view e))) (sym c.in-Publish.is) c.publish.ensures.ok

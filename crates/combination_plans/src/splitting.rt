@@ -1,0 +1,338 @@
+//! A payment that goes in parts to new ones (ERTP).
+
+ghost use Rattle.std.specs.Prelude.{◌≡◌, ◌<◌, ◌+◌, ◌^◌, ◌∷◌, [], All, IfOk, length, map};
+ghost use Rattle.amount_math.specs.Content.{Contains};
+ghost use Rattle.call_arguments.specs.Amounts.{is_same};
+ghost use Rattle.call_plans.specs.Plans.{Plans, plan_view};
+ghost use Rattle.call_plans.specs.Views.{AreShaped};
+ghost use Rattle.call_words.specs.Handed.{AreHanded};
+ghost use Rattle.combination_plans.specs.Left.{apart, in_listed, in_parts, in_two};
+ghost use Rattle.ertp_rows.specs.IssuerRows.{rest_of, split, split_many};
+ghost use Rattle.ertp_rows.specs.Lists.{moves_apart, parted, payments_from};
+ghost use Rattle.host_world.specs.Worlds.{world_of};
+ghost use Rattle.jessie_tree.specs.View.{tree, trees};
+ghost use Rattle.refusals.specs.Codes.{wrong_amount};
+ghost use Rattle.refusals.specs.Outcomes.{Gives, bind, need};
+ghost use Rattle.service_reads.specs.Views.{live_view};
+ghost use Rattle.value_sums.specs.Sums.{whole_sum};
+ghost use Rattle.world_state.specs.Good.{IsGoodWorld};
+ghost use Rattle.world_state.specs.Worlds.{moves};
+
+use crate::listed::next_payments;
+use amount_math::{Kind, Value};
+use call_arguments::amounts::{amount, check_same};
+use call_arguments::places::{argument, filled_list_at};
+use call_data::values::object_data;
+use call_plans::effects::{Effect, RightsEffect};
+use call_plans::moves::Moves;
+use call_plans::plans::Plan;
+use host_world::World;
+use jessie_tree::data::{Data, ObjKind};
+use record_arguments::lists::amounts_of;
+use refusals::stops::Stop;
+use rights_model::{Holder, Movement};
+use service_reads::payment_reads::{LivePayment, live_at};
+use std::alloc::{AllocError, Global};
+use value_checks::pairs::check_has;
+use value_sums::whole_sum;
+
+/// So many payments, of which the first has the number.
+fn payments_data(alloc: Global, first: u32, parts: &[Value]) -> Result<Vec<Data>, AllocError>
+    requires { first + length parts.now < 2 ^ 32 }
+    ensures { IfOk result (λ made. trees made.items ≡ payments_from first parts.now) }
+{
+    let mut payments = Vec::with_capacity(alloc, parts.len())?;
+    let mut number = first;
+    for _part in parts {
+        payments.push_reserved(object_data(ObjKind::Payment, number));
+        number += 1;
+    }
+    Ok(payments)
+}
+
+/// Each part of a payment goes to a payment of its own, of which the first has the number.
+#[tactic(auto, using(crate::proofs::PartLists::apart_more))]
+fn moves_apart(
+    alloc: Global,
+    brand: u16,
+    from: u32,
+    first: u32,
+    parts: Vec<Value>,
+) -> Result<Vec<Movement>, AllocError>
+    requires { first + length parts.items < 2 ^ 32 }
+    ensures { IfOk result (λ ms. ms.items ≡ moves_apart brand from first parts.items) }
+{
+    let mut movements = Vec::new(alloc);
+    let mut number = first;
+    for value in parts {
+        movements.push(Movement {
+            brand,
+            from: Holder::Payment(from),
+            to: Holder::Payment(number),
+            value,
+        })?;
+        number += 1;
+    }
+    Ok(movements)
+}
+
+/// The plan of a payment that goes in parts, one at least, to payments of their own, of which the first has the
+/// number.
+#[tactic(auto, using(crate::proofs::PartLists::split_shaped))]
+fn splitting(
+    alloc: Global,
+    brand: u16,
+    from: u32,
+    first: u32,
+    parts: Vec<Value>,
+    answer: Data,
+) -> Result<Plan, AllocError>
+    requires some { 0 < length parts.items }
+    requires few { first + length parts.items < 2 ^ 32 }
+    ensures plan { IfOk result (λ plan. plan_view plan
+        ≡ (tree answer, moves (moves_apart brand from first parts.items) ∷ [])) }
+    ensures shaped { IfOk result (λ plan. AreShaped plan.effects.items) }
+{
+    match moves_apart(alloc, brand, from, first, parts) {
+        Ok(movements) => {
+            let splits = RightsEffect::Moves(Moves::Split(movements));
+            Plan::with_effect(alloc, answer, Effect::Rights(splits))
+        }
+        Err(fault) => {
+            drop(answer);
+            Err(fault)
+        }
+    }
+}
+
+/// The same, where the payments are answered, as an array.
+fn parted(
+    alloc: Global,
+    brand: u16,
+    from: u32,
+    first: u32,
+    parts: Vec<Value>,
+) -> Result<Plan, AllocError>
+    requires some { 0 < length parts.items }
+    requires few { first + length parts.items < 2 ^ 32 }
+    ensures plan { IfOk result (λ plan. plan_view plan ≡ parted brand from first parts.items) }
+    ensures shaped { IfOk result (λ plan. AreShaped plan.effects.items) }
+{
+    match payments_data(alloc, first, parts.as_slice()) {
+        Ok(payments) => splitting(alloc, brand, from, first, parts, Data::Array(payments)),
+        Err(fault) => {
+            drop(parts);
+            Err(fault)
+        }
+    }
+}
+
+/// The parts as they are lent.
+fn lent<'a>(alloc: Global, parts: &'a [Value]) -> Result<Vec<&'a Value>, AllocError>
+    ensures { IfOk result (λ values. map (λ v. v.now) values.items ≡ parts.now) }
+{
+    let mut values = Vec::new(alloc);
+    for part in parts {
+        values.push(part)?;
+    }
+    Ok(values)
+}
+
+/// What parts of one kind are together: else the refusals of a whole sum (ERTP).
+fn whole_of(alloc: Global, kind: Kind, parts: &[Value]) -> Result<Value, Stop>
+    requires { All (λ v. v.kind ≡ kind) parts.now }
+    ensures { Gives (λ total. total) result (whole_sum kind parts.now) }
+{
+    let values = lent(alloc, parts)?;
+    whole_sum(alloc, kind, values.as_slice())
+}
+
+/// A payment goes in parts, one at least, to the next ones, where they are left (ERTP).
+#[tactic(auto, unfolding(crate::specs::Left::apart, refusals::specs::Outcomes::bind))]
+fn next_parted(
+    alloc: Global,
+    world: &World,
+    brand: u16,
+    from: u32,
+    parts: Vec<Value>,
+) -> Result<Plan, Stop>
+    requires { 0 < length parts.items }
+    ensures { Plans (apart (world_of world.now) brand from parts.items) result }
+{
+    match next_payments(world, parts.len()) {
+        Ok(first) => Ok(parted(alloc, brand, from, first, parts)?),
+        Err(stop) => {
+            drop(parts);
+            Err(stop)
+        }
+    }
+}
+
+/// A part of a value, which it has, and the rest.
+fn halves(alloc: Global, mut whole: Value, part: Value) -> Result<Vec<Value>, AllocError>
+    requires kind { whole.kind ≡ part.kind }
+    requires has { Contains whole.content part.content }
+    ensures { IfOk result (λ halves. halves.items ≡ part ∷ rest_of whole part ∷ []) }
+{
+    match Vec::with_capacity(alloc, 2) {
+        Ok(mut halves) => {
+            whole.lessen(&part);
+            halves.push_reserved(part);
+            halves.push_reserved(whole);
+            Ok(halves)
+        }
+        Err(fault) => {
+            drop(part);
+            drop(whole);
+            Err(fault)
+        }
+    }
+}
+
+/// A part of a payment, which it has, goes to the next one, and the rest to another (ERTP).
+#[tactic(auto, unfolding(crate::specs::Left::apart))]
+fn next_halves(
+    alloc: Global,
+    world: &World,
+    brand: u16,
+    given: LivePayment,
+    part: Value,
+) -> Result<Plan, Stop>
+    requires kind { given.value.kind ≡ part.kind }
+    requires has { Contains given.value.content part.content }
+    ensures { Plans (apart (world_of world.now) brand given.number
+        (part ∷ rest_of given.value part ∷ [])) result }
+{
+    let LivePayment { number, value } = given;
+    let parts = halves(alloc, value, part)?;
+    next_parted(alloc, world, brand, number, parts)
+}
+
+/// A part of a payment goes to the next one, and the rest to another: else `NotEnough` (ERTP).
+#[tactic(auto, unfolding(crate::specs::Left::in_two, crate::specs::Left::apart, refusals::specs::Outcomes::bind))]
+fn in_two(
+    alloc: Global,
+    world: &World,
+    brand: u16,
+    given: LivePayment,
+    part: Value,
+) -> Result<Plan, Stop>
+    requires { given.value.kind ≡ part.kind }
+    ensures { Plans (in_two (world_of world.now) brand (live_view given) part) result }
+{
+    match check_has(&given.value, &part) {
+        Ok(()) => next_halves(alloc, world, brand, given, part),
+        Err(stop) => {
+            drop(part);
+            drop(given);
+            Err(stop)
+        }
+    }
+}
+
+/// `issuer.split(payment, amount)`: a payment of the amount, and one of the rest (ERTP).
+#[tactic(auto, unfolding(ertp_rows::specs::IssuerRows::split, crate::specs::Left::in_two, refusals::specs::Outcomes::bind))]
+pub fn split(alloc: Global, world: &World, brand: u16, args: &[Data]) -> Result<Plan, Stop>
+    requires good { IsGoodWorld (world_of world.now) }
+    requires handed { AreHanded (world_of world.now) (trees args.now) }
+    ensures { Plans (split (world_of world.now) brand (trees args.now)) result }
+{
+    let given = live_at(world, brand, 1, args)?;
+    match amount(alloc, brand, given.value.kind(), 2, argument(args, 2)) {
+        Ok(part) => in_two(alloc, world, brand, given, part),
+        Err(stop) => {
+            drop(given);
+            Err(stop)
+        }
+    }
+}
+
+/// A payment goes to the next ones in parts of which the sum is all of it: else `WrongAmount` (ERTP).
+#[tactic(auto, unfolding(refusals::specs::Outcomes::bind))]
+fn parted_as(
+    alloc: Global,
+    world: &World,
+    brand: u16,
+    given: LivePayment,
+    total: Value,
+    parts: Vec<Value>,
+) -> Result<Plan, Stop>
+    requires some { 0 < length parts.items }
+    requires kind { given.value.kind ≡ total.kind }
+    ensures { Plans (bind (need (is_same given.value total) (wrong_amount given.value total))
+        (λ _. apart (world_of world.now) brand given.number parts.items)) result }
+{
+    let is_all = check_same(&given.value, &total);
+    drop(total);
+    let from = given.number;
+    drop(given);
+    match is_all {
+        Ok(()) => next_parted(alloc, world, brand, from, parts),
+        Err(stop) => {
+            drop(parts);
+            Err(stop)
+        }
+    }
+}
+
+/// A payment goes to the next ones in parts which are together all of it (ERTP).
+#[tactic(auto, using(crate::proofs::PartLists::sum_kind), unfolding(crate::specs::Left::in_parts, refusals::specs::Outcomes::bind))]
+fn in_parts(
+    alloc: Global,
+    world: &World,
+    brand: u16,
+    given: LivePayment,
+    parts: Vec<Value>,
+) -> Result<Plan, Stop>
+    requires some { 0 < length parts.items }
+    requires kinds { All (λ v. v.kind ≡ given.value.kind) parts.items }
+    ensures { Plans (in_parts (world_of world.now) brand (live_view given) parts.items) result }
+{
+    match whole_of(alloc, given.value.kind(), parts.as_slice()) {
+        Ok(total) => parted_as(alloc, world, brand, given, total, parts),
+        Err(stop) => {
+            drop(parts);
+            drop(given);
+            Err(stop)
+        }
+    }
+}
+
+/// A payment goes to the next ones in the parts that are listed, one at least (ERTP).
+#[tactic(auto, using(crate::proofs::PartLists::parts_kinds, crate::proofs::PartLists::parts_many), unfolding(crate::specs::Left::in_listed, refusals::specs::Outcomes::bind))]
+fn in_listed(
+    alloc: Global,
+    world: &World,
+    brand: u16,
+    given: LivePayment,
+    items: &[Data],
+) -> Result<Plan, Stop>
+    requires { 0 < length items.now }
+    ensures { Plans
+        (in_listed (world_of world.now) brand (live_view given) (trees items.now)) result }
+{
+    match amounts_of(alloc, brand, given.value.kind(), 2, items) {
+        Ok(parts) => in_parts(alloc, world, brand, given, parts),
+        Err(stop) => {
+            drop(given);
+            Err(stop)
+        }
+    }
+}
+
+/// `issuer.splitMany(payment, amounts)`: a payment of each, which together are what the payment has (ERTP).
+#[tactic(auto, using(crate::proofs::PartLists::some_listed), unfolding(ertp_rows::specs::IssuerRows::split_many, crate::specs::Left::in_listed, crate::specs::Left::in_parts, crate::specs::Left::apart, refusals::specs::Outcomes::bind))]
+pub fn split_many(alloc: Global, world: &World, brand: u16, args: &[Data]) -> Result<Plan, Stop>
+    requires good { IsGoodWorld (world_of world.now) }
+    requires handed { AreHanded (world_of world.now) (trees args.now) }
+    ensures { Plans (split_many (world_of world.now) brand (trees args.now)) result }
+{
+    let given = live_at(world, brand, 1, args)?;
+    match filled_list_at(2, args) {
+        Ok(items) => in_listed(alloc, world, brand, given, items),
+        Err(stop) => {
+            drop(given);
+            Err(stop)
+        }
+    }
+}

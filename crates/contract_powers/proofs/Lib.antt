@@ -1,0 +1,5 @@
+pub mod Oks
+pub mod Passes
+pub mod Carried
+pub mod Steps
+pub mod Stable

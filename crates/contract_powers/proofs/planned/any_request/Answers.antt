@@ -1,0 +1,10 @@
+use Rattle.delivery_turns.specs.HostCalls.{when_row}
+use Rattle.host_world.specs.Worlds.{world_of}
+use Rattle.jessie_semantics.specs.Play as plays
+use Rattle.jessie_tree.specs.View.{tree}
+use Rattle.contract_powers.proofs.Oks.{answered_if}
+use Rattle.contract_powers.proofs.planned.any_request.Goals as goal
+
+pub returns : goal.returns
+returns c =
+    answered_if c.answer_told.result (plays.when c.args.promise c.args.function (tree c.args.held)) (when_row (world_of c.args.world.now) c.args.instance c.args.promise c.args.function (tree c.args.held)) c.told_when-told.result c.plan_when-row.result c.answer_told.ensures c.told_when-told.ensures c.plan_when-row.ensures

@@ -1,0 +1,15 @@
+use Rattle.std.proofs.Common.{List, subst}
+use Rattle.call_plans.specs.Plans.{Plans}
+use Rattle.delivery_turns.specs.HostCalls.{send_row}
+use Rattle.host_world.specs.Worlds.{world_of}
+use Rattle.jessie_semantics.specs.Play as plays
+use Rattle.jessie_tree.specs.View.{trees}
+use Rattle.jessie_tree.specs.declared.data.Data.{Data}
+use Rattle.contract_powers.proofs.Oks.{answered_as}
+use Rattle.contract_powers.proofs.planned.any_send.Goals as goal
+
+pub returns : goal.returns
+returns c =
+    let w = world_of c.args.world.now in
+    answered_as c.answer_call.result (plays.send c.args.target c.args.method (trees c.args.args.items)) (send_row w c.args.instance c.args.target c.args.method (trees c.args.args.items)) c.told_send.result c.plan_send-row.result c.answer_call.ensures c.told_send.ensures
+    (subst (λ (xs : List Data). Plans (send_row w c.args.instance c.args.target c.args.method (trees xs)) c.plan_send-row.result) c.as_slice.ensures.value c.plan_send-row.ensures)

@@ -1,0 +1,29 @@
+use Rattle.std.proofs.Common.{◌≡◌, ◌∙◌, List, subst, sym}
+use Rattle.host_world.specs.Worlds.{world_of}
+use Rattle.jessie_semantics.specs.Play as plays
+use Rattle.jessie_tree.specs.View.{trees}
+use Rattle.jessie_tree.specs.declared.data.Data.{Data}
+use Rattle.contract_powers.specs.Passing.{call_passes}
+use Rattle.contract_powers.proofs.Passes.{passed_call, stray_call}
+use Rattle.contract_powers.proofs.planned.named_call.Goals as goal
+
+pub returns-then-not-knows_call : goal.returns-then-not-knows_call
+returns-then-not-knows_call g c =
+    let w = world_of c.args.world.now in
+    let is = subst (λ (xs : List Data). c.knows_call.result ≡ call_passes w c.args.instance (plays.call c.args.target c.args.method (trees xs))) c.as_slice.ensures.value (c.knows_call.ensures.calls c.args.method) in
+    stray_call w c.args.instance c.requires.good c.requires.made (plays.call c.args.target c.args.method (trees c.args.args.items)) (sym is ∙ c.if-not-knows_call.true)
+
+pub known_call-requires-clause-known : goal.known_call-requires-clause-known
+known_call-requires-clause-known g c =
+    let w = world_of c.args.world.now in
+    let is = subst (λ (xs : List Data). c.knows_call.result ≡ call_passes w c.args.instance (plays.call c.args.target c.args.method (trees xs))) c.as_slice.ensures.value (c.knows_call.ensures.calls c.args.method) in
+    passed_call w c.args.instance c.requires.good c.requires.made (plays.call c.args.target c.args.method (trees c.args.args.items)) (sym is ∙ c.if-not-knows_call.false)
+
+pub returns-in-Ok : goal.returns-in-Ok
+returns-in-Ok g c =
+    let w = world_of c.args.world.now in
+    let is = subst (λ (xs : List Data). c.knows_call.result ≡ call_passes w c.args.instance (plays.call c.args.target c.args.method (trees xs))) c.as_slice.ensures.value (c.knows_call.ensures.calls c.args.method) in
+    record {
+      known = passed_call w c.args.instance c.requires.good c.requires.made (plays.call c.args.target c.args.method (trees c.args.args.items)) (sym is ∙ c.if-not-knows_call.false);
+      answered = c.in-Ok.ensures;
+    }

@@ -1,0 +1,16 @@
+use Rattle.std.proofs.Common.{◌∙◌, sym}
+use Rattle.host_world.specs.Worlds.{world_of}
+use Rattle.jessie_semantics.specs.Play as plays
+use Rattle.jessie_tree.specs.View.{tree}
+use Rattle.contract_powers.proofs.Passes.{passed_call, stray_call}
+use Rattle.contract_powers.proofs.planned.named_request.Goals as goal
+
+pub returns-then-not-knows_request : goal.returns-then-not-knows_request
+returns-then-not-knows_request c =
+    stray_call (world_of c.args.world.now) c.args.instance c.requires.good c.requires.made (plays.when c.args.promise c.args.function (tree c.args.held)) (sym c.knows_request.ensures ∙ c.if-not-knows_request.true)
+
+pub returns-in-Ok : goal.returns-in-Ok
+returns-in-Ok c = record {
+  known = passed_call (world_of c.args.world.now) c.args.instance c.requires.good c.requires.made (plays.when c.args.promise c.args.function (tree c.args.held)) (sym c.knows_request.ensures ∙ c.if-not-knows_request.false);
+  answered = c.in-Ok.ensures;
+}

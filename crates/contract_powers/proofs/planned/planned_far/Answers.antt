@@ -1,0 +1,10 @@
+use Rattle.std.specs.Prelude.{IfOk}
+use Rattle.std.proofs.Common.{ℕ, List, subst}
+use Rattle.host_world.specs.Worlds.{world_of}
+use Rattle.jessie_semantics.specs.Play as plays
+use Rattle.jessie_tree.specs.View.{tree}
+use Rattle.contract_powers.specs.Planned.{IsPlanned}
+use Rattle.contract_powers.proofs.planned.planned_far.Goals as goal
+
+pub returns-in-Ok : goal.returns-in-Ok
+returns-in-Ok c = subst (λ (x : List ℕ). IfOk c.named_facet.result (IsPlanned (world_of c.args.world.now) c.args.instance (plays.far x c.args.methods.items (tree c.args.held)))) c.in-Ok.ensures c.named_facet.ensures

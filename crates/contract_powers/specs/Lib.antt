@@ -1,0 +1,6 @@
+pub mod Passing
+pub mod Answered
+pub mod Planned
+pub mod Running
+pub mod Starts
+pub mod Keeping

@@ -1,0 +1,46 @@
+-- A call that is planned and not carried out yet; none where it names what the instance may not name.
+use Rattle.std.specs.Prelude.{◌≡◌, ℕ, Option, Some, None}
+use Rattle.call_plans.specs.Views.{AreShaped, effect_views}
+use Rattle.carried_effects.specs.Carried.{AreCarried}
+use Rattle.delivery_turns.specs.HostCalls.{call_row}
+use Rattle.host_calls.specs.Answered.{IsAnswered}
+use Rattle.host_calls.specs.declared.answered.Answered.{Answered}
+use Rattle.host_world.specs.declared.World.{World}
+use Rattle.jessie_machine.specs.Host.{reply_of}
+use Rattle.jessie_machine.specs.declared.host.Answer.{Answer}
+use Rattle.jessie_semantics.specs.Keeping.{CallHas}
+use Rattle.jessie_semantics.specs.Play.{Call, refused}
+use Rattle.jessie_tree.specs.Tree.{null}
+use Rattle.world_state.specs.Good.{AreGood}
+use Rattle.world_state.specs.Known.{IsKnownTo}
+use Rattle.world_state.specs.Worlds.{State}
+
+pub record IsPlannedCall (w : State) (i : ℕ) (c : Call) (done : Answered) : Type 0 where
+  pub known : CallHas (IsKnownTo w i) c
+  pub answered : IsAnswered c (call_row w i c) done
+
+abbrev pub IsPlanned : State → ℕ → Call → Option Answered → Type 0
+IsPlanned w i c (Some done) = IsPlannedCall w i c done
+IsPlanned w i c None = CallHas (IsKnownTo w i) c → ⊥
+
+-- what is planned can be carried out
+pub record CanHappen (w : State) (done : Answered) : Type 0 where
+  pub shaped : AreShaped done.effects.items
+  pub good : AreGood w (effect_views done.effects.items)
+
+abbrev pub CanCarry : State → Option Answered → Type 0
+CanCarry w (Some done) = CanHappen w done
+CanCarry w None = Unit {0}
+
+-- and was
+pub record Happened (old new : World) (done : Answered) (answer : Answer) : Type 0 where
+  pub reply : answer ≡ done.reply
+  pub carried : AreCarried old new (effect_views done.effects.items)
+
+pub record NothingHappened (old new : World) (answer : Answer) : Type 0 where
+  pub same : new ≡ old
+  pub reply : reply_of answer ≡ refused null
+
+abbrev pub WasCarried : World → World → Option Answered → Answer → Type 0
+WasCarried old new (Some done) answer = Happened old new done answer
+WasCarried old new None answer = NothingHappened old new answer

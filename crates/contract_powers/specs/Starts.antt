@@ -1,0 +1,25 @@
+-- What a turn goes back to, if it is undone.
+use Rattle.std.specs.Prelude.{◌≡◌}
+use Rattle.escrow.specs.Told.{EscrowState, nothing_told}
+use Rattle.host_world.specs.declared.World.{World}
+use Rattle.plain_stores.specs.Plain.{PlainState, new_plain}
+use Rattle.plain_stores.specs.Stores.{plain_at_start}
+use Rattle.right_steps.specs.Lists.{Lists, no_lists}
+use Rattle.vault_rights.specs.Drafts.{HandGoes}
+
+-- the rights, the stores that touch none, and what was told up to the last turn
+pub record Start : Type 0 where
+  pub kept : Lists
+  pub plain : PlainState
+  pub sums : EscrowState
+
+abbrev pub start_of : World → Start
+start_of w = record { kept = w.draft.kept; plain = plain_at_start w.plain; sums = w.sums }
+
+abbrev pub no_start : Start
+no_start = record { kept = no_lists; plain = new_plain; sums = nothing_told }
+
+-- the turn can be undone, and goes back to that
+pub record GoesBackTo (start : Start) (w : World) : Type 0 where
+  pub same : start_of w ≡ start
+  pub goes : HandGoes w.draft

@@ -1,0 +1,145 @@
+//! Calls that an instance makes of the host, each carried out at once on the world.
+
+ghost use Rattle.std.specs.Prelude.{◌≡◌, ◌<◌, ◌*◌, ◌^◌, IfOk, OnOk, length};
+ghost use Rattle.call_plans.specs.Views.{AreShaped, effect_views};
+ghost use Rattle.carried_effects.specs.Carried.{AreCarried, IsInTurn};
+ghost use Rattle.contract_powers.specs.Answered.{IsCallAnswered};
+ghost use Rattle.contract_powers.specs.Planned.{CanCarry, Happened, WasCarried};
+ghost use Rattle.host_world.specs.Worlds.{IsUndoable, world_of};
+ghost use Rattle.jessie_machine.specs.Host.{reply_of};
+ghost use Rattle.jessie_semantics.specs.Play as plays;
+ghost use Rattle.jessie_semantics.specs.Play.{cost};
+ghost use Rattle.jessie_tree.specs.View.{tree, trees};
+ghost use Rattle.world_state.specs.Good.{AreGood};
+ghost use Rattle.world_state.specs.Rights.{IsRoomy};
+
+use crate::planned::{planned_call, planned_far, planned_send, planned_when};
+use crate::rows::ContractRows;
+use host_calls::answered::Answered;
+use host_text::text::Text;
+use host_world::World;
+use jessie_machine::host::Answer;
+use jessie_tree::data::{Data, Obj};
+use std::alloc::{AllocError, Global};
+use world_effects::carry_out;
+
+/// A call is told, and has its effects; what is answered comes back. For want of memory some effects may have been
+/// carried out, and the turn is to be undone.
+fn carry_call(alloc: Global, world: &mut World, done: Answered) -> Result<Answer, AllocError>
+    requires turn { IsInTurn world.old }
+    requires shaped { AreShaped done.effects.items }
+    requires good { AreGood (world_of world.old) (effect_views done.effects.items) }
+    ensures happened { IfOk result (Happened world.old world.new done) }
+    ensures back { IsUndoable world.old world.new }
+{
+    let Answered { reply, effects } = done;
+    match carry_out(world, alloc, effects) {
+        Ok(()) => Ok(reply),
+        Err(fault) => {
+            drop(reply);
+            Err(fault)
+        }
+    }
+}
+
+/// What was planned is carried out. Where nothing was, null is thrown.
+#[tactic(auto, using(carried_effects::proofs::Carrying::not_moved))]
+fn carry(alloc: Global, world: &mut World, planned: Option<Answered>) -> Result<Answer, AllocError>
+    requires turn { IsInTurn world.old }
+    requires can { CanCarry (world_of world.old) planned }
+    ensures was { IfOk result (WasCarried world.old world.new planned) }
+    ensures back { IsUndoable world.old world.new }
+{
+    match planned {
+        Some(done) => carry_call(alloc, world, done),
+        None => Ok(Answer::Refused(Data::Null)),
+    }
+}
+
+/// A call of a method of an object (Zoe).
+#[tactic(auto, using(carried_effects::proofs::Carrying::not_moved))]
+pub fn call<R: ContractRows>(
+    alloc: Global,
+    world: &mut World,
+    instance: u32,
+    target: Obj,
+    method: &str,
+    args: Vec<Data>,
+) -> Result<Answer, AllocError>
+    requires turn { IsInTurn world.old }
+    requires made { instance < length (world_of world.old).tables.instances }
+    requires room { IsRoomy (world_of world.old).rights.out
+        (2 ^ 63 * cost (plays.call target method.now (trees args.items))) }
+    ensures answered { IfOk result (λ a. IsCallAnswered world.old world.new instance
+        (plays.call target method.now (trees args.items)) (reply_of a)) }
+    ensures back { IsUndoable world.old world.new }
+{
+    let planned = planned_call::<R>(alloc, world, instance, target, method, args)?;
+    carry(alloc, world, planned)
+}
+
+/// A call of a method of an object, to be delivered later (eventual send).
+#[tactic(auto, using(carried_effects::proofs::Carrying::not_moved))]
+pub fn send(
+    alloc: Global,
+    world: &mut World,
+    instance: u32,
+    target: Obj,
+    method: &str,
+    args: Vec<Data>,
+) -> Result<Answer, AllocError>
+    requires turn { IsInTurn world.old }
+    requires made { instance < length (world_of world.old).tables.instances }
+    requires room { IsRoomy (world_of world.old).rights.out
+        (2 ^ 63 * cost (plays.send target method.now (trees args.items))) }
+    ensures answered { IfOk result (λ a. IsCallAnswered world.old world.new instance
+        (plays.send target method.now (trees args.items)) (reply_of a)) }
+    ensures back { IsUndoable world.old world.new }
+{
+    let planned = planned_send(alloc, world, instance, target, method, args)?;
+    carry(alloc, world, planned)
+}
+
+/// A request to be told of a promise (eventual send).
+#[tactic(auto, using(carried_effects::proofs::Carrying::not_moved))]
+pub fn when(
+    alloc: Global,
+    world: &mut World,
+    instance: u32,
+    promise: Obj,
+    function: &str,
+    held: Data,
+) -> Result<Answer, AllocError>
+    requires turn { IsInTurn world.old }
+    requires made { instance < length (world_of world.old).tables.instances }
+    requires room { IsRoomy (world_of world.old).rights.out
+        (2 ^ 63 * cost (plays.when promise function.now (tree held))) }
+    ensures answered { IfOk result (λ a. IsCallAnswered world.old world.new instance
+        (plays.when promise function.now (tree held)) (reply_of a)) }
+    ensures back { IsUndoable world.old world.new }
+{
+    let planned = planned_when(alloc, world, instance, promise, function, held)?;
+    carry(alloc, world, planned)
+}
+
+/// A facet that is made (Endo's Far).
+#[tactic(auto, using(carried_effects::proofs::Carrying::not_moved))]
+pub fn far(
+    alloc: Global,
+    world: &mut World,
+    instance: u32,
+    name: &str,
+    methods: Vec<(Text, Text)>,
+    held: Data,
+) -> Result<Answer, AllocError>
+    requires turn { IsInTurn world.old }
+    requires made { instance < length (world_of world.old).tables.instances }
+    requires room { IsRoomy (world_of world.old).rights.out
+        (2 ^ 63 * cost (plays.far name.now methods.items (tree held))) }
+    ensures answered { IfOk result (λ a. IsCallAnswered world.old world.new instance
+        (plays.far name.now methods.items (tree held)) (reply_of a)) }
+    ensures back { IsUndoable world.old world.new }
+{
+    let planned = planned_far(alloc, world, instance, name, methods, held)?;
+    carry(alloc, world, planned)
+}

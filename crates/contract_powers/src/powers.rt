@@ -1,0 +1,139 @@
+//! The powers of an instance's functions over the world of a turn.
+
+ghost use Rattle.contract_powers.specs.Running.{IsReady, situation};
+ghost use Rattle.contract_powers.specs.Starts.{GoesBackTo};
+
+use crate::calls;
+use crate::costs::{after_call, after_far, after_when};
+use crate::rows::ContractRows;
+use host_text::text::Text;
+use host_world::World;
+use jessie_machine::host::{Answer, NoMemory, Powers};
+use jessie_tree::data::{Data, Obj};
+use std::alloc::{AllocError, Global};
+use std::marker::{Brand, PhantomData};
+
+/// A turn, by what it goes back to if it is undone.
+pub trait Turn {
+    ghost use Rattle.contract_powers.specs.Starts.{Start};
+
+    ghost base: { Start };
+}
+
+impl Turn for Brand {
+    ghost use Rattle.contract_powers.specs.Starts.{no_start};
+
+    ghost base = { no_start };
+}
+
+/// What an instance's functions can do to the world of a turn. The turn can be undone, whatever happens.
+pub struct ContractPowers<T: Turn, R: ContractRows> {
+    pub alloc: Global,
+    pub world: World,
+    /// The instance, by its number.
+    pub instance: u32,
+    /// What calls and their answers may still cost: what is left of the run's meter, or more.
+    pub room: u64,
+    /// Whether memory was wanted in the midst of a call: the world may be half changed, and nothing is answered any
+    /// more.
+    pub failed: bool,
+    pub turn: PhantomData<T>,
+    pub rows: PhantomData<R>,
+    ghost ready: { ∥ IsReady (situation world instance room failed) ∥₁ },
+    ghost back: { ∥ GoesBackTo T.base world ∥₁ },
+}
+
+impl<T: Turn, R: ContractRows> Powers for ContractPowers<T, R> {
+    ghost use Rattle.contract_powers.specs.Keeping.{keeps_to_its_side};
+    ghost use Rattle.contract_powers.specs.Running.{IsAnswered, Knows, situation};
+
+    ghost answers = { λ p x q. IsAnswered (situation p.world p.instance p.room p.failed)
+        (situation q.world q.instance q.room q.failed) x };
+
+    ghost known = { λ p. Knows (situation p.world p.instance p.room p.failed) };
+
+    ghost room = { λ p. p.room };
+
+    fn call(&mut self, target: Obj, method: &str, args: Vec<Data>) -> Result<Answer, NoMemory> {
+        if self.failed {
+            drop(args);
+            return Err(AllocError);
+        }
+        let left = after_call(self.room, args.as_slice());
+        self.failed = true;
+        let answer = calls::call::<R>(
+            self.alloc,
+            &mut self.world,
+            self.instance,
+            target,
+            method,
+            args,
+        )?;
+        self.room = left;
+        self.failed = false;
+        Ok(answer)
+    }
+
+    fn send(&mut self, target: Obj, method: &str, args: Vec<Data>) -> Result<Answer, NoMemory> {
+        if self.failed {
+            drop(args);
+            return Err(AllocError);
+        }
+        let left = after_call(self.room, args.as_slice());
+        self.failed = true;
+        let answer = calls::send(
+            self.alloc,
+            &mut self.world,
+            self.instance,
+            target,
+            method,
+            args,
+        )?;
+        self.room = left;
+        self.failed = false;
+        Ok(answer)
+    }
+
+    fn when(&mut self, promise: Obj, f: &str, held: Data) -> Result<Answer, NoMemory> {
+        if self.failed {
+            drop(held);
+            return Err(AllocError);
+        }
+        let left = after_when(self.room, &held);
+        self.failed = true;
+        let answer = calls::when(self.alloc, &mut self.world, self.instance, promise, f, held)?;
+        self.room = left;
+        self.failed = false;
+        Ok(answer)
+    }
+
+    fn far(
+        &mut self,
+        name: &str,
+        methods: Vec<(Text, Text)>,
+        held: Data,
+    ) -> Result<Answer, NoMemory> {
+        if self.failed {
+            drop(methods);
+            drop(held);
+            return Err(AllocError);
+        }
+        let left = after_far(self.room, name, methods.as_slice(), &held);
+        self.failed = true;
+        let answer = calls::far(
+            self.alloc,
+            &mut self.world,
+            self.instance,
+            name,
+            methods,
+            held,
+        )?;
+        self.room = left;
+        self.failed = false;
+        Ok(answer)
+    }
+
+    ghost keeps = { λ p x q is known fits. keeps_to_its_side
+        (situation p.world p.instance p.room p.failed) x
+        (situation q.world q.instance q.room q.failed) is known fits };
+}

@@ -1,0 +1,4 @@
+pub mod Names
+pub mod KnownFields
+pub mod Transfers
+pub mod Steps

@@ -1,0 +1,171 @@
+//! What goes from a seat's slots to new payments.
+
+ghost use Rattle.std.specs.Prelude.{◌≡◌, ◌<◌, ◌≤◌, ◌+◌, [], ◌∷◌, IfOk, OnOk, length};
+ghost use Rattle.allocation_changes.specs.Losses.{with_losses};
+ghost use Rattle.call_plans.specs.Plans.{Plans, plan_view};
+ghost use Rattle.call_plans.specs.Views.{AreShaped, effect_views};
+ghost use Rattle.contract_rows.specs.SeatRows.{allocation_of, seat_of};
+ghost use Rattle.contract_words.specs.Known.{AreKnown};
+ghost use Rattle.ertp_mint.specs.Stocks.{most_made};
+ghost use Rattle.escrow_plans.specs.Left.{gives_withdrawal, withdrawing, withdrawn, withdrawn_in};
+ghost use Rattle.host_world.specs.Worlds.{world_of};
+ghost use Rattle.jessie_tree.specs.View.{trees};
+ghost use Rattle.refusals.specs.Outcomes.{Gives};
+ghost use Rattle.seat_changes.specs.Calls.{FitSlots, IsSeatCall};
+ghost use Rattle.trade_rows.specs.Escrows.{withdraw_from_seat};
+ghost use Rattle.trade_rows.specs.States.{changing, has_room, touched_seat};
+ghost use Rattle.world_state.specs.Good.{IsGoodWorld};
+ghost use Rattle.world_state.specs.Worlds.{IsOpen, payments_tree, payout_moves};
+
+use crate::payouts::{payments_data, payout_moves};
+use call_plans::effects::Effect;
+use call_plans::plans::Plan;
+use call_words::words::runs;
+use contract_words::allocations::current_allocation;
+use contract_words::own_seats::own_seat;
+use host_world::World;
+use jessie_tree::data::Data;
+use proposals::allocations::Row;
+use refusals::stops::Stop;
+use right_reads::payment_reads::payments_made;
+use seat_changes::counts::{check_room, slots_after};
+use seat_changes::effects::changing;
+use seat_changes::given::rows_for;
+use seat_changes::safety::check_safe;
+use slot_checks::check_losses;
+use std::alloc::{AllocError, Global};
+
+/// What rows say goes from their slots to new payments, of which the first has the number.
+#[tactic(auto, using(crate::proofs::Transfers::payouts_apart))]
+fn paying(alloc: Global, seat: u32, first: u32, rows: &[Row]) -> Result<Vec<Effect>, AllocError>
+    requires { first + length rows.now ≤ most_made }
+    ensures effects { IfOk result (λ es.
+        effect_views es.items ≡ changing (seat ∷ []) (payout_moves seat first rows.now)) }
+    ensures shaped { IfOk result (λ es. AreShaped es.items) }
+{
+    let moves = payout_moves(alloc, seat, first, rows)?;
+    changing(alloc, seat, moves)
+}
+
+/// The same, which answers the payments.
+fn paying_out(alloc: Global, seat: u32, first: u32, rows: &[Row]) -> Result<Plan, AllocError>
+    requires { first + length rows.now ≤ most_made }
+    ensures plan { IfOk result (λ plan. plan_view plan
+        ≡ (payments_tree first rows.now, changing (seat ∷ []) (payout_moves seat first rows.now))) }
+    ensures shaped { IfOk result (λ plan. AreShaped plan.effects.items) }
+{
+    let effects = paying(alloc, seat, first, rows)?;
+    let answer = payments_data(alloc, first, rows)?;
+    Ok(Plan { answer, effects })
+}
+
+/// That the slots that a withdrawal opens, and its payments, leave room: else `Limit` (own).
+fn check_room_for(world: &World, seat: u32, slots: &[Row], rows: &[Row]) -> Result<(), Stop>
+    ensures gives { Gives (λ _. tt) result (has_room (world_of world.now)
+        (touched_seat seat slots.now (with_losses slots.now rows.now) ∷ []) (length rows.now)) }
+    ensures left { OnOk result
+        (length (world_of world.now).rights.payments + length rows.now ≤ most_made) }
+{
+    check_room(world, slots.len(), slots_after(slots, rows), rows.len())
+}
+
+/// That rows can be taken from their slots, that the seat's offer stays safe, and that there is room: else
+/// `NotEnough`, `NotOfferSafe`, then `Limit`.
+#[tactic(auto, unfolding(crate::specs::Left::gives_withdrawal, refusals::specs::Outcomes::bind))]
+fn check_slots(
+    alloc: Global,
+    world: &World,
+    seat: u32,
+    slots: &[Row],
+    rows: &[Row],
+) -> Result<(), Stop>
+    requires good { IsGoodWorld (world_of world.now) }
+    requires made { seat < length (world_of world.now).seats }
+    requires slots { slots.now ≡ allocation_of (world_of world.now) seat }
+    requires fit { FitSlots slots.now rows.now }
+    ensures gives { Gives (λ _. tt) result
+        (gives_withdrawal (world_of world.now) seat slots.now rows.now) }
+    ensures left { OnOk result
+        (length (world_of world.now).rights.payments + length rows.now ≤ most_made) }
+{
+    check_losses(slots, rows)?;
+    check_safe(alloc, world, seat, slots, rows)?;
+    check_room_for(world, seat, slots, rows)
+}
+
+/// What is left of a withdrawal once the rows are read.
+#[tactic(auto, unfolding(crate::specs::Left::withdrawn, refusals::specs::Outcomes::bind))]
+fn withdraw(
+    alloc: Global,
+    world: &World,
+    seat: u32,
+    slots: &[Row],
+    rows: &[Row],
+) -> Result<Plan, Stop>
+    requires good { IsGoodWorld (world_of world.now) }
+    requires made { seat < length (world_of world.now).seats }
+    requires slots { slots.now ≡ allocation_of (world_of world.now) seat }
+    requires fit { FitSlots slots.now rows.now }
+    ensures { Plans (withdrawn (world_of world.now) seat slots.now rows.now) result }
+{
+    check_slots(alloc, world, seat, slots, rows)?;
+    Ok(paying_out(alloc, seat, payments_made(&world.draft), rows)?)
+}
+
+/// What is left of a withdrawal once the seat's slots are read.
+#[tactic(auto, unfolding(crate::specs::Left::withdrawn_in, refusals::specs::Outcomes::bind))]
+fn withdraw_in(
+    alloc: Global,
+    world: &World,
+    instance: u32,
+    seat: u32,
+    slots: &[Row],
+    args: &[Data],
+) -> Result<Plan, Stop>
+    requires hosted { instance < length (world_of world.now).tables.instances }
+    requires call { IsSeatCall (world_of world.now) seat (trees args.now) }
+    requires slots { slots.now ≡ allocation_of (world_of world.now) seat }
+    ensures { Plans
+        (withdrawn_in (world_of world.now) instance seat slots.now (trees args.now)) result }
+{
+    let rows = rows_for(alloc, world, instance, seat, slots, 2, args)?;
+    withdraw(alloc, world, seat, slots, rows.as_slice())
+}
+
+/// What is left of a withdrawal once the seat is read.
+fn withdraw_at(
+    alloc: Global,
+    world: &World,
+    instance: u32,
+    seat: u32,
+    args: &[Data],
+) -> Result<Plan, Stop>
+    requires good { IsGoodWorld (world_of world.now) }
+    requires hosted { instance < length (world_of world.now).tables.instances }
+    requires made { seat < length (world_of world.now).seats }
+    requires open { IsOpen (seat_of (world_of world.now) seat) }
+    requires known { AreKnown (world_of world.now) (trees args.now) }
+    ensures { Plans (withdrawn_in (world_of world.now) instance seat
+        (allocation_of (world_of world.now) seat) (trees args.now)) result }
+{
+    let slots = current_allocation(world, seat)?;
+    withdraw_in(alloc, world, instance, seat, slots.rows(), args)
+}
+
+/// zcf.withdrawFromSeat(seat, amounts) (Zoe).
+#[tactic(auto, using(crate::proofs::Steps::withdrawn_same), unfolding(crate::specs::Left::withdrawing, refusals::specs::Outcomes::bind))]
+pub fn withdraw_from_seat(
+    alloc: Global,
+    world: &World,
+    instance: u32,
+    args: &[Data],
+) -> Result<Plan, Stop>
+    requires good { IsGoodWorld (world_of world.now) }
+    requires hosted { instance < length (world_of world.now).tables.instances }
+    requires known { AreKnown (world_of world.now) (trees args.now) }
+    ensures { Plans (withdraw_from_seat (world_of world.now) instance (trees args.now)) result }
+{
+    runs(world, instance)?;
+    let seat = own_seat(world, instance, 1, args)?;
+    withdraw_at(alloc, world, instance, seat, args)
+}

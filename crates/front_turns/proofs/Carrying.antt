@@ -1,0 +1,102 @@
+-- Effects carried out, one list after another, and the delivery in front, which stays there.
+use Rattle.std.specs.Prelude.{IfOk}
+use Rattle.std.specs.List.{AllByRecursion}
+use Rattle.std.proofs.Common.{◌≡◌, ℕ, ◌-◌, ◌<◌, List, [], ◌∷◌, ◌++◌, None, Result, Ok, Err, length, refl, sym, ◌∙◌, ap, subst}
+use Rattle.call_plans.specs.Plans.{Plans}
+use Rattle.call_plans.specs.Views.{AreShaped, effect_views}
+use Rattle.call_plans.specs.declared.plans.Plan.{Plan}
+use Rattle.call_row_laws.proofs.Forms.{null_formed}
+use Rattle.call_rows.specs.Rows.{Outcome}
+use Rattle.call_words.specs.Handed.{AreHanded}
+use Rattle.carried_effects.specs.Carried.{AreCarried, IsInTurn}
+use Rattle.delivery_laws.proofs.Ends.{halts_good}
+use Rattle.delivery_laws.proofs.Runs.{after_both}
+use Rattle.delivery_turns.specs.HostCalls.{effects_of}
+use Rattle.delivery_turns.specs.Tasks.{halt_with}
+use Rattle.front_laws.proofs.Fronts.{effects_pass}
+use Rattle.host_world.specs.Worlds.{IsUndoable, vault_state, world_at_start, world_now, world_of}
+use Rattle.host_world.specs.declared.World.{World}
+use Rattle.jessie_tree.specs.Tree.{Tree, null}
+use Rattle.plain_stores.specs.Plain.{front_of}
+use Rattle.refusals.specs.declared.stops.Stop.{Stop}
+use Rattle.turn_rows.specs.Causes as causes
+use Rattle.vault_rights.specs.Drafts.{HandGoes, IsClean}
+use Rattle.world_laws.proofs.Fronts.{good_behind}
+use Rattle.world_laws.proofs.Lists.{all_read_or}
+use Rattle.world_state.specs.Good.{AreGood, IsGoodWorld}
+use Rattle.world_state.specs.Known.{IsHanded}
+use Rattle.world_state.specs.Worlds.{Effect, State, after_all, behind, end_staging, in_front}
+use Rattle.front_turns.specs.Turning.{front}
+use Rattle.front_turns.proofs.Parts.{first_good, fronted}
+
+-- ---- what was carried out
+
+pub carried_nothing : (w : World) → IsInTurn w → AreCarried w w []
+carried_nothing w turn = record { now = refl; world = refl; turn = turn }
+
+pub carried_on : (old mid new : World) (es fs : List Effect) → AreCarried old mid es → AreCarried mid new fs → AreCarried old new (es ++ fs)
+carried_on old mid new es fs one two = record {
+  now = two.now ∙ (ap (λ (v : State). after_all v fs) one.now ∙ sym (after_both (world_now old) es fs));
+  world = two.world ∙ (ap (λ (v : State). after_all v fs) one.world ∙ sym (after_both (world_of old) es fs));
+  turn = two.turn;
+}
+
+-- from another turn in which as much was done
+pub carried_from : (old mid new : World) (es : List Effect) → world_now mid ≡ world_now old → AreCarried mid new es → AreCarried old new es
+carried_from old mid new es same is = record {
+  now = is.now ∙ ap (λ (v : State). after_all v es) same;
+  world = is.world ∙ ap (λ (v : State). after_all (behind v) es) same;
+  turn = is.turn;
+}
+
+pub carried_by : (old new : World) (es fs : List Effect) → es ≡ fs → AreCarried old new es → AreCarried old new fs
+carried_by old new es fs same is = subst (λ (l : List Effect). AreCarried old new l) same is
+
+-- ---- a turn begins
+
+pub behind_good : (w : State) → 0 < length w.waiting → IsGoodWorld w → IsGoodWorld (behind w)
+behind_good w lt good = good_behind (behind w) (front_of w.waiting) (subst IsGoodWorld (fronted w lt) good)
+
+pub turn_begins : (w : World) (start : State) → world_now w ≡ start → IsClean w.draft → HandGoes w.draft → IsGoodWorld start → 0 < length start.waiting → IsInTurn w
+turn_begins w start same clean goes good waits = record {
+  clean = clean;
+  goes = goes;
+  good = subst (λ (v : State). IsGoodWorld (behind v)) (sym same) (behind_good start waits good);
+  waits = subst (λ (v : State). 0 < length v.waiting) (sym same) waits;
+}
+
+-- ---- the delivery in front stays
+
+passes : (w : State) (es : List Effect) → 0 < length w.waiting → after_all w es ≡ in_front (front_of w.waiting) (after_all (behind w) es)
+passes w es lt = ap (λ (v : State). after_all v es) (fronted w lt) ∙ effects_pass (front_of w.waiting) (behind w) es
+
+pub front_stays : (old new : World) (es : List Effect) → IsInTurn old → AreCarried old new es → front new ≡ front old
+front_stays old new es turn is = ap (λ (v : State). front_of v.waiting) (is.now ∙ passes (world_now old) es turn.waits)
+
+-- ---- undoing
+
+pub start_stays : (old new : World) → IsUndoable old new → world_at_start new ≡ world_at_start old
+start_stays old new is = λ i. vault_state (is.rights.kept i) (is.plain i)
+
+-- ---- rows
+
+pub arguments_handed : (w : State) (args : List Tree) → AllByRecursion (IsHanded w) args → AreHanded w args
+arguments_handed w args all = record { each = λ place. all_read_or (IsHanded w) args (place - 1) null all (null_formed w None) }
+
+pub plan_shaped : (outcome : Outcome) (row : Result Plan Stop) → Plans outcome row → IfOk row (λ p. AreShaped p.effects.items)
+plan_shaped outcome (Ok p) is = is.1
+plan_shaped outcome (Err stop) is = tt
+
+pub plan_good : (w : State) (outcome : Outcome) (row : Result Plan Stop) → Plans outcome row → AreGood w (effects_of outcome) → IfOk row (λ p. AreGood w (effect_views p.effects.items))
+plan_good w outcome (Ok p) is good = subst (λ (o : Outcome). AreGood w (effects_of o)) is.0 good
+plan_good w outcome (Err stop) is good = tt
+
+-- ---- instances that halt
+
+pub halting_good : (w : State) (i : ℕ) → i < length w.tables.instances → AreGood w (halt_with causes.spent w i)
+halting_good w i made = first_good w (halt_with causes.spent w i) (end_staging ∷ []) (halts_good w i causes.spent made)
+
+pub halted_from : (old mid new : World) (i : ℕ) → world_now mid ≡ world_now old → AreCarried mid new (halt_with causes.spent (world_of mid) i) → AreCarried old new (halt_with causes.spent (world_of old) i)
+halted_from old mid new i same is =
+    carried_from old mid new (halt_with causes.spent (world_of old) i) same
+    (carried_by mid new (halt_with causes.spent (world_of mid) i) (halt_with causes.spent (world_of old) i) (ap (λ (v : State). halt_with causes.spent (behind v) i) same) is)

@@ -1,0 +1,80 @@
+-- What tasks come to, task by task.
+use Rattle.std.specs.Prelude.{IfOk, OnOk}
+use Rattle.std.specs.declared.alloc.AllocError.{AllocError}
+use Rattle.std.proofs.Common.{◌≡◌, ℕ, List, Result, Ok, Err, refl, sym, ◌∙◌, ap, subst}
+use Rattle.carried_effects.specs.Carried.{AreCarried, IsInTurn}
+use Rattle.contract_texts.specs.Reader.{reader}
+use Rattle.delivery_turns.specs.Functions.{FunctionCall, Run, function_run, ran_out}
+use Rattle.delivery_turns.specs.HostCalls.{effects_of}
+use Rattle.delivery_turns.specs.Tasks.{Task, do_all, halt_with, refuse, row_work, run, run_work, task_work}
+use Rattle.delivery_turns.specs.Tasks.{serve as serve_task}
+use Rattle.host_world.specs.Worlds.{world_of}
+use Rattle.host_world.specs.declared.World.{World}
+use Rattle.jessie_tree.specs.Tree.{Tree}
+use Rattle.jessie_tree.specs.declared.data.Data.TheVariants.{Null}
+use Rattle.jessie_tree.specs.declared.data.Obj.{Obj}
+use Rattle.jessie_tree.proofs.Views.{tree-Null}
+use Rattle.refusals.specs.declared.codes.Refusal.{Refusal}
+use Rattle.turn_events.specs.Views.{answer_view}
+use Rattle.turn_events.specs.declared.events.Answer.{Answer}
+use Rattle.turn_events.specs.declared.events.Answer.TheVariants as answers
+use Rattle.turn_records.specs.Events.{given}
+use Rattle.turn_rows.specs.Causes as causes
+use Rattle.world_state.specs.Good.{AreGood}
+use Rattle.world_state.specs.Worlds.{Effect}
+use Rattle.zoe_rows.specs.Host.{serve}
+use Rattle.front_turns.specs.Ran.{HasRun}
+use Rattle.front_turns.specs.Turning.{IsDone, work_of}
+use Rattle.front_turns.specs.declared.works.Ran.{Ran}
+use Rattle.front_turns.specs.declared.works.Ran.TheVariants.{Ended, Spent}
+use Rattle.front_turns.proofs.Carrying.{carried_by, carried_nothing}
+
+-- ---- functions
+
+has_run : (meter : ℕ) (old new : World) (c : FunctionCall) (r : Result Ran AllocError) (ran : Ran) → IfOk r (HasRun meter old new c) → r ≡ Ok ran → HasRun meter old new c ran
+has_run meter old new c r ran is e = subst (λ (x : Result Ran AllocError). IfOk x (HasRun meter old new c)) e is
+
+pub ended_done : (meter : ℕ) (old new : World) (c : FunctionCall) (r : Result Ran AllocError) (a : Answer) → IfOk r (HasRun meter old new c) → r ≡ Ok (Ended a) → IsDone old new a (work_of meter old (run c))
+unfolding task_work
+ended_done meter old new c r a is e = has_run meter old new c r (Ended a) is e
+
+pub spent_done : (meter : ℕ) (old mid new : World) (c : FunctionCall) (r : Result Ran AllocError) (x : Result Answer AllocError) → IfOk r (HasRun meter old mid c) → r ≡ Ok Spent
+    → IfOk x (λ a. (a ≡ answers.Spent meter) × AreCarried old new (halt_with causes.spent (world_of old) c.instance))
+    → IfOk x (λ a. IsDone old new a (work_of meter old (run c)))
+unfolding task_work
+spent_done meter old mid new c r (Err fault) is e done = tt
+spent_done meter old mid new c r (Ok a) is e done =
+    let out : function_run meter (world_of old) c ≡ ran_out = has_run meter old mid c r Spent is e in
+    record {
+      answer = ap answer_view done.0 ∙ ap (λ (ran : Run). (run_work meter (world_of old) c.instance ran).answer) (sym out);
+      carried = carried_by old new (halt_with causes.spent (world_of old) c.instance) _ (ap (λ (ran : Run). (run_work meter (world_of old) c.instance ran).effects) (sym out)) done.1;
+    }
+
+-- ---- the other tasks
+
+module _ (meter : ℕ) (old : World) (task : Task) where
+  pub refused_done : (r : Refusal) → IsInTurn old → task ≡ refuse r → IsDone old old (answers.Refused r) (work_of meter old task)
+  unfolding task_work
+  refused_done r turn is = subst (λ (t : Task). IsDone old old (answers.Refused r) (work_of meter old t)) (sym is) (record { answer = refl; carried = carried_nothing old turn })
+
+  pub all_good : (es : List Effect) → task ≡ do_all es → AreGood (world_of old) (work_of meter old task).effects → AreGood (world_of old) es
+  unfolding task_work
+  all_good es is good = subst (λ (t : Task). AreGood (world_of old) (work_of meter old t).effects) is good
+
+  pub all_done : (es : List Effect) (new : World) (r : Result Answer AllocError) → task ≡ do_all es → IfOk r (λ a. a ≡ answers.Given Null) → OnOk r (AreCarried old new es)
+      → IfOk r (λ a. IsDone old new a (work_of meter old task))
+  unfolding task_work
+  all_done es new (Err fault) is answer done = tt
+  all_done es new (Ok a) is answer done =
+      subst (λ (t : Task). IsDone old new a (work_of meter old t)) (sym is) (record { answer = ap answer_view answer ∙ ap given tree-Null; carried = done })
+
+  pub serve_good : (o : Obj) (method : List ℕ) (args : List Tree) → task ≡ serve_task o method args → AreGood (world_of old) (work_of meter old task).effects
+      → AreGood (world_of old) (effects_of (serve reader (world_of old) o method args))
+  unfolding task_work
+  serve_good o method args is good = subst (λ (t : Task). AreGood (world_of old) (work_of meter old t).effects) is good
+
+  pub serve_done : (o : Obj) (method : List ℕ) (args : List Tree) (new : World) (r : Result Answer AllocError) → task ≡ serve_task o method args
+      → IfOk r (λ a. IsDone old new a (row_work (serve reader (world_of old) o method args)))
+      → IfOk r (λ a. IsDone old new a (work_of meter old task))
+  unfolding task_work
+  serve_done o method args new r is done = subst (λ (t : Task). IfOk r (λ a. IsDone old new a (work_of meter old t))) (sym is) done

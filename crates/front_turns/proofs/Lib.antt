@@ -1,0 +1,6 @@
+pub mod Parts
+pub mod Tasked
+pub mod Stored
+pub mod Carrying
+pub mod Done
+pub mod Whole

@@ -1,0 +1,24 @@
+use Rattle.std.proofs.Common.{ap}
+use Rattle.call_plans.specs.Views.{effect_views}
+use Rattle.delivery_tasks.specs.Views.{task_view}
+use Rattle.jessie_tree.specs.View.{trees}
+use Rattle.front_turns.proofs.Done.{all_done, all_good, refused_done, serve_done, serve_good}
+use Rattle.front_turns.proofs.tasks.worked.Goals as goal
+
+pub carried-done-requires-clause-good : goal.carried-done-requires-clause-good
+carried-done-requires-clause-good g c = all_good c.args.meter c.args.world (task_view c.args.task) (effect_views c.in-DoAll.effects.items) (ap task_view c.in-DoAll.is) c.requires.good
+
+pub served-done-requires-clause-good : goal.served-done-requires-clause-good
+served-done-requires-clause-good g c =
+    serve_good c.args.meter c.args.world (task_view c.args.task) c.in-Serve.target c.in-Serve.method (trees c.in-Serve.args.items) (ap task_view c.in-Serve.is) c.requires.good
+
+pub returns-in-Refuse-clause-done : goal.returns-in-Refuse-clause-done
+returns-in-Refuse-clause-done g c = refused_done c.args.meter c.args.world (task_view c.args.task) c.in-Refuse.refusal c.requires.begun.turn (ap task_view c.in-Refuse.is)
+
+pub returns-in-DoAll-clause-done : goal.returns-in-DoAll-clause-done
+returns-in-DoAll-clause-done g c =
+    all_done c.args.meter c.args.world (task_view c.args.task) (effect_views c.in-DoAll.effects.items) c.carried-done.new.world c.carried-done.result (ap task_view c.in-DoAll.is) c.carried-done.ensures.answer c.carried-done.ensures.ok
+
+pub returns-in-Serve-clause-done : goal.returns-in-Serve-clause-done
+returns-in-Serve-clause-done g c =
+    serve_done c.args.meter c.args.world (task_view c.args.task) c.in-Serve.target c.in-Serve.method (trees c.in-Serve.args.items) c.served-done.new.world c.served-done.result (ap task_view c.in-Serve.is) c.served-done.ensures.done

@@ -1,0 +1,3 @@
+pub mod Ran
+pub mod There
+pub mod Turning

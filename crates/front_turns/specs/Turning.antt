@@ -1,0 +1,51 @@
+-- The turn of the delivery in front: begun, its task's work done, and ended.
+use Rattle.std.specs.Prelude.{◌≡◌, ℕ, ◌≤◌}
+use Rattle.carried_effects.specs.Carried.{AreCarried, IsInTurn}
+use Rattle.contract_texts.specs.Reader.{reader}
+use Rattle.delivery_laws.specs.Works.{most_meter}
+use Rattle.delivery_turns.specs.Tasks.{Task, Work, task_work}
+use Rattle.delivery_turns.specs.Turns.{DeliveryTurn, delivery_turn}
+use Rattle.fair_effects.specs.Accounts.{AreStoredEffects}
+use Rattle.host_world.specs.Worlds.{world_at_start, world_now, world_of}
+use Rattle.host_world.specs.declared.World.{World}
+use Rattle.plain_stores.specs.Plain.{front_of}
+use Rattle.turn_events.specs.Views.{answer_view, reading_view}
+use Rattle.turn_events.specs.declared.events.Answer.{Answer}
+use Rattle.turn_records.specs.Deliveries.{Delivery}
+use Rattle.world_state.specs.Good.{IsGoodWorld}
+use Rattle.world_state.specs.Rights.{IsRoomy, most_issued}
+use Rattle.front_turns.specs.declared.turns.Delivered.{Delivered}
+
+-- the delivery that a turn is about
+abbrev pub front : World → Delivery
+front w = front_of (world_now w).waiting
+
+-- nothing was done yet in the turn, whose delivery is in front of a good world; this has room for all that a turn may
+-- issue, and functions may cost so much at most
+pub record IsBegun (meter : ℕ) (w : World) : Type 0 where
+  pub turn : IsInTurn w
+  pub same : world_at_start w ≡ world_now w
+  pub good : IsGoodWorld (world_now w)
+  pub room : IsRoomy (world_now w).rights.out most_issued
+  pub few : meter ≤ most_meter
+
+-- what was done is answered so, and its effects were carried out
+pub record IsDone (old new : World) (a : Answer) (work : Work) : Type 0 where
+  pub answer : answer_view a ≡ work.answer
+  pub carried : AreCarried old new work.effects
+
+-- what a task comes to in the world of a turn
+abbrev pub work_of : ℕ → World → Task → Work
+work_of meter w task = task_work reader meter (world_of w) task
+
+-- the turn of the delivery in front
+abbrev pub turn_in : ℕ → World → DeliveryTurn
+turn_in meter w = delivery_turn reader meter (world_of w) (front w)
+
+-- what was read and answered is the turn's, and its effects were carried out, of which all that moves goes to or comes
+-- from where things are kept
+pub record IsDelivered (meter : ℕ) (old new : World) (d : Delivered) : Type 0 where
+  pub reading : reading_view d.reading ≡ (turn_in meter old).reading
+  pub answer : answer_view d.answer ≡ (turn_in meter old).answer
+  pub effects : AreCarried old new (turn_in meter old).effects
+  pub stored : AreStoredEffects (turn_in meter old).effects

@@ -1,0 +1,78 @@
+//! The turn of the delivery in front.
+
+ghost use Rattle.std.specs.Prelude.{◌≡◌, ◌<◌, IfOk, IfSome, length};
+ghost use Rattle.delivery_tasks.specs.Views.{IsTaskShaped, beginning_view};
+ghost use Rattle.delivery_turns.specs.Tasks.{beginning};
+ghost use Rattle.host_world.specs.Worlds.{IsUndoable, world_now, world_of};
+ghost use Rattle.world_state.specs.Good.{IsGoodWorld};
+ghost use Rattle.front_turns.specs.Turning.{IsBegun, IsDelivered, front};
+
+use crate::ends::{carry_end, front};
+use crate::tasks::worked;
+use crate::works::Works;
+use delivery_tasks::beginnings::delivery_beginning;
+use delivery_tasks::tasks::Beginning;
+use host_world::World;
+use std::alloc::{AllocError, Global};
+use turn_events::deliveries::Reading;
+use turn_events::events::Answer;
+
+/// What was read for a delivery, and what it is answered.
+#[derive(Drop)]
+pub struct Delivered {
+    pub reading: Reading,
+    pub answer: Answer,
+}
+
+/// What is read for the delivery in front, and what is then to be done.
+fn begun(alloc: Global, world: &World) -> Result<Beginning, AllocError>
+    requires waits { 0 < length (world_now world.now).waiting }
+    requires good { IsGoodWorld (world_now world.now) }
+    ensures begins { IfOk result (λ b. beginning_view b ≡ beginning (world_of world.now) (front world.now)) }
+    ensures shaped { IfOk result (λ b. IsTaskShaped b.task) }
+{
+    delivery_beginning(alloc, world, front(world))
+}
+
+/// The turn of a delivery for which all is read.
+fn turned<W: Works>(
+    alloc: Global,
+    world: World,
+    meter: u32,
+    begun: Beginning,
+) -> (World, Option<Delivered>)
+    requires begun { IsBegun meter world }
+    requires begins { beginning_view begun ≡ beginning (world_of world) (front world) }
+    requires shaped { IsTaskShaped begun.task }
+    ensures done { IfSome result.1 (IsDelivered meter world result.0) }
+    ensures back { IsUndoable world result.0 }
+{
+    let Beginning { reading, task } = begun;
+    let (mut world, done) = worked::<W>(alloc, world, meter, task);
+    let Ok(answer) = done else {
+        drop(reading);
+        return (world, None);
+    };
+    match carry_end(alloc, &mut world, &answer) {
+        Ok(()) => (world, Some(Delivered { reading, answer })),
+        Err(_) => {
+            drop(reading);
+            drop(answer);
+            (world, None)
+        }
+    }
+}
+
+/// The turn of the delivery in front is worked on the world, where functions of instances run under the meter. The world
+/// comes back, since what runs functions holds it while they run. For want of memory, where nothing is answered, some of
+/// the turn may have been worked, and it is to be undone.
+pub fn deliver<W: Works>(alloc: Global, world: World, meter: u32) -> (World, Option<Delivered>)
+    requires { IsBegun meter world }
+    ensures done { IfSome result.1 (IsDelivered meter world result.0) }
+    ensures back { IsUndoable world result.0 }
+{
+    match begun(alloc, &world) {
+        Ok(begun) => turned::<W>(alloc, world, meter, begun),
+        Err(_) => (world, None),
+    }
+}

@@ -1,0 +1,157 @@
+//! How a run ends: what its delivery is answered, and the new state of its instance.
+
+ghost use Rattle.std.specs.Prelude.{◌≡◌, ◌∷◌, [], IfOk, OnOk};
+ghost use Rattle.carried_effects.specs.Carried.{AreCarried, IsInTurn};
+ghost use Rattle.delivery_turns.specs.Tasks.{answer_of_ending};
+ghost use Rattle.function_runs.specs.Ran.{CanEnd, HasEnded};
+ghost use Rattle.host_world.specs.Worlds.{IsUndoable, world_of};
+ghost use Rattle.jessie_evaluator.specs.Outcomes.{outcome};
+ghost use Rattle.jessie_semantics.specs.Play as plays;
+ghost use Rattle.jessie_semantics.specs.Play.{Ending};
+ghost use Rattle.jessie_tree.specs.View.{tree, trees};
+ghost use Rattle.refusals.specs.Codes.{local_only, refusal_tree};
+ghost use Rattle.turn_events.specs.Views.{answer_view};
+ghost use Rattle.turn_records.specs.Events as told;
+ghost use Rattle.world_state.specs.Good.{CanKeep};
+ghost use Rattle.world_state.specs.Worlds as worlds;
+
+use crate::Ran;
+use call_plans::effects::{Effect, InstancesEffect};
+use host_world::World;
+use jessie_evaluator::evaluation::Outcome;
+use jessie_tree::data::Data;
+use refusals::codes::{BareCode, Refusal};
+use std::alloc::{AllocError, Global};
+use turn_events::events::Answer;
+use world_effects::carry_out;
+
+/// What stays with its instance doesn't come out of it: this is thrown in its place (our own).
+fn local_only(alloc: Global) -> Result<Answer, AllocError>
+    ensures { IfOk result (λ a. answer_view a ≡ told.threw (refusal_tree local_only)) }
+{
+    let refusal = Refusal::Bare(BareCode::LocalOnly);
+    let shown = refusal.data(alloc);
+    drop(refusal);
+    match shown {
+        Ok(thrown) => Ok(Answer::Threw(thrown)),
+        Err(fault) => Err(fault),
+    }
+}
+
+/// What is answered for a value that a function gave.
+fn given_by(alloc: Global, value: Data) -> Result<Answer, AllocError>
+    ensures { IfOk result (λ a. answer_view a ≡ answer_of_ending (plays.returned (tree value))) }
+{
+    if value.is_local() {
+        return local_only(alloc);
+    }
+    Ok(Answer::Given(value))
+}
+
+/// What is answered for a value that a function threw.
+fn thrown_by(alloc: Global, value: Data) -> Result<Answer, AllocError>
+    ensures { IfOk result (λ a. answer_view a ≡ answer_of_ending (plays.threw (tree value))) }
+{
+    if value.is_local() {
+        return local_only(alloc);
+    }
+    Ok(Answer::Threw(value))
+}
+
+/// The instance keeps the values of its state.
+#[tactic(auto, using(carried_effects::proofs::Carrying::not_moved))]
+fn keep_state(
+    alloc: Global,
+    world: &mut World,
+    instance: u32,
+    state: Vec<Data>,
+) -> Result<(), AllocError>
+    requires turn { IsInTurn world.old }
+    requires can { CanKeep (world_of world.old) instance (trees state.items) }
+    ensures kept { OnOk result (AreCarried world.old world.new
+        (worlds.keep_state instance (trees state.items) ∷ [])) }
+    ensures back { IsUndoable world.old world.new }
+{
+    let mut effects = Vec::new(alloc);
+    effects.push(Effect::Instances(InstancesEffect::KeepState(instance, state)))?;
+    carry_out(world, alloc, effects)
+}
+
+/// The instance keeps the values of its state, and its delivery is answered so.
+fn keep_with(
+    alloc: Global,
+    world: &mut World,
+    instance: u32,
+    answer: Answer,
+    state: Vec<Data>,
+) -> Result<Ran, AllocError>
+    requires turn { IsInTurn world.old }
+    requires can { CanKeep (world_of world.old) instance (trees state.items) }
+    ensures ended { IfOk result (λ ran. (e : Ending) → answer_view answer ≡ answer_of_ending e
+        → HasEnded world.old world.new instance (plays.Ends e (trees state.items)) ran) }
+    ensures back { IsUndoable world.old world.new }
+{
+    match keep_state(alloc, world, instance, state) {
+        Ok(()) => Ok(Ran::Ended(answer)),
+        Err(fault) => {
+            drop(answer);
+            Err(fault)
+        }
+    }
+}
+
+/// The same, where the answer could be made.
+#[tactic(auto, using(carried_effects::proofs::Carrying::not_moved))]
+fn keep_answered(
+    alloc: Global,
+    world: &mut World,
+    instance: u32,
+    answered: Result<Answer, AllocError>,
+    state: Vec<Data>,
+) -> Result<Ran, AllocError>
+    requires turn { IsInTurn world.old }
+    requires can { CanKeep (world_of world.old) instance (trees state.items) }
+    ensures ended { IfOk result (λ ran. (e : Ending)
+        → IfOk answered (λ a. answer_view a ≡ answer_of_ending e)
+        → HasEnded world.old world.new instance (plays.Ends e (trees state.items)) ran) }
+    ensures back { IsUndoable world.old world.new }
+{
+    match answered {
+        Ok(answer) => keep_with(alloc, world, instance, answer, state),
+        Err(fault) => {
+            drop(state);
+            Err(fault)
+        }
+    }
+}
+
+/// What a function came to, its state kept where its meter was not spent.
+#[tactic(auto, using(carried_effects::proofs::Carrying::not_moved))]
+pub(crate) fn end_run(
+    alloc: Global,
+    world: &mut World,
+    instance: u32,
+    came: Outcome,
+    state: Vec<Data>,
+) -> Result<Ran, AllocError>
+    requires turn { IsInTurn world.old }
+    requires can { CanEnd (world_of world.old) instance (outcome came (trees state.items)) }
+    ensures ended { IfOk result (HasEnded world.old world.new instance
+        (outcome came (trees state.items))) }
+    ensures back { IsUndoable world.old world.new }
+{
+    match came {
+        Outcome::Returned(value) => {
+            let answered = given_by(alloc, value);
+            keep_answered(alloc, world, instance, answered, state)
+        }
+        Outcome::Threw(value) => {
+            let answered = thrown_by(alloc, value);
+            keep_answered(alloc, world, instance, answered, state)
+        }
+        Outcome::Spent => {
+            drop(state);
+            Ok(Ran::Spent)
+        }
+    }
+}

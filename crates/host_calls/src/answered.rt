@@ -1,0 +1,143 @@
+//! What a call comes to: what is answered, and its effects, of which the first tells of it.
+
+ghost use Rattle.std.specs.Prelude.{◌≡◌, ◌∷◌, [], Err, IfOk, IsOk, Ok};
+ghost use Rattle.call_plans.specs.Plans.{Plans, plan_view};
+ghost use Rattle.call_plans.specs.Views.{AreShaped, IsShaped, effect_view, effect_views};
+ghost use Rattle.call_rows.specs.Rows.{Outcome};
+ghost use Rattle.jessie_machine.specs.Host.{reply_of};
+ghost use Rattle.jessie_semantics.specs.Play as plays;
+ghost use Rattle.jessie_semantics.specs.Play.{Call};
+ghost use Rattle.jessie_tree.specs.View.{tree};
+ghost use Rattle.turn_events.specs.Views.{answer_view};
+ghost use Rattle.world_state.specs.Worlds.{note_call};
+ghost use Rattle.host_calls.specs.Answered.{IsAnswered};
+ghost use Rattle.host_calls.specs.Told.{IsTold, told_view};
+
+use crate::told::Told;
+use call_plans::effects::{Effect, LabelsEffect};
+use call_plans::plans::Plan;
+use jessie_machine::host;
+use jessie_tree::data::Data;
+use refusals::codes::Refusal;
+use refusals::stops::Stop;
+use std::alloc::{AllocError, Global};
+use turn_events::events::Answer;
+
+/// What a call comes to.
+#[derive(Drop)]
+pub struct Answered {
+    pub reply: host::Answer,
+    pub effects: Vec<Effect>,
+}
+
+/// That a call was answered, as an effect.
+fn noted(call: Told, answer: Answer) -> Effect
+    ensures view { effect_view result ≡ note_call (told_view call (answer_view answer)) }
+    ensures shaped { IsShaped result }
+{
+    Effect::Labels(LabelsEffect::NoteCall(call.answered(answer)))
+}
+
+/// That a call was answered is told, before its effects.
+fn told_first(note: Effect, effects: Vec<Effect>) -> Result<Vec<Effect>, AllocError>
+    ensures effects { IfOk result (λ es. effect_views es.items
+        ≡ effect_view note ∷ effect_views effects.items) }
+    ensures shaped { IsShaped note → AreShaped effects.items
+        → IfOk result (λ es. AreShaped es.items) }
+{
+    let mut effects = effects;
+    effects.insert(0, note)?;
+    Ok(effects)
+}
+
+/// A call that is told is given an answer.
+fn given_answer(note: Effect, plan: Plan) -> Result<Answered, AllocError>
+    ensures reply { IfOk result (λ a. reply_of a.reply ≡ plays.given (tree plan.answer)) }
+    ensures effects { IfOk result (λ a. effect_views a.effects.items
+        ≡ effect_view note ∷ effect_views plan.effects.items) }
+    ensures shaped { IsShaped note → AreShaped plan.effects.items
+        → IfOk result (λ a. AreShaped a.effects.items) }
+{
+    let Plan { answer, effects } = plan;
+    match told_first(note, effects) {
+        Ok(effects) => Ok(Answered {
+            reply: host::Answer::Value(answer),
+            effects,
+        }),
+        Err(fault) => {
+            drop(answer);
+            Err(fault)
+        }
+    }
+}
+
+/// A call that is given an answer.
+fn given(alloc: Global, call: Told, plan: Plan) -> Result<Answered, AllocError>
+    ensures { AreShaped plan.effects.items
+        → IfOk result (λ a. (c : Call) → IsTold c call → IsAnswered c (Ok (plan_view plan)) a) }
+{
+    let told = plan.answer.copy(alloc)?;
+    given_answer(noted(call, Answer::Given(told)), plan)
+}
+
+/// A call that is told is refused: this is thrown.
+fn thrown_answer(alloc: Global, note: Effect, thrown: Data) -> Result<Answered, AllocError>
+    ensures reply { IfOk result (λ a. reply_of a.reply ≡ plays.refused (tree thrown)) }
+    ensures effects { IfOk result (λ a. effect_views a.effects.items ≡ effect_view note ∷ []) }
+    ensures shaped { IsShaped note → IfOk result (λ a. AreShaped a.effects.items) }
+{
+    match told_first(note, Vec::new(alloc)) {
+        Ok(effects) => Ok(Answered {
+            reply: host::Answer::Refused(thrown),
+            effects,
+        }),
+        Err(fault) => {
+            drop(thrown);
+            Err(fault)
+        }
+    }
+}
+
+/// A call that is told is refused, once it was made what is thrown.
+fn refused_answer(
+    alloc: Global,
+    note: Effect,
+    thrown: Result<Data, AllocError>,
+) -> Result<Answered, AllocError>
+    ensures reply { IfOk result (λ a. IfOk thrown (λ t. reply_of a.reply ≡ plays.refused (tree t))) }
+    ensures made { IfOk result (λ a. IsOk thrown) }
+    ensures effects { IfOk result (λ a. effect_views a.effects.items ≡ effect_view note ∷ []) }
+    ensures shaped { IsShaped note → IfOk result (λ a. AreShaped a.effects.items) }
+{
+    match thrown {
+        Ok(thrown) => thrown_answer(alloc, note, thrown),
+        Err(fault) => {
+            drop(note);
+            Err(fault)
+        }
+    }
+}
+
+/// A call that is refused: the refusal is the data that is thrown.
+fn refused(alloc: Global, call: Told, refusal: Refusal) -> Result<Answered, AllocError>
+    ensures { IfOk result (λ a. (c : Call) → IsTold c call → IsAnswered c (Err refusal) a) }
+{
+    let thrown = refusal.data(alloc);
+    refused_answer(alloc, noted(call, Answer::Refused(refusal)), thrown)
+}
+
+/// What a call comes to, whatever its row planned.
+pub fn answer_call(
+    alloc: Global,
+    call: Told,
+    row: Result<Plan, Stop>,
+) -> Result<Answered, AllocError>
+    ensures { IfOk result (λ a. (c : Call) (outcome : Outcome) → IsTold c call → Plans outcome row
+        → IsAnswered c outcome a) }
+{
+    match row {
+        Ok(plan) => given(alloc, call, plan),
+        Err(Stop::Refused(refusal)) => refused(alloc, call, refusal),
+        Err(Stop::NoMemory) => Err(AllocError),
+    }
+}

@@ -1,0 +1,51 @@
+-- What a step of a host is, and that turns stay fair with it.
+use Rattle.std.specs.Prelude.{IfSome}
+use Rattle.std.proofs.Common.{◌≡◌, ◌+◌, ◌<◌, List, [], ◌∷◌, length, Option, Some, None, refl, sym, subst, arith}
+use Rattle.contract_row_laws.proofs.Calls.{calls_are}
+use Rattle.contract_texts.specs.Reader.{reader}
+use Rattle.contract_texts.proofs.Modules.{reads_modules}
+use Rattle.delivery_turns.specs.Hosts.{HostState, Step, step_from, step_of}
+use Rattle.fair_deliveries.specs.Turns.{StaysFair}
+use Rattle.fair_deliveries.proofs.Fair.{stay_fair}
+use Rattle.fair_deliveries.proofs.Whole.{steps_are}
+use Rattle.fair_rows.specs.SoFar.{nothing_so_far}
+use Rattle.fair_rows.specs.Steps.{Leaves, so_far_after}
+use Rattle.fair_rows.specs.Turns.{AreFair}
+use Rattle.fair_steps.specs.Views.{world_of}
+use Rattle.host_world.specs.declared.KeptWorld.{KeptWorld}
+use Rattle.service_row_laws.proofs.Services.{services_are}
+use Rattle.shown_reads.proofs.Held.{calls_read, services_read}
+use Rattle.turn_events.specs.Views.{turn_view}
+use Rattle.turn_events.specs.declared.turns.TurnRecord.{TurnRecord}
+use Rattle.turn_records.specs.Deliveries.{Delivery}
+use Rattle.turn_rows.specs.Turns.{Turn}
+use Rattle.world_state.specs.Rights.{most_turns}
+use Rattle.host_turns.specs.Kept.{HostParts, IsKept, host_of}
+use Rattle.host_turns.specs.Made.{IsMade, IsTurned}
+
+none_of : (s : HostState) (ds : List Delivery) → length ds ≡ 0 → step_from reader s ds ≡ None
+none_of s [] is = refl
+none_of s (d ∷ ds) is = absurd (omega (arith, is))
+
+none_waits : (s : HostState) → length s.world.waiting ≡ 0 → step_of reader s ≡ None
+unfolding step_of
+none_waits s is = none_of s s.world.waiting is
+
+-- of a host that is seen as this one
+pub none_waits_in : (p q : HostParts) → p ≡ q → length (host_of p).world.waiting ≡ 0 → step_of reader (host_of q) ≡ None
+none_waits_in p q seen is = subst (λ x. step_of reader (host_of x) ≡ None) seen (none_waits (host_of p) is)
+
+pub stays_fair : (p : HostParts) (x : Step) (ts : List Turn) → IsKept p → p.turns < most_turns → step_of reader (host_of p) ≡ Some x
+    → AreFair ts → Leaves (so_far_after ts nothing_so_far) (world_of (host_of p)) → StaysFair ts x
+stays_fair p x ts is early made fair leaves =
+    let P : Option Step → Type 0 = λ o. IfSome o (StaysFair ts) in
+    let step = steps_are reader (services_are reader reads_modules) calls_are calls_read (services_read reader) (host_of p) is.good is.steady early in
+    subst P made (stay_fair reader (host_of p) ts fair leaves step)
+
+-- the turn that was made
+pub turned_fair : (p q : HostParts) → p ≡ q → (new : Option KeptWorld) (o : Option TurnRecord) (t : TurnRecord) → o ≡ Some t → IsTurned p.meter p.turns p.world new o → IsKept p → p.turns < most_turns
+    → (ts : List Turn) → AreFair ts → Leaves (so_far_after ts nothing_so_far) (world_of (host_of q)) → StaysFair ts (record { next = host_of (record { meter = p.meter; world = new; turns = p.turns + 1 }); turn = turn_view t })
+turned_fair p q seen new o t is turned kept early ts fair leaves =
+    let P : Option TurnRecord → Type 0 = λ x. IsTurned p.meter p.turns p.world new x in
+    let made : IsMade p.meter p.turns p.world new t = subst P is turned in
+    stays_fair p (record { next = host_of (record { meter = p.meter; world = new; turns = p.turns + 1 }); turn = turn_view t }) ts kept early made.step fair (subst (λ x. Leaves (so_far_after ts nothing_so_far) (world_of (host_of x))) (sym seen) leaves)

@@ -1,0 +1,59 @@
+-- A turn from its beginning to its end: it is the step of the host, or all is as before.
+use Rattle.std.proofs.Common.{◌≡◌, ℕ, ◌+◌, ◌<◌, ◌++◌, List, Option, Some, None, length, refl, sym, ap, subst, ◌∙◌}
+use Rattle.delivery_turns.specs.Hosts.{sums_of}
+use Rattle.host_world.specs.Turns.{IsBetween, ended}
+use Rattle.host_world.specs.Worlds.{IsUndoable, kept_state, world_at_start, world_now, world_of}
+use Rattle.host_world.specs.declared.KeptWorld.{KeptWorld}
+use Rattle.host_world.specs.declared.World.{World}
+use Rattle.plain_stores.specs.Plain.{turn_ended}
+use Rattle.plain_stores.specs.Stores.{plain_now}
+use Rattle.rights_model.specs.declared.Sum.{Sum}
+use Rattle.turn_events.specs.Views.{answer_view, reading_view, turn_view}
+use Rattle.turn_events.specs.declared.turns.TurnRecord.{TurnRecord}
+use Rattle.turn_records.specs.Events.{Event, moves_in}
+use Rattle.turn_sums.specs.Telling.{IsTurn, Tells, instances_in, instances_of}
+use Rattle.escrow.specs.Told.{EscrowState}
+use Rattle.world_state.specs.Rights.{Rights, most_turns}
+use Rattle.host_turns.specs.Delivered.{IsDelivered}
+use Rattle.host_turns.specs.Ending.{IsEnded, IsEnding}
+use Rattle.host_turns.specs.Kept.{IsKept}
+use Rattle.host_turns.specs.Made.{IsTurned, parts}
+use Rattle.host_turns.specs.declared.deliveries.Delivered.{Delivered}
+use Rattle.host_turns.proofs.Ended.{as_before, turn_made}
+use Rattle.host_turns.proofs.Underway.{IsReady, is_turn, still_tells, told_now}
+
+-- ---- the end
+
+module _ (number : ℕ) (w : World) (d : Delivered) (k : KeptWorld) (t : TurnRecord) (ss : List Sum) (e : EscrowState) where
+  abbrev HasSums : List Event → Type 0
+  HasSums vs = (start after : Rights) (instances : List ℕ) → IsTurn start after instances w.sums vs → ss ≡ sums_of after (moves_in vs)
+
+  abbrev AreTold : List Event → Type 0
+  AreTold vs = (start after : Rights) (instances : List ℕ) → IsTurn start after instances w.sums vs → Tells after (instances ++ instances_in vs) e
+
+  pub ending_is : (vs : List Event) → vs ≡ (world_now w).log → HasSums vs → AreTold vs → kept_state k ≡ ended (world_now w) → IsBetween k
+      → turn_view t ≡ turn_ended number (reading_view d.reading) (answer_view d.answer) ss (plain_now w.plain) → k.sums ≡ e → IsEnding number w d k t
+  ending_is vs same sums told world between turn kept = record {
+    world = world;
+    between = between;
+    turn = λ start after instances is. turn ∙ ap (λ xs. turn_ended number (reading_view d.reading) (answer_view d.answer) xs (plain_now w.plain)) (subst HasSums same sums start after instances is);
+    tells = λ start after instances is. subst (λ x. Tells after (instances ++ instances_in (world_now w).log) x) (sym kept) (subst AreTold same told start after instances is);
+  }
+
+-- ---- the whole turn
+
+module _ (meter turns : ℕ) (k : KeptWorld) (is : IsKept (parts meter (Some k) turns)) (early : turns < most_turns) (waits : 0 < length (kept_state k).waiting)
+    (w : World) (now : world_now w ≡ kept_state k) (start : world_at_start w ≡ kept_state k) (ready : IsReady meter w)
+    (m : World) (d : Delivered) (done : IsDelivered meter w m d) (back : IsUndoable w m) (new : KeptWorld) where
+  turn_is : IsTurn (world_of w).rights (world_of m).rights (instances_of (world_of w).seats) m.sums (world_now m).log
+  turn_is = is_turn meter w m ready d done back (world_now m).log refl
+
+  pub turned : (o : Option TurnRecord) → IsEnded (turns + 1) m d new o → IsTurned meter turns (Some k) (Some new) o
+  turned None undone =
+      as_before meter turns k is w now start (record m { sums = new.sums }) back.rights.kept back.plain (undone.sums _ _ (still_tells meter w m ready back.sums)) new undone.world undone.between refl
+  turned (Some t) ending =
+      let tells = told_now meter w m ready d done back (world_now m).log refl new.sums (ending.tells _ _ _ turn_is) in
+      let there : World = record m { sums = new.sums } in
+      turn_made meter turns k is early waits w now there (reading_view d.reading) (answer_view d.answer) (sums_of (world_of m).rights (moves_in (world_of m).log))
+      (record { reading = done.reading; answer = done.answer; effects = record { now = done.effects.now; world = done.effects.world; turn = record { clean = done.effects.turn.clean; goes = done.effects.turn.goes; good = done.effects.turn.good; waits = done.effects.turn.waits } }; sums = refl; tells = tells })
+      new t ending.world ending.between (ending.turn _ _ _ turn_is) refl

@@ -1,0 +1,12 @@
+use Rattle.std.proofs.Common.{refl, sym, ◌∙◌, ◌<◌, rules}
+use Rattle.host_turns.proofs.Stepping.{none_waits_in, turned_fair}
+use Rattle.world_state.specs.Rights.{most_turns}
+use Rattle.host_turns.proofs.host.Host.next_turn.Goals as goal
+
+pub returns-then-waiting_in-eq0-clause-step : goal.returns-then-waiting_in-eq0-clause-step
+returns-then-waiting_in-eq0-clause-step g c = record { none = none_waits_in _ _ c.self.view_is (sym c.waiting_in.ensures ∙ c.if-waiting_in-eq0.true); same = refl }
+
+pub returns-in-Some-clause-fair : goal.returns-in-Some-clause-fair
+returns-in-Some-clause-fair g c =
+    let early : c.self.inside.turns < most_turns = search rules in
+    λ ts fair leaves. turned_fair _ _ c.self.view_is _ _ _ c.in-Some.is c.run_turn.ensures c.self.invariant early ts fair leaves

@@ -1,0 +1,37 @@
+-- A turn that has ended: it was told to the running totals, and is kept, or it is undone.
+use Rattle.std.specs.Prelude.{◌≡◌, ℕ, ◌++◌, List, Option, None, Some}
+use Rattle.delivery_turns.specs.Hosts.{sums_of}
+use Rattle.host_world.specs.Turns.{IsBetween, ended}
+use Rattle.host_world.specs.Worlds.{kept_state, world_at_start, world_now}
+use Rattle.host_world.specs.declared.KeptWorld.{KeptWorld}
+use Rattle.host_world.specs.declared.World.{World}
+use Rattle.host_turns.specs.declared.deliveries.Delivered.{Delivered}
+use Rattle.plain_stores.specs.Plain.{turn_ended}
+use Rattle.plain_stores.specs.Stores.{plain_now}
+use Rattle.turn_events.specs.Views.{answer_view, reading_view, turn_view}
+use Rattle.turn_events.specs.declared.turns.TurnRecord.{TurnRecord}
+use Rattle.turn_records.specs.Events.{moves_in}
+use Rattle.turn_sums.specs.Telling.{IsTurn, Tells, instances_in}
+use Rattle.world_state.specs.Rights.{Rights}
+
+-- what the turn did is kept; whatever rights it leads to, its sums are of these, and the totals tell them
+pub record IsEnding (number : ℕ) (w : World) (d : Delivered) (k : KeptWorld) (t : TurnRecord) : Type 0 where
+  pub world : kept_state k ≡ ended (world_now w)
+  pub between : IsBetween k
+  pub turn : (start after : Rights) (instances : List ℕ)
+      → IsTurn start after instances w.sums (world_now w).log
+      → turn_view t ≡ turn_ended number (reading_view d.reading) (answer_view d.answer)
+      (sums_of after (moves_in (world_now w).log)) (plain_now w.plain)
+  pub tells : (start after : Rights) (instances : List ℕ)
+      → IsTurn start after instances w.sums (world_now w).log
+      → Tells after (instances ++ instances_in (world_now w).log) k.sums
+
+-- all is as at the turn's start, and the totals tell what they told
+pub record IsUndone (w : World) (k : KeptWorld) : Type 0 where
+  pub world : kept_state k ≡ world_at_start w
+  pub between : IsBetween k
+  pub sums : (r : Rights) (instances : List ℕ) → Tells r instances w.sums → Tells r instances k.sums
+
+abbrev pub IsEnded : ℕ → World → Delivered → KeptWorld → Option TurnRecord → Type 0
+IsEnded number w d k (Some t) = IsEnding number w d k t
+IsEnded number w d k None = IsUndone w k

@@ -1,0 +1,6 @@
+pub mod Kept
+pub mod Begun
+pub mod Delivered
+pub mod Made
+pub mod Ending
+pub mod Taken

@@ -1,0 +1,242 @@
+//! Issuers that an instance makes and keeps.
+
+ghost use Rattle.std.specs.Prelude.{◌≡◌, ◌<◌, ◌++◌, ◌∷◌, [], true, IfOk, OnOk, length};
+ghost use Rattle.brands.specs.Brands.{brand_of, most_brands};
+ghost use Rattle.brands.specs.IssuerRecords.{issuer_of};
+ghost use Rattle.call_plans.specs.Plans.{Plans, plan_view};
+ghost use Rattle.call_rows.specs.Words.{next_of};
+ghost use Rattle.call_plans.specs.Views.{AreShaped, IsShaped, effect_view, effect_views};
+ghost use Rattle.contract_words.specs.Known.{AreKnown};
+ghost use Rattle.host_text.specs.Words.{is_keyword};
+ghost use Rattle.host_world.specs.Worlds.{world_of};
+ghost use Rattle.instance_issuer_plans.specs.Left.{minted, saved};
+ghost use Rattle.jessie_tree.specs.View.{trees};
+ghost use Rattle.refusals.specs.Outcomes.{Gives};
+ghost use Rattle.trade_rows.specs.Issuers.{issuer_record, make_zcf_mint, save_issuer};
+ghost use Rattle.world_state.specs.Worlds as worlds;
+
+use crate::kept::{check_keeps_more, free_keyword, issuer_record};
+use amount_math::Kind;
+use brand_makers::Maker;
+use brands::Brand;
+use call_arguments::places::kind_at;
+use call_data::values::object_data;
+use call_plans::effects::{Effect, InstancesEffect, SeatsEffect};
+use call_plans::plans::Plan;
+use call_words::words::{next_of, runs};
+use contract_words::given::issuer_number;
+use host_text::text::Text;
+use host_world::World;
+use jessie_tree::data::{Data, ObjKind};
+use refusals::stops::Stop;
+use row_arguments::texts::keyword_of;
+use std::alloc::{AllocError, Global};
+
+/// How many brands there are at most.
+const MOST_BRANDS: u32 = 65535;
+
+/// The number of the next brand: else `Limit`.
+#[tactic(auto, unfolding(call_rows::specs::Words::next_of, refusals::specs::Outcomes::bind, refusals::specs::Outcomes::need))]
+fn next_brand(world: &World) -> Result<u16, Stop>
+    ensures { Gives (λ n. n) result (next_of (length (world_of world.now).brands) most_brands) }
+{
+    let made = world.plain.brands.made();
+    next_of(made, MOST_BRANDS)?;
+    Ok(made as u16)
+}
+
+/// Puts an effect behind others. It stands alone, so that letting it go is proved once.
+#[tactic(auto, using(crate::proofs::Effects::shaped_last, crate::proofs::Effects::views_last))]
+fn add(effects: &mut Vec<Effect>, effect: Effect) -> Result<(), AllocError>
+    requires shaped { AreShaped effects.old.items }
+    requires one { IsShaped effect }
+    ensures effects { OnOk result (effect_views effects.new.items
+        ≡ effect_views effects.old.items ++ effect_view effect ∷ []) }
+    ensures shaped { OnOk result (AreShaped effects.new.items) }
+{
+    effects.push(effect)?;
+    Ok(())
+}
+
+/// A brand is made that is named by a keyword.
+fn new_brand(alloc: Global, instance: u32, keyword: &Text, kind: Kind) -> Result<Effect, AllocError>
+    ensures effect { IfOk result (λ e. effect_view e
+        ≡ worlds.new_brand (brand_of keyword.now kind) (worlds.of_instance instance)) }
+    ensures shaped { IfOk result IsShaped }
+{
+    let name = keyword.copy(alloc)?;
+    let made = Brand { name, kind };
+    Ok(Effect::Seats(SeatsEffect::NewBrand(made, Maker::Instance(instance))))
+}
+
+/// An issuer is kept under a keyword.
+fn keeping(alloc: Global, instance: u32, keyword: &Text, brand: u16) -> Result<Effect, AllocError>
+    requires { is_keyword keyword.now ≡ true }
+    ensures effect { IfOk result (λ e. effect_view e
+        ≡ worlds.add_issuer instance (issuer_of keyword.now brand)) }
+    ensures shaped { IfOk result IsShaped }
+{
+    let keyword = keyword_of(alloc, keyword)?;
+    Ok(Effect::Instances(InstancesEffect::AddIssuer(instance, keyword, brand)))
+}
+
+/// Adds that a brand is made that is named by a keyword.
+fn add_brand(
+    alloc: Global,
+    effects: &mut Vec<Effect>,
+    instance: u32,
+    keyword: &Text,
+    kind: Kind,
+) -> Result<(), AllocError>
+    requires { AreShaped effects.old.items }
+    ensures effects { OnOk result (effect_views effects.new.items ≡ effect_views effects.old.items
+        ++ worlds.new_brand (brand_of keyword.now kind) (worlds.of_instance instance) ∷ []) }
+    ensures shaped { OnOk result (AreShaped effects.new.items) }
+{
+    add(effects, new_brand(alloc, instance, keyword, kind)?)
+}
+
+/// Adds that an issuer is kept under a keyword.
+fn add_keeping(
+    alloc: Global,
+    effects: &mut Vec<Effect>,
+    instance: u32,
+    keyword: &Text,
+    brand: u16,
+) -> Result<(), AllocError>
+    requires named { is_keyword keyword.now ≡ true }
+    requires shaped { AreShaped effects.old.items }
+    ensures effects { OnOk result (effect_views effects.new.items ≡ effect_views effects.old.items
+        ++ worlds.add_issuer instance (issuer_of keyword.now brand) ∷ []) }
+    ensures shaped { OnOk result (AreShaped effects.new.items) }
+{
+    add(effects, keeping(alloc, instance, keyword, brand)?)
+}
+
+/// A brand is made that is named by a keyword, and its issuer is kept under that.
+fn making(
+    alloc: Global,
+    instance: u32,
+    keyword: &Text,
+    kind: Kind,
+    brand: u16,
+) -> Result<Vec<Effect>, AllocError>
+    requires { is_keyword keyword.now ≡ true }
+    ensures effects { IfOk result (λ es. effect_views es.items
+        ≡ worlds.new_brand (brand_of keyword.now kind) (worlds.of_instance instance)
+        ∷ worlds.add_issuer instance (issuer_of keyword.now brand) ∷ []) }
+    ensures shaped { IfOk result (λ es. AreShaped es.items) }
+{
+    let mut effects = Vec::new(alloc);
+    add_brand(alloc, &mut effects, instance, keyword, kind)?;
+    add_keeping(alloc, &mut effects, instance, keyword, brand)?;
+    Ok(effects)
+}
+
+/// What is left of making a mint once the keyword and the kind are read.
+#[tactic(auto, unfolding(crate::specs::Left::minted, refusals::specs::Outcomes::bind))]
+fn minting(
+    alloc: Global,
+    world: &World,
+    instance: u32,
+    keyword: &Text,
+    kind: Kind,
+) -> Result<Plan, Stop>
+    requires named { is_keyword keyword.now ≡ true }
+    requires hosted { instance < length (world_of world.now).tables.instances }
+    ensures { Plans (minted (world_of world.now) instance keyword.now kind) result }
+{
+    check_keeps_more(world, instance)?;
+    let brand = next_brand(world)?;
+    let effects = making(alloc, instance, keyword, kind, brand)?;
+    Ok(Plan {
+        answer: object_data(ObjKind::Zmint, u32::from(brand)),
+        effects,
+    })
+}
+
+/// zcf.makeZCFMint(keyword, kind) (Zoe).
+#[tactic(auto, unfolding(trade_rows::specs::Issuers::make_zcf_mint, crate::specs::Left::free_keyword, crate::specs::Left::minted, refusals::specs::Outcomes::bind))]
+pub fn make_zcf_mint(
+    alloc: Global,
+    world: &World,
+    instance: u32,
+    args: &[Data],
+) -> Result<Plan, Stop>
+    requires { instance < length (world_of world.now).tables.instances }
+    ensures { Plans (make_zcf_mint (world_of world.now) instance (trees args.now)) result }
+{
+    runs(world, instance)?;
+    let keyword = free_keyword(alloc, world, instance, 1, args)?;
+    let kind = kind_at(2, args)?;
+    minting(alloc, world, instance, keyword, kind)
+}
+
+/// The effect by which an issuer is kept under a keyword.
+fn only_keeping(
+    alloc: Global,
+    instance: u32,
+    keyword: &Text,
+    brand: u16,
+) -> Result<Vec<Effect>, AllocError>
+    requires { is_keyword keyword.now ≡ true }
+    ensures effects { IfOk result (λ es. effect_views es.items
+        ≡ worlds.add_issuer instance (issuer_of keyword.now brand) ∷ []) }
+    ensures shaped { IfOk result (λ es. AreShaped es.items) }
+{
+    let mut effects = Vec::new(alloc);
+    add_keeping(alloc, &mut effects, instance, keyword, brand)?;
+    Ok(effects)
+}
+
+/// The plan by which an issuer is kept, which the call answers with its brand.
+fn saving(
+    alloc: Global,
+    world: &World,
+    instance: u32,
+    keyword: &Text,
+    brand: u16,
+) -> Result<Plan, AllocError>
+    requires named { is_keyword keyword.now ≡ true }
+    requires made { brand < length (world_of world.now).brands }
+    ensures plan { IfOk result (λ plan. plan_view plan ≡ (
+      issuer_record (world_of world.now) brand,
+      worlds.add_issuer instance (issuer_of keyword.now brand) ∷ [],
+    )) }
+    ensures shaped { IfOk result (λ plan. AreShaped plan.effects.items) }
+{
+    let effects = only_keeping(alloc, instance, keyword, brand)?;
+    let answer = issuer_record(alloc, world, brand)?;
+    Ok(Plan { answer, effects })
+}
+
+/// What is left of saving an issuer once it and the keyword are read.
+#[tactic(auto, unfolding(crate::specs::Left::saved, refusals::specs::Outcomes::bind))]
+fn save(
+    alloc: Global,
+    world: &World,
+    instance: u32,
+    keyword: &Text,
+    brand: u16,
+) -> Result<Plan, Stop>
+    requires named { is_keyword keyword.now ≡ true }
+    requires hosted { instance < length (world_of world.now).tables.instances }
+    requires made { brand < length (world_of world.now).brands }
+    ensures { Plans (saved (world_of world.now) instance keyword.now brand) result }
+{
+    check_keeps_more(world, instance)?;
+    Ok(saving(alloc, world, instance, keyword, brand)?)
+}
+
+/// zcf.saveIssuer(issuer, keyword) (Zoe).
+#[tactic(auto, unfolding(trade_rows::specs::Issuers::save_issuer, crate::specs::Left::free_keyword, crate::specs::Left::saved, refusals::specs::Outcomes::bind))]
+pub fn save_issuer(alloc: Global, world: &World, instance: u32, args: &[Data]) -> Result<Plan, Stop>
+    requires made { instance < length (world_of world.now).tables.instances }
+    requires known { AreKnown (world_of world.now) (trees args.now) }
+    ensures { Plans (save_issuer (world_of world.now) instance (trees args.now)) result }
+{
+    runs(world, instance)?;
+    let brand = issuer_number(world, 1, args)?;
+    let keyword = free_keyword(alloc, world, instance, 2, args)?;
+    save(alloc, world, instance, keyword, brand)
+}

@@ -1,0 +1,188 @@
+//! The methods of purses, of their deposit facets and of payments (ERTP), as plans. It stands on what rows read of
+//! the world. Its one contract: each reads or plans what its row's definition says.
+#![tactic(auto)]
+
+ghost use Rattle.std.specs.Prelude.{◌≡◌, ◌<◌, IfOk, Ok, length};
+ghost use Rattle.call_data.specs.Values.{amount_tree, object_tree};
+ghost use Rattle.call_plans.specs.Plans.{Plans, Reads, plan_view};
+ghost use Rattle.call_plans.specs.Views.{AreShaped};
+ghost use Rattle.call_rows.specs.Words.{next_payment, one_move};
+ghost use Rattle.call_words.specs.Handed.{AreHanded};
+ghost use Rattle.ertp_rows.specs.PaymentRows as payment_rows;
+ghost use Rattle.host_world.specs.Worlds.{world_of};
+ghost use Rattle.jessie_tree.specs.View.{tree, trees};
+ghost use Rattle.jessie_tree.specs.declared.data.ObjKind.TheVariants as kinds;
+ghost use Rattle.refusals.specs.Outcomes.{bind};
+ghost use Rattle.right_steps.specs.Lists.{amount_of};
+ghost use Rattle.rights_model.specs.declared.Holder.TheVariants.{Payment, Purse};
+ghost use Rattle.service_rows.specs.PurseRows.{deposit, get_alleged_brand, get_current_amount, purse_of, withdraw};
+ghost use Rattle.value_checks.specs.Tests.{sum_fits};
+ghost use Rattle.world_state.specs.Good.{IsGoodWorld};
+
+use amount_math::Value;
+use call_arguments::amounts::{amount, check_held};
+use call_arguments::places::argument;
+use call_data::values::{amount_data, object_data};
+use call_plans::plans::Plan;
+use call_words::moves::{moving_amount, paying};
+use call_words::words::next_payment;
+use holding_checks::{check_has, check_sum};
+use host_world::World;
+use jessie_tree::data::{Data, ObjKind};
+use refusals::stops::Stop;
+use right_reads::payment_reads::payment_brand;
+use right_reads::purse_reads::{purse_amount, purse_brand};
+use rights_model::{Holder, Movement};
+use service_reads::brand_reads::brand_data;
+use service_reads::payment_reads::{LivePayment, live_at};
+use std::alloc::{AllocError, Global};
+
+/// `purse.getAllegedBrand()` (ERTP).
+#[tactic(auto, using(service_reads::proofs::HeldKinds::purse_brand_made), unfolding(service_rows::specs::PurseRows::get_alleged_brand))]
+pub fn get_alleged_brand(world: &World, purse: u32) -> Result<Data, Stop>
+    requires good { IsGoodWorld (world_of world.now) }
+    requires made { purse < length (world_of world.now).rights.purses }
+    ensures { Reads (get_alleged_brand (world_of world.now) purse) result }
+{
+    Ok(brand_data(world, purse_brand(&world.draft, purse)))
+}
+
+/// The amount that a purse has, as data.
+fn purse_record(alloc: Global, world: &World, purse: u32) -> Result<Data, AllocError>
+    requires { purse < length (world_of world.now).rights.purses }
+    ensures { IfOk result (λ made. tree made ≡ amount_tree (purse_of (world_of world.now) purse)) }
+{
+    let held = purse_amount(&world.draft, purse).copy()?;
+    amount_data(alloc, purse_brand(&world.draft, purse), &held)
+}
+
+/// `purse.getCurrentAmount()` (ERTP).
+#[tactic(auto, unfolding(service_rows::specs::PurseRows::get_current_amount))]
+pub fn get_current_amount(alloc: Global, world: &World, purse: u32) -> Result<Data, Stop>
+    requires { purse < length (world_of world.now).rights.purses }
+    ensures { Reads (get_current_amount (world_of world.now) purse) result }
+{
+    Ok(purse_record(alloc, world, purse)?)
+}
+
+/// All that a payment has goes to a purse, and is answered (ERTP).
+fn depositing(alloc: Global, purse: u32, brand: u16, given: LivePayment) -> Result<Plan, AllocError>
+    ensures plan { IfOk result (λ plan. plan_view plan ≡ (
+      amount_tree (amount_of brand given.value),
+      one_move brand (Payment given.number) (Purse purse) given.value,
+    )) }
+    ensures shaped { IfOk result (λ plan. AreShaped plan.effects.items) }
+{
+    let LivePayment { number, value } = given;
+    let deposits = Movement {
+        brand,
+        from: Holder::Payment(number),
+        to: Holder::Purse(purse),
+        value,
+    };
+    moving_amount(alloc, deposits)
+}
+
+/// A payment goes to a purse, which takes it beside what it has: else the refusals of their sum (ERTP).
+#[tactic(auto, unfolding(refusals::specs::Outcomes::bind))]
+fn taking_in(
+    alloc: Global,
+    world: &World,
+    purse: u32,
+    brand: u16,
+    given: LivePayment,
+) -> Result<Plan, Stop>
+    requires made { purse < length (world_of world.now).rights.purses }
+    requires kind { (purse_of (world_of world.now) purse).value.kind ≡ given.value.kind }
+    ensures { Plans (bind (sum_fits (purse_of (world_of world.now) purse).value given.value)
+        (λ _. Ok (
+          amount_tree (amount_of brand given.value),
+          one_move brand (Payment given.number) (Purse purse) given.value,
+        ))) result }
+{
+    match check_sum(purse_amount(&world.draft, purse), &given.value) {
+        Ok(()) => Ok(depositing(alloc, purse, brand, given)?),
+        Err(stop) => {
+            drop(given);
+            Err(stop)
+        }
+    }
+}
+
+/// `purse.deposit(payment, amount)`, and `deposit.receive(payment, amount)` (ERTP).
+#[tactic(auto, using(service_reads::proofs::HeldKinds::purse_kind), unfolding(service_rows::specs::PurseRows::deposit, refusals::specs::Outcomes::bind))]
+pub fn deposit(alloc: Global, world: &World, purse: u32, args: &[Data]) -> Result<Plan, Stop>
+    requires good { IsGoodWorld (world_of world.now) }
+    requires made { purse < length (world_of world.now).rights.purses }
+    requires handed { AreHanded (world_of world.now) (trees args.now) }
+    ensures { Plans (deposit (world_of world.now) purse (trees args.now)) result }
+{
+    let brand = purse_brand(&world.draft, purse);
+    let given = live_at(world, brand, 1, args)?;
+    match check_held(alloc, brand, &given.value, 2, argument(args, 2)) {
+        Ok(()) => taking_in(alloc, world, purse, brand, given),
+        Err(stop) => {
+            drop(given);
+            Err(stop)
+        }
+    }
+}
+
+/// A value of a purse goes to the next payment, where one is left (ERTP).
+#[tactic(auto, unfolding(refusals::specs::Outcomes::bind))]
+fn paying_out(
+    alloc: Global,
+    world: &World,
+    purse: u32,
+    brand: u16,
+    value: Value,
+) -> Result<Plan, Stop>
+    ensures { Plans (bind (next_payment (world_of world.now)) (λ payment. Ok (
+      object_tree kinds.Payment payment,
+      one_move brand (Purse purse) (Payment payment) value,
+    ))) result }
+{
+    match next_payment(world) {
+        Ok(payment) => Ok(paying(alloc, brand, Holder::Purse(purse), payment, value)?),
+        Err(stop) => {
+            drop(value);
+            Err(stop)
+        }
+    }
+}
+
+/// `purse.withdraw(amount)` (ERTP).
+#[tactic(auto, unfolding(service_rows::specs::PurseRows::withdraw, refusals::specs::Outcomes::bind))]
+pub fn withdraw(alloc: Global, world: &World, purse: u32, args: &[Data]) -> Result<Plan, Stop>
+    requires { purse < length (world_of world.now).rights.purses }
+    ensures { Plans (withdraw (world_of world.now) purse (trees args.now)) result }
+{
+    let brand = purse_brand(&world.draft, purse);
+    let held = purse_amount(&world.draft, purse);
+    let value = amount(alloc, brand, held.kind(), 1, argument(args, 1))?;
+    match check_has(held, &value) {
+        Ok(()) => paying_out(alloc, world, purse, brand, value),
+        Err(stop) => {
+            drop(value);
+            Err(stop)
+        }
+    }
+}
+
+/// `purse.getDepositFacet()`: it has the purse's number (ERTP).
+#[tactic(auto, unfolding(ertp_rows::specs::PaymentRows::get_deposit_facet))]
+pub fn get_deposit_facet(purse: u32) -> Result<Data, Stop>
+    ensures { Reads (payment_rows.get_deposit_facet purse) result }
+{
+    Ok(object_data(ObjKind::Deposit, purse))
+}
+
+/// `payment.getAllegedBrand()`, of one that was spent too (ERTP).
+#[tactic(auto, using(service_reads::proofs::HeldKinds::payment_brand_made), unfolding(ertp_rows::specs::PaymentRows::get_alleged_brand))]
+pub fn get_brand_of_payment(world: &World, payment: u32) -> Result<Data, Stop>
+    requires good { IsGoodWorld (world_of world.now) }
+    requires made { payment < length (world_of world.now).rights.payments }
+    ensures { Reads (payment_rows.get_alleged_brand (world_of world.now) payment) result }
+{
+    Ok(brand_data(world, payment_brand(&world.draft, payment)))
+}

@@ -1,0 +1,51 @@
+-- Slots can have what rows are that were tested.
+use Rattle.std.specs.List.{All}
+use Rattle.std.proofs.Common.{◌≡◌, List, [], ◌∷◌, Option, Some, None, Result, Ok, Err, refl, sym, subst}
+use Rattle.std.specs.Option.{option_map_or}
+use Rattle.std.proofs.lemmas.List.Elements.{All-cons, All-head, All-nil, All-tail}
+use Rattle.allocation_changes.proofs.Apart.{row_under}
+use Rattle.allocation_changes.specs.Gains.{CanGain}
+use Rattle.amount_math.specs.Content.{Content, nothing, nothing-sum, sum}
+use Rattle.amount_math.specs.KindLaws.{value_of_sum}
+use Rattle.amount_math.specs.Worth.{Fits, HasFew, IsValue}
+use Rattle.amount_math.specs.declared.Amount.{Amount}
+use Rattle.plan_checks.specs.Slots.{can_give, each_passes, fits_slot, is_apart}
+use Rattle.plan_refusals.specs.Bounds.{HasValue}
+use Rattle.proposals.specs.OfferSafety.{MeetSlots, MeetsSlot}
+use Rattle.proposals.specs.Rows.{amount_under, content_under}
+use Rattle.proposals.specs.declared.allocations.Row.{Row}
+use Rattle.refusals.specs.Outcomes.{bind, ◌>>◌}
+use Rattle.refusals.specs.declared.codes.Refusal.{Refusal}
+use Rattle.value_checks.proofs.Exact.{value_passed}
+
+passed : (r next : Result (Unit {0}) Refusal) → r >> next ≡ Ok tt → (r ≡ Ok tt) × (next ≡ Ok tt)
+unfolding bind
+passed (Ok x) next is = (refl, is)
+passed (Err e) next is = absurd (cc)
+
+module _ (slots : List Row) (values : All HasValue slots) where
+  gain_one : (r : Row) → MeetsSlot slots r → HasValue r → fits_slot slots r ≡ Ok tt → CanGain slots r
+  gain_one r meets value fits =
+      let kind = r.amount.value.kind in
+      let both = value_passed kind (sum (content_under r.keyword slots) r.amount.value.content) fits in
+      by (amount_under r.keyword slots) refl both.0 both.1
+    where
+      has : Option Amount → Content
+      has o = option_map_or (λ (a : Amount). a.value.content) o nothing
+
+      by : (o : Option Amount) → amount_under r.keyword slots ≡ o → Fits r.amount.value.kind (sum (has o) r.amount.value.content) → HasFew r.amount.value.kind (sum (has o) r.amount.value.content) → IsValue r.amount.value.kind (sum (has o) r.amount.value.content)
+      by None e fit few = subst (IsValue r.amount.value.kind) (sym (nothing-sum r.amount.value.content)) value
+      by (Some a) e fit few =
+          let own : IsValue a.value.kind a.value.content = row_under HasValue slots values r.keyword a e in
+          value_of_sum r.amount.value.kind a.value.content r.amount.value.content (subst (λ k. IsValue k a.value.content) (meets a e).kind own) value fit few
+
+  gain_each : (rows : List Row) → MeetSlots slots rows → All HasValue rows → each_passes (fits_slot slots) rows ≡ Ok tt → All (CanGain slots) rows
+  gain_each [] meet value fits = All-nil (CanGain slots)
+  gain_each (r ∷ rs) meet value fits =
+      let both = passed (fits_slot slots r) (each_passes (fits_slot slots) rs) fits in
+      All-cons (CanGain slots) r rs (gain_one r (All-head (MeetsSlot slots) r rs meet) (All-head HasValue r rs value) both.0)
+      (gain_each rs (All-tail (MeetsSlot slots) r rs meet) (All-tail HasValue r rs value) both.1)
+
+  pub can_gain : (rows : List Row) → MeetSlots slots rows → All HasValue rows → can_give slots rows ≡ Ok tt → All (CanGain slots) rows
+  unfolding can_give
+  can_gain rows meet value fits = gain_each rows meet value (passed (each_passes (is_apart slots) rows) (each_passes (fits_slot slots) rows) fits).1

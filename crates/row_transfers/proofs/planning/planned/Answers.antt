@@ -1,0 +1,18 @@
+use Rattle.std.proofs.Common.{Ok, sym, subst}
+use Rattle.plan_check_laws.proofs.Kept.{plan_fails}
+use Rattle.plan_check_laws.proofs.Worked.{fails_then}
+use Rattle.plan_checks.specs.Plans.{keeps}
+use Rattle.plan_refusals.specs.Told.{plan_told}
+use Rattle.rearrange.specs.Sums.{all_touched}
+use Rattle.refusals.specs.Outcomes.{Fails}
+use Rattle.refusals.specs.declared.stops.Stop.{Stop}
+use Rattle.row_transfers.specs.Tests.{kept_plan}
+use Rattle.row_transfers.proofs.planning.planned.Goals as goal
+
+pub returns-in-Err-clause-gives : goal.returns-in-Err-clause-gives
+returns-in-Err-clause-gives c =
+    let states = c.args.states.now in
+    let touched = all_touched states c.args.list.items in
+    let fault = c.in-Err.fault in
+    subst (λ (s : Stop). Fails s (kept_plan states touched)) (sym c.plan_told.ensures)
+    (fails_then (plan_told fault) (keeps states touched) (Ok touched) (plan_fails states touched fault c.in-Err.ensures.refused))

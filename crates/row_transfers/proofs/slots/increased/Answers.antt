@@ -1,0 +1,21 @@
+use Rattle.std.proofs.Common.{refl, sym, subst, ap, ◌∙◌, ◌++◌}
+use Rattle.allocation_changes.proofs.Apart.{AreApart-further}
+use Rattle.allocation_changes.proofs.Sums.{can_raise}
+use Rattle.allocation_changes.specs.Gains.{raised}
+use Rattle.allocation_changes.specs.Rows.{further}
+use Rattle.proposals.specs.Rows.{AreApart}
+use Rattle.row_transfers.proofs.Raising.{can_gain}
+use Rattle.row_transfers.proofs.slots.increased.Goals as goal
+
+pub raised_slots-requires : goal.raised_slots-requires
+raised_slots-requires c =
+    let slots = c.args.slots.now in
+    let gains = c.args.gains.now in
+    can_raise slots gains c.requires.apart c.requires.meet (can_gain slots c.have_values.ensures gains c.requires.meet c.have_values-2.ensures c.in_ok-check_gains.ensures)
+
+pub returns-clause-apart : goal.returns-clause-apart
+returns-clause-apart c =
+    let slots = c.args.slots.now in
+    let gains = c.args.gains.now in
+    let same = c.in_ok-open_further.ensures.ok ∙ ap (λ l. l ++ further slots gains) c.in_ok-after.ensures in
+    subst AreApart (sym same) (AreApart-further (raised gains) (λ r. refl) slots gains c.requires.apart c.requires.given)

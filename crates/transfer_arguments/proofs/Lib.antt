@@ -1,0 +1,3 @@
+pub mod Valued
+pub mod Wrong
+pub mod FineRows

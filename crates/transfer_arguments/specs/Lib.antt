@@ -1,0 +1,4 @@
+pub mod Views
+pub mod Brands
+pub mod Fine
+pub mod Reading

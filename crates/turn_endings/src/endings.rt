@@ -1,0 +1,177 @@
+//! The parts of a turn's end, in their order.
+
+ghost use Rattle.std.specs.Prelude.{◌≡◌, ◌++◌, ◌∷◌, [], IfOk, OnOk, codes};
+ghost use Rattle.call_plans.specs.Views.{AreShaped, effect_views};
+ghost use Rattle.delivery_laws.specs.Works.{IsOut};
+ghost use Rattle.delivery_turns.specs.Endings.{binds, binds_to, ending, publishes, settles};
+ghost use Rattle.host_world.specs.Worlds.{world_of};
+ghost use Rattle.jessie_tree.specs.View.{tree};
+ghost use Rattle.turn_answers.specs.Settlements.{part, settled_after};
+ghost use Rattle.turn_events.specs.Views.{answer_view, delivery_view, line_call_view};
+ghost use Rattle.turn_records.specs.Deliveries.{promise_of};
+ghost use Rattle.world_state.specs.Good.{IsGoodWorld};
+ghost use Rattle.world_state.specs.Worlds.{end_staging, in_front, publish};
+
+use crate::leaving::add_departures;
+use crate::settling::add_settling;
+use call_plans::effects::{Effect, InstancesEffect, RightsEffect};
+use delivery_tasks::effects::binding;
+use host_world::World;
+use jessie_tree::data::Data;
+use std::alloc::{AllocError, Global};
+use turn_events::deliveries::Delivery;
+use turn_events::events::Answer;
+use turn_events::messages::LineCall;
+
+// ---- what a start gives
+
+/// The public facet of what a start gives, null where it gives none (Zoe).
+fn public_facet(alloc: Global, given: &Data) -> Result<Data, AllocError>
+    ensures { IfOk result (λ facet. tree facet ≡ part (codes "publicFacet") (tree given.now)) }
+{
+    match given.field("publicFacet") {
+        Some(facet) => facet.copy(alloc),
+        None => Ok(Data::Null),
+    }
+}
+
+/// Adds that an instance keeps its public facet.
+fn publish(
+    alloc: Global,
+    instance: u32,
+    given: &Data,
+    effects: &mut Vec<Effect>,
+) -> Result<(), AllocError>
+    ensures { OnOk result (effect_views effects.new.items ≡ effect_views effects.old.items
+        ++ publish instance (part (codes "publicFacet") (tree given.now)) ∷ []) }
+{
+    let facet = public_facet(alloc, given)?;
+    effects.push(Effect::Instances(InstancesEffect::Publish(instance, facet)))?;
+    Ok(())
+}
+
+/// Adds that what a start gives as its public facet is kept.
+fn add_publication(
+    alloc: Global,
+    delivery: &Delivery,
+    answer: &Answer,
+    effects: &mut Vec<Effect>,
+) -> Result<(), AllocError>
+    ensures { OnOk result (effect_views effects.new.items ≡ effect_views effects.old.items
+        ++ publishes (delivery_view delivery.now) (answer_view answer.now)) }
+{
+    match delivery {
+        Delivery::Start(start) => match answer {
+            Answer::Given(given) => publish(alloc, start.instance, given, effects),
+            _ => Ok(()),
+        },
+        _ => Ok(()),
+    }
+}
+
+// ---- labels
+
+/// Adds that the label that a party wants is bound to the answer.
+fn bind(
+    alloc: Global,
+    call: &LineCall,
+    given: &Data,
+    effects: &mut Vec<Effect>,
+) -> Result<(), AllocError>
+    ensures { OnOk result (effect_views effects.new.items ≡ effect_views effects.old.items
+        ++ binds_to call.now.by call.now.label (tree given.now)) }
+{
+    if let Some(label) = &call.label {
+        let bound = binding(alloc, &call.by, label, given)?;
+        effects.push(bound)?;
+    }
+    Ok(())
+}
+
+/// Adds that the label that is wanted for a call's answer is bound to it, where it is answered.
+fn add_binding(
+    alloc: Global,
+    delivery: &Delivery,
+    answer: &Answer,
+    effects: &mut Vec<Effect>,
+) -> Result<(), AllocError>
+    ensures { OnOk result (effect_views effects.new.items ≡ effect_views effects.old.items
+        ++ binds (delivery_view delivery.now) (answer_view answer.now)) }
+{
+    match delivery {
+        Delivery::Call(call) => match answer {
+            Answer::Given(given) => bind(alloc, call, given, effects),
+            _ => Ok(()),
+        },
+        _ => Ok(()),
+    }
+}
+
+// ---- all
+
+/// Adds that what a start gives is published, and that the promise of the delivery is resolved.
+fn add_answer(
+    alloc: Global,
+    world: &World,
+    delivery: &Delivery,
+    answer: &Answer,
+    effects: &mut Vec<Effect>,
+) -> Result<(), AllocError>
+    requires good { IsGoodWorld (in_front (delivery_view delivery.now) (world_of world.now)) }
+    requires out { IsOut (world_of world.now) (answer_view answer.now) }
+    ensures { OnOk result (effect_views effects.new.items ≡ effect_views effects.old.items
+        ++ (publishes (delivery_view delivery.now) (answer_view answer.now)
+        ++ settles (world_of world.now).promises.follows (promise_of (delivery_view delivery.now))
+        (settled_after (delivery_view delivery.now) (answer_view answer.now)))) }
+{
+    add_publication(alloc, delivery, answer, effects)?;
+    add_settling(alloc, world, delivery, answer, effects)
+}
+
+/// Adds that all staging ends.
+fn add_last(effects: &mut Vec<Effect>) -> Result<(), AllocError>
+    ensures { OnOk result
+        (effect_views effects.new.items ≡ effect_views effects.old.items ++ end_staging ∷ []) }
+{
+    effects.push(Effect::Rights(RightsEffect::EndStaging))?;
+    Ok(())
+}
+
+/// Adds all parts of a turn's end, in their order.
+#[tactic(auto, unfolding(delivery_turns::specs::Endings::ending))]
+fn add_ending(
+    alloc: Global,
+    world: &World,
+    delivery: &Delivery,
+    answer: &Answer,
+    effects: &mut Vec<Effect>,
+) -> Result<(), AllocError>
+    requires good { IsGoodWorld (in_front (delivery_view delivery.now) (world_of world.now)) }
+    requires out { IsOut (world_of world.now) (answer_view answer.now) }
+    ensures { OnOk result (effect_views effects.new.items ≡ effect_views effects.old.items
+        ++ ending (delivery_view delivery.now) (answer_view answer.now) (world_of world.now)) }
+{
+    add_answer(alloc, world, delivery, answer, effects)?;
+    add_departures(world, delivery, answer, effects)?;
+    add_binding(alloc, delivery, answer, effects)?;
+    add_last(effects)
+}
+
+/// How the turn of a delivery ends, from the world that it has come to (Zoe; eventual send; that all staging ends with
+/// the turn is our own). All data is a copy: for want of memory nothing has changed.
+pub fn ending(
+    alloc: Global,
+    world: &World,
+    delivery: &Delivery,
+    answer: &Answer,
+) -> Result<Vec<Effect>, AllocError>
+    requires good { IsGoodWorld (in_front (delivery_view delivery.now) (world_of world.now)) }
+    requires out { IsOut (world_of world.now) (answer_view answer.now) }
+    ensures effects { IfOk result (λ es. effect_views es.items
+        ≡ ending (delivery_view delivery.now) (answer_view answer.now) (world_of world.now)) }
+    ensures shaped { IfOk result (λ es. AreShaped es.items) }
+{
+    let mut effects = Vec::new(alloc);
+    add_ending(alloc, world, delivery, answer, &mut effects)?;
+    Ok(effects)
+}

@@ -1,0 +1,4 @@
+pub mod Calls
+pub mod Issued
+pub mod MakersCounted
+pub mod Shapes

@@ -1,0 +1,159 @@
+//! Minting to a seat of an instance's own.
+
+ghost use Rattle.std.specs.Prelude.{◌≡◌, ◌<◌, [], ◌∷◌, All, IfOk, Ok, length, map};
+ghost use Rattle.call_data.specs.Amounts.{seen};
+ghost use Rattle.call_plans.specs.Plans.{Plans};
+ghost use Rattle.call_plans.specs.Views.{AreShaped, effect_views};
+ghost use Rattle.contract_rows.specs.SeatRows.{allocation_of, seat_of};
+ghost use Rattle.contract_words.specs.Known.{AreKnown};
+ghost use Rattle.host_world.specs.Worlds.{world_of};
+ghost use Rattle.jessie_tree.specs.View.{trees};
+ghost use Rattle.seat_changes.specs.Calls.{FitSlots, IsSeatCall};
+ghost use Rattle.trade_rows.specs.Mints.{gain, mint_gains, minting};
+ghost use Rattle.trade_rows.specs.States.{changing};
+ghost use Rattle.vault_rights.specs.Drafts.{IsClean};
+ghost use Rattle.world_state.specs.Good.{IsGoodWorld};
+ghost use Rattle.world_state.specs.Rights.{kind_at};
+ghost use Rattle.world_state.specs.Worlds.{IsOpen};
+ghost use Rattle.zcf_mint_plans.specs.Left.{minted, minting_to};
+
+use crate::minters::minting_seat;
+use crate::outgoing::check_comes_out;
+use call_arguments::places::{argument, copy_of};
+use call_plans::effects::Effect;
+use call_plans::plans::Plan;
+use contract_words::allocations::current_allocation;
+use host_world::World;
+use jessie_tree::data::Data;
+use proposals::allocations::Row;
+use refusals::stops::Stop;
+use rights_model::{Holder, Movement};
+use seat_changes::counts::{check_room, slots_after};
+use seat_changes::effects::changing;
+use seat_changes::given::rows_of_mint;
+use slot_checks::check_gains;
+use std::alloc::{AllocError, Global};
+
+/// What a row says is minted to its slot.
+fn gain(alloc: Global, seat: u32, row: &Row) -> Result<Movement, AllocError>
+    ensures { IfOk result (λ m. m ≡ gain seat row.now) }
+{
+    let keyword = row.keyword.copy(alloc)?;
+    let value = row.amount.value.copy()?;
+    Ok(Movement {
+        brand: row.amount.brand,
+        from: Holder::Outside,
+        to: Holder::Slot(seat, keyword),
+        value,
+    })
+}
+
+/// What rows say is minted to their slots.
+fn gains(alloc: Global, seat: u32, rows: &[Row]) -> Result<Vec<Movement>, AllocError>
+    ensures { IfOk result (λ ms. ms.items ≡ map (gain seat) rows.now) }
+{
+    let mut moves = Vec::new(alloc);
+    for row in rows {
+        moves.push(gain(alloc, seat, row)?)?;
+    }
+    Ok(moves)
+}
+
+/// What that does to the world.
+#[tactic(auto, using(crate::proofs::Shapes::gains_apart))]
+fn effects_of(alloc: Global, seat: u32, rows: &[Row]) -> Result<Vec<Effect>, AllocError>
+    ensures effects { IfOk result (λ es. effect_views es.items
+        ≡ changing (seat ∷ []) (map (gain seat) rows.now)) }
+    ensures shaped { IfOk result (λ es. AreShaped es.items) }
+{
+    let gains = gains(alloc, seat, rows)?;
+    changing(alloc, seat, gains)
+}
+
+/// The plan by which that is minted, which answers what is given.
+fn gaining(alloc: Global, seat: u32, rows: &[Row], given: Option<&Data>) -> Result<Plan, Stop>
+    ensures { Plans (Ok (seen given.entry, changing (seat ∷ []) (map (gain seat) rows.now))) result }
+{
+    let effects = effects_of(alloc, seat, rows)?;
+    let answer = copy_of(alloc, given)?;
+    Ok(Plan { answer, effects })
+}
+
+/// What is left of minting once the rows are read: else `Overlap`, `TooMuch` of all of them with what is out, `Overlap`,
+/// `TooMuch` of each with its slot, `Limit` (Zoe).
+#[tactic(auto, unfolding(crate::specs::Left::minted, refusals::specs::Outcomes::bind))]
+fn mint(
+    alloc: Global,
+    world: &World,
+    brand: u16,
+    seat: u32,
+    slots: &[Row],
+    rows: &[Row],
+    given: Option<&Data>,
+) -> Result<Plan, Stop>
+    requires clean { IsClean world.now.draft }
+    requires made { brand < length (world_of world.now).rights.out }
+    requires kinds { All (λ r. r.amount.value.kind ≡ kind_at (world_of world.now).rights.out brand) rows.now }
+    requires fit { FitSlots slots.now rows.now }
+    ensures { Plans (minted (world_of world.now) brand seat slots.now rows.now (seen given.entry)) result }
+{
+    check_comes_out(alloc, &world.draft, brand, rows)?;
+    check_gains(slots, rows)?;
+    check_room(world, slots.len(), slots_after(slots, rows), 0)?;
+    gaining(alloc, seat, rows, given)
+}
+
+/// What is left of minting once the seat's slots are known.
+#[tactic(auto, unfolding(crate::specs::Left::minting_to, refusals::specs::Outcomes::bind))]
+fn mint_rows(
+    alloc: Global,
+    world: &World,
+    brand: u16,
+    seat: u32,
+    slots: &[Row],
+    args: &[Data],
+) -> Result<Plan, Stop>
+    requires clean { IsClean world.now.draft }
+    requires call { IsSeatCall (world_of world.now) seat (trees args.now) }
+    requires made { brand < length (world_of world.now).makers }
+    requires slots { slots.now ≡ allocation_of (world_of world.now) seat }
+    ensures { Plans (minting_to (world_of world.now) brand (trees args.now) seat slots.now) result }
+{
+    let rows = rows_of_mint(alloc, world, brand, seat, slots, args)?;
+    mint(
+        alloc,
+        world,
+        brand,
+        seat,
+        slots,
+        rows.as_slice(),
+        argument(args, 2),
+    )
+}
+
+/// What is left of minting once the seat is known.
+fn mint_to(alloc: Global, world: &World, brand: u16, seat: u32, args: &[Data]) -> Result<Plan, Stop>
+    requires clean { IsClean world.now.draft }
+    requires call { IsSeatCall (world_of world.now) seat (trees args.now) }
+    requires open { IsOpen (seat_of (world_of world.now) seat) }
+    requires made { brand < length (world_of world.now).makers }
+    ensures { Plans (minting_to (world_of world.now) brand (trees args.now) seat
+        (allocation_of (world_of world.now) seat)) result }
+{
+    let slots = current_allocation(world, seat)?;
+    mint_rows(alloc, world, brand, seat, slots.rows(), args)
+}
+
+/// zmint.mintGains(record, seat) (Zoe).
+#[tactic(auto, unfolding(trade_rows::specs::Mints::mint_gains, crate::specs::Left::minting_seat, refusals::specs::Outcomes::bind))]
+pub fn mint_gains(alloc: Global, world: &World, brand: u16, args: &[Data]) -> Result<Plan, Stop>
+    requires good { IsGoodWorld (world_of world.now) }
+    requires clean { IsClean world.now.draft }
+    requires made { brand < length (world_of world.now).makers }
+    requires hosted { minting (world_of world.now) brand < length (world_of world.now).tables.instances }
+    requires known { AreKnown (world_of world.now) (trees args.now) }
+    ensures { Plans (mint_gains (world_of world.now) brand (trees args.now)) result }
+{
+    let seat = minting_seat(world, brand, args)?;
+    mint_to(alloc, world, brand, seat, args)
+}

@@ -1,0 +1,109 @@
+//! What an instance asks of itself, and how it ends.
+
+ghost use Rattle.std.specs.Prelude.{◌≡◌, ◌<◌, ◌++◌, IfOk, OnOk, length};
+ghost use Rattle.call_plans.specs.Plans.{Plans, Reads};
+ghost use Rattle.call_plans.specs.Views.{AreShaped, effect_views};
+ghost use Rattle.call_rows.specs.Traces.{all_open};
+ghost use Rattle.contract_rows.specs.ZcfRows.{exits_of, get_instance, get_invitation_issuer, get_zoe_service, halting, shutdown, stop_accepting_offers};
+ghost use Rattle.host_world.specs.Worlds.{world_of};
+ghost use Rattle.jessie_tree.specs.View.{trees};
+ghost use Rattle.zcf_plans.specs.Exits.{exit_if_open};
+
+use call_data::values::object_data;
+use call_plans::effects::{Effect, InstancesEffect, SeatsEffect};
+use call_plans::plans::Plan;
+use call_words::words::runs;
+use contract_words::given::check_not_local;
+use host_world::World;
+use jessie_tree::data::{Data, ObjKind};
+use refusals::stops::Stop;
+use right_reads::seat_reads::is_open;
+use std::alloc::{AllocError, Global};
+use turn_events::events::Cause;
+
+/// zcf.getInstance() (Zoe).
+#[tactic(auto, unfolding(contract_rows::specs::ZcfRows::get_instance))]
+pub fn get_instance(instance: u32) -> Result<Data, Stop>
+    ensures { Reads (get_instance instance) result }
+{
+    Ok(object_data(ObjKind::Instance, instance))
+}
+
+/// zcf.getZoeService() (Zoe).
+#[tactic(auto, unfolding(contract_rows::specs::ZcfRows::get_zoe_service))]
+pub fn get_zoe_service() -> Result<Data, Stop>
+    ensures { Reads get_zoe_service result }
+{
+    Ok(object_data(ObjKind::Zoe, 0))
+}
+
+/// zcf.getInvitationIssuer() (Zoe).
+#[tactic(auto, unfolding(contract_rows::specs::ZcfRows::get_invitation_issuer))]
+pub fn get_invitation_issuer() -> Result<Data, Stop>
+    ensures { Reads get_invitation_issuer result }
+{
+    Ok(object_data(ObjKind::Issuer, 0))
+}
+
+/// zcf.stopAcceptingOffers() (Zoe).
+#[tactic(auto, unfolding(contract_rows::specs::ZcfRows::stop_accepting_offers))]
+pub fn stop_accepting_offers(alloc: Global, instance: u32) -> Result<Plan, Stop>
+    ensures { Plans (stop_accepting_offers instance) result }
+{
+    let stop = Effect::Instances(InstancesEffect::Stop(instance));
+    Ok(Plan::with_effect(alloc, Data::Null, stop)?)
+}
+
+/// Adds that a seat is left, if it is still open.
+#[tactic(auto, using(crate::proofs::Shaped::shaped_more))]
+fn add_exit(world: &World, seat: u32, effects: &mut Vec<Effect>) -> Result<(), AllocError>
+    requires { seat < length (world_of world.now).seats }
+    ensures exits { OnOk result (effect_views effects.new.items ≡ effect_views effects.old.items
+        ++ exit_if_open (world_of world.now) seat) }
+    ensures shaped { AreShaped effects.old.items → OnOk result (AreShaped effects.new.items) }
+{
+    if is_open(&world.draft, seat) {
+        effects.push(Effect::Seats(SeatsEffect::Exit(seat, Cause::Halted)))?;
+    }
+    Ok(())
+}
+
+/// All open seats of an instance are left, by number.
+fn exits(alloc: Global, world: &World, instance: u32) -> Result<Vec<Effect>, AllocError>
+    ensures exits { IfOk result (λ es. effect_views es.items
+        ≡ exits_of (all_open (world_of world.now) instance)) }
+    ensures shaped { IfOk result (λ es. AreShaped es.items) }
+{
+    let seats = world.draft.seats().seats_of(instance);
+    let mut effects = Vec::new(alloc);
+    for seat in seats {
+        add_exit(world, *seat, &mut effects)?;
+    }
+    Ok(effects)
+}
+
+/// All open seats of an instance are left, by number, then it halts.
+fn halting(alloc: Global, world: &World, instance: u32) -> Result<Vec<Effect>, AllocError>
+    ensures effects { IfOk result (λ es. effect_views es.items ≡ halting (world_of world.now) instance) }
+    ensures shaped { IfOk result (λ es. AreShaped es.items) }
+{
+    let mut effects = exits(alloc, world, instance)?;
+    effects.push(Effect::Instances(InstancesEffect::Halt(instance)))?;
+    Ok(effects)
+}
+
+/// zcf.shutdown(completion), zcf.shutdownWithFailure(reason): all open seats are left, then the instance halts
+/// (Zoe).
+#[tactic(auto, unfolding(contract_rows::specs::ZcfRows::shutdown, refusals::specs::Outcomes::bind))]
+pub fn shutdown(alloc: Global, world: &World, instance: u32, args: &[Data]) -> Result<Plan, Stop>
+    requires { instance < length (world_of world.now).tables.instances }
+    ensures { Plans (shutdown (world_of world.now) instance (trees args.now)) result }
+{
+    runs(world, instance)?;
+    check_not_local(1, args)?;
+    let effects = halting(alloc, world, instance)?;
+    Ok(Plan {
+        answer: Data::Null,
+        effects,
+    })
+}

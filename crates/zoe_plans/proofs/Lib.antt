@@ -1,0 +1,2 @@
+pub mod Issuers
+pub mod Placed
