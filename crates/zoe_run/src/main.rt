@@ -1,13 +1,15 @@
 //! An escrow host: a program that reads JSON lines and writes a journal of their turns. It stands on
-//! `run_command` and on `host_io`'s standard ends. Its one contract is `run_command::top::zoe_top`'s,
-//! over those ends: `main` gives it the words, the input and the output, and ends with its status.
+//! `top_call`, on the host over all its rows (`escrow_host`) and on `host_io`'s standard ends. Its one
+//! contract is `top_call::top::zoe_top`'s, over these: `main` gives it the words, the input and the
+//! output, and ends with its status.
 #![tactic(auto)]
 
+use command_words::words::usage;
+use escrow_host::EscrowHost;
 use host_io::std_ends::{StdSink, StdSource};
-use run_command::top::{Status, zoe_top};
-use run_command::words::usage;
 use std::process::ExitCode;
 use std::{env, io};
+use top_call::top::{Status, zoe_top};
 
 /// The words of the command line.
 fn words_of(rt: &(impl env::Env + AllocGlobal)) -> io::Result<Vec<String>> {
@@ -23,7 +25,7 @@ fn main(rt: HostRuntime) -> ExitCode {
         Ok(words) => {
             let mut source = StdSource::new(rt.reader());
             let mut sink = StdSink::new(io::writer(&rt));
-            zoe_top(rt.alloc(), &words, &mut source, &mut sink)
+            zoe_top::<EscrowHost, _, _>(rt.alloc(), &words, &mut source, &mut sink)
         }
         Err(_) => Status::Usage,
     };

@@ -1,8 +1,0 @@
-use Rattle.std.proofs.Common.{◌≡◌}
-use Rattle.serde_json.specs.View.{members_view}
-use Rattle.host_core.specs.FormTables.{form_view}
-use Rattle.host_core.proofs.FurtherFields.{first_further}
-use Rattle.host_core.proofs.message_lines.least_further.Given as goal
-
-abbrev pub invariant-loop-name : goal.invariant-loop-name
-invariant-loop-name l = first_further (form_view l.form) (members_view l.members.entries) ≡ first_further (form_view l.form) (members_view l.name-iterator)

@@ -1,9 +1,0 @@
-pub mod InputLines
-pub mod MessageLines
-pub mod FormTables
-pub mod Queues
-pub mod Deliveries
-pub mod Delivered
-pub mod Hosts
-pub mod Runs
-pub mod Leaves

@@ -1,4 +1,0 @@
-pub mod Tables
-pub mod Notes
-pub mod Turns
-pub mod SeatPromises

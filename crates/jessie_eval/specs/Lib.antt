@@ -1,5 +1,0 @@
-pub mod Host
-pub mod Stops
-pub mod Machine
-pub mod Ends
-pub mod Scripted

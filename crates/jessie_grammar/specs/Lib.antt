@@ -1,6 +1,0 @@
-pub mod Grammar
-pub mod Lang
-pub mod Laws
-pub mod Parse
-pub mod Rules
-pub mod Words

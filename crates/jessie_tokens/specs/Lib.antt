@@ -1,2 +1,0 @@
-pub mod Lex
-pub mod Tokens

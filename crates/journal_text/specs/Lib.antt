@@ -1,4 +1,0 @@
-pub mod Turns
-pub mod Journal
-pub mod JournalLaws
-pub mod JsonRows

@@ -1,3 +1,0 @@
-pub mod Events
-pub mod Logs
-pub mod Escrows

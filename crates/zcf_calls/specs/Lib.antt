@@ -1,9 +1,0 @@
-pub mod Known
-pub mod Rows
-pub mod Effects
-pub mod Calls
-pub mod Situations
-pub mod Plans
-pub mod InstanceTurns
-pub mod Due
-pub mod TurnActs
