@@ -1,0 +1,3 @@
+pub mod Minting
+pub mod Steps
+pub mod Worked
