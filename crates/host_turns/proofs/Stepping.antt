@@ -15,6 +15,8 @@ use Rattle.fair_steps.specs.Views.{world_of}
 use Rattle.host_world.specs.declared.KeptWorld.{KeptWorld}
 use Rattle.service_row_laws.proofs.Services.{services_are}
 use Rattle.shown_reads.proofs.Held.{calls_read, services_read}
+use Rattle.supply_laws.specs.Steps.{IsCalledFor}
+use Rattle.supply_laws.proofs.Hosts.{steps_mint}
 use Rattle.turn_events.specs.Views.{turn_view}
 use Rattle.turn_events.specs.declared.turns.TurnRecord.{TurnRecord}
 use Rattle.turn_records.specs.Deliveries.{Delivery}
@@ -49,3 +51,19 @@ turned_fair p q seen new o t is turned kept early ts fair leaves =
     let P : Option TurnRecord → Type 0 = λ x. IsTurned p.meter p.turns p.world new x in
     let made : IsMade p.meter p.turns p.world new t = subst P is turned in
     stays_fair p (record { next = host_of (record { meter = p.meter; world = new; turns = p.turns + 1 }); turn = turn_view t }) ts kept early made.step fair (subst (λ x. Leaves (so_far_after ts nothing_so_far) (world_of (host_of x))) (sym seen) leaves)
+
+-- ---- what a turn mints and withdraws
+
+called_for : (p : HostParts) (x : Step) → IsKept p → p.turns < most_turns → step_of reader (host_of p) ≡ Some x → IsCalledFor (host_of p) x
+called_for p x is early made =
+    let P : Option Step → Type 0 = λ o. IfSome o (IsCalledFor (host_of p)) in
+    subst P made (steps_mint reader (host_of p) reads_modules is.good early)
+
+-- in the turn that was made
+pub turned_called_for : (p q : HostParts) → p ≡ q → (new : Option KeptWorld) (o : Option TurnRecord) (t : TurnRecord) → o ≡ Some t → IsTurned p.meter p.turns p.world new o → IsKept p → p.turns < most_turns
+    → IsCalledFor (host_of q) (record { next = host_of (record { meter = p.meter; world = new; turns = p.turns + 1 }); turn = turn_view t })
+turned_called_for p q seen new o t is turned kept early =
+    let P : Option TurnRecord → Type 0 = λ x. IsTurned p.meter p.turns p.world new x in
+    let made : IsMade p.meter p.turns p.world new t = subst P is turned in
+    let after : Step = record { next = host_of (record { meter = p.meter; world = new; turns = p.turns + 1 }); turn = turn_view t } in
+    subst (λ x. IsCalledFor (host_of x) after) seen (called_for p after kept early made.step)

@@ -11,6 +11,7 @@ ghost use Rattle.host_turns.specs.Kept.{IsArrived, IsRested, world_kept};
 ghost use Rattle.host_turns.specs.Taken.{IsTaken};
 ghost use Rattle.input_runs.specs.Steps.{IsStep};
 ghost use Rattle.message_lines.specs.FormTables.{line_view};
+ghost use Rattle.supply_laws.specs.Steps.{IsCalledFor};
 ghost use Rattle.turn_events.specs.Views.{delivery_view, turn_view};
 ghost use Rattle.turn_rows.specs.Turns.{Turn};
 ghost use Rattle.world_state.specs.Good.{IsLine};
@@ -112,7 +113,8 @@ impl<D: Deliveries> Host<D> {
 
     /// The turn of the delivery in front, or `None` exactly where none waits. Where turn 4,000,000,000
     /// was run and a delivery is left, and for want of memory, nothing happened. Where turns are fair and
-    /// leave the host's world, with this one they are fair too, and leave the host's world then.
+    /// leave the host's world, with this one they are fair too, and leave the host's world then. More of a
+    /// brand is out after it, and less is in a purse, only where the turn's rows show the call that asks for it.
     pub fn next_turn(&mut self, alloc: Global) -> Result<Option<TurnRecord>, StepFault>
         ensures step { IsStep (host_of self.old) (host_of self.new) result }
         ensures fair { (ts : List Turn) → AreFair ts
@@ -121,6 +123,8 @@ impl<D: Deliveries> Host<D> {
               next = host_of self.new;
               turn = turn_view turn;
             }))) }
+        ensures called_for { IfOk result (λ made. IfSome made (λ turn.
+            IsCalledFor (host_of self.old) (record { next = host_of self.new; turn = turn_view turn }))) }
     {
         if waiting_in(&self.world) == 0 {
             return Ok(None);

@@ -1,5 +1,5 @@
 use Rattle.std.proofs.Common.{refl, sym, ◌∙◌, ◌<◌, rules}
-use Rattle.host_turns.proofs.Stepping.{none_waits_in, turned_fair}
+use Rattle.host_turns.proofs.Stepping.{none_waits_in, turned_called_for, turned_fair}
 use Rattle.world_state.specs.Rights.{most_turns}
 use Rattle.host_turns.proofs.host.Host.next_turn.Goals as goal
 
@@ -10,3 +10,8 @@ pub returns-in-Some-clause-fair : goal.returns-in-Some-clause-fair
 returns-in-Some-clause-fair g c =
     let early : c.self.inside.turns < most_turns = search rules in
     λ ts fair leaves. turned_fair _ _ c.self.view_is _ _ _ c.in-Some.is c.run_turn.ensures c.self.invariant early ts fair leaves
+
+pub returns-in-Some-clause-called_for : goal.returns-in-Some-clause-called_for
+returns-in-Some-clause-called_for g c =
+    let early : c.self.inside.turns < most_turns = search rules in
+    turned_called_for _ _ c.self.view_is _ _ _ c.in-Some.is c.run_turn.ensures c.self.invariant early
