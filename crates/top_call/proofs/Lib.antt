@@ -1,2 +1,3 @@
+pub mod Called
 pub mod Limits
 pub mod Statuses

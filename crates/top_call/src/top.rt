@@ -9,6 +9,7 @@ ghost use Rattle.fair_run_laws.specs.Limits.{AreFairToLimit};
 ghost use Rattle.host_runs.specs.Order.{AreInOrder};
 ghost use Rattle.host_runs.specs.Runs.{meanings_of, most_meter, run_of, turns_of};
 ghost use Rattle.message_lines.specs.InputLines.{is_too_long};
+ghost use Rattle.supply_laws.specs.Steps.{AreCalledForToLimit};
 ghost use Rattle.top_call.specs.Top.{Ends, IsFree, IsNotRun, IsOfRun, IsRefused, Says, exit_code};
 ghost use Rattle.top_call.specs.Top.{no_faults, status_name, words_status};
 
@@ -147,7 +148,7 @@ fn run_on<H: HostSteps, K: Sink>(
 }
 
 /// Reads the whole input and writes the journal of the run on it.
-#[tactic(auto, using(host_runs::proofs::RunOrder::runs_in_order, input_runs::proofs::InForm::runs_fair))]
+#[tactic(auto, using(host_runs::proofs::RunOrder::runs_in_order, input_runs::proofs::InForm::runs_fair, crate::proofs::Called::runs_called_for))]
 pub fn zoe_top<H: HostSteps, S: Source, K: Sink>(
     alloc: Global,
     words: &[String],
@@ -184,6 +185,10 @@ pub fn zoe_top<H: HostSteps, S: Source, K: Sink>(
     // The turns of the run are fair, whatever the input, up to the last that may be run.
     ensures fair { (meter most : ℕ) (input : List ℕ) → meter ≤ most_meter
         → AreFairToLimit (turns_of reader meter most input) }
+
+    // Each turn shows the calls that ask for what it mints and withdraws, up to the last that may be run.
+    ensures called_for { (meter most : ℕ) (input : List ℕ) → meter ≤ most_meter
+        → AreCalledForToLimit (run_of reader meter most input).turns }
 
     // Deliveries have their turns in order, whatever the input.
     ensures in_order { (meter most : ℕ) (input : List ℕ)
