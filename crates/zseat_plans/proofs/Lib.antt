@@ -1,1 +1,2 @@
 pub mod Exited
+pub mod SlotAmounts

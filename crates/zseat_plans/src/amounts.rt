@@ -1,22 +1,25 @@
 //! What a seat was opened for, what it has, and what is staged of it.
 
-ghost use Rattle.std.specs.Prelude.{◌≡◌, ◌<◌, length};
+ghost use Rattle.std.specs.Prelude.{◌≡◌, ◌<◌, IfOk, length};
 ghost use Rattle.std.specs.Option.{option_copied};
 ghost use Rattle.call_plans.specs.Plans.{Reads};
-ghost use Rattle.contract_rows.specs.SeatRows.{get_amount_allocated, get_current_allocation, get_staged_allocation};
+ghost use Rattle.contract_rows.specs.SeatRows.{allocation_of, get_amount_allocated, get_current_allocation};
+ghost use Rattle.contract_rows.specs.SeatRows.{get_staged_allocation, seat_of};
 ghost use Rattle.contract_words.specs.Known.{AreKnown};
 ghost use Rattle.host_world.specs.Worlds.{world_of};
 ghost use Rattle.jessie_tree.specs.View.{trees};
+ghost use Rattle.proposals.specs.Rows.{amount_under};
 ghost use Rattle.trade_rows.specs.Own.{get_proposal};
+ghost use Rattle.world_state.specs.Worlds.{IsOpen};
 ghost use Rattle.zseat_plans.specs.Shown.{amount_shown};
 
-use allocation_changes::slots::amount_of;
 use amount_math::{Amount, Value};
 use call_data::values::amount_data;
 use call_words::words::keyword_at;
 use contract_words::allocations::{current_allocation, staged_allocation};
 use contract_words::given::brand_number;
 use contract_words::own_seats::check_open;
+use host_text::keyword::Keyword;
 use host_world::World;
 use jessie_tree::data::Data;
 use record_data::allocation_data;
@@ -25,7 +28,7 @@ use refusals::stops::Stop;
 use right_reads::seat_reads::seat_proposal;
 use row_arguments::texts::keyword_of;
 use seat_plans::proposal_reads::proposal_data;
-use std::alloc::Global;
+use std::alloc::{AllocError, Global};
 
 /// zseat.getProposal() (Zoe).
 #[tactic(auto, unfolding(trade_rows::specs::Own::get_proposal))]
@@ -76,8 +79,24 @@ pub fn get_amount_allocated(
     check_open(world, seat)?;
     let keyword = keyword_of(alloc, keyword_at(alloc, 1, args)?)?;
     let brand = brand_number(world, 2, args)?;
-    let allocation = current_allocation(world, seat)?;
-    amount_shown(alloc, world, brand, amount_of(allocation.rows(), &keyword))
+    let held = slot_amount(world, seat, &keyword)?;
+    amount_shown(alloc, world, brand, held.as_ref())
+}
+
+/// What the slot of a keyword of an open seat has, which alone is copied; nothing where there is no such slot.
+fn slot_amount(world: &World, seat: u32, keyword: &Keyword) -> Result<Option<Amount>, AllocError>
+    requires made { seat < length (world_of world.now).seats }
+    requires open { IsOpen (seat_of (world_of world.now) seat) }
+    ensures { IfOk result (λ held. held
+        ≡ amount_under keyword.now (allocation_of (world_of world.now) seat)) }
+{
+    let seats = world.draft.seats();
+    if !seats.has_slot(seat, keyword) {
+        return Ok(None);
+    }
+    let value = seats.holding(seat, keyword).copy()?;
+    let brand = seats.brand(seat, keyword);
+    Ok(Some(Amount { brand, value }))
 }
 
 /// An amount of a brand that is held, or nothing of it: else `WrongBrand`.
