@@ -1,5 +1,5 @@
 -- The place of a name in a list that grows and shrinks at its end, and what an index of it has to be.
-use Rattle.std.proofs.Common.{◌≡◌, ℕ, zero, suc, ◌+◌, ◌-◌, ◌<◌, ◌≤◌, List, [], ◌∷◌, ◌++◌, Bool, true, false, cond, map, Option, Some, None, option_map, refl, sym, ap, subst, ◌∙◌, length, get_or, take, drop, arith}
+use Rattle.std.proofs.Common.{◌≡◌, ℕ, zero, suc, ◌+◌, ◌-◌, ◌<◌, ◌≤◌, List, [], ◌∷◌, ◌++◌, Bool, true, false, cond, Option, Some, None, option_map, refl, sym, ap, subst, ◌∙◌, length, get_or, take, drop, arith}
 use Rattle.std.specs.Prelude.{String, IfSome, slice_set}
 use Rattle.std.specs.Str.{bytes_eq}
 use Rattle.std.specs.declared.alloc.Global.{Global}
@@ -104,6 +104,18 @@ module _ {V : Type 0} where
 
   pub place_miss : (x : List ℕ) (bs : List (List ℕ × V)) (i : ℕ) (b : List ℕ × V) (k : List ℕ) → i < length bs → b ≡ get_or bs i b → k ≡ b.0 → bytes_eq k x ≡ false → place x (names_of (take i bs)) ≡ place x (names_of (take (i + 1) bs))
   place_miss x bs i b k h at e t = sym (place_next x bs i b h at ∙ ap (λ z. cond z (Some i) (place x (names_of (take i bs)))) (ap (λ z. bytes_eq z x) (sym e) ∙ t))
+
+  -- the last has the name, or hasn't
+  pub last_hit : (x : List ℕ) (bs : List (List ℕ × V)) (b : List ℕ × V) (k : List ℕ) → 1 ≤ length bs → b ≡ get_or bs (length bs - 1) b → k ≡ b.0 → bytes_eq k x ≡ true → Some (length (take (length bs - 1) bs)) ≡ place x (names_of bs)
+  last_hit x bs b k some at e t =
+      let i = length bs - 1 in
+      let here : length (take i bs) ≡ i = omega (arith, length-take i bs) in
+      ap Some here ∙ (place_hit x bs i b k (omega (arith, some)) at e t ∙ ap (λ bs. place x (names_of bs)) (take_all (i + 1) bs (omega (arith, some))))
+
+  pub last_miss : (x : List ℕ) (bs : List (List ℕ × V)) (b : List ℕ × V) (k : List ℕ) → 1 ≤ length bs → b ≡ get_or bs (length bs - 1) b → k ≡ b.0 → bytes_eq k x ≡ false → place x (names_of bs) ≡ place x (names_of (take (length bs - 1) bs))
+  last_miss x bs b k some at e t =
+      let i = length bs - 1 in
+      sym (place_miss x bs i b k (omega (arith, some)) at e t ∙ ap (λ bs. place x (names_of bs)) (take_all (i + 1) bs (omega (arith, some))))
 
 -- the place of a name in a list of two parts
 

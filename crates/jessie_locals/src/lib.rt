@@ -6,3 +6,4 @@
 
 pub mod index;
 pub mod locals;
+pub mod names;

@@ -3,6 +3,7 @@ ghost use Rattle.std.specs.Prelude.{◌≡◌, ◌<◌, ◌++◌, ◌∷◌, [],
 ghost use Rattle.jessie_locals.specs.Places.{IsFront, names_of, place};
 
 use crate::index::NameIndex;
+use crate::names::is_name;
 use host_text::text::Text;
 use std::alloc::{AllocError, Global};
 use std::marker::Model;
@@ -33,13 +34,14 @@ impl<V> Model for Locals<V> {
 fn last_place<V>(bindings: &[(Text, V)], name: &str) -> Option<usize>
     ensures { result ≡ place name.now (names_of bindings.now) }
 {
-    let mut found = None;
-    for (i, binding) in bindings.iter().enumerate() {
-        if binding.0.as_str() == name {
-            found = Some(i);
+    let mut left = bindings;
+    'inmost: while let [outer @ .., binding] = left {
+        if is_name(binding.0.as_str(), name) {
+            return Some(outer.len());
         }
+        left = outer;
     }
-    found
+    None
 }
 
 /// Puts the names behind those that the index has into it.

@@ -1,4 +1,4 @@
-use Rattle.std.proofs.Common.{◌≡◌, ◌++◌, ◌∷◌, [], sym, ap, subst, ◌∙◌, take, arith}
+use Rattle.std.proofs.Common.{◌++◌, ◌∷◌, [], sym, ap, subst, ◌∙◌, take}
 use Rattle.jessie_locals.specs.Places.{IsFront, names_of}
 use Rattle.jessie_locals.proofs.Indexed.{front_here, front_more}
 use Rattle.jessie_locals.proofs.locals.index_rest.Goals as goal

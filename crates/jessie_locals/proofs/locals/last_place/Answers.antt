@@ -1,22 +1,13 @@
-use Rattle.std.proofs.Common.{ap, ◌∙◌, sym, refl, arith}
-use Rattle.std.proofs.lemmas.List.{take_all}
-use Rattle.jessie_locals.specs.Places.{names_of, place}
-use Rattle.jessie_locals.proofs.Indexed.{place_hit, place_miss}
+use Rattle.std.proofs.Common.{◌∙◌, sym}
+use Rattle.jessie_locals.proofs.Indexed.{last_hit, last_miss}
 use Rattle.jessie_locals.proofs.locals.last_place.Goals as goal
-use Rattle.jessie_locals.proofs.locals.last_place.Goals.{then-eq, else-eq}
 
-pub loop-i-init : goal.loop-i-init
-loop-i-init g c = refl
+pub returns-then-is_name : goal.returns-then-is_name
+returns-then-is_name g c =
+    last_hit c.args.name.now c.inmost.left.now c.binding-item.result c.as_str.result.now c.in-len1-up.len_at_least c.binding-item.is c.as_str.ensures (sym c.is_name.ensures ∙ c.if-is_name.true)
+    ∙ sym c.inmost.invariant
 
-pub loop-i-preserved : goal.loop-i-preserved
-loop-i-preserved g c =
-    let bs = c.args.bindings.now in
-    let i = c.loop-i.i in
-    let item = c.index-bindings-i in
-    elim c.if-eq.branch [
-      | then-eq w ↦ w.found-is ∙ place_hit c.args.name.now bs i item.result c.as_str.result.now c.loop-i-test.true item.is c.as_str.ensures (sym c.eq.ensures ∙ w.if-eq.true)
-      | else-eq w ↦ w.found-is ∙ (c.loop-i.invariant ∙ place_miss c.args.name.now bs i item.result c.as_str.result.now c.loop-i-test.true item.is c.as_str.ensures (sym c.eq.ensures ∙ w.if-eq.false))
-    ]
-
-pub returns : goal.returns
-returns g c = c.loop-i.invariant ∙ ap (λ bs. place c.args.name.now (names_of bs)) (take_all c.loop-i.i c.args.bindings.now (omega (arith, c.loop-i-test.false)))
+pub inmost-preserved : goal.inmost-preserved
+inmost-preserved g c =
+    c.inmost.invariant
+    ∙ last_miss c.args.name.now c.inmost.left.now c.binding-item.result c.as_str.result.now c.in-len1-up.len_at_least c.binding-item.is c.as_str.ensures (sym c.is_name.ensures ∙ c.if-is_name.false)

@@ -1,6 +1,9 @@
-use Rattle.std.proofs.Common.{◌≡◌, take}
+use Rattle.std.proofs.Common.{◌≡◌, length}
 use Rattle.jessie_locals.specs.Places.{names_of, place}
 use Rattle.jessie_locals.proofs.locals.last_place.Given as goal
 
-abbrev pub invariant-loop-i : goal.invariant-loop-i
-invariant-loop-i g l = l.found ≡ place l.name (names_of (take l.i l.bindings))
+abbrev pub invariant-inmost : goal.invariant-inmost
+invariant-inmost g l = place l.name (names_of l.bindings) ≡ place l.name (names_of l.left)
+
+abbrev pub decreases-inmost : goal.decreases-inmost
+decreases-inmost g l = length l.left

@@ -1,12 +1,11 @@
-use Rattle.std.proofs.Common.{◌≡◌, ◌++◌, ◌∷◌, [], rules, refl, sym, ap, ◌∙◌, ℕ, List, Some, None, cond, arith}
+use Rattle.std.proofs.Common.{◌≡◌, ◌++◌, ◌∷◌, [], rules, sym, ap, ◌∙◌, ℕ, List, Some, None, cond, arith}
 use Rattle.std.specs.Str.{bytes_eq}
 use Rattle.std.specs.Prelude.{length}
 use Rattle.std.specs.Option.{option_copied_mut}
 use Rattle.std.specs.BTreeMap.{get_by_text}
 use Rattle.std.proofs.lemmas.Grind.{common_steps}
 use Rattle.std.proofs.lemmas.Map.Text.{btree_map_updates_text, text_keys}
-use Rattle.std.proofs.lemmas.Slice.Eq.{bytes_eq-Decides}
-use Rattle.jessie_locals.specs.Places.{place, names_of}
+use Rattle.jessie_locals.specs.Places.{names_of}
 use Rattle.jessie_locals.proofs.Indexed.{index_less, index_last}
 use Rattle.jessie_locals.proofs.index.NameIndex.pop.Goals as goal
 

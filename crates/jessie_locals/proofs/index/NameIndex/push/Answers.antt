@@ -1,9 +1,9 @@
-use Rattle.std.proofs.Common.{◌≡◌, rules, refl, sym, ap, ◌∙◌, ℕ, List, Some, cond, arith}
-use Rattle.std.specs.Prelude.{string_bytes, length}
+use Rattle.std.proofs.Common.{◌≡◌, ℕ, List, Some, cond, arith}
+use Rattle.std.specs.Prelude.{length}
 use Rattle.std.specs.Str.{bytes_eq}
 use Rattle.std.specs.BTreeMap.{get_by_text}
 use Rattle.std.proofs.lemmas.Grind.{common_steps}
-use Rattle.std.proofs.lemmas.Map.Text.{btree_map_updates_text, text_keys}
+use Rattle.std.proofs.lemmas.Map.Text.{text_keys}
 use Rattle.jessie_locals.specs.Places.{place, names_of}
 use Rattle.jessie_locals.proofs.Indexed.{index_more}
 use Rattle.jessie_locals.proofs.index.NameIndex.push.Goals as goal

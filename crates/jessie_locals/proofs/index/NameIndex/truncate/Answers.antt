@@ -1,4 +1,4 @@
-use Rattle.std.proofs.Common.{◌≡◌, ◌<◌, ◌≤◌, ◌-◌, refl, sym, ap, ◌∙◌, take, length, arith}
+use Rattle.std.proofs.Common.{◌≡◌, ◌-◌, refl, sym, ap, ◌∙◌, take, length, arith}
 use Rattle.std.proofs.lemmas.List.{take_all, length-take-le}
 use Rattle.jessie_locals.proofs.Indexed.{shorter}
 use Rattle.jessie_locals.proofs.index.NameIndex.truncate.Goals as goal

@@ -1,5 +1,5 @@
-use Rattle.std.proofs.Common.{◌≡◌, ◌<◌, ◌+◌, ◌-◌, ℕ, Some, None, sym, ap, subst, ◌∙◌, take, drop, length, arith}
-use Rattle.jessie_locals.specs.Places.{IsFront, names_of, place}
+use Rattle.std.proofs.Common.{◌≡◌, ◌+◌, ◌-◌, Some, None, ap, ◌∙◌, take, drop, length, arith}
+use Rattle.jessie_locals.specs.Places.{names_of, place}
 use Rattle.jessie_locals.proofs.Indexed.{inner, outer, within_list, behind}
 use Rattle.jessie_locals.proofs.locals.Locals.place.Goals as goal
 

@@ -1,5 +1,5 @@
-use Rattle.std.proofs.Common.{◌≡◌, sym, ap, subst, length, arith}
-use Rattle.jessie_locals.specs.Places.{IsFront, names_of}
+use Rattle.std.proofs.Common.{sym, ap, subst, length, arith}
+use Rattle.jessie_locals.specs.Places.{IsFront}
 use Rattle.jessie_locals.proofs.Indexed.{names_set}
 use Rattle.jessie_locals.proofs.locals.Locals.set.Goals as goal
 
