@@ -1,5 +1,5 @@
 -- What a request costs at least is no more than its bill, which is of the arguments as they are written.
-use Rattle.std.proofs.Common.{◌≡◌, ℕ, zero, suc, ◌-◌, ◌≤◌, List, [], ◌∷◌, refl, ap, subst, length, take, arith}
+use Rattle.std.proofs.Common.{◌≡◌, ℕ, zero, suc, ◌≤◌, List, [], ◌∷◌, refl, ap, subst, length, take, arith}
 use Rattle.std.specs.Prelude.{Ok}
 use Rattle.jessie_tree.specs.Tree.{Tree, null, boolean, number, text, array, fields, object, function, Items, no_items, item, Fields, no_fields, field}
 use Rattle.jessie_tree.specs.View.{tree, trees}

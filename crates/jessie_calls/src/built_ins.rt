@@ -54,7 +54,7 @@ pub fn call_built_in<P: Powers>(
     ensures fits { machine.new.meter ≤ P.room powers.new }
 {
     match function {
-        BuiltIn::When => call_when(powers, machine, args),
+        BuiltIn::When => call_when(alloc, powers, machine, args),
         BuiltIn::Far => call_far(alloc, powers, machine, args),
         BuiltIn::Harden => Ok(harden(args)),
         BuiltIn::Keys => value_or_fault(keys(alloc, args)),

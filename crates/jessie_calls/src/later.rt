@@ -48,6 +48,7 @@ fn ask_when<P: Powers>(powers: &mut P, request: WhenArguments) -> Result<Answer,
 
 /// `when(promise, function, data)`: the function is to hear of the promise.
 pub fn call_when<P: Powers>(
+    alloc: Global,
     powers: &mut P,
     machine: &mut Machine,
     args: Vec<Data>,
@@ -60,7 +61,7 @@ pub fn call_when<P: Powers>(
     let request = read_when(args)?;
     pay_bill(machine, left)?;
     let answer = ask_when(powers, request)?;
-    settle(machine, answer)
+    settle(alloc, machine, answer)
 }
 
 /// What the arguments of `Far` ask for.
@@ -103,5 +104,5 @@ pub fn call_far<P: Powers>(
     let request = read_far(alloc, args)?;
     pay_bill(machine, left)?;
     let answer = ask_far(powers, request)?;
-    settle(machine, answer)
+    settle(alloc, machine, answer)
 }

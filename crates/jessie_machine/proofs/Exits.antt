@@ -1,5 +1,5 @@
 -- Where a part didn't come to a value.
-use Rattle.std.proofs.Common.{◌≡◌, ℕ, refl, sym, ap, subst}
+use Rattle.std.proofs.Common.{◌≡◌, sym, ap, subst}
 use Rattle.std.specs.Prelude.{Result, Ok, Err, IsErrAnd}
 use Rattle.jessie_tree.specs.Tree.{Tree}
 use Rattle.jessie_values.specs.declared.reasons.Reason.{Reason}
@@ -12,9 +12,9 @@ use Rattle.amount_calls.specs.Refusals.{amount_refusal_tree}
 use Rattle.jessie_semantics.specs.Play.{Exchange}
 use Rattle.jessie_semantics.specs.Actions.{State, Action, ◌>>=◌, pure, throw}
 use Rattle.jessie_semantics.specs.Rules.{worked, counted}
-use Rattle.jessie_semantics.specs.Runs.{Halt, throws, unfinished, came, halted, Runs, Computes}
-use Rattle.jessie_semantics.proofs.Runs.{stop_runs, stop_computes, unfinished_runs, pure_computes, throw_computes, worked_ok, worked_err, counted_ok, counted_err}
-use Rattle.jessie_machine.specs.Stops.{come, fault_halt, halt}
+use Rattle.jessie_semantics.specs.Runs.{Halt, throws, spends, unfinished, came, halted, Runs, Computes}
+use Rattle.jessie_semantics.proofs.Runs.{stop_runs, stop_computes, unfinished_runs, pure_computes, throw_computes, worked_ok, worked_err, counted_ok}
+use Rattle.jessie_machine.specs.Stops.{IsThrown, come, fault_halt, halt}
 use Rattle.jessie_machine.specs.declared.stop.Stop.{Stop}
 use Rattle.jessie_machine.specs.declared.stop.Stop.TheVariants.{NoMemory}
 
@@ -63,8 +63,16 @@ worked_as_fault r e (fault.BadStep why) h q = worked_as_err r e why h q
 pub counted_as_ok : {s : State} (r : Result Tree AmountRefusal) (v : Tree) → r ≡ Ok v → Computes (counted r) s (came v) s
 counted_as_ok {s} r v e = subst (λ r. Computes (counted r) s (came v) s) (sym e) (counted_ok v s)
 
-pub counted_as_err : {s : State} (r : Result Tree AmountRefusal) (why : AmountRefusal) (t : Tree) → r ≡ Err why → t ≡ amount_refusal_tree why → Computes (counted r) s (halted (throws t)) s
-counted_as_err {s} r why t e q = subst (λ t. Computes (counted r) s (halted (throws t)) s) (sym q) (subst (λ r. Computes (counted r) s (halted (throws (amount_refusal_tree why))) s) (sym e) (counted_err why s))
+-- data that is thrown
+pub thrown_computes : {A : Type 0} {s : State} (t : Tree) (h : Halt) → IsThrown t h → Computes {A = A} (throw t) s (halted h) s
+thrown_computes {A} {s} t (throws u) e = subst (λ u. Computes {A = A} (throw t) s (halted (throws u)) s) (sym e) (throw_computes t s)
+thrown_computes t spends e = absurd e
+thrown_computes t unfinished e = unfinished_computes
+
+-- a refusal of AmountMath that is thrown as data
+pub counted_as_thrown : {s : State} (r : Result Tree AmountRefusal) (why : AmountRefusal) (t : Tree) (h : Halt) → r ≡ Err why → t ≡ amount_refusal_tree why → IsThrown t h → Computes (counted r) s (halted h) s
+unfolding counted
+counted_as_thrown {s} r why t h e q c = subst (λ r. Computes (counted r) s (halted h) s) (sym e) (subst (λ t. Computes {A = Tree} (throw t) s (halted h) s) q (thrown_computes t h c))
 
 pub wants_here : {T A : Type 0} {a : Action A} {s u : State} (see : T → A) (r : Result T Stop) → IsErrAnd r (λ x. x ≡ NoMemory) → Computes a s (come see r) u
 wants_here {a = a} {s = s} {u = u} see r h = subst (λ z. Computes a s z u) (sym (come_err see r NoMemory h)) unfinished_computes

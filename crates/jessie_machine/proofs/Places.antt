@@ -1,8 +1,8 @@
 -- Names and their places, and lists of data beside what they stand for.
-use Rattle.std.proofs.Common.{◌≡◌, ℕ, zero, suc, ◌+◌, ◌-◌, ◌<◌, ◌≤◌, List, [], ◌∷◌, ◌++◌, Bool, true, false, cond, map, Option, Some, None, option_map, refl, sym, ap, subst, ◌∙◌, length, get_or, take, drop, arith}
+use Rattle.std.proofs.Common.{◌≡◌, ℕ, zero, suc, ◌+◌, ◌-◌, ◌<◌, ◌≤◌, List, [], ◌∷◌, ◌++◌, Bool, true, false, cond, map, Option, Some, None, option_map, refl, sym, ap, subst, ◌∙◌, length, get_or, take, arith}
 use Rattle.std.specs.Prelude.{slice_get, slice_set, slice_index_or, ◌||◌}
 use Rattle.std.proofs.lemmas.Option.{slice_get-map}
-use Rattle.std.proofs.lemmas.List.{take_more, length-take}
+use Rattle.std.proofs.lemmas.List.{take_more, take_all, length-take}
 use Rattle.std.specs.Borrow.{Bor}
 use Rattle.std.specs.Option.{option_copied}
 use Rattle.std.specs.Str.{bytes_eq}
@@ -15,7 +15,6 @@ use Rattle.jessie_semantics.specs.Actions.{Bindings, State, went, fails, first_o
 use Rattle.jessie_semantics.specs.Runs.{throws, came, halted, Computes}
 use Rattle.jessie_machine.specs.Stops.{halt}
 use Rattle.jessie_machine.specs.declared.stop.Stop.{Stop}
-use Rattle.jessie_syntax.specs.declared.syntax.Variable.{Variable}
 use Rattle.jessie_locals.specs.Places as locals
 use Rattle.jessie_machine.specs.Machine.{place, current, changes, changed_at, value_at, local_at, set_value, head_or, tail_of, or_else}
 
@@ -83,6 +82,18 @@ module _ {X : Type 0} (named : X → List ℕ) where
 
   pub place_miss : (x : List ℕ) (ys : List X) (i : ℕ) (y : X) (k : List ℕ) → i < length ys → y ≡ get_or ys i y → k ≡ named y → bytes_eq k x ≡ false → place x (map named (take i ys)) ≡ place x (map named (take (i + 1) ys))
   place_miss x ys i y k h at e t = sym (place_next x ys i y h at ∙ ap (λ z. cond z (Some i) (place x (map named (take i ys)))) (ap (λ z. bytes_eq z x) (sym e) ∙ t))
+
+  -- the last has the name, or hasn't
+  pub last_hit : (x : List ℕ) (ys : List X) (y : X) (k : List ℕ) → 1 ≤ length ys → y ≡ get_or ys (length ys - 1) y → k ≡ named y → bytes_eq k x ≡ true → Some (length (take (length ys - 1) ys)) ≡ place x (map named ys)
+  last_hit x ys y k some at e t =
+      let i = length ys - 1 in
+      let here : length (take i ys) ≡ i = omega (arith, length-take i ys) in
+      ap Some here ∙ (place_hit x ys i y k (omega (arith, some)) at e t ∙ ap (λ ys. place x (map named ys)) (take_all (i + 1) ys (omega (arith, some))))
+
+  pub last_miss : (x : List ℕ) (ys : List X) (y : X) (k : List ℕ) → 1 ≤ length ys → y ≡ get_or ys (length ys - 1) y → k ≡ named y → bytes_eq k x ≡ false → place x (map named ys) ≡ place x (map named (take (length ys - 1) ys))
+  last_miss x ys y k some at e t =
+      let i = length ys - 1 in
+      sym (place_miss x ys i y k (omega (arith, some)) at e t ∙ ap (λ ys. place x (map named ys)) (take_all (i + 1) ys (omega (arith, some))))
 
 -- the place of a name as the index has it
 same_first : (o here : Option ℕ) → locals.or_here o here ≡ first_of o here

@@ -1,5 +1,5 @@
 -- What the code's results stand for.
-use Rattle.std.specs.Prelude.{Result, Ok, Err}
+use Rattle.std.specs.Prelude.{◌≡◌, Result, Ok, Err}
 use Rattle.jessie_tree.specs.Tree.{Tree}
 use Rattle.jessie_tree.specs.View.{tree}
 use Rattle.jessie_values.specs.Reasons.{bad_step}
@@ -19,6 +19,12 @@ abbrev pub halt : Stop → Halt
 halt (stop.Throws t) = throws (thrown_tree t)
 halt stop.Spent = spends
 halt stop.NoMemory = unfinished
+
+-- the data is thrown, where there is memory
+abbrev pub IsThrown : Tree → Halt → Type 0
+IsThrown t (throws u) = u ≡ t
+IsThrown t spends = ⊥
+IsThrown t unfinished = Unit {0}
 
 -- what a result is to the rules, where its value is seen so
 abbrev pub come : {T A : Type 0} → (T → A) → Result T Stop → Come A

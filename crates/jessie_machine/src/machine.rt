@@ -12,7 +12,7 @@ ghost use Rattle.jessie_machine.specs.Stops.{come};
 ghost use Rattle.jessie_machine.specs.Machine.{state, end_of};
 
 use crate::host::Answer;
-use crate::stop::{Stop, Thrown};
+use crate::stop::{Stop, throw_data};
 use host_text::text::Text;
 use jessie_locals::locals::Locals;
 use jessie_syntax::syntax::Literal;
@@ -85,7 +85,7 @@ pub fn take_call(machine: &mut Machine, shown: &[Data]) -> Result<(), Stop>
 
 /// Takes the size of the answer, which is a value or is thrown.
 #[inline(never)]
-pub fn settle(machine: &mut Machine, answer: Answer) -> Result<Data, Stop>
+pub fn settle(alloc: Global, machine: &mut Machine, answer: Answer) -> Result<Data, Stop>
     ensures does { (names : List (List ℕ)) (values : List Tree) → Computes (heard (reply_of answer)) (state names values machine.old) (come tree result) (state names values machine.new) }
     ensures left { machine.new.meter ≤ machine.old.meter - reply_size (reply_of answer) }
 {
@@ -96,7 +96,7 @@ pub fn settle(machine: &mut Machine, answer: Answer) -> Result<Data, Stop>
         }
         Answer::Refused(data) => {
             take_size(machine, &data)?;
-            Err(Stop::Throws(Thrown::Data(data)))
+            Err(throw_data(alloc, data))
         }
     }
 }

@@ -1,6 +1,6 @@
 // Names and what they stand for.
 ghost use Rattle.std.specs.Prelude.{◌≡◌, ◌≤◌, ◌<◌, ◌++◌, ◌∷◌, [], ℕ, List, Some, length, map, option_map, slice_get, IfOk, IfSome, OnOk};
-ghost use Rattle.jessie_tree.specs.Tree.{Tree};
+ghost use Rattle.jessie_tree.specs.Tree.{Tree, number as number_tree};
 ghost use Rattle.jessie_tree.specs.View.{tree, trees, named_trees};
 ghost use Rattle.jessie_syntax.specs.Syntax.{routine, routines, variable_names};
 ghost use Rattle.jessie_values.specs.Reasons.{bad_step};
@@ -15,6 +15,7 @@ use crate::machine::{Machine, take};
 use crate::stop::{Stop, bad};
 use host_text::text::Text;
 use jessie_locals::locals::Locals;
+use jessie_locals::names::is_name;
 use jessie_syntax::syntax::{Function, Module, Variable};
 use jessie_tree::data::{Data, pay};
 use jessie_values::reasons::Reason;
@@ -24,13 +25,14 @@ use std::alloc::{AllocError, Global};
 fn variable_place(variables: &[Variable], name: &str) -> Option<usize>
     ensures { result ≡ place name.now (map (λ v. v.name) variables.now) }
 {
-    let mut last = None;
-    for (i, variable) in variables.iter().enumerate() {
-        if variable.name.as_str() == name {
-            last = Some(i);
+    let mut left = variables;
+    'last: while let [others @ .., variable] = left {
+        if is_name(variable.name.as_str(), name) {
+            return Some(others.len());
         }
+        left = others;
     }
-    last
+    None
 }
 
 /// The first function of the name.
@@ -39,19 +41,35 @@ pub fn find_function<'a>(functions: &'a [Function], name: &str) -> Option<&'a Fu
     ensures { option_map (λ f. routine f.now) result ≡ find_routine name.now (map routine functions.now) }
 {
     for function in functions {
-        if function.name.as_str() == name {
+        if is_name(function.name.as_str(), name) {
             return Some(function);
         }
     }
     None
 }
 
-/// A copy of the data, which is paid first.
+/// A number, which is paid first.
+#[tactic(auto, unfolding(jessie_semantics::specs::Actions::paid))]
+fn pay_number(meter: &mut u64, number: &i128) -> Result<Data, Stop>
+    ensures does { (t : Tree) (locals globals : Bindings) → Computes (paid t (Some (number_tree number.now))) (record { locals = locals; globals = globals; meter = meter.old }) (come tree result) (record { locals = locals; globals = globals; meter = meter.new }) }
+    ensures kept { meter.new ≤ meter.old }
+{
+    if *meter == 0 {
+        return Err(Stop::Spent);
+    }
+    *meter -= 1;
+    Ok(Data::Number(*number))
+}
+
+/// A copy of the data, which is paid first. A number, as it mostly is, is paid at once.
 #[tactic(auto, unfolding(jessie_semantics::specs::Actions::paid))]
 fn pay_copy(alloc: Global, meter: &mut u64, data: &Data) -> Result<Data, Stop>
     ensures does { (t : Tree) (locals globals : Bindings) → Computes (paid t (Some (tree «data».now))) (record { locals = locals; globals = globals; meter = meter.old }) (come tree result) (record { locals = locals; globals = globals; meter = meter.new }) }
     ensures kept { meter.new ≤ meter.old }
 {
+    if let Data::Number(number) = data {
+        return pay_number(meter, number);
+    }
     match pay(*meter, data) {
         None => Err(Stop::Spent),
         Some(left) => {

@@ -16,7 +16,7 @@ ghost use Rattle.jessie_machine.specs.Stops.{come, halt};
 ghost use Rattle.jessie_machine.specs.Machine.{all_seen, state};
 
 use crate::machine::{Machine, take};
-use crate::stop::{Stop, Thrown, bad, fault_stop};
+use crate::stop::{Stop, bad, fault_stop, throw_data};
 use amount_calls::functions::call_amount_math;
 use amount_calls::refusals::AmountFault;
 use host_text::text::Text;
@@ -143,7 +143,7 @@ fn amount_stop(alloc: Global, fault: &AmountFault) -> Stop
     match fault {
         AmountFault::NoMemory => Stop::NoMemory,
         AmountFault::Refused(refusal) => match refusal.data(alloc) {
-            Ok(data) => Stop::Throws(Thrown::Data(data)),
+            Ok(data) => throw_data(alloc, data),
             Err(_) => Stop::NoMemory,
         },
     }

@@ -13,10 +13,12 @@ use crate::stop::{Stop, bad};
 use host_text::text::Text;
 use jessie_tree::data::Data;
 use jessie_values::reasons::Reason;
+use std::alloc::Global;
 
 /// Calls a method of an object of the host.
 #[inline(never)]
 pub fn call_method<P: Powers>(
+    alloc: Global,
     powers: &mut P,
     machine: &mut Machine,
     target: &Data,
@@ -32,12 +34,13 @@ pub fn call_method<P: Powers>(
     };
     take_call(machine, args.as_slice())?;
     let answer = powers.call(object, method.as_str(), args)?;
-    settle(machine, answer)
+    settle(alloc, machine, answer)
 }
 
 /// Sends an object of the host a method's call.
 #[inline(never)]
 pub fn send_method<P: Powers>(
+    alloc: Global,
     powers: &mut P,
     machine: &mut Machine,
     target: &Data,
@@ -53,5 +56,5 @@ pub fn send_method<P: Powers>(
     };
     take_call(machine, args.as_slice())?;
     let answer = powers.send(receiver, method.as_str(), args)?;
-    settle(machine, answer)
+    settle(alloc, machine, answer)
 }

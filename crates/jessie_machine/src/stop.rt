@@ -3,17 +3,19 @@ ghost use Rattle.std.specs.Prelude.{◌≡◌, IfOk};
 ghost use Rattle.jessie_tree.specs.View.{tree};
 ghost use Rattle.jessie_values.specs.Reasons.{bad_step};
 ghost use Rattle.jessie_semantics.specs.Runs.{throws};
-ghost use Rattle.jessie_machine.specs.Stops.{fault_halt, halt, thrown_tree};
+ghost use Rattle.jessie_machine.specs.Stops.{IsThrown, fault_halt, halt, thrown_tree};
 ghost use Rattle.jessie_machine.specs.declared.stop.Stop.TheVariants.{NoMemory};
 
 use jessie_tree::data::Data;
 use jessie_values::reasons::{Reason, ValueFault};
+use sqlite_items::Boxed;
 use std::alloc::{AllocError, AllocFailed, Global};
 
-/// What is thrown. A bad step is made into data only where it is caught.
+/// What is thrown. A bad step is made into data only where it is caught. Data lies apart, so that a result
+/// takes little room where nothing is thrown.
 #[derive(Drop)]
 pub enum Thrown {
-    Data(Data),
+    Data(Boxed<Data>),
     BadStep(Reason),
 }
 
@@ -42,6 +44,17 @@ impl<T: Drop> From<AllocFailed<T>> for Stop {
     }
 }
 
+/// That of data that is thrown.
+#[inline(never)]
+pub fn throw_data(alloc: Global, data: Data) -> Stop
+    ensures { IsThrown (tree «data») (halt result) }
+{
+    match Boxed::new(alloc, data) {
+        Ok(data) => Stop::Throws(Thrown::Data(data)),
+        Err(_) => Stop::NoMemory,
+    }
+}
+
 /// That of a bad step.
 pub fn bad(reason: Reason) -> Stop
     ensures { halt result ≡ throws (bad_step reason) }
@@ -65,7 +78,7 @@ impl Thrown {
         ensures { IfOk result (λ made. tree made ≡ thrown_tree self) }
     {
         match self {
-            Thrown::Data(data) => Ok(data),
+            Thrown::Data(data) => Ok(data.into_inner()),
             Thrown::BadStep(reason) => reason.data(alloc),
         }
     }

@@ -1,5 +1,4 @@
 use Rattle.std.proofs.Common.{◌∙◌}
-use Rattle.jessie_machine.specs.Machine.{changes}
 use Rattle.jessie_machine.proofs.Places.{one_place_more}
 use Rattle.jessie_machine.proofs.names.make_place.Goals as goal
 

@@ -1,11 +1,11 @@
 use Rattle.std.proofs.Common.{ap, sym, ◌∙◌, Some}
 use Rattle.std.specs.Prelude.{slice_get}
 use Rattle.jessie_tree.specs.Tree.{null}
-use Rattle.jessie_tree.specs.View.{tree, trees}
+use Rattle.jessie_tree.specs.View.{trees}
 use Rattle.jessie_tree.proofs.Views.{tree-Null}
 use Rattle.jessie_semantics.specs.Actions.{paid}
 use Rattle.jessie_semantics.proofs.Runs.{computes_as}
-use Rattle.jessie_machine.specs.Machine.{changes, or_else, changed_at}
+use Rattle.jessie_machine.specs.Machine.{changes, or_else}
 use Rattle.jessie_machine.proofs.Places.{value_split}
 use Rattle.jessie_machine.proofs.names.pay_variable.Goals as goal
 

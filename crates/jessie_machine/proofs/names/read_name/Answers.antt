@@ -1,5 +1,4 @@
-use Rattle.std.proofs.Common.{◌≡◌, ap, sym, ◌∙◌, Some, None, map, option_map, refl}
-use Rattle.jessie_tree.specs.Tree.{Tree}
+use Rattle.std.proofs.Common.{◌≡◌, ap, sym, ◌∙◌, Some, None, map}
 use Rattle.jessie_tree.specs.View.{tree, trees, named_trees}
 use Rattle.jessie_syntax.specs.Syntax.{routine, routines, variable_names}
 use Rattle.jessie_values.specs.Reasons.{bad_step}

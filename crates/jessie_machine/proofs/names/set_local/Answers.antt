@@ -1,4 +1,3 @@
-use Rattle.std.proofs.Common.{ap, sym, ◌∙◌}
 use Rattle.jessie_machine.proofs.Places.{set_in}
 use Rattle.jessie_machine.proofs.names.set_local.Goals as goal
 

@@ -1,4 +1,4 @@
-use Rattle.std.proofs.Common.{ap, sym, ◌∙◌}
+use Rattle.std.proofs.Common.{sym}
 use Rattle.jessie_machine.proofs.Places.{variable_rebind}
 use Rattle.jessie_machine.proofs.names.set_variable.Goals as goal
 
