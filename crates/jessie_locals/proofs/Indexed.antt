@@ -1,6 +1,6 @@
 -- The place of a name in a list that grows and shrinks at its end, and what an index of it has to be.
 use Rattle.std.proofs.Common.{◌≡◌, ℕ, zero, suc, ◌+◌, ◌-◌, ◌<◌, ◌≤◌, List, [], ◌∷◌, ◌++◌, Bool, true, false, cond, Option, Some, None, option_map, refl, sym, ap, subst, ◌∙◌, length, get_or, take, drop, arith}
-use Rattle.std.specs.Prelude.{String, IfSome, slice_set}
+use Rattle.std.specs.Prelude.{String, IfSome, slice_index_or, slice_set}
 use Rattle.std.specs.Str.{bytes_eq}
 use Rattle.std.specs.declared.alloc.Global.{Global}
 use Rattle.std.specs.BTreeMap.{BTreeMap, get_by_text}
@@ -59,6 +59,17 @@ index_more es new m n x h old e here found = subst (λ es. IsIndex es n) (sym e)
       ∙ (sym (place_push q (names_of es) x) ∙ ap (place q) (sym (names_push es (x, h))))));
   hides = hide_more [] es x h old.hides here;
 })
+
+-- the last entry hides another
+hides_now : {A B : Type 0} (es : List (A × B)) (a d : A × B) (h : B) → slice_set (es ++ a ∷ []) (length es) ((slice_index_or (es ++ a ∷ []) (length es) d).0, h) ≡ es ++ (a.0, h) ∷ []
+hides_now [] a d h = refl
+hides_now (e ∷ es) a d h = ap (λ r. e ∷ r) (hides_now es a d h)
+
+pub hidden_put : {A B : Type 0} (es now later : List (A × B)) (a : A × B) (h : B) (n : ℕ) → now ≡ es ++ a ∷ [] → n ≡ length es
+    → ((d : A × B) → later ≡ slice_set now n ((slice_index_or now n d).0, h)) → later ≡ es ++ (a.0, h) ∷ []
+hidden_put es now later a h n e k put =
+    put a ∙ (ap (λ z. slice_set z n ((slice_index_or z n a).0, h)) e
+    ∙ (ap (λ n. slice_set (es ++ a ∷ []) n ((slice_index_or (es ++ a ∷ []) n a).0, h)) k ∙ hides_now es a a h))
 
 -- where the name is looked for, what it hid is found again
 again : (b : Bool) (x q : List ℕ) (h here : Option ℕ) (ys : List (List ℕ)) → h ≡ place x ys → (b ≡ true → x ≡ q) → cond b h (cond b here (place q ys)) ≡ place q ys

@@ -1,5 +1,5 @@
 //! The places of names in a list, found by name.
-ghost use Rattle.std.specs.Prelude.{◌≡◌, ◌++◌, ◌∷◌, ◌-◌, [], OnErr, OnOk, length, take};
+ghost use Rattle.std.specs.Prelude.{◌≡◌, ◌<◌, ◌++◌, ◌∷◌, ◌-◌, [], ℕ, List, Option, OnErr, OnOk, length, slice_index_or, slice_set, take};
 ghost use Rattle.jessie_locals.specs.Places.{place};
 
 use host_text::text::Text;
@@ -24,6 +24,15 @@ impl Model for NameIndex {
     ghost view = { λ n. names_of n.entries.items };
 
     ghost invariant = { λ n. IsIndex n.entries.items n.places };
+}
+
+/// Puts the place of the one that it hides beside the name at a place.
+fn hide(entries: &mut Vec<(Text, Option<usize>)>, place: usize, hidden: Option<usize>)
+    requires { place < length entries.old.items }
+    ensures { (d : List ℕ × Option ℕ) → entries.new.items
+        ≡ slice_set entries.old.items place ((slice_index_or entries.old.items place d).0, hidden) }
+{
+    entries[place].1 = hidden;
 }
 
 impl NameIndex {
@@ -58,16 +67,14 @@ impl NameIndex {
     {
         let key = String::from_str(alloc, name.as_str())?;
         let copy = name.copy(alloc)?;
-        let hidden = self.places.get(name.as_str()).copied();
         let place = self.entries.len();
-        self.entries.push((copy, hidden))?;
-        match self.places.insert(key, place) {
-            Ok(_) => Ok(()),
-            Err(_) => {
-                drop(self.entries.pop());
-                Err(AllocError)
-            }
-        }
+        self.entries.push((copy, None))?;
+        let Ok(hidden) = self.places.insert(key, place) else {
+            drop(self.entries.pop());
+            return Err(AllocError);
+        };
+        hide(&mut self.entries, place, hidden);
+        Ok(())
     }
 
     /// Lets the last name go.
