@@ -1,5 +1,5 @@
 -- The whole evaluation: where it starts, and the values of the state variables that it leaves.
-use Rattle.std.proofs.Common.{◌≡◌, ℕ, zero, suc, ◌+◌, ◌<◌, ◌≤◌, List, [], ◌∷◌, Option, Some, None, refl, sym, ap, ◌∙◌, length, arith}
+use Rattle.std.proofs.Common.{◌≡◌, ℕ, zero, suc, ◌+◌, ◌≤◌, List, [], ◌∷◌, Option, Some, None, refl, sym, ap, ◌∙◌, length, arith}
 use Rattle.std.specs.Prelude.{slice_set}
 use Rattle.jessie_tree.specs.Tree.{Tree, null}
 use Rattle.jessie_tree.specs.View.{tree, trees, named_trees}

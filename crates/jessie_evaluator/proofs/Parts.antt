@@ -1,8 +1,8 @@
 -- The evaluator's steps beside the rules'.
-use Rattle.std.proofs.Common.{◌≡◌, ℕ, suc, ◌+◌, ◌-◌, ◌<◌, ◌≤◌, List, [], ◌∷◌, ◌++◌, Bool, true, false, Option, Some, None, refl, sym, ap, subst, ◌∙◌, length, get_or, drop, take, map, arith}
+use Rattle.std.proofs.Common.{◌≡◌, ℕ, suc, ◌+◌, ◌-◌, ◌<◌, ◌≤◌, List, [], ◌∷◌, ◌++◌, Bool, true, false, refl, sym, ap, ◌∙◌, length, get_or, drop, arith}
 use Rattle.std.proofs.lemmas.List.{drop_more, drop_all}
 use Rattle.jessie_tree.specs.Tree.{Tree}
-use Rattle.jessie_syntax.specs.Syntax.{Routine, Term, Way, literal, name, call, built_in, amount_math, send, listing, composed, linked, unary, chain, choice, at_field, method, at_index, Statement, declare_const, declare_let, assign, choose, repeat, each, raise, attempt, run, term_view, terms_view, named_terms_view, operands_view, link_view, links_view, statement_view, block_view, way_view, branches_view}
+use Rattle.jessie_syntax.specs.Syntax.{Routine, call, built_in, amount_math, send, listing, composed, linked, unary, chain, choice, method, choose, repeat, each, attempt, term_view, terms_view, named_terms_view, operands_view, link_view, links_view, statement_view, block_view, branches_view}
 use Rattle.jessie_syntax.specs.declared.syntax.BuiltIn.{BuiltIn}
 use Rattle.jessie_syntax.specs.declared.syntax.Unary.{Unary}
 use Rattle.jessie_syntax.specs.declared.syntax.Operator.{Operator}
@@ -13,7 +13,7 @@ use Rattle.jessie_syntax.specs.declared.syntax.Step as P
 use Rattle.jessie_syntax.specs.declared.syntax.Stmt.{Stmt}
 use Rattle.jessie_syntax.specs.declared.syntax.Stmt as S
 use Rattle.jessie_syntax.specs.declared.syntax.Branch.{Branch}
-use Rattle.jessie_syntax.proofs.Views.{term-Call, term-BuiltIn, term-AmountMath, term-Send, term-Array, term-Record, term-Steps, term-Unary, term-Chain, term-Choice, link-Method, link-Index, statement-If, statement-While, statement-ForOf, statement-Try, way-of}
+use Rattle.jessie_syntax.proofs.Views.{term-Call, term-BuiltIn, term-AmountMath, term-Send, term-Array, term-Record, term-Steps, term-Unary, term-Chain, term-Choice, link-Method, statement-If, statement-While, statement-ForOf, statement-Try, way-of}
 use Rattle.jessie_values.specs.declared.reasons.Reason.TheVariants.{TooDeep}
 use Rattle.jessie_values.specs.Reasons.{bad_step}
 use Rattle.jessie_values.specs.Dispatch.{operate}

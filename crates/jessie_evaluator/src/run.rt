@@ -21,7 +21,7 @@ use jessie_machine::operations::{
     run_field,
 };
 use jessie_machine::requests::{call_method, send_method};
-use jessie_machine::stop::{Stop, Thrown, bad};
+use jessie_machine::stop::{Stop, bad, throw_data};
 use jessie_syntax::syntax::{Branch, BuiltIn, Expr, Module, Operator, Step, Stmt, Unary};
 use jessie_tree::data::Data;
 use jessie_values::operators::truth;
@@ -31,6 +31,7 @@ use std::mem;
 
 /// What the expression comes to.
 #[cycle(run)]
+#[inline(never)]
 fn run_expr<P: Powers>(
     alloc: Global,
     powers: &mut P,
@@ -152,6 +153,7 @@ fn run_expr<P: Powers>(
 
 /// What the expressions come to, each in turn.
 #[cycle(run)]
+#[inline(never)]
 fn run_exprs<P: Powers>(
     alloc: Global,
     powers: &mut P,
@@ -175,6 +177,7 @@ fn run_exprs<P: Powers>(
 
 /// What the fields of a record come to, each in turn.
 #[cycle(run)]
+#[inline(never)]
 fn run_named<P: Powers>(
     alloc: Global,
     powers: &mut P,
@@ -198,6 +201,7 @@ fn run_named<P: Powers>(
 
 /// A call of a function of the module.
 #[cycle(run)]
+#[inline(never)]
 fn run_call<P: Powers>(
     alloc: Global,
     powers: &mut P,
@@ -219,6 +223,7 @@ fn run_call<P: Powers>(
 
 /// A call of a function of the language.
 #[cycle(run)]
+#[inline(never)]
 fn run_built_in<P: Powers>(
     alloc: Global,
     powers: &mut P,
@@ -240,6 +245,7 @@ fn run_built_in<P: Powers>(
 
 /// A call of a function of AmountMath.
 #[cycle(run)]
+#[inline(never)]
 fn run_amounts<P: Powers>(
     alloc: Global,
     powers: &mut P,
@@ -261,6 +267,7 @@ fn run_amounts<P: Powers>(
 
 /// A send to an object.
 #[cycle(run)]
+#[inline(never)]
 fn run_send<P: Powers>(
     alloc: Global,
     powers: &mut P,
@@ -279,11 +286,12 @@ fn run_send<P: Powers>(
     take(machine, 1)?;
     let target = run_expr(alloc, powers, module, room, values, machine, target)?;
     let args = run_exprs(alloc, powers, module, room, values, machine, args)?;
-    send_method(powers, machine, &target, name, args)
+    send_method(alloc, powers, machine, &target, name, args)
 }
 
 /// An array.
 #[cycle(run)]
+#[inline(never)]
 fn run_array<P: Powers>(
     alloc: Global,
     powers: &mut P,
@@ -304,6 +312,7 @@ fn run_array<P: Powers>(
 
 /// A record.
 #[cycle(run)]
+#[inline(never)]
 fn run_record<P: Powers>(
     alloc: Global,
     powers: &mut P,
@@ -324,6 +333,7 @@ fn run_record<P: Powers>(
 
 /// What the steps behind an expression come to, from left to right.
 #[cycle(run)]
+#[inline(never)]
 fn run_steps<P: Powers>(
     alloc: Global,
     powers: &mut P,
@@ -347,6 +357,7 @@ fn run_steps<P: Powers>(
 
 /// A step behind a value.
 #[cycle(run)]
+#[inline]
 fn run_step<P: Powers>(
     alloc: Global,
     powers: &mut P,
@@ -380,6 +391,7 @@ fn run_step<P: Powers>(
 
 /// A call of a method of an object.
 #[cycle(run)]
+#[inline]
 fn run_method<P: Powers>(
     alloc: Global,
     powers: &mut P,
@@ -397,11 +409,12 @@ fn run_method<P: Powers>(
 {
     take(machine, 1)?;
     let args = run_exprs(alloc, powers, module, room, values, machine, args)?;
-    call_method(powers, machine, target, name, args)
+    call_method(alloc, powers, machine, target, name, args)
 }
 
 /// The part of a value at an index.
 #[cycle(run)]
+#[inline(never)]
 fn run_index<P: Powers>(
     alloc: Global,
     powers: &mut P,
@@ -423,6 +436,7 @@ fn run_index<P: Powers>(
 
 /// An operator before an expression.
 #[cycle(run)]
+#[inline(never)]
 fn run_unary<P: Powers>(
     alloc: Global,
     powers: &mut P,
@@ -444,6 +458,7 @@ fn run_unary<P: Powers>(
 
 /// A chain of operators, from left to right.
 #[cycle(run)]
+#[inline(never)]
 fn run_chain<P: Powers>(
     alloc: Global,
     powers: &mut P,
@@ -469,6 +484,7 @@ fn run_chain<P: Powers>(
 
 /// An operator, with what is behind it.
 #[cycle(run)]
+#[inline]
 fn run_operator<P: Powers>(
     alloc: Global,
     powers: &mut P,
@@ -495,6 +511,7 @@ fn run_operator<P: Powers>(
 
 /// A choice of two expressions.
 #[cycle(run)]
+#[inline(never)]
 fn run_choice<P: Powers>(
     alloc: Global,
     powers: &mut P,
@@ -523,6 +540,7 @@ fn run_choice<P: Powers>(
 
 /// What a condition comes to.
 #[cycle(run)]
+#[inline(never)]
 fn run_test<P: Powers>(
     alloc: Global,
     powers: &mut P,
@@ -542,6 +560,7 @@ fn run_test<P: Powers>(
 
 /// What the statement does, with its charge.
 #[cycle(run)]
+#[inline]
 fn run_stmt<P: Powers>(
     alloc: Global,
     powers: &mut P,
@@ -561,6 +580,7 @@ fn run_stmt<P: Powers>(
 
 /// What the statement does.
 #[cycle(run)]
+#[inline]
 fn run_form<P: Powers>(
     alloc: Global,
     powers: &mut P,
@@ -634,6 +654,7 @@ fn run_form<P: Powers>(
 
 /// The declaration of a name.
 #[cycle(run)]
+#[inline(never)]
 fn run_declare<P: Powers>(
     alloc: Global,
     powers: &mut P,
@@ -655,6 +676,7 @@ fn run_declare<P: Powers>(
 
 /// An assignment.
 #[cycle(run)]
+#[inline(never)]
 fn run_assign<P: Powers>(
     alloc: Global,
     powers: &mut P,
@@ -676,6 +698,7 @@ fn run_assign<P: Powers>(
 
 /// The block of the first condition that holds, else the last one.
 #[cycle(run)]
+#[inline(never)]
 fn run_if<P: Powers>(
     alloc: Global,
     powers: &mut P,
@@ -709,6 +732,7 @@ fn run_if<P: Powers>(
 
 /// A loop. Each round takes at least 1, so there are no more rounds than the meter has.
 #[cycle(run)]
+#[inline(never)]
 fn run_while<P: Powers>(
     alloc: Global,
     powers: &mut P,
@@ -739,6 +763,7 @@ fn run_while<P: Powers>(
 
 /// A loop over an array.
 #[cycle(run)]
+#[inline(never)]
 fn run_for<P: Powers>(
     alloc: Global,
     powers: &mut P,
@@ -770,6 +795,7 @@ fn run_for<P: Powers>(
 
 /// The function is left with a value, or with null.
 #[cycle(run)]
+#[inline(never)]
 fn run_return<P: Powers>(
     alloc: Global,
     powers: &mut P,
@@ -794,6 +820,7 @@ fn run_return<P: Powers>(
 
 /// A value is thrown.
 #[cycle(run)]
+#[inline(never)]
 fn run_throw<P: Powers>(
     alloc: Global,
     powers: &mut P,
@@ -808,11 +835,12 @@ fn run_throw<P: Powers>(
     ensures fits { machine.new.meter ≤ P.room powers.new }
 {
     let data = run_expr(alloc, powers, module, room, values, machine, value)?;
-    Err(Stop::Throws(Thrown::Data(data)))
+    Err(throw_data(alloc, data))
 }
 
 /// A block whose throws are caught.
 #[cycle(run)]
+#[inline(never)]
 fn run_try<P: Powers>(
     alloc: Global,
     powers: &mut P,
@@ -845,6 +873,7 @@ fn run_try<P: Powers>(
 
 /// An expression as a statement.
 #[cycle(run)]
+#[inline(never)]
 fn run_value<P: Powers>(
     alloc: Global,
     powers: &mut P,
@@ -864,6 +893,7 @@ fn run_value<P: Powers>(
 
 /// A block with names of its own.
 #[cycle(run)]
+#[inline]
 fn run_scope<P: Powers>(
     alloc: Global,
     powers: &mut P,
@@ -885,6 +915,7 @@ fn run_scope<P: Powers>(
 
 /// A block with a first name of its own.
 #[cycle(run)]
+#[inline(never)]
 fn run_with<P: Powers>(
     alloc: Global,
     powers: &mut P,
@@ -909,6 +940,7 @@ fn run_with<P: Powers>(
 
 /// What the statements do, one after another.
 #[cycle(run)]
+#[inline(never)]
 fn run_block<P: Powers>(
     alloc: Global,
     powers: &mut P,
@@ -933,6 +965,7 @@ fn run_block<P: Powers>(
 
 /// Calls a function of the module, within at most so many calls.
 #[cycle(run)]
+#[inline(never)]
 pub fn invoke<P: Powers>(
     alloc: Global,
     powers: &mut P,

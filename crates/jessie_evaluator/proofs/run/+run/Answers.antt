@@ -1,20 +1,20 @@
-use Rattle.std.proofs.Common.{◌≡◌, ◌-◌, ◌+◌, ◌++◌, ◌∷◌, [], drop, map, length, refl, sym, ap, ◌∙◌, arith, rules}
+use Rattle.std.proofs.Common.{◌-◌, ◌+◌, ◌++◌, drop, map, length, sym, ap, ◌∙◌, arith, rules}
 use Rattle.std.specs.Option.{option_to_list}
 use Rattle.std.specs.Vec.Iter.{into_iter_items}
 use Rattle.jessie_tree.specs.View.{tree, trees, named_trees}
 use Rattle.jessie_tree.proofs.Views.{tree-Null}
-use Rattle.jessie_syntax.specs.Syntax.{routine, routines, term_view, terms_view, named_terms_view, link_view, links_view, return_view, statement_view, block_view}
+use Rattle.jessie_syntax.specs.Syntax.{routine, routines, term_view, terms_view, named_terms_view, link_view, return_view, statement_view, block_view}
 use Rattle.jessie_syntax.proofs.Views.{term-Literal, term-Name, link-Field, link-Index, statement-Const, statement-Let, statement-Assign, statement-Return, statement-Throw, statement-Run}
 use Rattle.jessie_values.specs.declared.reasons.Reason.TheVariants.{WrongKind, TooDeep}
 use Rattle.amount_calls.specs.AmountMath.{amount_call}
 use Rattle.jessie_semantics.specs.Actions.{scoped}
-use Rattle.jessie_semantics.specs.Rules.{worked, counted, leaves, expr, exprs, named_exprs, one_link, form, test, block, rounds, walk, with_name, pairs, find_routine, calls_of, enter}
+use Rattle.jessie_semantics.specs.Rules.{worked, counted, leaves, expr, exprs, named_exprs, one_link, form, test, block, rounds, walk, with_name, pairs, find_routine, enter}
 use Rattle.jessie_semantics.specs.Runs.{throws, came, halted}
-use Rattle.jessie_semantics.proofs.Runs.{computed, computes_as, pure_computes, throw_computes, spend_computes, then_runs, stop_runs, caught_came, caught_spends, caught_throws, runs_as, runs_to, reaches_itself, reaches_as, reaches_more, reaches_runs, reaches_metered, bind_as, scoped_as, within_as}
+use Rattle.jessie_semantics.proofs.Runs.{computed, computes_as, pure_computes, spend_computes, then_runs, stop_runs, caught_came, caught_spends, caught_throws, runs_as, runs_to, reaches_itself, reaches_as, reaches_more, reaches_runs, reaches_metered, bind_as, scoped_as, within_as}
 use Rattle.jessie_machine.specs.Stops.{halt}
 use Rattle.jessie_machine.specs.Machine.{end_of, all_seen, fields_seen}
 use Rattle.jessie_machine.proofs.Places.{names_left, one_more, one_name_more}
-use Rattle.jessie_machine.proofs.Exits.{stops, bad_computes, pure_as}
+use Rattle.jessie_machine.proofs.Exits.{stops, thrown_computes, bad_computes, pure_as}
 use Rattle.jessie_evaluator.specs.Parts.{running}
 use Rattle.jessie_evaluator.proofs.Parts.{call_at, built_in_at, amounts_at, send_at, array_at, record_at, steps_at, unary_at, chain_at, choice_at, method_at, if_at, while_at, for_at, try_at, exprs_open, exprs_end, named_open, named_end, links_open, links_end, operands_open, operands_end, branches_open, branches_end, block_open, block_end, rounds_open, rounds_end, no_items_left, right_true, right_false, either_true, either_false, round_true, round_false, calls_more, calls_none}
 use Rattle.jessie_evaluator.proofs.Weights.{block_weight, routines_weight, part_falls, named_falls, link_falls, operand_falls, way_falls, statement_falls, routine_falls, calls_fall}
@@ -655,7 +655,7 @@ run_throw-returns-in_err-data-clause-runs g t c =
 pub run_throw-returns-clause-runs : goal.run_throw-returns-clause-runs
 run_throw-returns-clause-runs g t c =
     then_runs _ c.in_ok-data.ensures.runs
-    (computed (throw_computes _ _))
+    (computed (thrown_computes _ _ c.throw_data.ensures))
 
 pub run_try-returns-in-Ok-clause-runs : goal.run_try-returns-in-Ok-clause-runs
 run_try-returns-in-Ok-clause-runs g t c =
