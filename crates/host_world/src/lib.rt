@@ -25,13 +25,22 @@ use turn_events::events::Answer;
 use turn_events::turns::TurnRecord;
 use vault_rights::draft::{Draft, Vault};
 
-/// The world between turns.
-#[derive(Drop)]
+/// The world between turns. To let go of it is one call.
 pub struct KeptWorld {
     pub vault: Vault,
     pub plain: PlainStores,
     /// What was told up to the last turn that was kept.
     pub sums: Escrow,
+}
+
+impl Drop for KeptWorld {
+    fn drop(self) {
+        let KeptWorld {
+            vault: _,
+            plain: _,
+            sums: _,
+        } = self;
+    }
 }
 
 /// The world of a turn, which is to be kept or undone: it can't be dropped. The delivery that the turn is

@@ -29,8 +29,8 @@ use turn_events::log::Log;
 use turn_events::turns::TurnRecord;
 use turn_queue::TurnQueue;
 
-/// The stores. Each call of one of them says what it makes of its part of the world's state (`plain_now`).
-#[derive(Drop)]
+/// The stores. Each call of one of them says what it makes of its part of the world's state (`plain_now`). To let go
+/// of them is one call.
 pub struct PlainStores {
     pub brands: Brands,
     /// Who made each brand, by its number.
@@ -45,6 +45,24 @@ pub struct PlainStores {
     pub parties: Parties,
     pub queue: TurnQueue<Delivery>,
     pub log: Log,
+}
+
+impl Drop for PlainStores {
+    fn drop(self) {
+        let PlainStores {
+            brands: _,
+            makers: _,
+            invitations: _,
+            timer: _,
+            promises: _,
+            instances: _,
+            facets: _,
+            pairs: _,
+            parties: _,
+            queue: _,
+            log: _,
+        } = self;
+    }
 }
 
 impl PlainStores {
