@@ -1,3 +1,4 @@
 pub mod Moves
 pub mod Views
+pub mod Lists
 pub mod Plans

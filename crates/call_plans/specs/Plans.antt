@@ -8,17 +8,17 @@ use Rattle.refusals.specs.declared.codes.Refusal.{Refusal}
 use Rattle.refusals.specs.declared.stops.Stop.{Stop}
 use Rattle.world_state.specs.Worlds.{Effect}
 use Rattle.call_rows.specs.Rows.{Outcome}
-use Rattle.call_plans.specs.Views.{AreShaped, effect_views}
+use Rattle.call_plans.specs.Lists.{IsEachShaped, effects_view}
 use Rattle.call_plans.specs.declared.plans.Plan.{Plan}
 
 -- the answer, and the effects in their order
 abbrev pub plan_view : Plan → Tree × List Effect
-plan_view p = (tree p.answer, effect_views p.effects.items)
+plan_view p = (tree p.answer, effects_view p.effects)
 
 -- the row gives just the plan, whose movements are of the shape that their way asks for, or the refusal; where
 -- memory ran out nothing is said
 abbrev pub Plans : Outcome → Result Plan Stop → Type 0
-Plans row (Ok p) = (row ≡ Ok (plan_view p)) × AreShaped p.effects.items
+Plans row (Ok p) = (row ≡ Ok (plan_view p)) × IsEachShaped p.effects
 Plans row (Err stop) = Fails stop row
 
 -- what a row that only reads comes to, and that the code reads it

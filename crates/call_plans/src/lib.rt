@@ -5,5 +5,6 @@
 #![tactic(auto)]
 
 pub mod effects;
+pub mod lists;
 pub mod moves;
 pub mod plans;

@@ -4,10 +4,12 @@ ghost use Rattle.std.specs.Prelude.{◌≡◌, [], ◌∷◌, IfOk};
 ghost use Rattle.jessie_tree.specs.View.{tree};
 ghost use Rattle.call_rows.specs.Rows.{Outcome};
 ghost use Rattle.refusals.specs.Outcomes.{reading};
+ghost use Rattle.call_plans.specs.Lists.{IsEachShaped};
 ghost use Rattle.call_plans.specs.Plans.{Plans, Reads, ReadOutcome, plan_view};
-ghost use Rattle.call_plans.specs.Views.{AreShaped, IsShaped, effect_view};
+ghost use Rattle.call_plans.specs.Views.{IsShaped, effect_view};
 
 use crate::effects::Effect;
+use crate::lists::Effects;
 use jessie_tree::data::Data;
 use refusals::stops::Stop;
 use std::alloc::{AllocError, Global};
@@ -16,18 +18,18 @@ use std::alloc::{AllocError, Global};
 #[derive(Drop)]
 pub struct Plan {
     pub answer: Data,
-    pub effects: Vec<Effect>,
+    pub effects: Effects,
 }
 
 impl Plan {
     /// The plan of a call that only reads.
     pub fn reading(alloc: Global, answer: Data) -> Plan
         ensures plan { plan_view result ≡ (tree answer, []) }
-        ensures shaped { AreShaped result.effects.items }
+        ensures shaped { IsEachShaped result.effects }
     {
         Plan {
             answer,
-            effects: Vec::new(alloc),
+            effects: Effects::new(alloc),
         }
     }
 
@@ -35,11 +37,16 @@ impl Plan {
     pub fn with_effect(alloc: Global, answer: Data, effect: Effect) -> Result<Plan, AllocError>
         requires { IsShaped effect }
         ensures plan { IfOk result (λ plan. plan_view plan ≡ (tree answer, effect_view effect ∷ [])) }
-        ensures shaped { IfOk result (λ plan. AreShaped plan.effects.items) }
+        ensures shaped { IfOk result (λ plan. IsEachShaped plan.effects) }
     {
-        let mut effects = Vec::new(alloc);
-        effects.push(effect)?;
-        Ok(Plan { answer, effects })
+        let mut effects = Effects::new(alloc);
+        match effects.push(effect) {
+            Ok(()) => Ok(Plan { answer, effects }),
+            Err(fault) => {
+                drop(answer);
+                Err(fault)
+            }
+        }
     }
 }
 

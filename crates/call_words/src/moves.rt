@@ -2,8 +2,8 @@
 
 ghost use Rattle.std.specs.Prelude.{◌≡◌, ◌∷◌, [], IfOk};
 ghost use Rattle.call_data.specs.Values.{amount_tree, object_tree};
+ghost use Rattle.call_plans.specs.Lists.{IsEachShaped};
 ghost use Rattle.call_plans.specs.Plans.{plan_view};
-ghost use Rattle.call_plans.specs.Views.{AreShaped};
 ghost use Rattle.call_rows.specs.Words.{one_move};
 ghost use Rattle.jessie_tree.specs.View.{tree};
 ghost use Rattle.jessie_tree.specs.declared.data.ObjKind.TheVariants as kinds;
@@ -26,7 +26,7 @@ fn moving(alloc: Global, answer: Data, movement: Movement) -> Result<Plan, Alloc
     requires from { IsNoHand movement.from }
     requires to { IsNoHand movement.to }
     ensures plan { IfOk result (λ plan. plan_view plan ≡ (tree answer, moves (movement ∷ []) ∷ [])) }
-    ensures shaped { IfOk result (λ plan. AreShaped plan.effects.items) }
+    ensures shaped { IfOk result (λ plan. IsEachShaped plan.effects) }
 {
     let mut movements = Vec::new(alloc);
     movements.push(movement)?;
@@ -40,7 +40,7 @@ pub fn moving_amount(alloc: Global, movement: Movement) -> Result<Plan, AllocErr
     requires to { IsNoHand movement.to }
     ensures plan { IfOk result (λ plan. plan_view plan
         ≡ (amount_tree (amount_of movement.brand movement.value), moves (movement ∷ []) ∷ [])) }
-    ensures shaped { IfOk result (λ plan. AreShaped plan.effects.items) }
+    ensures shaped { IfOk result (λ plan. IsEachShaped plan.effects) }
 {
     let answer = amount_data(alloc, movement.brand, &movement.value)?;
     moving(alloc, answer, movement)
@@ -58,7 +58,7 @@ pub fn paying(
     requires { IsNoHand from }
     ensures plan { IfOk result (λ plan. plan_view plan
         ≡ (object_tree kinds.Payment payment, one_move brand from (holders.Payment payment) value)) }
-    ensures shaped { IfOk result (λ plan. AreShaped plan.effects.items) }
+    ensures shaped { IfOk result (λ plan. IsEachShaped plan.effects) }
 {
     let answer = object_data(ObjKind::Payment, payment);
     let movement = Movement {

@@ -5,8 +5,8 @@ ghost use Rattle.call_arguments.specs.Amounts.{held_in};
 ghost use Rattle.call_arguments.specs.Numbers.{AreApart, IsNoneOf};
 ghost use Rattle.call_data.specs.Amounts.{seen};
 ghost use Rattle.call_data.specs.Values.{object_tree};
+ghost use Rattle.call_plans.specs.Lists.{IsEachShaped};
 ghost use Rattle.call_plans.specs.Plans.{Plans, plan_view};
-ghost use Rattle.call_plans.specs.Views.{AreShaped};
 ghost use Rattle.call_words.specs.Handed.{AreHanded};
 ghost use Rattle.combination_plans.specs.Left.{joined, joined_as};
 ghost use Rattle.ertp_rows.specs.IssuerRows.{combine};
@@ -97,7 +97,7 @@ fn gathering(
           object_tree kinds.Payment to,
           moves (moves_to brand to (map live_view given.items)) ∷ [],
         )) }
-    ensures shaped { IfOk result (λ plan. AreShaped plan.effects.items) }
+    ensures shaped { IfOk result (λ plan. IsEachShaped plan.effects) }
 {
     let movements = moves_to(alloc, brand, to, given)?;
     let answer = object_data(ObjKind::Payment, to);
@@ -112,7 +112,7 @@ fn joining(alloc: Global, brand: u16, to: u32, given: Vec<LivePayment>) -> Resul
     requires fresh { IsNoneOf (map (λ p. p.number) given.items) to }
     ensures plan { IfOk result (λ plan. plan_view plan
         ≡ (object_tree kinds.Payment to, combined brand to (map live_view given.items))) }
-    ensures shaped { IfOk result (λ plan. AreShaped plan.effects.items) }
+    ensures shaped { IfOk result (λ plan. IsEachShaped plan.effects) }
 {
     if given.is_empty() {
         drop(given);

@@ -3,8 +3,8 @@
 ghost use Rattle.std.specs.Prelude.{◌≡◌, ◌<◌, ◌+◌, ◌^◌, ◌∷◌, [], All, IfOk, length, map};
 ghost use Rattle.amount_math.specs.Content.{Contains};
 ghost use Rattle.call_arguments.specs.Amounts.{is_same};
+ghost use Rattle.call_plans.specs.Lists.{IsEachShaped};
 ghost use Rattle.call_plans.specs.Plans.{Plans, plan_view};
-ghost use Rattle.call_plans.specs.Views.{AreShaped};
 ghost use Rattle.call_words.specs.Handed.{AreHanded};
 ghost use Rattle.combination_plans.specs.Left.{apart, in_listed, in_parts, in_two};
 ghost use Rattle.ertp_rows.specs.IssuerRows.{rest_of, split, split_many};
@@ -91,7 +91,7 @@ fn splitting(
     requires few { first + length parts.items < 2 ^ 32 }
     ensures plan { IfOk result (λ plan. plan_view plan
         ≡ (tree answer, moves (moves_apart brand from first parts.items) ∷ [])) }
-    ensures shaped { IfOk result (λ plan. AreShaped plan.effects.items) }
+    ensures shaped { IfOk result (λ plan. IsEachShaped plan.effects) }
 {
     match moves_apart(alloc, brand, from, first, parts) {
         Ok(movements) => {
@@ -116,7 +116,7 @@ fn parted(
     requires some { 0 < length parts.items }
     requires few { first + length parts.items < 2 ^ 32 }
     ensures plan { IfOk result (λ plan. plan_view plan ≡ parted brand from first parts.items) }
-    ensures shaped { IfOk result (λ plan. AreShaped plan.effects.items) }
+    ensures shaped { IfOk result (λ plan. IsEachShaped plan.effects) }
 {
     match payments_data(alloc, first, parts.as_slice()) {
         Ok(payments) => splitting(alloc, brand, from, first, parts, Data::Array(payments)),

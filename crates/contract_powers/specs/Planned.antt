@@ -1,6 +1,6 @@
 -- A call that is planned and not carried out yet; none where it names what the instance may not name.
 use Rattle.std.specs.Prelude.{◌≡◌, ℕ, Option, Some, None}
-use Rattle.call_plans.specs.Views.{AreShaped, effect_views}
+use Rattle.call_plans.specs.Lists.{IsEachShaped, effects_view}
 use Rattle.carried_effects.specs.Carried.{AreCarried}
 use Rattle.delivery_turns.specs.HostCalls.{call_row}
 use Rattle.host_calls.specs.Answered.{IsAnswered}
@@ -25,8 +25,8 @@ IsPlanned w i c None = CallHas (IsKnownTo w i) c → ⊥
 
 -- what is planned can be carried out
 pub record CanHappen (w : State) (done : Answered) : Type 0 where
-  pub shaped : AreShaped done.effects.items
-  pub good : AreGood w (effect_views done.effects.items)
+  pub shaped : IsEachShaped done.effects
+  pub good : AreGood w (effects_view done.effects)
 
 abbrev pub CanCarry : State → Option Answered → Type 0
 CanCarry w (Some done) = CanHappen w done
@@ -35,7 +35,7 @@ CanCarry w None = Unit {0}
 -- and was
 pub record Happened (old new : World) (done : Answered) (answer : Answer) : Type 0 where
   pub reply : answer ≡ done.reply
-  pub carried : AreCarried old new (effect_views done.effects.items)
+  pub carried : AreCarried old new (effects_view done.effects)
 
 pub record NothingHappened (old new : World) (answer : Answer) : Type 0 where
   pub same : new ≡ old

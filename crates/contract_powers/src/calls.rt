@@ -1,7 +1,7 @@
 //! Calls that an instance makes of the host, each carried out at once on the world.
 
 ghost use Rattle.std.specs.Prelude.{◌≡◌, ◌<◌, ◌*◌, ◌^◌, IfOk, OnOk, length};
-ghost use Rattle.call_plans.specs.Views.{AreShaped, effect_views};
+ghost use Rattle.call_plans.specs.Lists.{IsEachShaped, effects_view};
 ghost use Rattle.carried_effects.specs.Carried.{AreCarried, IsInTurn};
 ghost use Rattle.contract_powers.specs.Answered.{IsCallAnswered};
 ghost use Rattle.contract_powers.specs.Planned.{CanCarry, Happened, WasCarried};
@@ -27,8 +27,8 @@ use world_effects::carry_out;
 /// carried out, and the turn is to be undone.
 fn carry_call(alloc: Global, world: &mut World, done: Answered) -> Result<Answer, AllocError>
     requires turn { IsInTurn world.old }
-    requires shaped { AreShaped done.effects.items }
-    requires good { AreGood (world_of world.old) (effect_views done.effects.items) }
+    requires shaped { IsEachShaped done.effects }
+    requires good { AreGood (world_of world.old) (effects_view done.effects) }
     ensures happened { IfOk result (Happened world.old world.new done) }
     ensures back { IsUndoable world.old world.new }
 {

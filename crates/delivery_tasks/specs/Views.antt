@@ -1,5 +1,5 @@
 -- What the code's tasks are in the definitions.
-use Rattle.call_plans.specs.Views.{AreShaped, effect_views}
+use Rattle.call_plans.specs.Lists.{IsEachShaped, effects_view}
 use Rattle.delivery_turns.specs.Functions as functions
 use Rattle.delivery_turns.specs.Tasks as definitions
 use Rattle.delivery_turns.specs.Tasks.{unread}
@@ -22,7 +22,7 @@ function_call_view c = record {
 
 abbrev pub task_view : Task → definitions.Task
 task_view (tasks.Refuse r) = definitions.refuse r
-task_view (tasks.DoAll es) = definitions.do_all (effect_views es.items)
+task_view (tasks.DoAll es) = definitions.do_all (effects_view es)
 task_view (tasks.Serve o method args) = definitions.serve o method (trees args.items)
 task_view (tasks.Run c) = definitions.run (function_call_view c)
 
@@ -31,7 +31,7 @@ beginning_view b = record { reading = reading_view b.reading; task = task_view b
 
 -- movements that it has are of the shape that their way asks for
 abbrev pub IsTaskShaped : Task → Type 0
-IsTaskShaped (tasks.DoAll es) = AreShaped es.items
+IsTaskShaped (tasks.DoAll es) = IsEachShaped es
 IsTaskShaped _ = Unit {0}
 
 -- where the work on a delivery ends before its task, the delivery is refused

@@ -1,7 +1,7 @@
 //! What is read for a delivery, and what is then to be done: all kinds of deliveries.
 
 ghost use Rattle.std.specs.Prelude.{◌≡◌, ◌<◌, ◌∷◌, [], Ok, IfOk, length};
-ghost use Rattle.call_plans.specs.Views.{AreShaped, effect_views};
+ghost use Rattle.call_plans.specs.Lists.{IsEachShaped, effects_view};
 ghost use Rattle.delivery_turns.specs.Tasks as tasks;
 ghost use Rattle.delivery_turns.specs.Tasks.{beginning, gift_beginning, notice_beginning, run_task, unread};
 ghost use Rattle.host_world.specs.Worlds.{world_of};
@@ -19,6 +19,7 @@ use crate::functions::{handler_call, notice_call, run_task, start_call, wakeup_c
 use crate::notices::settlement_of;
 use crate::tasks::{Beginning, FunctionCall, Task};
 use call_plans::effects::{Effect, PromisesEffect};
+use call_plans::lists::Effects;
 use host_world::World;
 use jessie_tree::data::Data;
 use message_reads::messages::{addressed_call, gift_of, sent_to};
@@ -88,10 +89,10 @@ fn send_beginning(alloc: Global, world: &World, send: &Send) -> Result<Beginning
 }
 
 /// That the receiver has what is given under its label.
-fn gift_effects(alloc: Global, gift: &LineGift, given: &Data) -> Result<Vec<Effect>, AllocError>
-    ensures effects { IfOk result (λ es. effect_views es.items
+fn gift_effects(alloc: Global, gift: &LineGift, given: &Data) -> Result<Effects, AllocError>
+    ensures effects { IfOk result (λ es. effects_view es
         ≡ bind_label gift.now.to gift.now.label (tree given.now) ∷ []) }
-    ensures shaped { IfOk result (λ es. AreShaped es.items) }
+    ensures shaped { IfOk result (λ es. IsEachShaped es) }
 {
     let binding = binding(alloc, &gift.to, &gift.label, given)?;
     one_effect(alloc, binding)

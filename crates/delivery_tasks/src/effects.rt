@@ -1,7 +1,8 @@
 //! Effects that deliveries have by themselves.
 
 ghost use Rattle.std.specs.Prelude.{◌≡◌, ◌<◌, ◌∷◌, [], IfOk, length};
-ghost use Rattle.call_plans.specs.Views.{AreShaped, effect_view, effect_views};
+ghost use Rattle.call_plans.specs.Lists.{IsEachShaped, effects_view};
+ghost use Rattle.call_plans.specs.Views.{IsShaped, effect_view};
 ghost use Rattle.delivery_turns.specs.Tasks.{exit_if_open};
 ghost use Rattle.host_world.specs.Worlds.{world_of};
 ghost use Rattle.jessie_tree.specs.View.{tree};
@@ -9,6 +10,7 @@ ghost use Rattle.turn_events.specs.Views.{cause_view};
 ghost use Rattle.world_state.specs.Worlds.{bind_label};
 
 use call_plans::effects::{Effect, LabelsEffect};
+use call_plans::lists::Effects;
 use host_text::label::Label;
 use host_world::World;
 use jessie_tree::data::Data;
@@ -17,10 +19,11 @@ use std::alloc::{AllocError, Global};
 use turn_events::events::Cause;
 
 /// Effects, of which there is one.
-pub fn one_effect(alloc: Global, effect: Effect) -> Result<Vec<Effect>, AllocError>
-    ensures { IfOk result (λ es. es.items ≡ effect ∷ []) }
+pub fn one_effect(alloc: Global, effect: Effect) -> Result<Effects, AllocError>
+    ensures view { IfOk result (λ es. effects_view es ≡ effect_view effect ∷ []) }
+    ensures shaped { IsShaped effect → IfOk result IsEachShaped }
 {
-    let mut effects = Vec::new(alloc);
+    let mut effects = Effects::new(alloc);
     effects.push(effect)?;
     Ok(effects)
 }
@@ -41,7 +44,9 @@ pub fn binding(
     label: &Label,
     value: &Data,
 ) -> Result<Effect, AllocError>
-    ensures { IfOk result (λ e. effect_view e ≡ bind_label party.now label.now (tree value.now)) }
+    ensures view { IfOk result (λ e. effect_view e
+        ≡ bind_label party.now label.now (tree value.now)) }
+    ensures shaped { IfOk result IsShaped }
 {
     let (party, label) = copy_labels(alloc, party, label)?;
     let value = value.copy(alloc)?;
@@ -54,13 +59,13 @@ pub fn exit_if_open(
     world: &World,
     seat: u32,
     cause: Cause,
-) -> Result<Vec<Effect>, AllocError>
+) -> Result<Effects, AllocError>
     requires { seat < length (world_of world.now).seats }
-    ensures exits { IfOk result (λ es. effect_views es.items
+    ensures exits { IfOk result (λ es. effects_view es
         ≡ exit_if_open (world_of world.now) seat (cause_view cause)) }
-    ensures shaped { IfOk result (λ es. AreShaped es.items) }
+    ensures shaped { IfOk result (λ es. IsEachShaped es) }
 {
-    let mut effects = Vec::new(alloc);
+    let mut effects = Effects::new(alloc);
     add_exit(world, seat, cause, &mut effects)?;
     Ok(effects)
 }

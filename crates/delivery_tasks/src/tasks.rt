@@ -1,6 +1,6 @@
 //! What is to be done for a delivery.
 
-use call_plans::effects::Effect;
+use call_plans::lists::Effects;
 use host_text::text::Text;
 use jessie_tree::data::{Data, Obj};
 use refusals::codes::Refusal;
@@ -21,7 +21,7 @@ pub enum Task {
     /// The delivery is refused before anything is done.
     Refuse(Refusal),
     /// It has these effects, and is answered null.
-    DoAll(Vec<Effect>),
+    DoAll(Effects),
     /// A method of one of the host's own objects is called.
     Serve(Obj, Text, Vec<Data>),
     /// A function of an instance is run.

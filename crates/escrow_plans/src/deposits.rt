@@ -1,8 +1,8 @@
 //! What goes from payments to a seat's slots.
 
 ghost use Rattle.std.specs.Prelude.{◌≡◌, ◌<◌, [], ◌∷◌, IfOk, length};
+ghost use Rattle.call_plans.specs.Lists.{IsEachShaped};
 ghost use Rattle.call_plans.specs.Plans.{Plans, plan_view};
-ghost use Rattle.call_plans.specs.Views.{AreShaped};
 ghost use Rattle.call_arguments.specs.Numbers.{AreApart};
 ghost use Rattle.contract_words.specs.Known.{AreKnown};
 ghost use Rattle.contract_rows.specs.SeatRows.{allocation_of, seat_of};
@@ -40,7 +40,7 @@ fn escrowing(alloc: Global, seat: u32, rows: &[Row], payments: &[u32]) -> Result
     requires { AreApart payments.now }
     ensures plan { IfOk result (λ plan. plan_view plan
         ≡ (null, changing (seat ∷ []) (escrows_of seat rows.now payments.now))) }
-    ensures shaped { IfOk result (λ plan. AreShaped plan.effects.items) }
+    ensures shaped { IfOk result (λ plan. IsEachShaped plan.effects) }
 {
     let escrows = escrows_of(alloc, seat, rows, payments)?;
     let effects = changing(alloc, seat, escrows)?;

@@ -2,8 +2,8 @@
 
 ghost use Rattle.std.specs.Prelude.{◌≡◌, ◌<◌, ◌≤◌, ◌+◌, [], ◌∷◌, IfOk, OnOk, length};
 ghost use Rattle.allocation_changes.specs.Losses.{with_losses};
+ghost use Rattle.call_plans.specs.Lists.{IsEachShaped, effects_view};
 ghost use Rattle.call_plans.specs.Plans.{Plans, plan_view};
-ghost use Rattle.call_plans.specs.Views.{AreShaped, effect_views};
 ghost use Rattle.contract_rows.specs.SeatRows.{allocation_of, seat_of};
 ghost use Rattle.contract_words.specs.Known.{AreKnown};
 ghost use Rattle.ertp_mint.specs.Stocks.{most_made};
@@ -18,7 +18,7 @@ ghost use Rattle.world_state.specs.Good.{IsGoodWorld};
 ghost use Rattle.world_state.specs.Worlds.{IsOpen, payments_tree, payout_moves};
 
 use crate::payouts::{payments_data, payout_moves};
-use call_plans::effects::Effect;
+use call_plans::lists::Effects;
 use call_plans::plans::Plan;
 use call_words::words::runs;
 use contract_words::allocations::current_allocation;
@@ -37,11 +37,11 @@ use std::alloc::{AllocError, Global};
 
 /// What rows say goes from their slots to new payments, of which the first has the number.
 #[tactic(auto, using(crate::proofs::Transfers::payouts_apart))]
-fn paying(alloc: Global, seat: u32, first: u32, rows: &[Row]) -> Result<Vec<Effect>, AllocError>
+fn paying(alloc: Global, seat: u32, first: u32, rows: &[Row]) -> Result<Effects, AllocError>
     requires { first + length rows.now ≤ most_made }
     ensures effects { IfOk result (λ es.
-        effect_views es.items ≡ changing (seat ∷ []) (payout_moves seat first rows.now)) }
-    ensures shaped { IfOk result (λ es. AreShaped es.items) }
+        effects_view es ≡ changing (seat ∷ []) (payout_moves seat first rows.now)) }
+    ensures shaped { IfOk result (λ es. IsEachShaped es) }
 {
     let moves = payout_moves(alloc, seat, first, rows)?;
     changing(alloc, seat, moves)
@@ -52,7 +52,7 @@ fn paying_out(alloc: Global, seat: u32, first: u32, rows: &[Row]) -> Result<Plan
     requires { first + length rows.now ≤ most_made }
     ensures plan { IfOk result (λ plan. plan_view plan
         ≡ (payments_tree first rows.now, changing (seat ∷ []) (payout_moves seat first rows.now))) }
-    ensures shaped { IfOk result (λ plan. AreShaped plan.effects.items) }
+    ensures shaped { IfOk result (λ plan. IsEachShaped plan.effects) }
 {
     let effects = paying(alloc, seat, first, rows)?;
     let answer = payments_data(alloc, first, rows)?;

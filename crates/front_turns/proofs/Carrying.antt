@@ -3,7 +3,7 @@ use Rattle.std.specs.Prelude.{IfOk}
 use Rattle.std.specs.List.{AllByRecursion}
 use Rattle.std.proofs.Common.{◌≡◌, ℕ, ◌-◌, ◌<◌, List, [], ◌∷◌, ◌++◌, None, Result, Ok, Err, length, refl, sym, ◌∙◌, ap, subst}
 use Rattle.call_plans.specs.Plans.{Plans}
-use Rattle.call_plans.specs.Views.{AreShaped, effect_views}
+use Rattle.call_plans.specs.Lists.{IsEachShaped, effects_view}
 use Rattle.call_plans.specs.declared.plans.Plan.{Plan}
 use Rattle.call_row_laws.proofs.Forms.{null_formed}
 use Rattle.call_rows.specs.Rows.{Outcome}
@@ -83,11 +83,11 @@ start_stays old new is = λ i. vault_state (is.rights.kept i) (is.plain i)
 pub arguments_handed : (w : State) (args : List Tree) → AllByRecursion (IsHanded w) args → AreHanded w args
 arguments_handed w args all = record { each = λ place. all_read_or (IsHanded w) args (place - 1) null all (null_formed w None) }
 
-pub plan_shaped : (outcome : Outcome) (row : Result Plan Stop) → Plans outcome row → IfOk row (λ p. AreShaped p.effects.items)
+pub plan_shaped : (outcome : Outcome) (row : Result Plan Stop) → Plans outcome row → IfOk row (λ p. IsEachShaped p.effects)
 plan_shaped outcome (Ok p) is = is.1
 plan_shaped outcome (Err stop) is = tt
 
-pub plan_good : (w : State) (outcome : Outcome) (row : Result Plan Stop) → Plans outcome row → AreGood w (effects_of outcome) → IfOk row (λ p. AreGood w (effect_views p.effects.items))
+pub plan_good : (w : State) (outcome : Outcome) (row : Result Plan Stop) → Plans outcome row → AreGood w (effects_of outcome) → IfOk row (λ p. AreGood w (effects_view p.effects))
 plan_good w outcome (Ok p) is good = subst (λ (o : Outcome). AreGood w (effects_of o)) is.0 good
 plan_good w outcome (Err stop) is good = tt
 

@@ -1,8 +1,8 @@
 //! The work on a delivery's task: effects are carried out, a call is served, a function is run.
 
 ghost use Rattle.std.specs.Prelude.{◌≡◌, ◌<◌, IfOk, OnOk, length};
+ghost use Rattle.call_plans.specs.Lists.{IsEachShaped, effects_view};
 ghost use Rattle.call_plans.specs.Plans.{Plans};
-ghost use Rattle.call_plans.specs.Views.{AreShaped, effect_views};
 ghost use Rattle.call_rows.specs.Rows.{Outcome};
 ghost use Rattle.carried_effects.specs.Carried.{AreCarried, IsInTurn};
 ghost use Rattle.contract_texts.specs.Reader.{reader};
@@ -19,7 +19,7 @@ ghost use Rattle.front_turns.specs.There.{IsCallable, IsServed, IsThere};
 ghost use Rattle.front_turns.specs.Turning.{IsBegun, IsDone, work_of};
 
 use crate::works::{Ran, Works};
-use call_plans::effects::Effect;
+use call_plans::lists::Effects;
 use call_plans::plans::Plan;
 use delivery_tasks::tasks::{FunctionCall, Task};
 use host_text::text::Text;
@@ -35,14 +35,14 @@ use world_effects::carry_out;
 fn carried(
     alloc: Global,
     world: &mut World,
-    effects: Vec<Effect>,
+    effects: Effects,
     answer: Answer,
 ) -> Result<Answer, AllocError>
     requires turn { IsInTurn world.old }
-    requires shaped { AreShaped effects.items }
-    requires good { AreGood (world_of world.old) (effect_views effects.items) }
+    requires shaped { IsEachShaped effects }
+    requires good { AreGood (world_of world.old) (effects_view effects) }
     ensures answer { IfOk result (λ a. a ≡ answer) }
-    ensures ok { OnOk result (AreCarried world.old world.new (effect_views effects.items)) }
+    ensures ok { OnOk result (AreCarried world.old world.new (effects_view effects)) }
     ensures back { IsUndoable world.old world.new }
 {
     match carry_out(world, alloc, effects) {
@@ -63,8 +63,8 @@ fn plan_carried(
     row: Result<Plan, Stop>,
 ) -> Result<Answer, AllocError>
     requires turn { IsInTurn world.old }
-    requires shaped { IfOk row (λ plan. AreShaped plan.effects.items) }
-    requires good { IfOk row (λ plan. AreGood (world_of world.old) (effect_views plan.effects.items)) }
+    requires shaped { IfOk row (λ plan. IsEachShaped plan.effects) }
+    requires good { IfOk row (λ plan. AreGood (world_of world.old) (effects_view plan.effects)) }
     ensures done { (outcome : Outcome) → Plans outcome row
         → IfOk result (λ a. IsDone world.old world.new a (row_work outcome)) }
     ensures back { IsUndoable world.old world.new }

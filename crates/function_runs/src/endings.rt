@@ -17,6 +17,7 @@ ghost use Rattle.world_state.specs.Worlds as worlds;
 
 use crate::Ran;
 use call_plans::effects::{Effect, InstancesEffect};
+use call_plans::lists::Effects;
 use host_world::World;
 use jessie_evaluator::evaluation::Outcome;
 use jessie_tree::data::Data;
@@ -72,7 +73,7 @@ fn keep_state(
         (worlds.keep_state instance (trees state.items) ∷ [])) }
     ensures back { IsUndoable world.old world.new }
 {
-    let mut effects = Vec::new(alloc);
+    let mut effects = Effects::new(alloc);
     effects.push(Effect::Instances(InstancesEffect::KeepState(instance, state)))?;
     carry_out(world, alloc, effects)
 }

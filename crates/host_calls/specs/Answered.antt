@@ -1,6 +1,6 @@
 -- What a call came to.
 use Rattle.std.specs.Prelude.{◌≡◌}
-use Rattle.call_plans.specs.Views.{AreShaped, effect_views}
+use Rattle.call_plans.specs.Lists.{IsEachShaped, effects_view}
 use Rattle.call_rows.specs.Rows.{Outcome}
 use Rattle.delivery_turns.specs.HostCalls.{reply_of, told_effects}
 use Rattle.jessie_machine.specs.Host as machine
@@ -10,5 +10,5 @@ use Rattle.host_calls.specs.declared.answered.Answered.{Answered}
 -- the call is told, and has the effects of its row; what is answered is the row's
 pub record IsAnswered (c : Call) (row : Outcome) (a : Answered) : Type 0 where
   pub reply : machine.reply_of a.reply ≡ reply_of row
-  pub effects : effect_views a.effects.items ≡ told_effects c row
-  pub shaped : AreShaped a.effects.items
+  pub effects : effects_view a.effects ≡ told_effects c row
+  pub shaped : IsEachShaped a.effects

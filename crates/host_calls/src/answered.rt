@@ -1,8 +1,9 @@
 //! What a call comes to: what is answered, and its effects, of which the first tells of it.
 
-ghost use Rattle.std.specs.Prelude.{◌≡◌, ◌∷◌, [], Err, IfOk, IsOk, Ok};
+ghost use Rattle.std.specs.Prelude.{◌≡◌, ◌∷◌, [], Err, IfOk, Ok};
+ghost use Rattle.call_plans.specs.Lists.{IsEachShaped, effects_view};
 ghost use Rattle.call_plans.specs.Plans.{Plans, plan_view};
-ghost use Rattle.call_plans.specs.Views.{AreShaped, IsShaped, effect_view, effect_views};
+ghost use Rattle.call_plans.specs.Views.{IsShaped, effect_view};
 ghost use Rattle.call_rows.specs.Rows.{Outcome};
 ghost use Rattle.jessie_machine.specs.Host.{reply_of};
 ghost use Rattle.jessie_semantics.specs.Play as plays;
@@ -15,6 +16,7 @@ ghost use Rattle.host_calls.specs.Told.{IsTold, told_view};
 
 use crate::told::Told;
 use call_plans::effects::{Effect, LabelsEffect};
+use call_plans::lists::Effects;
 use call_plans::plans::Plan;
 use jessie_machine::host;
 use jessie_tree::data::Data;
@@ -27,7 +29,7 @@ use turn_events::events::Answer;
 #[derive(Drop)]
 pub struct Answered {
     pub reply: host::Answer,
-    pub effects: Vec<Effect>,
+    pub effects: Effects,
 }
 
 /// That a call was answered, as an effect.
@@ -39,24 +41,24 @@ fn noted(call: Told, answer: Answer) -> Effect
 }
 
 /// That a call was answered is told, before its effects.
-fn told_first(note: Effect, effects: Vec<Effect>) -> Result<Vec<Effect>, AllocError>
-    ensures effects { IfOk result (λ es. effect_views es.items
-        ≡ effect_view note ∷ effect_views effects.items) }
-    ensures shaped { IsShaped note → AreShaped effects.items
-        → IfOk result (λ es. AreShaped es.items) }
+fn told_first(note: Effect, effects: Effects) -> Result<Effects, AllocError>
+    ensures effects { IfOk result (λ es. effects_view es
+        ≡ effect_view note ∷ effects_view effects) }
+    ensures shaped { IsShaped note → IsEachShaped effects
+        → IfOk result (λ es. IsEachShaped es) }
 {
     let mut effects = effects;
-    effects.insert(0, note)?;
+    effects.push_first(note)?;
     Ok(effects)
 }
 
 /// A call that is told is given an answer.
 fn given_answer(note: Effect, plan: Plan) -> Result<Answered, AllocError>
     ensures reply { IfOk result (λ a. reply_of a.reply ≡ plays.given (tree plan.answer)) }
-    ensures effects { IfOk result (λ a. effect_views a.effects.items
-        ≡ effect_view note ∷ effect_views plan.effects.items) }
-    ensures shaped { IsShaped note → AreShaped plan.effects.items
-        → IfOk result (λ a. AreShaped a.effects.items) }
+    ensures effects { IfOk result (λ a. effects_view a.effects
+        ≡ effect_view note ∷ effects_view plan.effects) }
+    ensures shaped { IsShaped note → IsEachShaped plan.effects
+        → IfOk result (λ a. IsEachShaped a.effects) }
 {
     let Plan { answer, effects } = plan;
     match told_first(note, effects) {
@@ -73,7 +75,7 @@ fn given_answer(note: Effect, plan: Plan) -> Result<Answered, AllocError>
 
 /// A call that is given an answer.
 fn given(alloc: Global, call: Told, plan: Plan) -> Result<Answered, AllocError>
-    ensures { AreShaped plan.effects.items
+    ensures { IsEachShaped plan.effects
         → IfOk result (λ a. (c : Call) → IsTold c call → IsAnswered c (Ok (plan_view plan)) a) }
 {
     let told = plan.answer.copy(alloc)?;
@@ -83,10 +85,10 @@ fn given(alloc: Global, call: Told, plan: Plan) -> Result<Answered, AllocError>
 /// A call that is told is refused: this is thrown.
 fn thrown_answer(alloc: Global, note: Effect, thrown: Data) -> Result<Answered, AllocError>
     ensures reply { IfOk result (λ a. reply_of a.reply ≡ plays.refused (tree thrown)) }
-    ensures effects { IfOk result (λ a. effect_views a.effects.items ≡ effect_view note ∷ []) }
-    ensures shaped { IsShaped note → IfOk result (λ a. AreShaped a.effects.items) }
+    ensures effects { IfOk result (λ a. effects_view a.effects ≡ effect_view note ∷ []) }
+    ensures shaped { IsShaped note → IfOk result (λ a. IsEachShaped a.effects) }
 {
-    match told_first(note, Vec::new(alloc)) {
+    match told_first(note, Effects::new(alloc)) {
         Ok(effects) => Ok(Answered {
             reply: host::Answer::Refused(thrown),
             effects,
@@ -98,32 +100,18 @@ fn thrown_answer(alloc: Global, note: Effect, thrown: Data) -> Result<Answered, 
     }
 }
 
-/// A call that is told is refused, once it was made what is thrown.
-fn refused_answer(
-    alloc: Global,
-    note: Effect,
-    thrown: Result<Data, AllocError>,
-) -> Result<Answered, AllocError>
-    ensures reply { IfOk result (λ a. IfOk thrown (λ t. reply_of a.reply ≡ plays.refused (tree t))) }
-    ensures made { IfOk result (λ a. IsOk thrown) }
-    ensures effects { IfOk result (λ a. effect_views a.effects.items ≡ effect_view note ∷ []) }
-    ensures shaped { IsShaped note → IfOk result (λ a. AreShaped a.effects.items) }
-{
-    match thrown {
-        Ok(thrown) => thrown_answer(alloc, note, thrown),
-        Err(fault) => {
-            drop(note);
-            Err(fault)
-        }
-    }
-}
-
 /// A call that is refused: the refusal is the data that is thrown.
 fn refused(alloc: Global, call: Told, refusal: Refusal) -> Result<Answered, AllocError>
     ensures { IfOk result (λ a. (c : Call) → IsTold c call → IsAnswered c (Err refusal) a) }
 {
-    let thrown = refusal.data(alloc);
-    refused_answer(alloc, noted(call, Answer::Refused(refusal)), thrown)
+    match refusal.data(alloc) {
+        Ok(thrown) => thrown_answer(alloc, noted(call, Answer::Refused(refusal)), thrown),
+        Err(fault) => {
+            drop(refusal);
+            drop(call);
+            Err(fault)
+        }
+    }
 }
 
 /// What a call comes to, whatever its row planned.

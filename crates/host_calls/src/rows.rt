@@ -2,8 +2,9 @@
 
 ghost use Rattle.std.specs.Prelude.{◌≡◌, ◌∷◌, [], IfOk};
 ghost use Rattle.call_data.specs.Values.{object_tree};
+ghost use Rattle.call_plans.specs.Lists.{IsEachShaped};
 ghost use Rattle.call_plans.specs.Plans.{Plans, plan_view};
-ghost use Rattle.call_plans.specs.Views.{AreShaped, promises_view};
+ghost use Rattle.call_plans.specs.Views.{promises_view};
 ghost use Rattle.delivery_turns.specs.HostCalls.{far_row, send_row, when_row};
 ghost use Rattle.host_world.specs.Worlds.{world_of};
 ghost use Rattle.instance_store.specs.Facets.{facet_view};
@@ -59,7 +60,7 @@ fn send_plan(
       object_tree kinds.Promise promise,
       worlds.send instance target method.now (trees args.now) ∷ [],
     )) }
-    ensures shaped { IfOk result (λ plan. AreShaped plan.effects.items) }
+    ensures shaped { IfOk result (λ plan. IsEachShaped plan.effects) }
 {
     let send = Effect::Promises(sending(alloc, instance, target, method, args)?);
     Plan::with_effect(alloc, object_data(ObjKind::Promise, promise), send)
@@ -122,7 +123,7 @@ fn when_plan(
       object_tree kinds.Promise answer,
       worlds.when instance promise function.now (tree held.now) ∷ [],
     )) }
-    ensures shaped { IfOk result (λ plan. AreShaped plan.effects.items) }
+    ensures shaped { IfOk result (λ plan. IsEachShaped plan.effects) }
 {
     let when = Effect::Promises(asking(alloc, instance, promise, function, held)?);
     Plan::with_effect(alloc, object_data(ObjKind::Promise, answer), when)
@@ -205,7 +206,7 @@ fn far_plan(
         held = tree held.now;
       }) ∷ [],
     )) }
-    ensures shaped { IfOk result (λ plan. AreShaped plan.effects.items) }
+    ensures shaped { IfOk result (λ plan. IsEachShaped plan.effects) }
 {
     let facet = facet_of(alloc, instance, methods, held)?;
     let make = Effect::Labels(LabelsEffect::MakeFacet(facet));

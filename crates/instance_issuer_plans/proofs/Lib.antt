@@ -1,2 +1,1 @@
 pub mod Strangers
-pub mod Effects

@@ -3,9 +3,10 @@
 ghost use Rattle.std.specs.Prelude.{◌≡◌, ◌<◌, ◌++◌, ◌∷◌, [], true, IfOk, OnOk, length};
 ghost use Rattle.brands.specs.Brands.{brand_of, most_brands};
 ghost use Rattle.brands.specs.IssuerRecords.{issuer_of};
+ghost use Rattle.call_plans.specs.Lists.{IsEachShaped, effects_view};
 ghost use Rattle.call_plans.specs.Plans.{Plans, plan_view};
+ghost use Rattle.call_plans.specs.Views.{IsShaped, effect_view};
 ghost use Rattle.call_rows.specs.Words.{next_of};
-ghost use Rattle.call_plans.specs.Views.{AreShaped, IsShaped, effect_view, effect_views};
 ghost use Rattle.contract_words.specs.Known.{AreKnown};
 ghost use Rattle.host_text.specs.Words.{is_keyword};
 ghost use Rattle.host_world.specs.Worlds.{world_of};
@@ -22,6 +23,7 @@ use brands::Brand;
 use call_arguments::places::kind_at;
 use call_data::values::object_data;
 use call_plans::effects::{Effect, InstancesEffect, SeatsEffect};
+use call_plans::lists::Effects;
 use call_plans::plans::Plan;
 use call_words::words::{next_of, runs};
 use contract_words::given::issuer_number;
@@ -43,19 +45,6 @@ fn next_brand(world: &World) -> Result<u16, Stop>
     let made = world.plain.brands.made();
     next_of(made, MOST_BRANDS)?;
     Ok(made as u16)
-}
-
-/// Puts an effect behind others. It stands alone, so that letting it go is proved once.
-#[tactic(auto, using(crate::proofs::Effects::shaped_last, crate::proofs::Effects::views_last))]
-fn add(effects: &mut Vec<Effect>, effect: Effect) -> Result<(), AllocError>
-    requires shaped { AreShaped effects.old.items }
-    requires one { IsShaped effect }
-    ensures effects { OnOk result (effect_views effects.new.items
-        ≡ effect_views effects.old.items ++ effect_view effect ∷ []) }
-    ensures shaped { OnOk result (AreShaped effects.new.items) }
-{
-    effects.push(effect)?;
-    Ok(())
 }
 
 /// A brand is made that is named by a keyword.
@@ -83,34 +72,34 @@ fn keeping(alloc: Global, instance: u32, keyword: &Text, brand: u16) -> Result<E
 /// Adds that a brand is made that is named by a keyword.
 fn add_brand(
     alloc: Global,
-    effects: &mut Vec<Effect>,
+    effects: &mut Effects,
     instance: u32,
     keyword: &Text,
     kind: Kind,
 ) -> Result<(), AllocError>
-    requires { AreShaped effects.old.items }
-    ensures effects { OnOk result (effect_views effects.new.items ≡ effect_views effects.old.items
+    requires { IsEachShaped effects.old }
+    ensures effects { OnOk result (effects_view effects.new ≡ effects_view effects.old
         ++ worlds.new_brand (brand_of keyword.now kind) (worlds.of_instance instance) ∷ []) }
-    ensures shaped { OnOk result (AreShaped effects.new.items) }
+    ensures shaped { OnOk result (IsEachShaped effects.new) }
 {
-    add(effects, new_brand(alloc, instance, keyword, kind)?)
+    effects.push(new_brand(alloc, instance, keyword, kind)?)
 }
 
 /// Adds that an issuer is kept under a keyword.
 fn add_keeping(
     alloc: Global,
-    effects: &mut Vec<Effect>,
+    effects: &mut Effects,
     instance: u32,
     keyword: &Text,
     brand: u16,
 ) -> Result<(), AllocError>
     requires named { is_keyword keyword.now ≡ true }
-    requires shaped { AreShaped effects.old.items }
-    ensures effects { OnOk result (effect_views effects.new.items ≡ effect_views effects.old.items
+    requires shaped { IsEachShaped effects.old }
+    ensures effects { OnOk result (effects_view effects.new ≡ effects_view effects.old
         ++ worlds.add_issuer instance (issuer_of keyword.now brand) ∷ []) }
-    ensures shaped { OnOk result (AreShaped effects.new.items) }
+    ensures shaped { OnOk result (IsEachShaped effects.new) }
 {
-    add(effects, keeping(alloc, instance, keyword, brand)?)
+    effects.push(keeping(alloc, instance, keyword, brand)?)
 }
 
 /// A brand is made that is named by a keyword, and its issuer is kept under that.
@@ -120,14 +109,14 @@ fn making(
     keyword: &Text,
     kind: Kind,
     brand: u16,
-) -> Result<Vec<Effect>, AllocError>
+) -> Result<Effects, AllocError>
     requires { is_keyword keyword.now ≡ true }
-    ensures effects { IfOk result (λ es. effect_views es.items
+    ensures effects { IfOk result (λ es. effects_view es
         ≡ worlds.new_brand (brand_of keyword.now kind) (worlds.of_instance instance)
         ∷ worlds.add_issuer instance (issuer_of keyword.now brand) ∷ []) }
-    ensures shaped { IfOk result (λ es. AreShaped es.items) }
+    ensures shaped { IfOk result (λ es. IsEachShaped es) }
 {
-    let mut effects = Vec::new(alloc);
+    let mut effects = Effects::new(alloc);
     add_brand(alloc, &mut effects, instance, keyword, kind)?;
     add_keeping(alloc, &mut effects, instance, keyword, brand)?;
     Ok(effects)
@@ -178,13 +167,13 @@ fn only_keeping(
     instance: u32,
     keyword: &Text,
     brand: u16,
-) -> Result<Vec<Effect>, AllocError>
+) -> Result<Effects, AllocError>
     requires { is_keyword keyword.now ≡ true }
-    ensures effects { IfOk result (λ es. effect_views es.items
+    ensures effects { IfOk result (λ es. effects_view es
         ≡ worlds.add_issuer instance (issuer_of keyword.now brand) ∷ []) }
-    ensures shaped { IfOk result (λ es. AreShaped es.items) }
+    ensures shaped { IfOk result (λ es. IsEachShaped es) }
 {
-    let mut effects = Vec::new(alloc);
+    let mut effects = Effects::new(alloc);
     add_keeping(alloc, &mut effects, instance, keyword, brand)?;
     Ok(effects)
 }
@@ -203,7 +192,7 @@ fn saving(
       issuer_record (world_of world.now) brand,
       worlds.add_issuer instance (issuer_of keyword.now brand) ∷ [],
     )) }
-    ensures shaped { IfOk result (λ plan. AreShaped plan.effects.items) }
+    ensures shaped { IfOk result (λ plan. IsEachShaped plan.effects) }
 {
     let effects = only_keeping(alloc, instance, keyword, brand)?;
     let answer = issuer_record(alloc, world, brand)?;

@@ -2,8 +2,8 @@
 
 ghost use Rattle.std.specs.Prelude.{◌≡◌, ◌<◌, IfOk, Ok, length};
 ghost use Rattle.call_data.specs.Values.{amount_tree, object_tree};
+ghost use Rattle.call_plans.specs.Lists.{IsEachShaped};
 ghost use Rattle.call_plans.specs.Plans.{Plans, Reads, plan_view};
-ghost use Rattle.call_plans.specs.Views.{AreShaped};
 ghost use Rattle.call_rows.specs.Words.{next_payment, one_move};
 ghost use Rattle.call_words.specs.Handed.{AreHanded};
 ghost use Rattle.ertp_rows.specs.IssuerRows.{claim, get_amount_of};
@@ -72,7 +72,7 @@ fn burning(alloc: Global, brand: u16, given: LivePayment) -> Result<Plan, AllocE
       amount_tree (amount_of brand given.value),
       one_move brand (holders.Payment given.number) holders.Outside given.value,
     )) }
-    ensures shaped { IfOk result (λ plan. AreShaped plan.effects.items) }
+    ensures shaped { IfOk result (λ plan. IsEachShaped plan.effects) }
 {
     let burns = Movement {
         brand,

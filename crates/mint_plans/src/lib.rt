@@ -6,8 +6,8 @@ ghost use Rattle.std.specs.Prelude.{◌≡◌, ◌<◌, ◌∷◌, [], IfOk, Ok,
 ghost use Rattle.amount_math.specs.Content.{sum};
 ghost use Rattle.brands.specs.Brands.{brand_of, most_brands};
 ghost use Rattle.call_data.specs.Values.{object_tree};
+ghost use Rattle.call_plans.specs.Lists.{IsEachShaped};
 ghost use Rattle.call_plans.specs.Plans.{Plans, plan_view};
-ghost use Rattle.call_plans.specs.Views.{AreShaped};
 ghost use Rattle.call_rows.specs.Words.{next_of, next_payment, one_move};
 ghost use Rattle.ertp_mint.specs.BrandSupply.{supply_at};
 ghost use Rattle.host_world.specs.Worlds.{world_of};
@@ -72,7 +72,7 @@ fn kit_data(alloc: Global, kind: Kind, brand: u32) -> Result<Data, AllocError>
 fn making_kit(alloc: Global, name: &Text, kind: Kind, brand: u32) -> Result<Plan, AllocError>
     ensures plan { IfOk result (λ plan. plan_view plan
         ≡ (kit_tree kind brand, new_brand (brand_of name.now kind) of_kit ∷ [])) }
-    ensures shaped { IfOk result (λ plan. AreShaped plan.effects.items) }
+    ensures shaped { IfOk result (λ plan. IsEachShaped plan.effects) }
 {
     let answer = kit_data(alloc, kind, brand)?;
     match name.copy(alloc) {

@@ -4,8 +4,9 @@ ghost use Rattle.std.specs.Prelude.{◌≡◌, ◌<◌, ◌≤◌, ◌+◌, ◌+
 ghost use Rattle.call_arguments.specs.Arguments.{arg};
 ghost use Rattle.call_data.specs.Amounts.{seen};
 ghost use Rattle.call_data.specs.Values.{object_tree};
+ghost use Rattle.call_plans.specs.Lists.{IsEachShaped};
 ghost use Rattle.call_plans.specs.Plans.{Plans, plan_view};
-ghost use Rattle.call_plans.specs.Views.{AreShaped, offering_view};
+ghost use Rattle.call_plans.specs.Views.{offering_view};
 ghost use Rattle.call_words.specs.Handed.{AreHanded};
 ghost use Rattle.host_world.specs.Worlds.{world_of};
 ghost use Rattle.jessie_tree.specs.View.{named_trees, tree, trees};
@@ -264,7 +265,7 @@ fn planned(
       worlds.offer (offering (world_of world.now) (invited_view by)
           proposal payments.now (seen arguments.entry)) ∷ [],
     )) }
-    ensures shaped { IfOk result (λ plan. AreShaped plan.effects.items) }
+    ensures shaped { IfOk result (λ plan. IsEachShaped plan.effects) }
 {
     let offered = offering(alloc, world, by, proposal, payments, arguments)?;
     let answer = object_data(ObjKind::Seat, seats_made(&world.draft));

@@ -4,13 +4,14 @@
 #![tactic(auto)]
 
 ghost use Rattle.std.specs.Prelude.{◌≡◌, ◌++◌, ◌<◌, IfOk, OnOk, length};
-ghost use Rattle.call_plans.specs.Views.{AreShaped, effect_views};
+ghost use Rattle.call_plans.specs.Lists.{IsEachShaped, effects_view};
 ghost use Rattle.call_rows.specs.Traces.{all_open};
 ghost use Rattle.delivery_turns.specs.Tasks.{exit_if_open, exits_with, halt_with};
 ghost use Rattle.host_world.specs.Worlds.{world_of};
 ghost use Rattle.turn_events.specs.Views.{cause_view};
 
 use call_plans::effects::{Effect, InstancesEffect, SeatsEffect};
+use call_plans::lists::Effects;
 use host_world::World;
 use right_reads::seat_reads::is_open;
 use std::alloc::{AllocError, Global};
@@ -21,10 +22,10 @@ pub fn add_exit(
     world: &World,
     seat: u32,
     cause: Cause,
-    effects: &mut Vec<Effect>,
+    effects: &mut Effects,
 ) -> Result<(), AllocError>
     requires { seat < length (world_of world.now).seats }
-    ensures { OnOk result (effect_views effects.new.items ≡ effect_views effects.old.items
+    ensures { OnOk result (effects_view effects.new ≡ effects_view effects.old
         ++ exit_if_open (world_of world.now) seat (cause_view cause)) }
 {
     if is_open(&world.draft, seat) {
@@ -38,9 +39,9 @@ pub fn add_exits(
     world: &World,
     instance: u32,
     cause: Cause,
-    effects: &mut Vec<Effect>,
+    effects: &mut Effects,
 ) -> Result<(), AllocError>
-    ensures { OnOk result (effect_views effects.new.items ≡ effect_views effects.old.items
+    ensures { OnOk result (effects_view effects.new ≡ effects_view effects.old
         ++ exits_with (cause_view cause) (all_open (world_of world.now) instance)) }
 {
     for seat in world.draft.seats().seats_of(instance) {
@@ -55,9 +56,9 @@ pub fn add_halt(
     world: &World,
     instance: u32,
     cause: Cause,
-    effects: &mut Vec<Effect>,
+    effects: &mut Effects,
 ) -> Result<(), AllocError>
-    ensures { OnOk result (effect_views effects.new.items ≡ effect_views effects.old.items
+    ensures { OnOk result (effects_view effects.new ≡ effects_view effects.old
         ++ halt_with (cause_view cause) (world_of world.now) instance) }
 {
     add_exits(world, instance, cause, effects)?;
@@ -71,12 +72,12 @@ pub fn halt_with(
     world: &World,
     instance: u32,
     cause: Cause,
-) -> Result<Vec<Effect>, AllocError>
-    ensures effects { IfOk result (λ es. effect_views es.items
+) -> Result<Effects, AllocError>
+    ensures effects { IfOk result (λ es. effects_view es
         ≡ halt_with (cause_view cause) (world_of world.now) instance) }
-    ensures shaped { IfOk result (λ es. AreShaped es.items) }
+    ensures shaped { IfOk result (λ es. IsEachShaped es) }
 {
-    let mut effects = Vec::new(alloc);
+    let mut effects = Effects::new(alloc);
     add_halt(world, instance, cause, &mut effects)?;
     Ok(effects)
 }

@@ -4,8 +4,8 @@
 
 ghost use Rattle.std.specs.Prelude.{◌≡◌, ◌<◌, IfOk, Ok, length};
 ghost use Rattle.call_data.specs.Values.{amount_tree, object_tree};
+ghost use Rattle.call_plans.specs.Lists.{IsEachShaped};
 ghost use Rattle.call_plans.specs.Plans.{Plans, Reads, plan_view};
-ghost use Rattle.call_plans.specs.Views.{AreShaped};
 ghost use Rattle.call_rows.specs.Words.{next_payment, one_move};
 ghost use Rattle.call_words.specs.Handed.{AreHanded};
 ghost use Rattle.ertp_rows.specs.PaymentRows as payment_rows;
@@ -71,7 +71,7 @@ fn depositing(alloc: Global, purse: u32, brand: u16, given: LivePayment) -> Resu
       amount_tree (amount_of brand given.value),
       one_move brand (Payment given.number) (Purse purse) given.value,
     )) }
-    ensures shaped { IfOk result (λ plan. AreShaped plan.effects.items) }
+    ensures shaped { IfOk result (λ plan. IsEachShaped plan.effects) }
 {
     let LivePayment { number, value } = given;
     let deposits = Movement {

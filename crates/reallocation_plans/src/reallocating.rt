@@ -1,8 +1,8 @@
 //! Taking over what is staged of seats.
 
 ghost use Rattle.std.specs.Prelude.{◌≡◌, ◌<◌, ◌^◌, All, IfOk, length};
+ghost use Rattle.call_plans.specs.Lists.{IsEachShaped};
 ghost use Rattle.call_plans.specs.Plans.{Plans, plan_view};
-ghost use Rattle.call_plans.specs.Views.{AreShaped};
 ghost use Rattle.contract_words.specs.Known.{AreKnown};
 ghost use Rattle.host_world.specs.Worlds.{world_of};
 ghost use Rattle.jessie_tree.specs.Tree.{null};
@@ -43,7 +43,7 @@ fn seats_given(alloc: Global, world: &World, args: &[Data]) -> Result<Vec<u32>, 
 fn carrying(alloc: Global, touched: &[Touched]) -> Result<Plan, AllocError>
     requires { ArePassed touched.now }
     ensures plan { IfOk result (λ plan. plan_view plan ≡ (null, carried_out touched.now)) }
-    ensures shaped { IfOk result (λ plan. AreShaped plan.effects.items) }
+    ensures shaped { IfOk result (λ plan. IsEachShaped plan.effects) }
 {
     let effects = carrying_out(alloc, touched)?;
     Ok(Plan {

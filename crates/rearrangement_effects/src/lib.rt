@@ -4,7 +4,7 @@
 #![tactic(auto)]
 
 ghost use Rattle.std.specs.Prelude.{◌≡◌, IfOk, map};
-ghost use Rattle.call_plans.specs.Views.{AreShaped, effect_views};
+ghost use Rattle.call_plans.specs.Lists.{IsEachShaped, effects_view};
 ghost use Rattle.host_world.specs.Worlds.{world_of};
 ghost use Rattle.plan_checks.specs.Moves.{opened_by};
 ghost use Rattle.rearrangement_effects.specs.Passed.{ArePassed};
@@ -14,6 +14,7 @@ ghost use Rattle.trade_rows.specs.States.{has_room};
 ghost use Rattle.world_state.specs.Worlds.{unstage};
 
 use call_plans::effects::{Effect, RightsEffect};
+use call_plans::lists::Effects;
 use call_plans::moves::Moves;
 use host_world::World;
 use proposals::plans::Touched;
@@ -44,12 +45,12 @@ pub fn check_room(world: &World, touched: &[Touched]) -> Result<(), Stop>
 }
 
 /// What is staged of the seats is dropped.
-fn unstaging(alloc: Global, touched: &[Touched]) -> Result<Vec<Effect>, AllocError>
-    ensures effects { IfOk result (λ es. effect_views es.items
+fn unstaging(alloc: Global, touched: &[Touched]) -> Result<Effects, AllocError>
+    ensures effects { IfOk result (λ es. effects_view es
         ≡ map (λ seat. unstage seat) (seats_of touched.now)) }
-    ensures shaped { IfOk result (λ es. AreShaped es.items) }
+    ensures shaped { IfOk result (λ es. IsEachShaped es) }
 {
-    let mut effects = Vec::new(alloc);
+    let mut effects = Effects::new(alloc);
     for one in touched {
         effects.push(Effect::Rights(RightsEffect::Unstage(one.seat)))?;
     }
@@ -57,11 +58,10 @@ fn unstaging(alloc: Global, touched: &[Touched]) -> Result<Vec<Effect>, AllocErr
 }
 
 /// What is staged of the seats is dropped, then their slots are rearranged (Zoe).
-#[tactic(auto, using(crate::proofs::Shaped::shaped_last, crate::proofs::Shaped::views_last))]
-pub fn carrying_out(alloc: Global, touched: &[Touched]) -> Result<Vec<Effect>, AllocError>
+pub fn carrying_out(alloc: Global, touched: &[Touched]) -> Result<Effects, AllocError>
     requires { ArePassed touched.now }
-    ensures effects { IfOk result (λ es. effect_views es.items ≡ carried_out touched.now) }
-    ensures shaped { IfOk result (λ es. AreShaped es.items) }
+    ensures effects { IfOk result (λ es. effects_view es ≡ carried_out touched.now) }
+    ensures shaped { IfOk result (λ es. IsEachShaped es) }
 {
     let moves = moves_of(alloc, touched)?;
     let mut effects = unstaging(alloc, touched)?;

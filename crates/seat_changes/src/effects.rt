@@ -1,22 +1,23 @@
 //! The effects of a change of a seat's slots.
 
 ghost use Rattle.std.specs.Prelude.{◌≡◌, [], ◌∷◌, IfOk};
-ghost use Rattle.call_plans.specs.Views.{AreShaped, effect_views};
+ghost use Rattle.call_plans.specs.Lists.{IsEachShaped, effects_view};
 ghost use Rattle.movement_shapes.specs.Shapes.{AreTransfers};
 ghost use Rattle.trade_rows.specs.States.{changing};
 
 use call_plans::effects::{Effect, RightsEffect};
+use call_plans::lists::Effects;
 use call_plans::moves::Moves;
 use rights_model::Movement;
 use std::alloc::{AllocError, Global};
 
 /// What is staged of a seat is dropped, then movements are made, each by itself.
-pub fn changing(alloc: Global, seat: u32, moves: Vec<Movement>) -> Result<Vec<Effect>, AllocError>
+pub fn changing(alloc: Global, seat: u32, moves: Vec<Movement>) -> Result<Effects, AllocError>
     requires { AreTransfers moves.items }
-    ensures effects { IfOk result (λ es. effect_views es.items ≡ changing (seat ∷ []) moves.items) }
-    ensures shaped { IfOk result (λ es. AreShaped es.items) }
+    ensures effects { IfOk result (λ es. effects_view es ≡ changing (seat ∷ []) moves.items) }
+    ensures shaped { IfOk result (λ es. IsEachShaped es) }
 {
-    let mut effects = Vec::new(alloc);
+    let mut effects = Effects::new(alloc);
     effects.push(Effect::Rights(RightsEffect::Unstage(seat)))?;
     effects.push(Effect::Rights(RightsEffect::Moves(Moves::Transfers(moves))))?;
     Ok(effects)

@@ -3,8 +3,8 @@
 ghost use Rattle.std.specs.Prelude.{◌≡◌, ◌≤◌, [], ◌∷◌, IfOk, Ok, OnOk, List, length};
 ghost use Rattle.allocation_changes.specs.Gains.{with_gains};
 ghost use Rattle.allocation_changes.specs.Losses.{with_losses};
+ghost use Rattle.call_plans.specs.Lists.{IsEachShaped};
 ghost use Rattle.call_plans.specs.Plans.{Plans, plan_view};
-ghost use Rattle.call_plans.specs.Views.{AreShaped};
 ghost use Rattle.contract_rows.specs.SeatRows.{allocation_tree};
 ghost use Rattle.jessie_tree.specs.View.{tree};
 ghost use Rattle.plan_checks.specs.Slots.{can_give, can_take};
@@ -114,7 +114,7 @@ fn lost(alloc: Global, now: &[Row], rows: &[Row]) -> Result<Allocation, AllocErr
 /// Rows are staged of a seat.
 fn staging(alloc: Global, answer: Data, seat: u32, rows: Allocation) -> Result<Plan, AllocError>
     ensures plan { IfOk result (λ plan. plan_view plan ≡ (tree answer, stage seat rows ∷ [])) }
-    ensures shaped { IfOk result (λ plan. AreShaped plan.effects.items) }
+    ensures shaped { IfOk result (λ plan. IsEachShaped plan.effects) }
 {
     let stage = Effect::Rights(RightsEffect::Stage(seat, rows));
     Plan::with_effect(alloc, answer, stage)
@@ -128,7 +128,7 @@ fn more(alloc: Global, seat: u32, now: &[Row], rows: Vec<Row>) -> Result<Plan, A
     requires few { length (with_gains now.now rows.items) ≤ most_rows }
     ensures plan { IfOk result (λ plan. plan_view plan
         ≡ (allocation_tree rows.items, stage seat (with_gains now.now rows.items) ∷ [])) }
-    ensures shaped { IfOk result (λ plan. AreShaped plan.effects.items) }
+    ensures shaped { IfOk result (λ plan. IsEachShaped plan.effects) }
 {
     let answer = allocation_data(alloc, rows.as_slice())?;
     let after = gained(alloc, now, rows)?;
@@ -143,7 +143,7 @@ fn less(alloc: Global, seat: u32, now: &[Row], rows: &[Row]) -> Result<Plan, All
     requires few { length (with_losses now.now rows.now) ≤ most_rows }
     ensures plan { IfOk result (λ plan. plan_view plan
         ≡ (allocation_tree rows.now, stage seat (with_losses now.now rows.now) ∷ [])) }
-    ensures shaped { IfOk result (λ plan. AreShaped plan.effects.items) }
+    ensures shaped { IfOk result (λ plan. IsEachShaped plan.effects) }
 {
     let answer = allocation_data(alloc, rows)?;
     let after = lost(alloc, now, rows)?;

@@ -6,8 +6,9 @@ ghost use Rattle.brands.specs.IssuerRecords.{AreApart, AreIssuers, most_issuers}
 ghost use Rattle.call_arguments.specs.Arguments.{arg};
 ghost use Rattle.call_data.specs.Amounts.{seen};
 ghost use Rattle.call_data.specs.Values.{object_tree};
+ghost use Rattle.call_plans.specs.Lists.{IsEachShaped};
 ghost use Rattle.call_plans.specs.Plans.{Plans, plan_view};
-ghost use Rattle.call_plans.specs.Views.{AreShaped, starting_view};
+ghost use Rattle.call_plans.specs.Views.{starting_view};
 ghost use Rattle.call_words.specs.Handed.{AreHanded};
 ghost use Rattle.host_world.specs.Worlds.{world_of};
 ghost use Rattle.jessie_tree.specs.View.{named_trees, tree, trees};
@@ -128,7 +129,7 @@ fn planned(
       worlds.start
           (starting installation issuers.now (arg 3 (trees args.now)) (arg 4 (trees args.now))) ∷ [],
     )) }
-    ensures shaped { IfOk result (λ plan. AreShaped plan.effects.items) }
+    ensures shaped { IfOk result (λ plan. IsEachShaped plan.effects) }
 {
     let starts = starting(alloc, installation, issuers, args)?;
     let answer = object_data(ObjKind::Promise, promise);

@@ -3,8 +3,8 @@
 ghost use Rattle.std.specs.Prelude.{◌≡◌, ◌<◌, All, IfOk, Some, length};
 ghost use Rattle.call_arguments.specs.Arguments.{object_in};
 ghost use Rattle.call_data.specs.Amounts.{read_all};
+ghost use Rattle.call_plans.specs.Lists.{IsEachShaped};
 ghost use Rattle.call_plans.specs.Plans.{Plans, plan_view};
-ghost use Rattle.call_plans.specs.Views.{AreShaped};
 ghost use Rattle.contract_words.specs.Known.{AreKnown};
 ghost use Rattle.host_world.specs.Worlds.{world_of};
 ghost use Rattle.jessie_tree.specs.Tree.{null};
@@ -44,7 +44,7 @@ fn parts_at(alloc: Global, args: &[Data]) -> Result<Vec<GivenParts<'_>>, Stop>
 fn carrying(alloc: Global, touched: &[Touched]) -> Result<Plan, AllocError>
     requires { ArePassed touched.now }
     ensures plan { IfOk result (λ plan. plan_view plan ≡ (null, carried_out touched.now)) }
-    ensures shaped { IfOk result (λ plan. AreShaped plan.effects.items) }
+    ensures shaped { IfOk result (λ plan. IsEachShaped plan.effects) }
 {
     let effects = carrying_out(alloc, touched)?;
     Ok(Plan {

@@ -1,7 +1,7 @@
 //! The parts of a turn's end, in their order.
 
 ghost use Rattle.std.specs.Prelude.{◌≡◌, ◌++◌, ◌∷◌, [], IfOk, OnOk, codes};
-ghost use Rattle.call_plans.specs.Views.{AreShaped, effect_views};
+ghost use Rattle.call_plans.specs.Lists.{IsEachShaped, effects_view};
 ghost use Rattle.delivery_laws.specs.Works.{IsOut};
 ghost use Rattle.delivery_turns.specs.Endings.{binds, binds_to, ending, publishes, settles};
 ghost use Rattle.host_world.specs.Worlds.{world_of};
@@ -15,6 +15,7 @@ ghost use Rattle.world_state.specs.Worlds.{end_staging, in_front, publish};
 use crate::leaving::add_departures;
 use crate::settling::add_settling;
 use call_plans::effects::{Effect, InstancesEffect, RightsEffect};
+use call_plans::lists::Effects;
 use delivery_tasks::effects::binding;
 use host_world::World;
 use jessie_tree::data::Data;
@@ -40,9 +41,9 @@ fn publish(
     alloc: Global,
     instance: u32,
     given: &Data,
-    effects: &mut Vec<Effect>,
+    effects: &mut Effects,
 ) -> Result<(), AllocError>
-    ensures { OnOk result (effect_views effects.new.items ≡ effect_views effects.old.items
+    ensures { OnOk result (effects_view effects.new ≡ effects_view effects.old
         ++ publish instance (part (codes "publicFacet") (tree given.now)) ∷ []) }
 {
     let facet = public_facet(alloc, given)?;
@@ -55,9 +56,9 @@ fn add_publication(
     alloc: Global,
     delivery: &Delivery,
     answer: &Answer,
-    effects: &mut Vec<Effect>,
+    effects: &mut Effects,
 ) -> Result<(), AllocError>
-    ensures { OnOk result (effect_views effects.new.items ≡ effect_views effects.old.items
+    ensures { OnOk result (effects_view effects.new ≡ effects_view effects.old
         ++ publishes (delivery_view delivery.now) (answer_view answer.now)) }
 {
     match delivery {
@@ -76,9 +77,9 @@ fn bind(
     alloc: Global,
     call: &LineCall,
     given: &Data,
-    effects: &mut Vec<Effect>,
+    effects: &mut Effects,
 ) -> Result<(), AllocError>
-    ensures { OnOk result (effect_views effects.new.items ≡ effect_views effects.old.items
+    ensures { OnOk result (effects_view effects.new ≡ effects_view effects.old
         ++ binds_to call.now.by call.now.label (tree given.now)) }
 {
     if let Some(label) = &call.label {
@@ -93,9 +94,9 @@ fn add_binding(
     alloc: Global,
     delivery: &Delivery,
     answer: &Answer,
-    effects: &mut Vec<Effect>,
+    effects: &mut Effects,
 ) -> Result<(), AllocError>
-    ensures { OnOk result (effect_views effects.new.items ≡ effect_views effects.old.items
+    ensures { OnOk result (effects_view effects.new ≡ effects_view effects.old
         ++ binds (delivery_view delivery.now) (answer_view answer.now)) }
 {
     match delivery {
@@ -115,11 +116,11 @@ fn add_answer(
     world: &World,
     delivery: &Delivery,
     answer: &Answer,
-    effects: &mut Vec<Effect>,
+    effects: &mut Effects,
 ) -> Result<(), AllocError>
     requires good { IsGoodWorld (in_front (delivery_view delivery.now) (world_of world.now)) }
     requires out { IsOut (world_of world.now) (answer_view answer.now) }
-    ensures { OnOk result (effect_views effects.new.items ≡ effect_views effects.old.items
+    ensures { OnOk result (effects_view effects.new ≡ effects_view effects.old
         ++ (publishes (delivery_view delivery.now) (answer_view answer.now)
         ++ settles (world_of world.now).promises.follows (promise_of (delivery_view delivery.now))
         (settled_after (delivery_view delivery.now) (answer_view answer.now)))) }
@@ -129,9 +130,9 @@ fn add_answer(
 }
 
 /// Adds that all staging ends.
-fn add_last(effects: &mut Vec<Effect>) -> Result<(), AllocError>
+fn add_last(effects: &mut Effects) -> Result<(), AllocError>
     ensures { OnOk result
-        (effect_views effects.new.items ≡ effect_views effects.old.items ++ end_staging ∷ []) }
+        (effects_view effects.new ≡ effects_view effects.old ++ end_staging ∷ []) }
 {
     effects.push(Effect::Rights(RightsEffect::EndStaging))?;
     Ok(())
@@ -144,11 +145,11 @@ fn add_ending(
     world: &World,
     delivery: &Delivery,
     answer: &Answer,
-    effects: &mut Vec<Effect>,
+    effects: &mut Effects,
 ) -> Result<(), AllocError>
     requires good { IsGoodWorld (in_front (delivery_view delivery.now) (world_of world.now)) }
     requires out { IsOut (world_of world.now) (answer_view answer.now) }
-    ensures { OnOk result (effect_views effects.new.items ≡ effect_views effects.old.items
+    ensures { OnOk result (effects_view effects.new ≡ effects_view effects.old
         ++ ending (delivery_view delivery.now) (answer_view answer.now) (world_of world.now)) }
 {
     add_answer(alloc, world, delivery, answer, effects)?;
@@ -164,14 +165,14 @@ pub fn ending(
     world: &World,
     delivery: &Delivery,
     answer: &Answer,
-) -> Result<Vec<Effect>, AllocError>
+) -> Result<Effects, AllocError>
     requires good { IsGoodWorld (in_front (delivery_view delivery.now) (world_of world.now)) }
     requires out { IsOut (world_of world.now) (answer_view answer.now) }
-    ensures effects { IfOk result (λ es. effect_views es.items
+    ensures effects { IfOk result (λ es. effects_view es
         ≡ ending (delivery_view delivery.now) (answer_view answer.now) (world_of world.now)) }
-    ensures shaped { IfOk result (λ es. AreShaped es.items) }
+    ensures shaped { IfOk result (λ es. IsEachShaped es) }
 {
-    let mut effects = Vec::new(alloc);
+    let mut effects = Effects::new(alloc);
     add_ending(alloc, world, delivery, answer, &mut effects)?;
     Ok(effects)
 }

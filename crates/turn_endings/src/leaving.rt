@@ -1,7 +1,7 @@
 //! Seats that are left because a function threw, and instances that halt because their start did (Zoe).
 
 ghost use Rattle.std.specs.Prelude.{◌≡◌, ◌++◌, OnOk};
-ghost use Rattle.call_plans.specs.Views.{effect_views};
+ghost use Rattle.call_plans.specs.Lists.{effects_view};
 ghost use Rattle.delivery_turns.specs.Endings.{departs};
 ghost use Rattle.host_world.specs.Worlds.{world_of};
 ghost use Rattle.jessie_tree.specs.Tree.{Tree};
@@ -10,7 +10,7 @@ ghost use Rattle.turn_records.specs.Events.{threw};
 ghost use Rattle.world_state.specs.Good.{IsGoodWorld};
 ghost use Rattle.world_state.specs.Worlds.{in_front};
 
-use call_plans::effects::Effect;
+use call_plans::lists::Effects;
 use host_world::World;
 use open_seats::{add_exit, add_halt};
 use std::alloc::AllocError;
@@ -18,14 +18,10 @@ use turn_events::deliveries::Delivery;
 use turn_events::events::{Answer, Cause};
 
 /// Adds what leaves because the function of a delivery threw.
-fn add_thrown(
-    world: &World,
-    delivery: &Delivery,
-    effects: &mut Vec<Effect>,
-) -> Result<(), AllocError>
+fn add_thrown(world: &World, delivery: &Delivery, effects: &mut Effects) -> Result<(), AllocError>
     requires { IsGoodWorld (in_front (delivery_view delivery.now) (world_of world.now)) }
-    ensures { (t : Tree) → OnOk result (effect_views effects.new.items
-        ≡ effect_views effects.old.items
+    ensures { (t : Tree) → OnOk result (effects_view effects.new
+        ≡ effects_view effects.old
         ++ departs (delivery_view delivery.now) (threw t) (world_of world.now)) }
 {
     match delivery {
@@ -40,10 +36,10 @@ pub(crate) fn add_departures(
     world: &World,
     delivery: &Delivery,
     answer: &Answer,
-    effects: &mut Vec<Effect>,
+    effects: &mut Effects,
 ) -> Result<(), AllocError>
     requires { IsGoodWorld (in_front (delivery_view delivery.now) (world_of world.now)) }
-    ensures { OnOk result (effect_views effects.new.items ≡ effect_views effects.old.items
+    ensures { OnOk result (effects_view effects.new ≡ effects_view effects.old
         ++ departs (delivery_view delivery.now) (answer_view answer.now) (world_of world.now)) }
 {
     match answer {

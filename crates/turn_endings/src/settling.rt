@@ -2,7 +2,7 @@
 //! our own).
 
 ghost use Rattle.std.specs.Prelude.{◌≡◌, ◌==◌, ◌<◌, ◌++◌, IfOk, IfSome, OnOk, length};
-ghost use Rattle.call_plans.specs.Views.{effect_views};
+ghost use Rattle.call_plans.specs.Lists.{effects_view};
 ghost use Rattle.delivery_laws.specs.Works.{IsOut};
 ghost use Rattle.delivery_turns.specs.Endings.{last_followed, leads_back, settles, without_cycle};
 ghost use Rattle.host_world.specs.Worlds.{world_of};
@@ -17,6 +17,7 @@ ghost use Rattle.world_state.specs.Worlds.{in_front, promises_made};
 ghost use Rattle.turn_endings.specs.Leaders.{followed_in};
 
 use call_plans::effects::{Effect, PromisesEffect};
+use call_plans::lists::Effects;
 use host_world::World;
 use jessie_tree::data::{Data, ObjKind};
 use promise_store::{Settlement, State};
@@ -137,11 +138,11 @@ pub(crate) fn add_settling(
     world: &World,
     delivery: &Delivery,
     answer: &Answer,
-    effects: &mut Vec<Effect>,
+    effects: &mut Effects,
 ) -> Result<(), AllocError>
     requires good { IsGoodWorld (in_front (delivery_view delivery.now) (world_of world.now)) }
     requires out { IsOut (world_of world.now) (answer_view answer.now) }
-    ensures { OnOk result (effect_views effects.new.items ≡ effect_views effects.old.items
+    ensures { OnOk result (effects_view effects.new ≡ effects_view effects.old
         ++ settles (world_of world.now).promises.follows (promise_of (delivery_view delivery.now))
         (settled_after (delivery_view delivery.now) (answer_view answer.now))) }
 {

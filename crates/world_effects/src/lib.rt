@@ -4,12 +4,14 @@
 #![tactic(auto)]
 
 ghost use Rattle.std.specs.Prelude.{◌≡◌, OnOk};
+ghost use Rattle.call_plans.specs.Lists.{IsEachShaped, effects_view};
 ghost use Rattle.call_plans.specs.Views.{AreShaped, IsShaped, effect_view, effect_views};
 ghost use Rattle.host_world.specs.Worlds.{IsUndoable, world_of};
 ghost use Rattle.carried_effects.specs.Carried.{AreCarried, IsCarried, IsInTurn};
 ghost use Rattle.world_state.specs.Good.{AreGood, IsGoodEffect};
 
 use call_plans::effects::Effect;
+use call_plans::lists::Effects;
 use carried_effects::plain::{on_instances, on_labels, on_promises};
 use host_world::World;
 use rights_effects::carry_rights;
@@ -33,9 +35,8 @@ fn carry_one(world: &mut World, alloc: Global, effect: Effect) -> Result<(), All
     }
 }
 
-/// Effects of which each is good after those before it are carried out, in order. For want of memory some
-/// may have been, and the turn is to be undone.
-pub fn carry_out(world: &mut World, alloc: Global, effects: Vec<Effect>) -> Result<(), AllocError>
+/// Effects are carried out one by one, in order.
+fn carry_all(world: &mut World, alloc: Global, effects: Vec<Effect>) -> Result<(), AllocError>
     requires turn { IsInTurn world.old }
     requires shaped { AreShaped effects.items }
     requires good { AreGood (world_of world.old) (effect_views effects.items) }
@@ -46,4 +47,16 @@ pub fn carry_out(world: &mut World, alloc: Global, effects: Vec<Effect>) -> Resu
         carry_one(world, alloc, effect)?;
     }
     Ok(())
+}
+
+/// Effects of which each is good after those before it are carried out, in order. For want of memory some
+/// may have been, and the turn is to be undone.
+pub fn carry_out(world: &mut World, alloc: Global, effects: Effects) -> Result<(), AllocError>
+    requires turn { IsInTurn world.old }
+    requires shaped { IsEachShaped effects }
+    requires good { AreGood (world_of world.old) (effects_view effects) }
+    ensures ok { OnOk result (AreCarried world.old world.new (effects_view effects)) }
+    ensures back { IsUndoable world.old world.new }
+{
+    carry_all(world, alloc, effects.into_vec())
 }

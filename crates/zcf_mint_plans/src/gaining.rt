@@ -2,8 +2,8 @@
 
 ghost use Rattle.std.specs.Prelude.{◌≡◌, ◌<◌, [], ◌∷◌, All, IfOk, Ok, length, map};
 ghost use Rattle.call_data.specs.Amounts.{seen};
+ghost use Rattle.call_plans.specs.Lists.{IsEachShaped, effects_view};
 ghost use Rattle.call_plans.specs.Plans.{Plans};
-ghost use Rattle.call_plans.specs.Views.{AreShaped, effect_views};
 ghost use Rattle.contract_rows.specs.SeatRows.{allocation_of, seat_of};
 ghost use Rattle.contract_words.specs.Known.{AreKnown};
 ghost use Rattle.host_world.specs.Worlds.{world_of};
@@ -20,7 +20,7 @@ ghost use Rattle.zcf_mint_plans.specs.Left.{minted, minting_to};
 use crate::minters::minting_seat;
 use crate::outgoing::check_comes_out;
 use call_arguments::places::{argument, copy_of};
-use call_plans::effects::Effect;
+use call_plans::lists::Effects;
 use call_plans::plans::Plan;
 use contract_words::allocations::current_allocation;
 use host_world::World;
@@ -61,10 +61,10 @@ fn gains(alloc: Global, seat: u32, rows: &[Row]) -> Result<Vec<Movement>, AllocE
 
 /// What that does to the world.
 #[tactic(auto, using(crate::proofs::Shapes::gains_apart))]
-fn effects_of(alloc: Global, seat: u32, rows: &[Row]) -> Result<Vec<Effect>, AllocError>
-    ensures effects { IfOk result (λ es. effect_views es.items
+fn effects_of(alloc: Global, seat: u32, rows: &[Row]) -> Result<Effects, AllocError>
+    ensures effects { IfOk result (λ es. effects_view es
         ≡ changing (seat ∷ []) (map (gain seat) rows.now)) }
-    ensures shaped { IfOk result (λ es. AreShaped es.items) }
+    ensures shaped { IfOk result (λ es. IsEachShaped es) }
 {
     let gains = gains(alloc, seat, rows)?;
     changing(alloc, seat, gains)

@@ -1,8 +1,8 @@
 //! What an instance asks of itself, and how it ends.
 
 ghost use Rattle.std.specs.Prelude.{◌≡◌, ◌<◌, ◌++◌, IfOk, OnOk, length};
+ghost use Rattle.call_plans.specs.Lists.{IsEachShaped, effects_view};
 ghost use Rattle.call_plans.specs.Plans.{Plans, Reads};
-ghost use Rattle.call_plans.specs.Views.{AreShaped, effect_views};
 ghost use Rattle.call_rows.specs.Traces.{all_open};
 ghost use Rattle.contract_rows.specs.ZcfRows.{exits_of, get_instance, get_invitation_issuer, get_zoe_service, halting, shutdown, stop_accepting_offers};
 ghost use Rattle.host_world.specs.Worlds.{world_of};
@@ -11,6 +11,7 @@ ghost use Rattle.zcf_plans.specs.Exits.{exit_if_open};
 
 use call_data::values::object_data;
 use call_plans::effects::{Effect, InstancesEffect, SeatsEffect};
+use call_plans::lists::Effects;
 use call_plans::plans::Plan;
 use call_words::words::runs;
 use contract_words::given::check_not_local;
@@ -55,12 +56,11 @@ pub fn stop_accepting_offers(alloc: Global, instance: u32) -> Result<Plan, Stop>
 }
 
 /// Adds that a seat is left, if it is still open.
-#[tactic(auto, using(crate::proofs::Shaped::shaped_more))]
-fn add_exit(world: &World, seat: u32, effects: &mut Vec<Effect>) -> Result<(), AllocError>
+fn add_exit(world: &World, seat: u32, effects: &mut Effects) -> Result<(), AllocError>
     requires { seat < length (world_of world.now).seats }
-    ensures exits { OnOk result (effect_views effects.new.items ≡ effect_views effects.old.items
+    ensures exits { OnOk result (effects_view effects.new ≡ effects_view effects.old
         ++ exit_if_open (world_of world.now) seat) }
-    ensures shaped { AreShaped effects.old.items → OnOk result (AreShaped effects.new.items) }
+    ensures shaped { IsEachShaped effects.old → OnOk result (IsEachShaped effects.new) }
 {
     if is_open(&world.draft, seat) {
         effects.push(Effect::Seats(SeatsEffect::Exit(seat, Cause::Halted)))?;
@@ -69,13 +69,13 @@ fn add_exit(world: &World, seat: u32, effects: &mut Vec<Effect>) -> Result<(), A
 }
 
 /// All open seats of an instance are left, by number.
-fn exits(alloc: Global, world: &World, instance: u32) -> Result<Vec<Effect>, AllocError>
-    ensures exits { IfOk result (λ es. effect_views es.items
+fn exits(alloc: Global, world: &World, instance: u32) -> Result<Effects, AllocError>
+    ensures exits { IfOk result (λ es. effects_view es
         ≡ exits_of (all_open (world_of world.now) instance)) }
-    ensures shaped { IfOk result (λ es. AreShaped es.items) }
+    ensures shaped { IfOk result (λ es. IsEachShaped es) }
 {
     let seats = world.draft.seats().seats_of(instance);
-    let mut effects = Vec::new(alloc);
+    let mut effects = Effects::new(alloc);
     for seat in seats {
         add_exit(world, *seat, &mut effects)?;
     }
@@ -83,9 +83,9 @@ fn exits(alloc: Global, world: &World, instance: u32) -> Result<Vec<Effect>, All
 }
 
 /// All open seats of an instance are left, by number, then it halts.
-fn halting(alloc: Global, world: &World, instance: u32) -> Result<Vec<Effect>, AllocError>
-    ensures effects { IfOk result (λ es. effect_views es.items ≡ halting (world_of world.now) instance) }
-    ensures shaped { IfOk result (λ es. AreShaped es.items) }
+fn halting(alloc: Global, world: &World, instance: u32) -> Result<Effects, AllocError>
+    ensures effects { IfOk result (λ es. effects_view es ≡ halting (world_of world.now) instance) }
+    ensures shaped { IfOk result (λ es. IsEachShaped es) }
 {
     let mut effects = exits(alloc, world, instance)?;
     effects.push(Effect::Instances(InstancesEffect::Halt(instance)))?;

@@ -1,7 +1,7 @@
 use Rattle.std.specs.Prelude.{filter}
 use Rattle.std.proofs.Common.{◌≡◌, ◌++◌, append-nil, ap, sym, ◌∙◌}
 use Rattle.std.proofs.lemmas.List.{drop_all}
-use Rattle.call_plans.specs.Views.{effect_views}
+use Rattle.call_plans.specs.Lists.{effects_view}
 use Rattle.delivery_turns.specs.Tasks.{exits_with}
 use Rattle.host_world.specs.Worlds.{world_of}
 use Rattle.turn_events.specs.Views.{cause_view}
@@ -14,15 +14,15 @@ add_exit-requires c =
 
 pub loop-seat-preserved : goal.loop-seat-preserved
 loop-seat-preserved c =
-    one_more (world_of c.args.world.now).seats (cause_view c.args.cause) (effect_views c.loop-seat.effects.items) _ _ c.seats_of-seat-items.result.now c.loop-seat.seat-index c.loop-seat-test.true c.loop-seat.invariant c.in_ok-add_exit.ensures
+    one_more (world_of c.args.world.now).seats (cause_view c.args.cause) (effects_view c.loop-seat.effects) _ _ c.seats_of-seat-items.result.now c.loop-seat.seat-index c.loop-seat-test.true c.loop-seat.invariant c.in_ok-add_exit.ensures
 
 pub returns : goal.returns
 returns c =
-    let vs = effect_views c.loop-seat.effects.items in
+    let vs = effects_view c.loop-seat.effects in
     let exits = exits_with (cause_view c.args.cause) in
     let opened = is_open_at (world_of c.args.world.now).seats in
     sym (append-nil vs)
     ∙ sym (ap (λ ns. vs ++ exits (filter opened ns)) (drop_all c.loop-seat.seat-index c.seats_of-seat-items.result.now c.loop-seat-test.false))
     ∙ c.loop-seat.invariant
-    ∙ ap (λ ns. effect_views c.args.effects.now.items ++ exits (filter opened ns)) c.seats_of-seat-items.ensures
-    ∙ ap (λ ns. effect_views c.args.effects.now.items ++ exits ns) (open_seats c.seats.result.now.seats c.args.world.now.draft.now.seats c.args.instance c.seats.ensures.seats)
+    ∙ ap (λ ns. effects_view c.args.effects.now ++ exits (filter opened ns)) c.seats_of-seat-items.ensures
+    ∙ ap (λ ns. effects_view c.args.effects.now ++ exits ns) (open_seats c.seats.result.now.seats c.args.world.now.draft.now.seats c.args.instance c.seats.ensures.seats)

@@ -1,6 +1,6 @@
 use Rattle.std.specs.Prelude.{filter}
 use Rattle.std.proofs.Common.{◌≡◌, ◌++◌, drop}
-use Rattle.call_plans.specs.Views.{effect_views}
+use Rattle.call_plans.specs.Lists.{effects_view}
 use Rattle.delivery_turns.specs.Tasks.{exits_with}
 use Rattle.host_world.specs.Worlds.{world_of}
 use Rattle.turn_events.specs.Views.{cause_view}
@@ -9,5 +9,5 @@ use Rattle.open_seats.proofs.add_exits.Given as goal
 
 abbrev pub invariant-loop-seat : goal.invariant-loop-seat
 invariant-loop-seat l =
-    effect_views l.effects.items ++ exits_with (cause_view l.cause) (filter (is_open_at (world_of l.world).seats) (drop l.seat-index l.seat-items))
-    ≡ effect_views l.initial.effects.items ++ exits_with (cause_view l.cause) (filter (is_open_at (world_of l.world).seats) l.seat-items)
+    effects_view l.effects ++ exits_with (cause_view l.cause) (filter (is_open_at (world_of l.world).seats) (drop l.seat-index l.seat-items))
+    ≡ effects_view l.initial.effects ++ exits_with (cause_view l.cause) (filter (is_open_at (world_of l.world).seats) l.seat-items)

@@ -1,12 +1,12 @@
 use Rattle.std.proofs.Common.{ap}
-use Rattle.call_plans.specs.Views.{effect_views}
+use Rattle.call_plans.specs.Lists.{effects_view}
 use Rattle.delivery_tasks.specs.Views.{task_view}
 use Rattle.jessie_tree.specs.View.{trees}
 use Rattle.front_turns.proofs.Done.{all_done, all_good, refused_done, serve_done, serve_good}
 use Rattle.front_turns.proofs.tasks.worked.Goals as goal
 
 pub carried-done-requires-clause-good : goal.carried-done-requires-clause-good
-carried-done-requires-clause-good g c = all_good c.args.meter c.args.world (task_view c.args.task) (effect_views c.in-DoAll.effects.items) (ap task_view c.in-DoAll.is) c.requires.good
+carried-done-requires-clause-good g c = all_good c.args.meter c.args.world (task_view c.args.task) (effects_view c.in-DoAll.effects) (ap task_view c.in-DoAll.is) c.requires.good
 
 pub served-done-requires-clause-good : goal.served-done-requires-clause-good
 served-done-requires-clause-good g c =
@@ -17,7 +17,7 @@ returns-in-Refuse-clause-done g c = refused_done c.args.meter c.args.world (task
 
 pub returns-in-DoAll-clause-done : goal.returns-in-DoAll-clause-done
 returns-in-DoAll-clause-done g c =
-    all_done c.args.meter c.args.world (task_view c.args.task) (effect_views c.in-DoAll.effects.items) c.carried-done.new.world c.carried-done.result (ap task_view c.in-DoAll.is) c.carried-done.ensures.answer c.carried-done.ensures.ok
+    all_done c.args.meter c.args.world (task_view c.args.task) (effects_view c.in-DoAll.effects) c.carried-done.new.world c.carried-done.result (ap task_view c.in-DoAll.is) c.carried-done.ensures.answer c.carried-done.ensures.ok
 
 pub returns-in-Serve-clause-done : goal.returns-in-Serve-clause-done
 returns-in-Serve-clause-done g c =

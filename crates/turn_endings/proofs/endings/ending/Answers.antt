@@ -1,5 +1,4 @@
 use Rattle.std.proofs.Common.{◌∙◌, ap, ◌++◌}
-use Rattle.call_plans.specs.Views.{effect_views}
 use Rattle.delivery_turns.specs.Endings.{ending}
 use Rattle.host_world.specs.Worlds.{world_of}
 use Rattle.turn_events.specs.Views.{answer_view, delivery_view}
@@ -11,4 +10,4 @@ returns-clause-shaped c =
     let d = delivery_view c.args.delivery.now in
     let a = answer_view c.args.answer.now in
     let w = world_of c.args.world.now in
-    ending_shaped _ d a w (c.in_ok-add_ending.ensures ∙ ap (λ es. effect_views es ++ ending d a w) c.new-effects.ensures.items)
+    ending_shaped _ d a w (c.in_ok-add_ending.ensures ∙ ap (λ es. es ++ ending d a w) c.new-effects.ensures.view)

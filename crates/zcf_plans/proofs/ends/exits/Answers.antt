@@ -1,7 +1,7 @@
 use Rattle.std.specs.Prelude.{filter}
 use Rattle.std.proofs.Common.{◌++◌, append-nil, ap, sym, ◌∙◌}
 use Rattle.std.proofs.lemmas.List.{drop_all}
-use Rattle.call_plans.specs.Views.{effect_views}
+use Rattle.call_plans.specs.Lists.{effects_view}
 use Rattle.contract_rows.specs.ZcfRows.{exits_of}
 use Rattle.host_world.specs.Worlds.{world_of}
 use Rattle.zcf_plans.proofs.OpenSeats.{is_open_at, number_made, one_more, open_seats}
@@ -12,13 +12,13 @@ add_exit-requires c = number_made c.seats.result.now.seats c.args.world.now.draf
 
 pub loop-seat-preserved : goal.loop-seat-preserved
 loop-seat-preserved c = record {
-  exits = one_more (world_of c.args.world.now).seats (effect_views c.loop-seat.effects.items) _ _ c.seats_of-seats.result.now c.loop-seat.seat-index c.loop-seat-test.true c.loop-seat.invariant.exits c.in_ok-add_exit.ensures.exits;
+  exits = one_more (world_of c.args.world.now).seats (effects_view c.loop-seat.effects) _ _ c.seats_of-seats.result.now c.loop-seat.seat-index c.loop-seat-test.true c.loop-seat.invariant.exits c.in_ok-add_exit.ensures.exits;
   shaped = c.in_ok-add_exit.ensures.shaped c.loop-seat.invariant.shaped;
 }
 
 pub returns-clause-exits : goal.returns-clause-exits
 returns-clause-exits c =
-    let vs = effect_views c.loop-seat.effects.items in
+    let vs = effects_view c.loop-seat.effects in
     let opened = is_open_at (world_of c.args.world.now).seats in
     sym (append-nil vs)
     ∙ sym (ap (λ ns. vs ++ exits_of (filter opened ns)) (drop_all c.loop-seat.seat-index c.seats_of-seats.result.now c.loop-seat-test.false))

@@ -4,7 +4,7 @@ use Rattle.call_plans.specs.Views.{effect_view}
 use Rattle.call_plans.specs.declared.effects.Effect.{Effect}
 use Rattle.carried_effects.proofs.Carrying.{IsCarrying, begins, carries_on, ends}
 use Rattle.carried_effects.proofs.Joined.{back_on}
-use Rattle.world_effects.proofs.carry_out.Goals as goal
+use Rattle.world_effects.proofs.carry_all.Goals as goal
 
 pub loop-effect-preserved : goal.loop-effect-preserved
 loop-effect-preserved c =

@@ -1,7 +1,7 @@
 use Rattle.std.proofs.Common.{◌≡◌, length}
 use Rattle.std.specs.Vec.Iter.{into_iter_items, into_iter_len}
 use Rattle.carried_effects.proofs.Carrying.{IsCarrying}
-use Rattle.world_effects.proofs.carry_out.Given as goal
+use Rattle.world_effects.proofs.carry_all.Given as goal
 
 abbrev pub invariant-loop-effect : goal.invariant-loop-effect
 invariant-loop-effect l = record {

@@ -1,22 +1,10 @@
--- Effects with one more, last.
+-- Staging that is dropped, seat by seat.
 use Rattle.std.proofs.Common.{◌≡◌, ℕ, ◌+◌, ◌<◌, ◌++◌, List, [], ◌∷◌, get_or, length, map, take, refl, sym, ap, ◌∙◌}
 use Rattle.std.proofs.lemmas.List.{take_more}
-use Rattle.call_plans.specs.Views.{AreShaped, IsShaped, effect_view, effect_views}
-use Rattle.call_plans.specs.declared.effects.Effect.{Effect}
 use Rattle.proposals.specs.declared.plans.Touched.{Touched}
 use Rattle.trade_rows.specs.Rearranging.{seats_of}
 use Rattle.world_state.specs.Worlds as worlds
 use Rattle.world_state.specs.Worlds.{unstage}
-
-pub shaped_last : (es : List Effect) (e : Effect) → AreShaped es → IsShaped e → AreShaped (es ++ e ∷ [])
-shaped_last [] e all one = (one, tt)
-shaped_last (x ∷ xs) e all one = (all.0, shaped_last xs e all.1 one)
-
-pub views_last : (es : List Effect) (e : Effect) → effect_views (es ++ e ∷ []) ≡ effect_views es ++ effect_view e ∷ []
-views_last [] e = refl
-views_last (x ∷ xs) e = ap (λ l. effect_view x ∷ l) (views_last xs e)
-
--- ---- staging that is dropped
 
 abbrev pub all_unstaged : List Touched → List worlds.Effect
 all_unstaged ts = map (λ seat. unstage seat) (seats_of ts)
