@@ -16,6 +16,7 @@ use jessie_calls::built_ins::call_built_in;
 use jessie_machine::host::Powers;
 use jessie_machine::machine::{End, Machine, read_literal, take};
 use jessie_machine::names::{assign_name, bind_all, bind_name, find_function, read_name};
+use jessie_machine::numbers::{chain_at_hand, test_at_hand};
 use jessie_machine::operations::{
     apply, apply_unary, call_amounts, check, decide, make_array, make_record, parts, read_index,
     run_field,
@@ -473,6 +474,10 @@ fn run_chain<P: Powers>(
     ensures runs { Runs P.answers powers.old powers.new (behind (expr (running «module».now room) (term_view first.now)) (operands (running «module».now room) (operands_view rest.now))) (here «module».now values.now machine.old) (come tree result) (here «module».now values.now machine.new) }
     ensures fits { machine.new.meter ≤ P.room powers.new }
 {
+    if let Some(made) = chain_at_hand(machine, first, rest) {
+        machine.meter = made.left;
+        return Ok(Data::Number(made.number));
+    }
     let mut data = run_expr(alloc, powers, module, room, values, machine, first)?;
     for (operator, right) in rest {
         data = run_operator(
@@ -554,6 +559,10 @@ fn run_test<P: Powers>(
     ensures runs { Runs P.answers powers.old powers.new (test (running «module».now room) (term_view condition.now)) (here «module».now values.now machine.old) (come (λ b. b) result) (here «module».now values.now machine.new) }
     ensures fits { machine.new.meter ≤ P.room powers.new }
 {
+    if let Some(test) = test_at_hand(machine, condition) {
+        machine.meter = test.left;
+        return Ok(test.holds);
+    }
     let data = run_expr(alloc, powers, module, room, values, machine, condition)?;
     check(&data)
 }

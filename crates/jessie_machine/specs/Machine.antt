@@ -1,12 +1,14 @@
 -- Where the code stands in an evaluation, as the rules see it.
-use Rattle.std.specs.Prelude.{ℕ, zero, suc, List, [], ◌∷◌, map, Option, Some, None, option_map, Vec, if◌then◌else◌}
+use Rattle.std.specs.Prelude.{ℕ, ℤ, Bool, zero, suc, List, [], ◌∷◌, map, Option, Some, None, option_map, Vec, if◌then◌else◌}
 use Rattle.std.specs.Str.{bytes_eq}
 use Rattle.std.specs.declared.alloc.Global.{Global}
-use Rattle.jessie_tree.specs.Tree.{Tree, null}
+use Rattle.jessie_tree.specs.Tree.{Tree, null, boolean, number}
 use Rattle.jessie_tree.specs.View.{tree, trees, named_trees}
 use Rattle.jessie_tree.specs.declared.data.Data.{Data}
-use Rattle.jessie_semantics.specs.Actions.{Bindings, State, first_of}
-use Rattle.jessie_semantics.specs.Rules.{End, next, leaves}
+use Rattle.jessie_syntax.specs.declared.syntax.Operator.{Operator}
+use Rattle.jessie_semantics.specs.Actions.{Bindings, State, Action, ◌>>=◌, first_of}
+use Rattle.jessie_semantics.specs.Rules.{End, next, leaves, operator_rule}
+use Rattle.jessie_semantics.specs.Runs.{Computes, came}
 use Rattle.jessie_machine.specs.declared.machine.Machine.{Machine}
 use Rattle.jessie_machine.specs.declared.machine.End.{End as CodeEnd}
 use Rattle.jessie_machine.specs.declared.machine.End.TheVariants.{Next, Leaves}
@@ -71,3 +73,15 @@ set_value (b ∷ bs) (suc i) v = b ∷ set_value bs i v
 abbrev pub place : List ℕ → List (List ℕ) → Option ℕ
 place x [] = None
 place x (y ∷ ys) = first_of (option_map suc (place x ys)) (if bytes_eq y x then Some 0 else None)
+
+-- where these are the function's own names, and so much is left of the meter
+abbrev pub standing : Bindings → Bindings → ℕ → State
+standing locals globals n = record { locals = locals; globals = globals; meter = n }
+
+-- what is done comes to this number, and takes the meter from one value to another
+abbrev pub Makes : Action Tree → Bindings → ℕ → ℤ → ℕ → Type 0
+Makes a locals before n after = (globals : Bindings) → Computes a (standing locals globals before) (came (number n)) (standing locals globals after)
+
+-- what is done, and an operator behind it with its operand, come to this truth value
+abbrev pub Decides : Action Tree → Operator → Action Tree → Bindings → ℕ → Bool → ℕ → Type 0
+Decides a op b locals before t after = (globals : Bindings) → Computes (a >>= operator_rule op b) (standing locals globals before) (came (boolean t)) (standing locals globals after)

@@ -1,0 +1,21 @@
+use Rattle.std.proofs.Common.{◌≤◌, ◌+◌, ◌*◌, drop}
+use Rattle.jessie_tree.specs.View.{named_trees}
+use Rattle.jessie_syntax.specs.Syntax.{chain, operands_view, term_view}
+use Rattle.jessie_semantics.specs.Rules.{Program, expr}
+use Rattle.jessie_machine.proofs.AtHand.{Reached}
+use Rattle.jessie_machine.proofs.numbers.+number.Given as goal
+
+abbrev pub decreases-number_at : goal.decreases-number_at
+decreases-number_at l = l.depth * 3
+
+abbrev pub decreases-chain_number : goal.decreases-chain_number
+decreases-chain_number l = l.depth * 3 + 2
+
+abbrev pub decreases-number_behind : goal.decreases-number_behind
+decreases-number_behind l = l.depth * 3 + 1
+
+abbrev pub invariant-chain_number-loop-operator : goal.invariant-chain_number-loop-operator
+invariant-chain_number-loop-operator l = record {
+  reached : (m : Program) → Reached m (expr m (chain (term_view l.first) (operands_view l.rest))) (drop l.operator-index l.rest) (named_trees l.locals) l.fn.meter l.number l.meter;
+  kept : l.meter ≤ l.fn.meter;
+}

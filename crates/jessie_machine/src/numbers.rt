@@ -1,0 +1,253 @@
+// Numbers at hand: a literal, one of the function's own names that holds one, and what arithmetic makes of
+// such, worked at once. Where something else comes, or a charge is missing, nothing is worked.
+ghost use Rattle.std.specs.Prelude.{◌≡◌, ◌≤◌, ◌+◌, ℕ, List, Ok, IfSome};
+ghost use Rattle.jessie_tree.specs.Tree.{Tree, boolean as boolean_tree, number as number_tree};
+ghost use Rattle.jessie_tree.specs.View.{named_trees};
+ghost use Rattle.jessie_syntax.specs.Syntax.{chain, operands_view, term_view};
+ghost use Rattle.jessie_values.specs.Dispatch.{operate};
+ghost use Rattle.jessie_values.specs.Literals.{literal_tree};
+ghost use Rattle.jessie_semantics.specs.Actions.{Bindings};
+ghost use Rattle.jessie_semantics.specs.Rules.{Program, expr, literal_rule, name_rule, operator_rule, test};
+ghost use Rattle.jessie_semantics.specs.Runs.{Computes, came};
+ghost use Rattle.jessie_machine.specs.Machine.{Makes, Decides, state};
+
+use crate::machine::Machine;
+use host_text::text::Text;
+use jessie_locals::locals::Locals;
+use jessie_syntax::syntax::{Expr, Literal, Operator};
+use jessie_tree::data::Data;
+
+/// How deep arithmetic nests at most that is worked at once.
+const DEEPEST: u32 = 4;
+
+/// A number at hand, and what is left of the meter.
+#[derive(Clone, Copy)]
+pub struct NumberAtHand {
+    pub number: i128,
+    pub left: u64,
+}
+
+/// The outcome of a comparison of numbers at hand, and what is left of the meter.
+#[derive(Clone, Copy)]
+pub struct TestAtHand {
+    pub holds: bool,
+    pub left: u64,
+}
+
+/// What an operator makes of two numbers, where that is a number.
+fn number_made(operator: Operator, a: i128, b: i128) -> Option<i128>
+    ensures { IfSome result (λ n. operate operator (number_tree a) (number_tree b) ≡ Ok (number_tree n)) }
+{
+    match operator {
+        Operator::Add => a.checked_add(b),
+        Operator::Subtract => a.checked_sub(b),
+        Operator::Multiply => a.checked_mul(b),
+        Operator::Divide => quotient(a, b),
+        Operator::Remainder => rest(a, b),
+        _ => None,
+    }
+}
+
+fn quotient(a: i128, b: i128) -> Option<i128>
+    ensures { IfSome result (λ n. operate Operator.Divide (number_tree a) (number_tree b) ≡ Ok (number_tree n)) }
+{
+    if b == 0 {
+        return None;
+    }
+    a.checked_div(b)
+}
+
+fn rest(a: i128, b: i128) -> Option<i128>
+    ensures { IfSome result (λ n. operate Operator.Remainder (number_tree a) (number_tree b) ≡ Ok (number_tree n)) }
+{
+    if b == 0 {
+        return None;
+    }
+    Some(a.wrapping_rem(b))
+}
+
+/// Whether the operators of the level make numbers.
+fn makes_numbers(rest: &[(Operator, Expr)]) -> bool {
+    match rest {
+        [(operator, _), ..] => match operator {
+            Operator::Add => true,
+            Operator::Subtract => true,
+            Operator::Multiply => true,
+            Operator::Divide => true,
+            Operator::Remainder => true,
+            _ => false,
+        },
+        [] => false,
+    }
+}
+
+/// How two numbers compare, where the operator asks that.
+fn number_test(operator: Operator, a: i128, b: i128) -> Option<bool>
+    ensures { IfSome result (λ t. operate operator (number_tree a) (number_tree b) ≡ Ok (boolean_tree t)) }
+{
+    match operator {
+        Operator::Equal => Some(a == b),
+        Operator::Unequal => Some(a != b),
+        Operator::Less => Some(a < b),
+        Operator::AtMost => Some(a <= b),
+        Operator::Greater => Some(a > b),
+        Operator::AtLeast => Some(a >= b),
+        _ => None,
+    }
+}
+
+/// Takes the charges of reading a number.
+fn paid_number(meter: &mut u64, number: &i128) -> Option<i128>
+    ensures value { IfSome result (λ n. n ≡ number.now) }
+    ensures paid { IfSome result (λ n. meter.new + 2 ≡ meter.old) }
+    ensures kept { meter.new ≤ meter.old }
+{
+    if *meter < 2 {
+        return None;
+    }
+    *meter -= 2;
+    Some(*number)
+}
+
+/// The number that a literal is.
+fn literal_number(meter: &mut u64, literal: &Literal) -> Option<i128>
+    ensures does { (locals : Bindings) → IfSome result (λ n. Makes (literal_rule (literal_tree literal.now)) locals meter.old n meter.new) }
+    ensures kept { meter.new ≤ meter.old }
+{
+    match literal {
+        Literal::Number(number) => paid_number(meter, number),
+        _ => None,
+    }
+}
+
+/// The number that one of the function's own names holds.
+fn local_number(locals: &Locals<Data>, meter: &mut u64, name: &Text) -> Option<i128>
+    ensures does { (m : Program) → IfSome result (λ n. Makes (name_rule m name.now) (named_trees locals.now) meter.old n meter.new) }
+    ensures kept { meter.new ≤ meter.old }
+{
+    let i = locals.place(name.as_str())?;
+    let binding = &locals.as_slice()[i];
+    match &binding.1 {
+        Data::Number(number) => paid_number(meter, number),
+        _ => None,
+    }
+}
+
+/// The number that an expression is.
+#[cycle(number)]
+#[inline(always)]
+fn number_at(depth: u32, locals: &Locals<Data>, meter: &mut u64, expression: &Expr) -> Option<i128>
+    ensures does { (m : Program) → IfSome result (λ n. Makes (expr m (term_view expression.now)) (named_trees locals.now) meter.old n meter.new) }
+    ensures kept { meter.new ≤ meter.old }
+{
+    match expression {
+        Expr::Literal(literal) => literal_number(meter, literal),
+        Expr::Name(name) => local_number(locals, meter, name),
+        Expr::Chain(first, rest) => {
+            if depth == 0 {
+                return None;
+            }
+            chain_number(depth - 1, locals, meter, first.get(), rest.as_slice())
+        }
+        _ => None,
+    }
+}
+
+/// The number that a chain is.
+#[cycle(number)]
+#[inline(never)]
+fn chain_number(
+    depth: u32,
+    locals: &Locals<Data>,
+    meter: &mut u64,
+    first: &Expr,
+    rest: &[(Operator, Expr)],
+) -> Option<i128>
+    ensures does { (m : Program) → IfSome result (λ n. Makes (expr m (chain (term_view first.now) (operands_view rest.now))) (named_trees locals.now) meter.old n meter.new) }
+    ensures kept { meter.new ≤ meter.old }
+{
+    if !makes_numbers(rest) {
+        return None;
+    }
+    let mut number = number_at(depth, locals, meter, first)?;
+    for (operator, right) in rest {
+        number = number_behind(depth, locals, meter, number, *operator, right)?;
+    }
+    Some(number)
+}
+
+/// What an operator makes of a number and what is behind it.
+#[cycle(number)]
+#[inline(always)]
+fn number_behind(
+    depth: u32,
+    locals: &Locals<Data>,
+    meter: &mut u64,
+    left: i128,
+    operator: Operator,
+    right: &Expr,
+) -> Option<i128>
+    ensures does { (m : Program) → IfSome result (λ n. Makes (operator_rule operator (expr m (term_view right.now)) (number_tree left)) (named_trees locals.now) meter.old n meter.new) }
+    ensures kept { meter.new ≤ meter.old }
+{
+    if *meter == 0 {
+        return None;
+    }
+    *meter -= 1;
+    let right = number_at(depth, locals, meter, right)?;
+    number_made(operator, left, right)
+}
+
+/// The number that a chain is.
+#[inline(never)]
+pub fn chain_at_hand(
+    machine: &Machine,
+    first: &Expr,
+    rest: &[(Operator, Expr)],
+) -> Option<NumberAtHand>
+    ensures does { (m : Program) (names : List (List ℕ)) (values : List Tree) → IfSome result (λ made. Computes (expr m (chain (term_view first.now) (operands_view rest.now))) (state names values machine.now) (came (number_tree made.number)) (state names values (record machine.now { meter = made.left }))) }
+    ensures kept { IfSome result (λ made. made.left ≤ machine.now.meter) }
+{
+    let mut left = machine.meter;
+    let number = chain_number(DEEPEST, &machine.locals, &mut left, first, rest)?;
+    Some(NumberAtHand { number, left })
+}
+
+/// How two numbers compare.
+fn compared(
+    locals: &Locals<Data>,
+    meter: &mut u64,
+    first: &Expr,
+    operator: Operator,
+    second: &Expr,
+) -> Option<bool>
+    ensures does { (m : Program) → IfSome result (λ t. Decides (expr m (term_view first.now)) operator (expr m (term_view second.now)) (named_trees locals.now) meter.old t meter.new) }
+    ensures kept { meter.new ≤ meter.old }
+{
+    let a = number_at(DEEPEST, locals, meter, first)?;
+    if *meter == 0 {
+        return None;
+    }
+    *meter -= 1;
+    let b = number_at(DEEPEST, locals, meter, second)?;
+    number_test(operator, a, b)
+}
+
+/// What a condition comes to that compares two numbers.
+#[inline(never)]
+pub fn test_at_hand(machine: &Machine, condition: &Expr) -> Option<TestAtHand>
+    ensures does { (m : Program) (names : List (List ℕ)) (values : List Tree) → IfSome result (λ made. Computes (test m (term_view condition.now)) (state names values machine.now) (came made.holds) (state names values (record machine.now { meter = made.left }))) }
+    ensures kept { IfSome result (λ made. made.left ≤ machine.now.meter) }
+{
+    match condition {
+        Expr::Chain(first, rest) => match rest.as_slice() {
+            [(operator, second)] => {
+                let mut left = machine.meter;
+                let holds = compared(&machine.locals, &mut left, first.get(), *operator, second)?;
+                Some(TestAtHand { holds, left })
+            }
+            _ => None,
+        },
+        _ => None,
+    }
+}
