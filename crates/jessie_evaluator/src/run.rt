@@ -476,7 +476,7 @@ fn run_chain<P: Powers>(
 {
     if let Some(made) = chain_at_hand(machine, first, rest) {
         machine.meter = made.left;
-        return Ok(Data::Number(made.number));
+        return Ok(made.value.data());
     }
     let mut data = run_expr(alloc, powers, module, room, values, machine, first)?;
     for (operator, right) in rest {

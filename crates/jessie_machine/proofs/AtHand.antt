@@ -146,6 +146,12 @@ chain_ends m a xs i ls before n after h r gs = record {
   does = λ z k. (r gs).goes k ∙ ap (λ l. operands m (operands_view l) (number n) (standing ls gs after) k) (drop_all i xs h);
 }
 
+-- a chain of one operator
+pub chain_decides : (m : Program) (t u : Term) (op : Operator) (holds : Bool) (ls gs : Bindings) (before after : ℕ) → Decides (expr m t) op (expr m u) ls before holds after
+    → Computes (expr m (chain t (operand op u no_operands))) (standing ls gs before) (came (boolean holds)) (standing ls gs after)
+unfolding ◌>>=◌ pure
+chain_decides m t u op holds ls gs before after h = record { does = λ z k. (h gs).does tt (onward (λ w. pure w) k) }
+
 -- a condition of one operator
 pub condition_decides : (m : Program) (t u : Term) (op : Operator) (holds : Bool) (ls gs : Bindings) (before after : ℕ) → Decides (expr m t) op (expr m u) ls before holds after
     → Computes (test m (chain t (operand op u no_operands))) (standing ls gs before) (came holds) (standing ls gs after)

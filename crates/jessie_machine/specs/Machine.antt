@@ -10,6 +10,8 @@ use Rattle.jessie_semantics.specs.Actions.{Bindings, State, Action, ◌>>=◌, f
 use Rattle.jessie_semantics.specs.Rules.{End, next, leaves, operator_rule}
 use Rattle.jessie_semantics.specs.Runs.{Computes, came}
 use Rattle.jessie_machine.specs.declared.machine.Machine.{Machine}
+use Rattle.jessie_machine.specs.declared.numbers.Worked.{Worked}
+use Rattle.jessie_machine.specs.declared.numbers.Worked.TheVariants.{Number, Truth}
 use Rattle.jessie_machine.specs.declared.machine.End.{End as CodeEnd}
 use Rattle.jessie_machine.specs.declared.machine.End.TheVariants.{Next, Leaves}
 
@@ -85,3 +87,8 @@ Makes a locals before n after = (globals : Bindings) → Computes a (standing lo
 -- what is done, and an operator behind it with its operand, come to this truth value
 abbrev pub Decides : Action Tree → Operator → Action Tree → Bindings → ℕ → Bool → ℕ → Type 0
 Decides a op b locals before t after = (globals : Bindings) → Computes (a >>= operator_rule op b) (standing locals globals before) (came (boolean t)) (standing locals globals after)
+
+-- what numbers at hand come to
+abbrev pub worked_tree : Worked → Tree
+worked_tree (Number z) = number z
+worked_tree (Truth b) = boolean b

@@ -2,14 +2,14 @@
 // such, worked at once. Where something else comes, or a charge is missing, nothing is worked.
 ghost use Rattle.std.specs.Prelude.{◌≡◌, ◌≤◌, ◌+◌, ℕ, List, Ok, IfSome};
 ghost use Rattle.jessie_tree.specs.Tree.{Tree, boolean as boolean_tree, number as number_tree};
-ghost use Rattle.jessie_tree.specs.View.{named_trees};
+ghost use Rattle.jessie_tree.specs.View.{named_trees, tree};
 ghost use Rattle.jessie_syntax.specs.Syntax.{chain, operands_view, term_view};
 ghost use Rattle.jessie_values.specs.Dispatch.{operate};
 ghost use Rattle.jessie_values.specs.Literals.{literal_tree};
 ghost use Rattle.jessie_semantics.specs.Actions.{Bindings};
 ghost use Rattle.jessie_semantics.specs.Rules.{Program, expr, literal_rule, name_rule, operator_rule, test};
 ghost use Rattle.jessie_semantics.specs.Runs.{Computes, came};
-ghost use Rattle.jessie_machine.specs.Machine.{Makes, Decides, state};
+ghost use Rattle.jessie_machine.specs.Machine.{Makes, Decides, state, worked_tree};
 
 use crate::machine::Machine;
 use host_text::text::Text;
@@ -20,10 +20,29 @@ use jessie_tree::data::Data;
 /// How deep arithmetic nests at most that is worked at once.
 const DEEPEST: u32 = 4;
 
-/// A number at hand, and what is left of the meter.
+/// What numbers at hand come to: a number, or whether a comparison of them holds.
 #[derive(Clone, Copy)]
-pub struct NumberAtHand {
-    pub number: i128,
+pub enum Worked {
+    Number(i128),
+    Truth(bool),
+}
+
+impl Worked {
+    /// It as a value.
+    pub fn data(&self) -> Data
+        ensures { tree result ≡ worked_tree self.now }
+    {
+        match self {
+            Worked::Number(number) => Data::Number(*number),
+            Worked::Truth(truth) => Data::Bool(*truth),
+        }
+    }
+}
+
+/// What a chain at hand comes to, and what is left of the meter.
+#[derive(Clone, Copy)]
+pub struct ChainAtHand {
+    pub value: Worked,
     pub left: u64,
 }
 
@@ -198,21 +217,6 @@ fn number_behind(
     number_made(operator, left, right)
 }
 
-/// The number that a chain is.
-#[inline(never)]
-pub fn chain_at_hand(
-    machine: &Machine,
-    first: &Expr,
-    rest: &[(Operator, Expr)],
-) -> Option<NumberAtHand>
-    ensures does { (m : Program) (names : List (List ℕ)) (values : List Tree) → IfSome result (λ made. Computes (expr m (chain (term_view first.now) (operands_view rest.now))) (state names values machine.now) (came (number_tree made.number)) (state names values (record machine.now { meter = made.left }))) }
-    ensures kept { IfSome result (λ made. made.left ≤ machine.now.meter) }
-{
-    let mut left = machine.meter;
-    let number = chain_number(DEEPEST, &machine.locals, &mut left, first, rest)?;
-    Some(NumberAtHand { number, left })
-}
-
 /// How two numbers compare.
 fn compared(
     locals: &Locals<Data>,
@@ -231,6 +235,42 @@ fn compared(
     *meter -= 1;
     let b = number_at(DEEPEST, locals, meter, second)?;
     number_test(operator, a, b)
+}
+
+/// Whether the operator compares numbers.
+fn compares(operator: Operator) -> bool {
+    match operator {
+        Operator::Equal => true,
+        Operator::Unequal => true,
+        Operator::Less => true,
+        Operator::AtMost => true,
+        Operator::Greater => true,
+        Operator::AtLeast => true,
+        _ => false,
+    }
+}
+
+/// What a chain of arithmetic comes to, or one comparison.
+#[inline(never)]
+pub fn chain_at_hand(
+    machine: &Machine,
+    first: &Expr,
+    rest: &[(Operator, Expr)],
+) -> Option<ChainAtHand>
+    ensures does { (m : Program) (names : List (List ℕ)) (values : List Tree) → IfSome result (λ made. Computes (expr m (chain (term_view first.now) (operands_view rest.now))) (state names values machine.now) (came (worked_tree made.value)) (state names values (record machine.now { meter = made.left }))) }
+    ensures kept { IfSome result (λ made. made.left ≤ machine.now.meter) }
+{
+    let mut left = machine.meter;
+    if let [(operator, second)] = rest {
+        if compares(*operator) {
+            let holds = compared(&machine.locals, &mut left, first, *operator, second)?;
+            let value = Worked::Truth(holds);
+            return Some(ChainAtHand { value, left });
+        }
+    }
+    let number = chain_number(DEEPEST, &machine.locals, &mut left, first, rest)?;
+    let value = Worked::Number(number);
+    Some(ChainAtHand { value, left })
 }
 
 /// What a condition comes to that compares two numbers.

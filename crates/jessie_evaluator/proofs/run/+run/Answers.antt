@@ -1,11 +1,8 @@
-use Rattle.std.proofs.Common.{FitsSigned, ◌-◌, ◌+◌, ◌++◌, drop, map, length, sym, ap, ◌∙◌, arith, rules}
-use Rattle.std.specs.Int.{w128}
-use Rattle.std.proofs.Math.Facts.{to_z-of_z}
+use Rattle.std.proofs.Common.{◌-◌, ◌+◌, ◌++◌, drop, map, length, sym, ap, ◌∙◌, arith, rules}
 use Rattle.std.specs.Option.{option_to_list}
 use Rattle.std.specs.Vec.Iter.{into_iter_items}
-use Rattle.jessie_tree.specs.Tree.{number}
 use Rattle.jessie_tree.specs.View.{tree, trees, named_trees}
-use Rattle.jessie_tree.proofs.Views.{tree-Null, tree-Number}
+use Rattle.jessie_tree.proofs.Views.{tree-Null}
 use Rattle.jessie_syntax.specs.Syntax.{routine, routines, term_view, terms_view, named_terms_view, link_view, return_view, statement_view, block_view}
 use Rattle.jessie_syntax.proofs.Views.{term-Literal, term-Name, link-Field, link-Index, statement-Const, statement-Let, statement-Assign, statement-Return, statement-Throw, statement-Run}
 use Rattle.jessie_values.specs.declared.reasons.Reason.TheVariants.{WrongKind, TooDeep}
@@ -311,8 +308,7 @@ run_unary-returns-clause-runs g t c =
 pub run_chain-returns-in-Some-clause-runs : goal.run_chain-returns-in-Some-clause-runs
 run_chain-returns-in-Some-clause-runs g t c =
     let m = running c.args.module.now c.args.room in
-    let fits : FitsSigned w128 c.in-Some.made.number = search rules in
-    runs_to (ap (λ z. came (number z)) (sym (to_z-of_z fits)) ∙ ap (λ v. came v) (sym (tree-Number _))) (computed (c.in-Some.ensures.does m _ _))
+    runs_to (ap (λ v. came v) (sym c.«data».ensures)) (computed (c.in-Some.ensures.does m _ _))
 
 pub run_chain-returns-in_err-data-clause-runs : goal.run_chain-returns-in_err-data-clause-runs
 run_chain-returns-in_err-data-clause-runs g t c =
