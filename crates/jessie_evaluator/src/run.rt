@@ -1,10 +1,10 @@
 // The evaluator: a function for each form, down the tree as it was read.
-ghost use Rattle.std.specs.Prelude.{[], ◌≤◌};
+ghost use Rattle.std.specs.Prelude.{[], ◌≤◌, false};
 ghost use Rattle.jessie_tree.specs.View.{tree, trees};
 ghost use Rattle.jessie_syntax.specs.Syntax.{routines, term_view, terms_view, named_terms_view, operands_view, link_view, links_view, return_view, statement_view, branches_view, block_view};
 ghost use Rattle.jessie_values.specs.Dispatch.{unary};
 ghost use Rattle.jessie_semantics.specs.Actions.{scoped};
-ghost use Rattle.jessie_semantics.specs.Rules.{expr, exprs, named_exprs, links, one_link, operands, apply_built_in, primary_rule, send_rule, record_rule, method_rule, index_rule, unary_rule, operator_rule, choice_rule, test, stmt, form, branches, block, declare_rule, assign_rule, repeat_rule, for_rule, raise_rule, try_rule, run_rule, with_name, calls_of};
+ghost use Rattle.jessie_semantics.specs.Rules.{expr, exprs, named_exprs, links, one_link, operands, apply_built_in, primary_rule, send_rule, record_rule, method_rule, index_rule, unary_rule, operator_rule, right_side, choice_rule, test, stmt, form, branches, block, declare_rule, assign_rule, repeat_rule, for_rule, raise_rule, try_rule, run_rule, with_name, calls_of};
 ghost use Rattle.jessie_semantics.specs.Runs.{Runs};
 ghost use Rattle.jessie_machine.specs.Stops.{come};
 ghost use Rattle.jessie_machine.specs.Machine.{end_of, all_seen, fields_seen};
@@ -510,6 +510,29 @@ fn run_operator<P: Powers>(
     if skipped {
         return Ok(left);
     }
+    run_right(
+        alloc, powers, module, room, values, machine, left, operator, right,
+    )
+}
+
+/// What is behind an operator, where the left side alone doesn't decide.
+#[cycle(run)]
+#[inline]
+fn run_right<P: Powers>(
+    alloc: Global,
+    powers: &mut P,
+    module: &Module,
+    room: u32,
+    values: &[Data],
+    machine: &mut Machine,
+    left: Data,
+    operator: Operator,
+    right: &Expr,
+) -> Result<Data, Stop>
+    requires { machine.old.meter ≤ P.room powers.old }
+    ensures runs { Runs P.answers powers.old powers.new (right_side false operator (expr (running «module».now room) (term_view right.now)) (tree left)) (here «module».now values.now machine.old) (come tree result) (here «module».now values.now machine.new) }
+    ensures fits { machine.new.meter ≤ P.room powers.new }
+{
     let right = run_expr(alloc, powers, module, room, values, machine, right)?;
     apply(alloc, operator, left, &right)
 }

@@ -353,17 +353,19 @@ run_operator-returns-then-skipped-clause-runs g t c =
     (then_runs _ (computed (c.in_ok-skipped.ensures _))
     (runs_as (right_true _ _ _ _ c.if-skipped.true) (computed (pure_computes _ _))))
 
-pub run_operator-returns-in_err-right-clause-runs : goal.run_operator-returns-in_err-right-clause-runs
-run_operator-returns-in_err-right-clause-runs g t c =
-    then_runs _ (computed (c.in_ok-take.ensures.does _ _))
-    (then_runs _ (computed (c.in_ok-skipped.ensures _))
-    (runs_as (right_false _ _ _ _ c.if-skipped.false) (stops tree _ _ _ c.from_residual-in_err-right.ensures.1 c.in_err-right.ensures.runs)))
-
 pub run_operator-returns-clause-runs : goal.run_operator-returns-clause-runs
 run_operator-returns-clause-runs g t c =
     then_runs _ (computed (c.in_ok-take.ensures.does _ _))
     (then_runs _ (computed (c.in_ok-skipped.ensures _))
-    (runs_as (right_false _ _ _ _ c.if-skipped.false) (then_runs _ c.in_ok-right.ensures.runs (computed (c.apply.ensures _)))))
+    (runs_as (right_false _ _ _ _ c.if-skipped.false) c.run_right.ensures.runs))
+
+pub run_right-returns-in_err-right-clause-runs : goal.run_right-returns-in_err-right-clause-runs
+run_right-returns-in_err-right-clause-runs g t c =
+    stops tree _ _ _ c.from_residual.ensures.1 c.in_err-right.ensures.runs
+
+pub run_right-returns-clause-runs : goal.run_right-returns-clause-runs
+run_right-returns-clause-runs g t c =
+    then_runs _ c.in_ok-right.ensures.runs (computed (c.apply.ensures _))
 
 pub run_choice-returns-in_err-data-clause-runs : goal.run_choice-returns-in_err-data-clause-runs
 run_choice-returns-in_err-data-clause-runs g t c =

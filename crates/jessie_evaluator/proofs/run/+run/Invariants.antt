@@ -55,7 +55,10 @@ abbrev pub decreases-run_chain : goal.decreases-run_chain
 decreases-run_chain g l = l.room * routines_weight (routines l.module.now) + (weight (term_view l.first.now) + operands_weight (operands_view l.rest.now) + 1)
 
 abbrev pub decreases-run_operator : goal.decreases-run_operator
-decreases-run_operator g l = l.room * routines_weight (routines l.module.now) + (weight (term_view l.right.now) + 1)
+decreases-run_operator g l = l.room * routines_weight (routines l.module.now) + (weight (term_view l.right.now) + 2)
+
+abbrev pub decreases-run_right : goal.decreases-run_right
+decreases-run_right g l = l.room * routines_weight (routines l.module.now) + (weight (term_view l.right.now) + 1)
 
 abbrev pub decreases-run_choice : goal.decreases-run_choice
 decreases-run_choice g l = l.room * routines_weight (routines l.module.now) + (weight (term_view l.condition.now) + weight (term_view l.first.now) + weight (term_view l.second.now) + 1)
