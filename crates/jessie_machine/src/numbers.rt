@@ -55,7 +55,8 @@ pub struct TestAtHand {
 
 /// What an operator makes of two numbers, where that is a number.
 fn number_made(operator: Operator, a: i128, b: i128) -> Option<i128>
-    ensures { IfSome result (λ n. operate operator (number_tree a) (number_tree b) ≡ Ok (number_tree n)) }
+    ensures { IfSome result (λ n. operate operator (number_tree a) (number_tree b)
+        ≡ Ok (number_tree n)) }
 {
     match operator {
         Operator::Add => a.checked_add(b),
@@ -68,7 +69,8 @@ fn number_made(operator: Operator, a: i128, b: i128) -> Option<i128>
 }
 
 fn quotient(a: i128, b: i128) -> Option<i128>
-    ensures { IfSome result (λ n. operate Operator.Divide (number_tree a) (number_tree b) ≡ Ok (number_tree n)) }
+    ensures { IfSome result (λ n. operate Operator.Divide (number_tree a) (number_tree b)
+        ≡ Ok (number_tree n)) }
 {
     if b == 0 {
         return None;
@@ -77,7 +79,8 @@ fn quotient(a: i128, b: i128) -> Option<i128>
 }
 
 fn rest(a: i128, b: i128) -> Option<i128>
-    ensures { IfSome result (λ n. operate Operator.Remainder (number_tree a) (number_tree b) ≡ Ok (number_tree n)) }
+    ensures { IfSome result (λ n. operate Operator.Remainder (number_tree a) (number_tree b)
+        ≡ Ok (number_tree n)) }
 {
     if b == 0 {
         return None;
@@ -102,7 +105,8 @@ fn makes_numbers(rest: &[(Operator, Expr)]) -> bool {
 
 /// How two numbers compare, where the operator asks that.
 fn number_test(operator: Operator, a: i128, b: i128) -> Option<bool>
-    ensures { IfSome result (λ t. operate operator (number_tree a) (number_tree b) ≡ Ok (boolean_tree t)) }
+    ensures { IfSome result (λ t. operate operator (number_tree a) (number_tree b)
+        ≡ Ok (boolean_tree t)) }
 {
     match operator {
         Operator::Equal => Some(a == b),
@@ -130,7 +134,9 @@ fn paid_number(meter: &mut u64, number: &i128) -> Option<i128>
 
 /// The number that a literal is.
 fn literal_number(meter: &mut u64, literal: &Literal) -> Option<i128>
-    ensures does { (locals : Bindings) → IfSome result (λ n. Makes (literal_rule (literal_tree literal.now)) locals meter.old n meter.new) }
+    ensures does { (locals : Bindings)
+        → IfSome result
+        (λ n. Makes (literal_rule (literal_tree literal.now)) locals meter.old n meter.new) }
     ensures kept { meter.new ≤ meter.old }
 {
     match literal {
@@ -141,7 +147,9 @@ fn literal_number(meter: &mut u64, literal: &Literal) -> Option<i128>
 
 /// The number that one of the function's own names holds.
 fn local_number(locals: &Locals<Data>, meter: &mut u64, name: &Text) -> Option<i128>
-    ensures does { (m : Program) → IfSome result (λ n. Makes (name_rule m name.now) (named_trees locals.now) meter.old n meter.new) }
+    ensures does { (m : Program)
+        → IfSome result (λ n. Makes (name_rule m name.now)
+        (named_trees locals.now) meter.old n meter.new) }
     ensures kept { meter.new ≤ meter.old }
 {
     let i = locals.place(name.as_str())?;
@@ -156,7 +164,9 @@ fn local_number(locals: &Locals<Data>, meter: &mut u64, name: &Text) -> Option<i
 #[cycle(number)]
 #[inline(always)]
 fn number_at(depth: u32, locals: &Locals<Data>, meter: &mut u64, expression: &Expr) -> Option<i128>
-    ensures does { (m : Program) → IfSome result (λ n. Makes (expr m (term_view expression.now)) (named_trees locals.now) meter.old n meter.new) }
+    ensures does { (m : Program)
+        → IfSome result (λ n. Makes (expr m (term_view expression.now))
+        (named_trees locals.now) meter.old n meter.new) }
     ensures kept { meter.new ≤ meter.old }
 {
     match expression {
@@ -182,7 +192,9 @@ fn chain_number(
     first: &Expr,
     rest: &[(Operator, Expr)],
 ) -> Option<i128>
-    ensures does { (m : Program) → IfSome result (λ n. Makes (expr m (chain (term_view first.now) (operands_view rest.now))) (named_trees locals.now) meter.old n meter.new) }
+    ensures does { (m : Program)
+        → IfSome result (λ n. Makes (expr m (chain (term_view first.now)
+        (operands_view rest.now))) (named_trees locals.now) meter.old n meter.new) }
     ensures kept { meter.new ≤ meter.old }
 {
     if !makes_numbers(rest) {
@@ -206,7 +218,10 @@ fn number_behind(
     operator: Operator,
     right: &Expr,
 ) -> Option<i128>
-    ensures does { (m : Program) → IfSome result (λ n. Makes (operator_rule operator (expr m (term_view right.now)) (number_tree left)) (named_trees locals.now) meter.old n meter.new) }
+    ensures does { (m : Program)
+        → IfSome result (λ n. Makes (operator_rule operator
+        (expr m (term_view right.now)) (number_tree left))
+        (named_trees locals.now) meter.old n meter.new) }
     ensures kept { meter.new ≤ meter.old }
 {
     if *meter == 0 {
@@ -225,7 +240,9 @@ fn compared(
     operator: Operator,
     second: &Expr,
 ) -> Option<bool>
-    ensures does { (m : Program) → IfSome result (λ t. Decides (expr m (term_view first.now)) operator (expr m (term_view second.now)) (named_trees locals.now) meter.old t meter.new) }
+    ensures does { (m : Program)
+        → IfSome result (λ t. Decides (expr m (term_view first.now)) operator
+        (expr m (term_view second.now)) (named_trees locals.now) meter.old t meter.new) }
     ensures kept { meter.new ≤ meter.old }
 {
     let a = number_at(DEEPEST, locals, meter, first)?;
@@ -257,7 +274,11 @@ pub fn chain_at_hand(
     first: &Expr,
     rest: &[(Operator, Expr)],
 ) -> Option<ChainAtHand>
-    ensures does { (m : Program) (names : List (List ℕ)) (values : List Tree) → IfSome result (λ made. Computes (expr m (chain (term_view first.now) (operands_view rest.now))) (state names values machine.now) (came (worked_tree made.value)) (state names values (record machine.now { meter = made.left }))) }
+    ensures does { (m : Program) (names : List (List ℕ)) (values : List Tree)
+        → IfSome result (λ made. Computes (expr m (chain (term_view first.now)
+        (operands_view rest.now))) (state names values machine.now)
+        (came (worked_tree made.value))
+        (state names values (record machine.now { meter = made.left }))) }
     ensures kept { IfSome result (λ made. made.left ≤ machine.now.meter) }
 {
     let mut left = machine.meter;
@@ -276,7 +297,10 @@ pub fn chain_at_hand(
 /// What a condition comes to that compares two numbers.
 #[inline(never)]
 pub fn test_at_hand(machine: &Machine, condition: &Expr) -> Option<TestAtHand>
-    ensures does { (m : Program) (names : List (List ℕ)) (values : List Tree) → IfSome result (λ made. Computes (test m (term_view condition.now)) (state names values machine.now) (came made.holds) (state names values (record machine.now { meter = made.left }))) }
+    ensures does { (m : Program) (names : List (List ℕ)) (values : List Tree)
+        → IfSome result (λ made. Computes (test m (term_view condition.now))
+        (state names values machine.now) (came made.holds)
+        (state names values (record machine.now { meter = made.left }))) }
     ensures kept { IfSome result (λ made. made.left ≤ machine.now.meter) }
 {
     match condition {
