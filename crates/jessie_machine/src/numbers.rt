@@ -68,6 +68,7 @@ fn number_made(operator: Operator, a: i128, b: i128) -> Option<i128>
     }
 }
 
+/// `/`, cut towards 0, where it is one of 128 bits.
 fn quotient(a: i128, b: i128) -> Option<i128>
     ensures { IfSome result (λ n. operate Operator.Divide (number_tree a) (number_tree b)
         ≡ Ok (number_tree n)) }
@@ -78,6 +79,7 @@ fn quotient(a: i128, b: i128) -> Option<i128>
     a.checked_div(b)
 }
 
+/// `%`, with the sign of the number that is divided.
 fn rest(a: i128, b: i128) -> Option<i128>
     ensures { IfSome result (λ n. operate Operator.Remainder (number_tree a) (number_tree b)
         ≡ Ok (number_tree n)) }
