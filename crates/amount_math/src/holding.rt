@@ -15,10 +15,15 @@ use std::marker::Model;
 /// A content of a kind in a place of its own, which is changed in place. It may have any number of keys, so
 /// it serves what is out of a brand as well as one holder's store. Contracts see its value, and for how
 /// many keys there is room: a call within the room takes no memory, and no call lessens the room.
-#[derive(Drop)]
 pub struct Holding {
     alloc: Global,
     shape: Shape,
+}
+
+impl Drop for Holding {
+    fn drop(self) {
+        let Holding { alloc: _, shape: _ } = self;
+    }
 }
 
 impl Model for Holding {

@@ -18,9 +18,14 @@ use std::marker::Model;
 /// Keys with their counts, as entries in byte order of the keys. It is `None` where nothing was ever
 /// put in, so that an empty one wants no allocator. Contracts see the content, and for how many keys
 /// there is room.
-#[derive(Drop)]
 pub(crate) struct Keyed {
     entries: Option<Vec<Entry>>,
+}
+
+impl Drop for Keyed {
+    fn drop(self) {
+        let Keyed { entries: _ } = self;
+    }
 }
 
 impl Model for Keyed {
@@ -242,7 +247,8 @@ impl Keyed {
         requires room { keys_of (sum self.old.content other.content) ≤ self.old.room }
         ensures { self.new ≡ record self.old { content = sum self.old.content other.content } }
     {
-        let Some(more) = other.entries else {
+        let Keyed { entries } = other;
+        let Some(more) = entries else {
             return;
         };
         let Some(held) = &mut self.entries else {

@@ -18,9 +18,14 @@ pub const COUNT_BOUND: u64 = (1 << 63) - 1;
 
 /// A text that may be a key of a set or a bag, as its bytes, by which keys are ordered. One of 1 to
 /// 64 bytes is a key.
-#[derive(Drop)]
 pub struct Key {
     text: String,
+}
+
+impl Drop for Key {
+    fn drop(self) {
+        let Key { text: _ } = self;
+    }
 }
 
 impl Model for Key {
@@ -84,10 +89,15 @@ impl Eq for Key {
 }
 
 /// A key with its count, of which a set has 1 each.
-#[derive(Drop)]
 pub struct Entry {
     key: Key,
     count: u64,
+}
+
+impl Drop for Entry {
+    fn drop(self) {
+        let Entry { key: _, count: _ } = self;
+    }
 }
 
 impl Model for Entry {
@@ -108,7 +118,8 @@ impl Entry {
     pub(crate) fn into_key(self) -> Key
         ensures { result ≡ self.0 }
     {
-        self.key
+        let Entry { key, count: _ } = self;
+        key
     }
 
     pub fn key(&self) -> &Key

@@ -96,10 +96,15 @@ impl Model for Value {
 }
 
 /// A value of a brand, which goes by its number.
-#[derive(Drop)]
 pub struct Amount {
     pub brand: u16,
     pub value: Value,
+}
+
+impl Drop for Amount {
+    fn drop(self) {
+        let Amount { brand: _, value: _ } = self;
+    }
 }
 
 impl Value {

@@ -8,10 +8,15 @@ ghost use Rattle.amount_math.specs.Worth.{IsValue};
 use crate::{Holding, Value};
 
 /// Less is held than is asked for: what is held, and what is asked for.
-#[derive(Drop)]
 pub struct Shortfall {
     pub held: Value,
     pub asked: Value,
+}
+
+impl Drop for Shortfall {
+    fn drop(self) {
+        let Shortfall { held: _, asked: _ } = self;
+    }
 }
 
 /// Why a part isn't taken out of what is held.

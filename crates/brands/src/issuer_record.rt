@@ -32,10 +32,15 @@ pub enum IssuerFault {
 
 /// A record from keyword to issuer. It keeps the order of adding (own). Contracts see it as the list of
 /// its issuers.
-#[derive(Drop)]
 pub struct IssuerRecord {
     /// Each issuer by the text of its keyword.
     issuers: IndexMap<String, Issuer>,
+}
+
+impl Drop for IssuerRecord {
+    fn drop(self) {
+        let IssuerRecord { issuers: _ } = self;
+    }
 }
 
 impl Model for IssuerRecord {

@@ -16,7 +16,6 @@ use jessie_tree::data::Data;
 use std::alloc::{AllocError, AllocFailed, Global};
 
 /// Why a line or a call is refused.
-#[derive(Drop)]
 pub enum Refusal {
     /// The line is no JSON object.
     BadLine,
@@ -74,6 +73,41 @@ pub enum Refusal {
     TextRefused(u32, Text),
     /// The meter that was used up.
     Spent(u32),
+}
+
+impl Drop for Refusal {
+    fn drop(self) {
+        match self {
+            Refusal::BadLine => {}
+            Refusal::BadField(_) => {}
+            Refusal::BadLabel(_) => {}
+            Refusal::BadKeyword(_) => {}
+            Refusal::UnknownName(_) => {}
+            Refusal::NameTaken(_) => {}
+            Refusal::Pending => {}
+            Refusal::Broken(_) => {}
+            Refusal::WrongObject(_) => {}
+            Refusal::NoMethod(_) => {}
+            Refusal::BadArgs(_) => {}
+            Refusal::LocalOnly => {}
+            Refusal::BadValue => {}
+            Refusal::WrongBrand(_) => {}
+            Refusal::NotEnough(_, _) => {}
+            Refusal::TooMuch(_, _) => {}
+            Refusal::DeadPayment(_) => {}
+            Refusal::RepeatedPayment(_) => {}
+            Refusal::WrongAmount(_, _) => {}
+            Refusal::NotInvitation(_) => {}
+            Refusal::Closed(_) => {}
+            Refusal::KeywordMismatch(_) => {}
+            Refusal::BadExit => {}
+            Refusal::NotOnDemand(_) => {}
+            Refusal::SeatExited(_) => {}
+            Refusal::Limit(_) => {}
+            Refusal::TextRefused(_, _) => {}
+            Refusal::Spent(_) => {}
+        }
+    }
 }
 
 impl Refusal {

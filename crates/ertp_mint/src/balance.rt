@@ -14,10 +14,15 @@ use std::marker::Model;
 /// What one holder has of a brand, in a place of its own. Contracts see its amount, and for how many keys
 /// there is room: a call within the room takes no memory, and no call lessens the room, so that a put
 /// takes from what is spare just the keys that it adds. It may be dropped, when a run ends.
-#[derive(Drop)]
 pub struct Balance {
     brand: u16,
     held: Holding,
+}
+
+impl Drop for Balance {
+    fn drop(self) {
+        let Balance { brand: _, held: _ } = self;
+    }
 }
 
 impl Model for Balance {

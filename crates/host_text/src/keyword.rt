@@ -26,9 +26,14 @@ pub enum KeywordFault {
 
 /// A keyword (Zoe): `[A-Z][A-Za-z0-9_]*` of 1 to 32 bytes, but not `NaN` or `Infinity`. Contracts see
 /// it as its bytes.
-#[derive(Drop)]
 pub struct Keyword {
     text: Text,
+}
+
+impl Drop for Keyword {
+    fn drop(self) {
+        let Keyword { text: _ } = self;
+    }
 }
 
 impl Model for Keyword {

@@ -19,9 +19,14 @@ pub enum LabelFault {
 
 /// A label (a rule of this project): `[a-z][A-Za-z0-9_]*` of 1 to 32 bytes. Contracts see it as its
 /// bytes.
-#[derive(Drop)]
 pub struct Label {
     text: Text,
+}
+
+impl Drop for Label {
+    fn drop(self) {
+        let Label { text: _ } = self;
+    }
 }
 
 impl Model for Label {

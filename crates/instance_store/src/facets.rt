@@ -9,7 +9,6 @@ use jessie_tree::data::Data;
 use std::alloc::Global;
 
 /// A facet that a contract made.
-#[derive(Drop)]
 pub struct Facet {
     /// The instance that made it, by its number.
     pub instance: u32,
@@ -17,6 +16,16 @@ pub struct Facet {
     pub methods: Vec<(Text, Text)>,
     /// What the contract holds for these functions.
     pub held: Data,
+}
+
+impl Drop for Facet {
+    fn drop(self) {
+        let Facet {
+            instance: _,
+            methods: _,
+            held: _,
+        } = self;
+    }
 }
 
 /// All facets. Contracts see those at the turn's start, and those of now (specs/Facets.antt).

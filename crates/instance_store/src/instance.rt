@@ -10,13 +10,23 @@ use jessie_values::literals::constant_data;
 use std::alloc::{AllocError, Global};
 
 /// An instance of an installation, as it was when it was started.
-#[derive(Drop)]
 pub(crate) struct Instance {
     pub(crate) installation: u32,
     pub(crate) issuers: IssuerRecord,
     pub(crate) terms: Data,
     /// A value for each state variable of its module, in their order.
     pub(crate) state: Vec<Data>,
+}
+
+impl Drop for Instance {
+    fn drop(self) {
+        let Instance {
+            installation: _,
+            issuers: _,
+            terms: _,
+            state: _,
+        } = self;
+    }
 }
 
 /// Whether an instance accepts offers, or has halted (Zoe).

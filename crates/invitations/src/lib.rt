@@ -13,7 +13,6 @@ use jessie_tree::data::Data;
 use std::alloc::{AllocError, Global};
 
 /// What is known of an invitation (Zoe's invitation details).
-#[derive(Drop)]
 pub struct Details {
     /// The instance that it was made by, by its number.
     pub instance: u32,
@@ -24,6 +23,18 @@ pub struct Details {
     pub handler: Text,
     /// What the instance had put by for that function.
     pub held: Data,
+}
+
+impl Drop for Details {
+    fn drop(self) {
+        let Details {
+            instance: _,
+            installation: _,
+            description: _,
+            handler: _,
+            held: _,
+        } = self;
+    }
 }
 
 /// Why no invitation is added.

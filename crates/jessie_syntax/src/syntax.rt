@@ -147,8 +147,16 @@ pub struct Variable {
 }
 
 /// A module: its state variables and its functions, each in the text's order.
-#[derive(Drop)]
 pub struct Module {
     pub variables: Items<Variable>,
     pub functions: Items<Function>,
+}
+
+impl Drop for Module {
+    fn drop(self) {
+        let Module {
+            variables: _,
+            functions: _,
+        } = self;
+    }
 }

@@ -7,11 +7,19 @@ use jessie_tree::data::{Data, ObjKind};
 
 /// What a promise is settled with (eventual send: it is fulfilled, or it is broken and the data is
 /// the reason).
-#[derive(Drop)]
 pub enum Settlement {
     /// The data is no promise: one that is resolved to another follows that one, and isn't settled.
     Ok(Data),
     Broken(Data),
+}
+
+impl Drop for Settlement {
+    fn drop(self) {
+        match self {
+            Settlement::Ok(_) => {}
+            Settlement::Broken(_) => {}
+        }
+    }
 }
 
 impl Settlement {

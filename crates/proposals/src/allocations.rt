@@ -15,10 +15,18 @@ use std::marker::Model;
 pub const MOST_ROWS: usize = 64;
 
 /// An amount under a keyword.
-#[derive(Drop)]
 pub struct Row {
     pub keyword: Keyword,
     pub amount: Amount,
+}
+
+impl Drop for Row {
+    fn drop(self) {
+        let Row {
+            keyword: _,
+            amount: _,
+        } = self;
+    }
 }
 
 impl Row {
@@ -38,10 +46,15 @@ impl Row {
 
 /// A record from keyword to amount (Zoe's AmountKeywordRecord). It keeps the order of adding (own).
 /// Contracts see it as its rows.
-#[derive(Drop)]
 pub struct Allocation {
     /// Each row by the text of its keyword.
     rows: IndexMap<String, Row>,
+}
+
+impl Drop for Allocation {
+    fn drop(self) {
+        let Allocation { rows: _ } = self;
+    }
 }
 
 impl Model for Allocation {

@@ -12,10 +12,18 @@ use std::marker::Model;
 pub const MOST_ISSUERS: usize = 64;
 
 /// A brand under a keyword. Its issuer goes by the brand's number.
-#[derive(Drop)]
 pub struct Issuer {
     pub keyword: Keyword,
     pub brand: u16,
+}
+
+impl Drop for Issuer {
+    fn drop(self) {
+        let Issuer {
+            keyword: _,
+            brand: _,
+        } = self;
+    }
 }
 
 /// Why no issuer is added.
@@ -30,9 +38,14 @@ pub enum AddFault {
 
 /// A record from keyword to issuer (Zoe's IssuerKeywordRecord), in the order of adding (own).
 /// Contracts see it as the list of its issuers.
-#[derive(Drop)]
 pub struct IssuerRecord {
     issuers: Vec<Issuer>,
+}
+
+impl Drop for IssuerRecord {
+    fn drop(self) {
+        let IssuerRecord { issuers: _ } = self;
+    }
 }
 
 impl Model for IssuerRecord {

@@ -8,7 +8,6 @@ use crate::offers::Proposal;
 use std::marker::Model;
 
 /// What a seat is while a change is planned (Zoe).
-#[derive(Drop)]
 pub struct SeatState {
     /// Its number.
     pub seat: u32,
@@ -23,9 +22,21 @@ pub struct SeatState {
     pub is_open: bool,
 }
 
+impl Drop for SeatState {
+    fn drop(self) {
+        let SeatState {
+            seat: _,
+            instance: _,
+            proposal: _,
+            allocation: _,
+            staged: _,
+            is_open: _,
+        } = self;
+    }
+}
+
 /// A step of a rearrangement (Zoe's transfer part): what one seat gives, and what another gets. A part
 /// that was null or missing is `None`.
-#[derive(Drop)]
 pub struct Transfer {
     /// The number of the seat that gives.
     pub from: Option<u32>,
@@ -35,13 +46,33 @@ pub struct Transfer {
     pub to_amounts: Option<Allocation>,
 }
 
+impl Drop for Transfer {
+    fn drop(self) {
+        let Transfer {
+            from: _,
+            to: _,
+            from_amounts: _,
+            to_amounts: _,
+        } = self;
+    }
+}
+
 /// A seat that a plan touches: what its slots have before, and what they have after.
-#[derive(Drop)]
 pub struct Touched {
     /// Its number.
     pub seat: u32,
     pub before: Allocation,
     pub after: Allocation,
+}
+
+impl Drop for Touched {
+    fn drop(self) {
+        let Touched {
+            seat: _,
+            before: _,
+            after: _,
+        } = self;
+    }
 }
 
 /// A planned change of allocations, by the seats that it touches. Contracts see it as their list.

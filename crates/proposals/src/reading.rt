@@ -34,12 +34,22 @@ use std::cmp::Ordering;
 
 /// What an offer gives and wants, when it may be left, and its payments by keyword, in the order of give.
 /// It may have more keywords than a seat has slots.
-#[derive(Drop)]
 pub struct Offered {
     pub give: Vec<Row>,
     pub want: Vec<Row>,
     pub exit: Exit,
     pub payments: Vec<(Text, Data)>,
+}
+
+impl Drop for Offered {
+    fn drop(self) {
+        let Offered {
+            give: _,
+            want: _,
+            exit: _,
+            payments: _,
+        } = self;
+    }
 }
 
 impl Offered {

@@ -88,15 +88,19 @@ pub enum TextCode {
 }
 
 /// What a payment has, and another value that is named for it.
-#[derive(Drop)]
 pub struct Mismatch {
     pub held: Value,
     pub named: Value,
 }
 
+impl Drop for Mismatch {
+    fn drop(self) {
+        let Mismatch { held: _, named: _ } = self;
+    }
+}
+
 /// An element of a brand of which seats would not have as many after a change as before. The element of
 /// a brand of whole numbers is the empty text.
-#[derive(Drop)]
 pub struct Unkept {
     pub brand: u16,
     pub element: Key,
@@ -104,8 +108,18 @@ pub struct Unkept {
     pub after: i128,
 }
 
+impl Drop for Unkept {
+    fn drop(self) {
+        let Unkept {
+            brand: _,
+            element: _,
+            before: _,
+            after: _,
+        } = self;
+    }
+}
+
 /// Why a line or a call is refused.
-#[derive(Drop)]
 pub enum Refusal {
     /// It shows nothing.
     Bare(BareCode),
@@ -127,6 +141,23 @@ pub enum Refusal {
     Backwards(u64, u64),
     /// Where a contract's text is refused, and the name of the reason.
     TextRefused(u32, Text),
+}
+
+impl Drop for Refusal {
+    fn drop(self) {
+        match self {
+            Refusal::Bare(_) => {}
+            Refusal::Numbered(_, _) => {}
+            Refusal::Worded(_, _) => {}
+            Refusal::Overlap(_) => {}
+            Refusal::NotEnough(_) => {}
+            Refusal::TooMuch(_, _) => {}
+            Refusal::WrongAmount(_) => {}
+            Refusal::NotConserved(_) => {}
+            Refusal::Backwards(_, _) => {}
+            Refusal::TextRefused(_, _) => {}
+        }
+    }
 }
 
 impl BareCode {

@@ -14,7 +14,6 @@ use host_text::keyword::Keyword;
 use std::alloc::{AllocError, Global};
 
 /// Who holds a right. Purses, payments and seats go by their numbers.
-#[derive(Drop)]
 pub enum Holder {
     Purse(u32),
     Payment(u32),
@@ -24,6 +23,18 @@ pub enum Holder {
     Hand,
     /// Where a mint's issues come from and what is burned goes to. It holds nothing.
     Outside,
+}
+
+impl Drop for Holder {
+    fn drop(self) {
+        match self {
+            Holder::Purse(_) => {}
+            Holder::Payment(_) => {}
+            Holder::Slot(_, _) => {}
+            Holder::Hand => {}
+            Holder::Outside => {}
+        }
+    }
 }
 
 /// A value of a brand goes from one holder to another.

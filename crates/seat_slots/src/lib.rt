@@ -37,12 +37,22 @@ pub enum CloseFault {
 
 /// A seat. Contracts see its instance, its proposal, what is stored in each slot with the room for it, and,
 /// once it is closed, the rows that it had then.
-#[derive(Drop)]
 pub struct Seat {
     instance: u32,
     proposal: Proposal,
     slots: Vec<Slot>,
     last: Option<Allocation>,
+}
+
+impl Drop for Seat {
+    fn drop(self) {
+        let Seat {
+            instance: _,
+            proposal: _,
+            slots: _,
+            last: _,
+        } = self;
+    }
 }
 
 impl Model for Seat {

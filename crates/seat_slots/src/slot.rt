@@ -9,10 +9,18 @@ use proposals::allocations::Row;
 use std::alloc::{AllocError, Global};
 use std::marker::Model;
 
-#[derive(Drop)]
 pub(crate) struct Slot {
     pub(crate) keyword: Keyword,
     pub(crate) balance: Balance,
+}
+
+impl Drop for Slot {
+    fn drop(self) {
+        let Slot {
+            keyword: _,
+            balance: _,
+        } = self;
+    }
 }
 
 impl Model for Slot {

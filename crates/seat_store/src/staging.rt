@@ -10,9 +10,14 @@ use std::collections::BTreeMap;
 use std::marker::Model;
 
 /// What is staged of each seat. Contracts see it by number, in order.
-#[derive(Drop)]
 pub(crate) struct Staging {
     rows: BTreeMap<u32, Allocation>,
+}
+
+impl Drop for Staging {
+    fn drop(self) {
+        let Staging { rows: _ } = self;
+    }
 }
 
 impl Model for Staging {

@@ -21,7 +21,6 @@ pub enum Actor {
 }
 
 /// A call that an instance sends (eventual send).
-#[derive(Drop)]
 pub struct Send {
     pub instance: u32,
     /// An object, or a promise of one.
@@ -32,8 +31,19 @@ pub struct Send {
     pub promise: u32,
 }
 
+impl Drop for Send {
+    fn drop(self) {
+        let Send {
+            instance: _,
+            target: _,
+            method: _,
+            arguments: _,
+            promise: _,
+        } = self;
+    }
+}
+
 /// The start of an instance (Zoe).
-#[derive(Drop)]
 pub struct Start {
     pub instance: u32,
     pub private_arguments: Data,
@@ -41,8 +51,17 @@ pub struct Start {
     pub promise: u32,
 }
 
+impl Drop for Start {
+    fn drop(self) {
+        let Start {
+            instance: _,
+            private_arguments: _,
+            promise: _,
+        } = self;
+    }
+}
+
 /// An offer for the handler of its invitation (Zoe's offer handler).
-#[derive(Drop)]
 pub struct Offer {
     pub instance: u32,
     pub seat: u32,
@@ -55,8 +74,20 @@ pub struct Offer {
     pub promise: u32,
 }
 
+impl Drop for Offer {
+    fn drop(self) {
+        let Offer {
+            instance: _,
+            seat: _,
+            function: _,
+            offer_arguments: _,
+            held: _,
+            promise: _,
+        } = self;
+    }
+}
+
 /// A function that is to be called at a time.
-#[derive(Drop)]
 pub struct Wakeup {
     pub instance: u32,
     pub function: Text,
@@ -64,8 +95,17 @@ pub struct Wakeup {
     pub held: Data,
 }
 
+impl Drop for Wakeup {
+    fn drop(self) {
+        let Wakeup {
+            instance: _,
+            function: _,
+            held: _,
+        } = self;
+    }
+}
+
 /// A function that is to be called once a promise is settled.
-#[derive(Drop)]
 pub struct Notice {
     pub instance: u32,
     pub promise: u32,
@@ -76,8 +116,19 @@ pub struct Notice {
     pub answer: u32,
 }
 
+impl Drop for Notice {
+    fn drop(self) {
+        let Notice {
+            instance: _,
+            promise: _,
+            function: _,
+            held: _,
+            answer: _,
+        } = self;
+    }
+}
+
 /// What waits for its turn, and what a turn's record tells of it.
-#[derive(Drop)]
 pub enum Delivery {
     /// A line asks for a call.
     Call(LineCall),
@@ -101,6 +152,23 @@ pub enum Delivery {
     Deadline(u32),
 }
 
+impl Drop for Delivery {
+    fn drop(self) {
+        match self {
+            Delivery::Call(_) => {}
+            Delivery::Give(_) => {}
+            Delivery::Tick(_) => {}
+            Delivery::Bad(_) => {}
+            Delivery::Send(_) => {}
+            Delivery::Start(_) => {}
+            Delivery::Offer(_) => {}
+            Delivery::Wake(_) => {}
+            Delivery::Notify(_) => {}
+            Delivery::Deadline(_) => {}
+        }
+    }
+}
+
 impl Delivery {
     /// The promise that it settles when its turn is over, where it settles one.
     pub fn promise(&self) -> Option<u32>
@@ -117,7 +185,6 @@ impl Delivery {
 }
 
 /// What is read for a delivery when its turn comes.
-#[derive(Drop)]
 pub enum Reading {
     /// Nothing is read, or the turn is refused before it.
     Nothing,
@@ -129,4 +196,16 @@ pub enum Reading {
     Time(u64),
     /// What the promise was settled with of which a function is notified.
     Settlement(Settlement),
+}
+
+impl Drop for Reading {
+    fn drop(self) {
+        match self {
+            Reading::Nothing => {}
+            Reading::Target(_, _) => {}
+            Reading::Gift(_) => {}
+            Reading::Time(_) => {}
+            Reading::Settlement(_) => {}
+        }
+    }
 }

@@ -15,7 +15,6 @@ use refusals::codes::Refusal;
 use rights_model::Movement;
 
 /// What a turn, or the host's part of a call, comes to.
-#[derive(Drop)]
 pub enum Answer {
     Given(Data),
     Refused(Refusal),
@@ -23,6 +22,17 @@ pub enum Answer {
     Threw(Data),
     /// The meter that a contract's function spent.
     Spent(u32),
+}
+
+impl Drop for Answer {
+    fn drop(self) {
+        match self {
+            Answer::Given(_) => {}
+            Answer::Refused(_) => {}
+            Answer::Threw(_) => {}
+            Answer::Spent(_) => {}
+        }
+    }
 }
 
 /// How a contract calls.
@@ -39,7 +49,6 @@ pub enum How {
 }
 
 /// A contract's call of the host.
-#[derive(Drop)]
 pub struct Call {
     pub how: How,
     /// The target, or the promise; a facet is made on nothing.
@@ -50,13 +59,34 @@ pub struct Call {
     pub answer: Answer,
 }
 
+impl Drop for Call {
+    fn drop(self) {
+        let Call {
+            how: _,
+            on: _,
+            method: _,
+            arguments: _,
+            answer: _,
+        } = self;
+    }
+}
+
 /// A seat that was opened, by its number, for a proposal (Zoe).
-#[derive(Drop)]
 pub struct Opening {
     pub seat: u32,
     /// The instance that it is of, by its number.
     pub instance: u32,
     pub proposal: Proposal,
+}
+
+impl Drop for Opening {
+    fn drop(self) {
+        let Opening {
+            seat: _,
+            instance: _,
+            proposal: _,
+        } = self;
+    }
 }
 
 /// Why a seat is left (Zoe; `Halted` and `Spent` are our own).
@@ -79,14 +109,21 @@ pub enum Cause {
 }
 
 /// The payment that a slot is paid out with, by its number.
-#[derive(Drop)]
 pub struct Payout {
     pub keyword: Keyword,
     pub payment: u32,
 }
 
+impl Drop for Payout {
+    fn drop(self) {
+        let Payout {
+            keyword: _,
+            payment: _,
+        } = self;
+    }
+}
+
 /// A seat that was left, by its number.
-#[derive(Drop)]
 pub struct Leaving {
     pub seat: u32,
     pub cause: Cause,
@@ -94,8 +131,17 @@ pub struct Leaving {
     pub payouts: Vec<Payout>,
 }
 
+impl Drop for Leaving {
+    fn drop(self) {
+        let Leaving {
+            seat: _,
+            cause: _,
+            payouts: _,
+        } = self;
+    }
+}
+
 /// What happens in a turn. A call, an opening and a leaving come before the movements that they bring.
-#[derive(Drop)]
 pub enum Event {
     Called(Call),
     Opened(Opening),
@@ -103,6 +149,18 @@ pub enum Event {
     Exited(Leaving),
     /// A promise, by its number, and what it was settled with.
     Settled(u32, Settlement),
+}
+
+impl Drop for Event {
+    fn drop(self) {
+        match self {
+            Event::Called(_) => {}
+            Event::Opened(_) => {}
+            Event::Moved(_) => {}
+            Event::Exited(_) => {}
+            Event::Settled(_, _) => {}
+        }
+    }
 }
 
 impl Event {

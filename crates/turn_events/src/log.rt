@@ -8,9 +8,14 @@ use std::alloc::{AllocFailed, Global};
 
 /// What has happened in the turn, in order (our own). The movements of rights are among it, and are kept
 /// nowhere else. At a turn's start nothing has happened. Contracts see it as `log_of` (specs/Logs.antt).
-#[derive(Drop)]
 pub struct Log {
     events: Vec<Event>,
+}
+
+impl Drop for Log {
+    fn drop(self) {
+        let Log { events: _ } = self;
+    }
 }
 
 impl Log {

@@ -5,7 +5,6 @@ use host_text::text::Text;
 
 /// An argument as a line writes it, or a part of one. A record has its fields in byte order of their
 /// names, each name once.
-#[derive(Drop)]
 pub enum Part {
     Null,
     Bool(bool),
@@ -17,8 +16,21 @@ pub enum Part {
     Path(Text),
 }
 
+impl Drop for Part {
+    fn drop(self) {
+        match self {
+            Part::Null => {}
+            Part::Bool(_) => {}
+            Part::Number(_) => {}
+            Part::Text(_) => {}
+            Part::Array(_) => {}
+            Part::Record(_) => {}
+            Part::Path(_) => {}
+        }
+    }
+}
+
 /// A call that a party asks for.
-#[derive(Drop)]
 pub struct LineCall {
     /// The party, by its name.
     pub by: Label,
@@ -32,8 +44,19 @@ pub struct LineCall {
     pub label: Option<Label>,
 }
 
+impl Drop for LineCall {
+    fn drop(self) {
+        let LineCall {
+            by: _,
+            on: _,
+            method: _,
+            arguments: _,
+            label: _,
+        } = self;
+    }
+}
+
 /// What a party gives to another.
-#[derive(Drop)]
 pub struct LineGift {
     /// The giver, by its name.
     pub by: Label,
@@ -43,4 +66,15 @@ pub struct LineGift {
     pub to: Label,
     /// The receiver's label for it.
     pub label: Label,
+}
+
+impl Drop for LineGift {
+    fn drop(self) {
+        let LineGift {
+            by: _,
+            given: _,
+            to: _,
+            label: _,
+        } = self;
+    }
 }

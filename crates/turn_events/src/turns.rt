@@ -6,7 +6,6 @@ use rights_model::Sum;
 
 /// A turn: what was delivered and what was read for it, what it came to, what happened in it, and the
 /// totals at its end.
-#[derive(Drop)]
 pub struct TurnRecord {
     /// From 1.
     pub number: u32,
@@ -17,4 +16,17 @@ pub struct TurnRecord {
     pub events: Vec<Event>,
     /// One for each brand that the movements name, by number.
     pub sums: Vec<Sum>,
+}
+
+impl Drop for TurnRecord {
+    fn drop(self) {
+        let TurnRecord {
+            number: _,
+            delivery: _,
+            reading: _,
+            answer: _,
+            events: _,
+            sums: _,
+        } = self;
+    }
 }

@@ -10,11 +10,5 @@ loop-movement-preserved-in-Some c = c.forget.ensures _ _ (rw (c.in-Some.ensures.
 pub loop-movement-preserved-in-Some-2 : goal.loop-movement-preserved-in-Some-2
 loop-movement-preserved-in-Some-2 c = c.forget.ensures _ _ (rw (c.in-Some.ensures.items, last_first) at c.loop-movement.invariant)
 
-pub loop-movement-preserved-in-Some-3 : goal.loop-movement-preserved-in-Some-3
-loop-movement-preserved-in-Some-3 c = c.forget.ensures _ _ (rw (c.in-Some.ensures.items, last_first) at c.loop-movement.invariant)
-
-pub loop-movement-preserved-in-Some-4 : goal.loop-movement-preserved-in-Some-4
-loop-movement-preserved-in-Some-4 c = c.forget.ensures _ _ (rw (c.in-Some.ensures.items, last_first) at c.loop-movement.invariant)
-
 pub loop-movement-preserved : goal.loop-movement-preserved
 loop-movement-preserved c = c.forget.ensures _ _ (rw (c.in-Some.ensures.items, last_first) at c.loop-movement.invariant)

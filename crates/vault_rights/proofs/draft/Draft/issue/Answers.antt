@@ -7,7 +7,7 @@ use Rattle.vault_rights.specs.Drafts.{draft_of}
 use Rattle.vault_rights.proofs.Made.{may_come, none_in_store, taken_after_so, taken_keeps_so}
 use Rattle.vault_rights.proofs.Steps.{room_stays, same_draft}
 use Rattle.vault_rights.proofs.draft.Draft.issue.Goals as goal
-use Rattle.vault_rights.proofs.draft.Draft.issue.Goals.{in-Set+in-Some-1, in-Set+in-None-1, in-Bag+in-Some-1, in-Bag+in-None-1, in-Nat-1}
+use Rattle.vault_rights.proofs.draft.Draft.issue.Goals.{in-Set-1, in-Bag-1, in-Nat-1}
 
 pub invariant_of-self : goal.invariant_of-self
 invariant_of-self c = rw (c.in_default.ensures.steps, c.in_default.ensures.movements) (room_stays c.self.inside.stores c.note_take.new.stores c.self.inside.steps.items c.self.inside.movements.items c.self.inside.keys c.self.inside.is_spoiled c.self.invariant c.in_default.ensures.roomed)
@@ -37,12 +37,6 @@ invariant_of-self-in-Err-2 c = rw (c.in-Err.ensures.err, c.in-Ok.ensures.steps, 
 pub invariant_of-self-in-Err-3 : goal.invariant_of-self-in-Err-3
 invariant_of-self-in-Err-3 c = rw (c.in-Err.ensures.err, c.in-Ok.ensures.steps, c.in-Ok.ensures.movements) (room_stays c.self.inside.stores c.note_take.new.stores c.self.inside.steps.items c.self.inside.movements.items c.self.inside.keys c.self.inside.is_spoiled c.self.invariant c.in-Ok.ensures.roomed)
 
-pub invariant_of-self-in-Err-4 : goal.invariant_of-self-in-Err-4
-invariant_of-self-in-Err-4 c = rw (c.in-Err.ensures.err, c.in-Ok.ensures.steps, c.in-Ok.ensures.movements) (room_stays c.self.inside.stores c.note_take.new.stores c.self.inside.steps.items c.self.inside.movements.items c.self.inside.keys c.self.inside.is_spoiled c.self.invariant c.in-Ok.ensures.roomed)
-
-pub invariant_of-self-in-Err-5 : goal.invariant_of-self-in-Err-5
-invariant_of-self-in-Err-5 c = rw (c.in-Err.ensures.err, c.in-Ok.ensures.steps, c.in-Ok.ensures.movements) (room_stays c.self.inside.stores c.note_take.new.stores c.self.inside.steps.items c.self.inside.movements.items c.self.inside.keys c.self.inside.is_spoiled c.self.invariant c.in-Ok.ensures.roomed)
-
 pub returns-in-Ok-issue-clause-ok : goal.returns-in-Ok-issue-clause-ok
 returns-in-Ok-issue-clause-ok c =
     let sound = rw (← c.self.view_is) at c.requires.sound in
@@ -59,10 +53,8 @@ returns-in_default-clause-err c = rw (← c.self.view_is) ((λ i. draft_of c.not
 pub returns-in-Err-clause-err : goal.returns-in-Err-clause-err
 returns-in-Err-clause-err c =
     let same : draft_of c.issue.new.self c.note_take.new.steps.items c.note_take.new.movements.items c.self.inside.is_spoiled ≡ draft_of c.self.inside.stores c.self.inside.steps.items c.self.inside.movements.items c.self.inside.is_spoiled = (λ i. draft_of (c.in-Err.ensures.err i) (c.in-Ok.ensures.steps i) (c.in-Ok.ensures.movements i) c.self.inside.is_spoiled) ∙ same_draft c.self.inside.stores c.note_take.new.stores c.self.inside.steps.items c.self.inside.movements.items c.self.inside.is_spoiled c.in-Ok.ensures.roomed in
-    rw (← c.self.view_is) (elim c.match-noted-3.branch [
-      | in-Set+in-Some-1 w ↦ w.self-is ∙ same
-      | in-Set+in-None-1 w ↦ w.self-is ∙ same
-      | in-Bag+in-Some-1 w ↦ w.self-is ∙ same
-      | in-Bag+in-None-1 w ↦ w.self-is ∙ same
+    rw (← c.self.view_is) (elim c.match-noted.branch [
+      | in-Set-1 w ↦ w.self-is ∙ same
+      | in-Bag-1 w ↦ w.self-is ∙ same
       | in-Nat-1 w ↦ w.self-is ∙ same
     ])

@@ -10,7 +10,7 @@ use Rattle.vault_rights.proofs.Made.{put_after_so, put_keeps_so}
 use Rattle.vault_rights.proofs.Steps.{room_stays, same_draft}
 use Rattle.vault_rights.proofs.Taking.{can_give}
 use Rattle.vault_rights.proofs.draft.Draft.put_there.Goals as goal
-use Rattle.vault_rights.proofs.draft.Draft.put_there.Goals.{in-Set+in-Some-1, in-Set+in-None-1, in-Bag+in-Some-1, in-Bag+in-None-1, in-Nat-1}
+use Rattle.vault_rights.proofs.draft.Draft.put_there.Goals.{in-Set-1, in-Bag-1, in-Nat-1}
 
 pub invariant_of-self-in-Ok-give_to : goal.invariant_of-self-in-Ok-give_to
 invariant_of-self-in-Ok-give_to c =
@@ -33,12 +33,6 @@ invariant_of-self-in-Err-2 c = rw (c.in-Ok.ensures.steps, c.in-Ok.ensures.moveme
 pub invariant_of-self-in-Err-3 : goal.invariant_of-self-in-Err-3
 invariant_of-self-in-Err-3 c = rw (c.in-Ok.ensures.steps, c.in-Ok.ensures.movements) (room_stays c.self.inside.stores c.give_to.new.self c.self.inside.steps.items c.self.inside.movements.items c.self.inside.keys c.self.inside.is_spoiled c.self.invariant c.in-Err.ensures.err)
 
-pub invariant_of-self-in-Err-4 : goal.invariant_of-self-in-Err-4
-invariant_of-self-in-Err-4 c = rw (c.in-Ok.ensures.steps, c.in-Ok.ensures.movements) (room_stays c.self.inside.stores c.give_to.new.self c.self.inside.steps.items c.self.inside.movements.items c.self.inside.keys c.self.inside.is_spoiled c.self.invariant c.in-Err.ensures.err)
-
-pub invariant_of-self-in-Err-5 : goal.invariant_of-self-in-Err-5
-invariant_of-self-in-Err-5 c = rw (c.in-Ok.ensures.steps, c.in-Ok.ensures.movements) (room_stays c.self.inside.stores c.give_to.new.self c.self.inside.steps.items c.self.inside.movements.items c.self.inside.keys c.self.inside.is_spoiled c.self.invariant c.in-Err.ensures.err)
-
 pub returns-in-Ok-give_to-clause-ok : goal.returns-in-Ok-give_to-clause-ok
 returns-in-Ok-give_to-clause-ok c =
     let sound = rw (← c.self.view_is) at c.requires.sound in
@@ -54,10 +48,8 @@ returns-in-Ok-give_to-clause-ok c =
 pub returns-in-Err-clause-err : goal.returns-in-Err-clause-err
 returns-in-Err-clause-err c =
     let same : draft_of c.give_to.new.self c.note_put.new.steps.items c.note_put.new.movements.items c.self.inside.is_spoiled ≡ draft_of c.self.inside.stores c.self.inside.steps.items c.self.inside.movements.items c.self.inside.is_spoiled = (λ i. draft_of c.give_to.new.self (c.in-Ok.ensures.steps i) (c.in-Ok.ensures.movements i) c.self.inside.is_spoiled) ∙ same_draft c.self.inside.stores c.give_to.new.self c.self.inside.steps.items c.self.inside.movements.items c.self.inside.is_spoiled c.in-Err.ensures.err in
-    rw (← c.self.view_is) (elim c.match-movement-3.branch [
-      | in-Set+in-Some-1 w ↦ w.self-is ∙ same
-      | in-Set+in-None-1 w ↦ w.self-is ∙ same
-      | in-Bag+in-Some-1 w ↦ w.self-is ∙ same
-      | in-Bag+in-None-1 w ↦ w.self-is ∙ same
+    rw (← c.self.view_is) (elim c.match-movement.branch [
+      | in-Set-1 w ↦ w.self-is ∙ same
+      | in-Bag-1 w ↦ w.self-is ∙ same
       | in-Nat-1 w ↦ w.self-is ∙ same
     ])
