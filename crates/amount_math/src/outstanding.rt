@@ -1,14 +1,12 @@
 //! What is out of a brand: the values of all its holders together.
 
-ghost use Rattle.std.specs.Prelude.{◌≡◌, ◌≢◌, ◌≤◌, ◌↔◌, IfSome, IfErr, IfOk, IsNone, IsOk, IsSome, IsTrue, OnErr, OnOk};
-ghost use Rattle.amount_math.specs.Content.{Contains, difference, entries, nothing, of_nat, sum};
-ghost use Rattle.amount_math.specs.Counted.{counted};
+ghost use Rattle.std.specs.Prelude.{◌≡◌, ◌≢◌, ◌≤◌, ◌↔◌, IfSome, IfErr, IsNone, IsSome, IsTrue, OnErr, OnOk};
+ghost use Rattle.amount_math.specs.Content.{Contains, entries, nothing, of_nat, sum};
 ghost use Rattle.amount_math.specs.Worth.{Fits, IsIssueRefusal, nat_bound};
 
 use crate::handed::or_back;
 use crate::shape::Shape;
 use crate::{Entry, Kind, PutFault, Value};
-use std::alloc::AllocError;
 use std::marker::Model;
 
 /// What is out of a brand. It is as a value of the kind, but of any number of keys, since each holder
@@ -74,38 +72,12 @@ impl Outstanding {
         }
     }
 
-    /// The counts of all elements together.
-    pub fn total(&self) -> u128
-        ensures { result ≡ counted self.now.content }
-    {
-        self.shape.total()
-    }
-
     /// Whether at least the value is out, of each element.
     pub fn is_gte(&self, value: &Value) -> bool
         requires { self.now.kind ≡ value.now.kind }
         ensures { IsTrue result ↔ Contains self.now.content value.now.content }
     {
         self.shape.is_gte(&value.shape)
-    }
-
-    /// A second one. Keys take memory.
-    pub fn copy(&self) -> Result<Outstanding, AllocError>
-        ensures { IfOk result (λ copy. copy ≡ self.now) }
-    {
-        let shape = self.shape.copy()?;
-        Ok(Outstanding { shape })
-    }
-
-    /// That a value may come out too, or why it mayn't, as `absorb` says it. Nothing changes. To show a
-    /// common key takes memory.
-    pub fn can_absorb(&self, value: &Value) -> Result<(), PutFault>
-        requires { self.now.kind ≡ value.now.kind }
-        ensures ok { IsOk result → Fits self.now.kind (sum self.now.content value.now.content) }
-        ensures sure { Fits self.now.kind (sum self.now.content value.now.content) → IsOk result }
-        ensures refused { IfErr result (IsIssueRefusal self.now.kind (sum self.now.content value.now.content)) }
-    {
-        self.shape.check_counts(&value.shape)
     }
 
     /// Adds a value to what is out, or hands it back and stays as it was. Keys take memory.
@@ -130,14 +102,5 @@ impl Outstanding {
         ensures refused { IfErr result (IsIssueRefusal self.old.kind (sum self.old.content value.old.content)) }
     {
         self.shape.issue(&mut value.shape)
-    }
-
-    /// Takes away what it is known to contain.
-    pub fn lessen(&mut self, part: &Value)
-        requires kind { self.old.kind ≡ part.now.kind }
-        requires enough { Contains self.old.content part.now.content }
-        ensures { self.new ≡ record self.old { content = difference self.old.content part.now.content } }
-    {
-        self.shape.lessen(&part.shape);
     }
 }

@@ -1,7 +1,6 @@
 -- What a store of one holder has: an amount of its brand.
-use Rattle.std.specs.Prelude.{ℕ, ◌==◌, if◌then◌else◌}
+use Rattle.std.specs.Prelude.{ℕ}
 use Rattle.amount_math.specs.Content.{nothing}
-use Rattle.amount_math.specs.Counted.{counted}
 use Rattle.amount_math.specs.declared.Amount.{Amount}
 use Rattle.amount_math.specs.declared.Kind.{Kind}
 use Rattle.amount_math.specs.declared.Kind.TheVariants.{Nat}
@@ -17,7 +16,3 @@ no_amount = empty_amount 0 Nat
 -- the most objects of a kind, each with a number of 32 bits
 abbrev pub most_made : ℕ
 most_made = 4294967295
-
--- how much an amount counts of a brand, all elements together
-abbrev pub counted_in : ℕ → Amount → ℕ
-counted_in b a = if a.brand == b then counted a.value.content else 0

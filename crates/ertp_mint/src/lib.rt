@@ -13,9 +13,7 @@ mod keys_out;
 mod parcel;
 mod place;
 mod places;
-mod supply;
 
 pub use balance::Balance;
 pub use circulations::Circulations;
-pub use parcel::{Parcel, Stock};
-pub use supply::Supply;
+pub use parcel::Parcel;

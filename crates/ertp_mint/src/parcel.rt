@@ -1,22 +1,19 @@
 //! Parcels and the stores of one holder.
 
-ghost use Rattle.std.specs.Prelude.{◌≡◌, ◌≤◌, IfOk, IfErr, OnOk, OnErr};
+ghost use Rattle.std.specs.Prelude.{◌≡◌, IfOk, IfErr, OnOk, OnErr};
 ghost use Rattle.amount_math.specs.Amount.{Meet, holding};
-ghost use Rattle.amount_math.specs.Content.{Contains, difference, nothing, sum};
-ghost use Rattle.amount_math.specs.Worth.{IsPutRefusal, IsTakeRefusal, IsValue, most_counted};
-ghost use Rattle.ertp_mint.specs.Stocks.{counted_in};
+ghost use Rattle.amount_math.specs.Content.{Contains, difference, sum};
+ghost use Rattle.amount_math.specs.Worth.{IsPutRefusal, IsTakeRefusal, IsValue};
 
-use amount_math::{Kind, PutFault, TakeFault, Value};
-use std::alloc::AllocError;
+use amount_math::{PutFault, TakeFault, Value};
 use std::marker::Model;
 
 /// A right in transit: a value of a brand, on its way from one holder to another (own; ERTP's payment
-/// without its identity). It can't be copied, made elsewhere or dropped. Issues (`Supply::issue`,
-/// `Circulations::issue`), `cut`, `merge` and what takes out of a store (`Stock::take`, `take_all`,
-/// `Balance::take`, `take_value`, `into_parcel`) alone make one, and so do the calls that work a put or a
-/// retirement backwards (`undo_put`, `undo_retire`). `retire`, `put`, `put_within`, `Balance::of`, `cut` and
-/// `merge` alone end one, and so do `undo_issue` and `undo_take`.
-
+/// without its identity). It can't be copied, made elsewhere or dropped. `Circulations::issue`, `cut`,
+/// `merge` and what takes out of a store (`Balance::take`, `take_value`, `into_parcel`) alone make one,
+/// and so do the calls that work a put or a retirement backwards (`undo_put`, `undo_retire`). `retire`,
+/// `put`, `put_within`, `Balance::of`, `cut` and `merge` alone end one, and so do `undo_issue` and
+/// `undo_take`.
 pub struct Parcel {
     brand: u16,
     value: Value,
@@ -93,113 +90,5 @@ impl Parcel {
             Ok(()) => Ok(()),
             Err((value, fault)) => Err((Parcel { brand, value }, fault)),
         }
-    }
-}
-
-/// What one holder has of a brand. It may be dropped, when a run ends.
-#[derive(Drop)]
-pub struct Stock {
-    brand: u16,
-    value: Value,
-}
-
-impl Model for Stock {
-    ghost use Rattle.amount_math.specs.declared.Amount.{Amount};
-    ghost use Rattle.amount_math.specs.Amount.{coded_amount};
-
-    ghost Value = { Amount };
-
-    ghost coded = { coded_amount };
-
-    ghost view = { λ a. record { brand = a.brand; value = a.value } };
-}
-
-impl Stock {
-    /// The store of a holder that has nothing of the brand.
-    pub fn empty(brand: u16, kind: Kind) -> Stock
-        ensures { result ≡ record { brand = brand; value = record { kind = kind; content = nothing } } }
-    {
-        let value = Value::empty(kind);
-        Stock { brand, value }
-    }
-
-    /// The number of its brand.
-    pub fn brand(&self) -> u16
-        ensures { result ≡ self.now.brand }
-    {
-        self.brand
-    }
-
-    /// The value held.
-    pub fn value(&self) -> &Value
-        ensures { result.now ≡ self.now.value }
-    {
-        &self.value
-    }
-
-    /// How much it counts of a brand: nothing of any but its own.
-    pub fn counted(&self, brand: u16) -> u128
-        ensures counted { result ≡ counted_in brand self.now }
-        ensures bounded { result ≤ most_counted self.now.value.kind }
-    {
-        if self.brand != brand {
-            return 0;
-        }
-        self.value.total()
-    }
-
-    /// Puts a parcel in, or hands it back. Keys take memory.
-    pub fn put(&mut self, parcel: Parcel) -> Result<(), (Parcel, PutFault)>
-        requires { Meet self.old parcel }
-        ensures ok { OnOk result (self.new ≡ holding self.old (sum self.old.value.content parcel.value.content)) }
-        ensures value { OnOk result (IsValue self.old.value.kind (sum self.old.value.content parcel.value.content)) }
-        ensures back { IfErr result (λ (back, _). back ≡ parcel) }
-        ensures err { OnErr result (self.new ≡ self.old) }
-        ensures refused { IfErr result (λ (_, fault). IsPutRefusal self.old.value.kind (sum self.old.value.content parcel.value.content) fault) }
-    {
-        let Parcel { brand, value } = parcel;
-        match self.value.absorb(value) {
-            Ok(()) => Ok(()),
-            Err((value, fault)) => Err((Parcel { brand, value }, fault)),
-        }
-    }
-
-    /// Takes a part out, or leaves all in. A part with keys takes memory.
-    pub fn take(&mut self, part: &Value) -> Result<Parcel, TakeFault>
-        requires { self.old.value.kind ≡ part.now.kind }
-        ensures ok { OnOk result (self.new ≡ holding self.old (difference self.old.value.content part.now.content)) }
-        ensures part { IfOk result (λ parcel. parcel ≡ record { brand = self.old.brand; value = part.now }) }
-        ensures enough { OnOk result (Contains self.old.value.content part.now.content) }
-        ensures err { OnErr result (self.new ≡ self.old) }
-        ensures refused { IfErr result (IsTakeRefusal self.old.value.content part.now.content) }
-    {
-        let taken = self.value.split(part)?;
-        Ok(Parcel {
-            brand: self.brand,
-            value: taken,
-        })
-    }
-
-    /// Takes all out, which takes no memory.
-    pub fn take_all(&mut self) -> Parcel
-        ensures whole { result ≡ self.old }
-        ensures nothing_left { self.new ≡ holding self.old nothing }
-    {
-        let value = self.value.take_all();
-        Parcel {
-            brand: self.brand,
-            value,
-        }
-    }
-
-    /// A second one, which undoing keeps. Keys take memory.
-    pub fn twin(&self) -> Result<Stock, AllocError>
-        ensures { IfOk result (λ twin. twin ≡ self.now) }
-    {
-        let value = self.value.copy()?;
-        Ok(Stock {
-            brand: self.brand,
-            value,
-        })
     }
 }

@@ -2,12 +2,12 @@
 
 ghost use Rattle.std.specs.Prelude.{◌≡◌, ◌↔◌, IsTrue, OnOk};
 ghost use Rattle.amount_math.specs.Content.{Contains, sum};
-ghost use Rattle.amount_math.specs.Worth.{Fits, IsValue};
+ghost use Rattle.amount_math.specs.Worth.{IsValue};
 ghost use Rattle.refusals.specs.Codes.{not_enough};
 ghost use Rattle.refusals.specs.Outcomes.{Gives, need};
-ghost use Rattle.value_checks.specs.Tests.{counts_fit, has, overlap_free, sum_fits};
+ghost use Rattle.value_checks.specs.Tests.{has, overlap_free, sum_fits};
 
-use amount_math::{Outstanding, PutFault, Value};
+use amount_math::{PutFault, Value};
 use refusals::codes::Refusal;
 use refusals::stops::{Stop, not_enough};
 
@@ -59,20 +59,5 @@ pub fn check_sum(held: &Value, given: &Value) -> Result<(), Stop>
     match held.can_absorb(given) {
         Ok(()) => Ok(()),
         Err(fault) => Err(Stop::of_put(fault)),
-    }
-}
-
-/// That a value may come out beside what is out of its brand: else `Overlap` with the least key of a set that
-/// is out already, or `TooMuch` with the count that would be out and its bound (ERTP).
-pub fn check_out(out: &Outstanding, given: &Value) -> Result<(), Stop>
-    requires { out.now.kind ≡ given.now.kind }
-    ensures gives { Gives (λ _. tt) result (counts_fit out.now.kind (sum out.now.content given.now.content)) }
-    ensures fits { OnOk result (Fits out.now.kind (sum out.now.content given.now.content)) }
-{
-    let _kind = out.kind();
-    let _other = given.kind();
-    match out.can_absorb(given) {
-        Ok(()) => Ok(()),
-        Err(passed) => Err(Stop::of_put(passed)),
     }
 }
