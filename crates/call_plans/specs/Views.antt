@@ -6,7 +6,7 @@ use Rattle.instance_store.specs.Facets.{facet_view}
 use Rattle.invitations.specs.Details.{details_view}
 use Rattle.jessie_tree.specs.View.{tree, trees}
 use Rattle.promise_store.specs.States.{settlement_view}
-use Rattle.turn_events.specs.Views.{call_view, cause_view, delivery_view, wakeup_view}
+use Rattle.turn_events.specs.Views.{call_view, cause_view, wakeup_view}
 use Rattle.world_state.specs.Worlds as worlds
 use Rattle.call_plans.specs.Moves.{HasShape, moves_view}
 use Rattle.call_plans.specs.declared.effects.Effect.{Effect}
@@ -49,13 +49,11 @@ seats_view (seats.Exit seat cause) = worlds.exit seat (cause_view cause)
 seats_view (seats.Invite d) = worlds.invite (details_view d)
 
 abbrev pub promises_view : PromisesEffect → worlds.Effect
-promises_view promises.NewPromise = worlds.new_promise
 promises_view (promises.Resolve p s) = worlds.resolve p (settlement_view s)
 promises_view (promises.Send s) = worlds.send s.instance s.target s.method (trees s.arguments.items)
 promises_view (promises.When a) = worlds.when a.instance a.promise a.function (tree a.held)
 promises_view (promises.Wake t w) = worlds.wake t (wakeup_view w)
 promises_view (promises.SetTime t) = worlds.set_time t
-promises_view (promises.Arrive d) = worlds.arrive (delivery_view d)
 
 abbrev pub starting_view : Starting → worlds.Starting
 starting_view s = record {

@@ -15,7 +15,7 @@ use promise_store::Settlement;
 use proposals::allocations::Allocation;
 use proposals::offers::{Exit, Proposal};
 use rights_model::Movement;
-use turn_events::deliveries::{Delivery, Wakeup};
+use turn_events::deliveries::Wakeup;
 use turn_events::events::{Call, Cause};
 
 /// An effect on rights alone.
@@ -85,7 +85,6 @@ pub struct Asking {
 /// An effect on promises, on what waits and on the timer.
 #[derive(Drop)]
 pub enum PromisesEffect {
-    NewPromise,
     Resolve(u32, Settlement),
     Send(Sending),
     When(Asking),
@@ -93,8 +92,6 @@ pub enum PromisesEffect {
     Wake(u64, Wakeup),
     /// The timer is set, and what is due is to be delivered.
     SetTime(u64),
-    /// A line of a party's comes in.
-    Arrive(Delivery),
 }
 
 /// An instance that is started (Zoe).

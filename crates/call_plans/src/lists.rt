@@ -34,7 +34,8 @@ impl Effects {
     pub fn push(&mut self, effect: Effect) -> Result<(), AllocError>
         ensures view { OnOk result
             (effects_view self.new ≡ effects_view self.old ++ effect_view effect ∷ []) }
-        ensures shaped { IsShaped effect → IsEachShaped self.old → OnOk result (IsEachShaped self.new) }
+        ensures shaped { IsShaped effect → IsEachShaped self.old
+            → OnOk result (IsEachShaped self.new) }
     {
         self.effects.push(effect)?;
         Ok(())
@@ -44,7 +45,8 @@ impl Effects {
     pub fn push_first(&mut self, effect: Effect) -> Result<(), AllocError>
         ensures view { OnOk result
             (effects_view self.new ≡ effect_view effect ∷ effects_view self.old) }
-        ensures shaped { IsShaped effect → IsEachShaped self.old → OnOk result (IsEachShaped self.new) }
+        ensures shaped { IsShaped effect → IsEachShaped self.old
+            → OnOk result (IsEachShaped self.new) }
     {
         self.effects.insert(0, effect)?;
         Ok(())

@@ -9,7 +9,7 @@ use Rattle.jessie_tree.specs.declared.data.ObjKind.TheVariants as kinds
 use Rattle.world_state.specs.Known.{IsSeatOf}
 use Rattle.world_state.specs.Worlds.{Effect, Maker, State, of_instance, of_kit}
 use Rattle.world_state.specs.Worlds.{add_issuer, arrive, bind_label, empty_payment, empty_seat, end_staging, exit}
-use Rattle.world_state.specs.Worlds.{halt, install, invite, keep_state, make_facet, moves, new_brand, new_promise}
+use Rattle.world_state.specs.Worlds.{halt, install, invite, keep_state, make_facet, moves, new_brand}
 use Rattle.world_state.specs.Worlds.{new_purse, note_call, offer, publish, resolve, send, set_time, stage, start}
 use Rattle.world_state.specs.Worlds.{stop, unstage, wake, when}
 use Rattle.call_rows.specs.Licence.{IsObject}
@@ -55,7 +55,6 @@ MayAct w caller o m (offer of) = IsByNone caller
 MayAct w caller o m (empty_seat i rule) = IsBy caller i
 MayAct w caller o m (exit seat cause) = MayLeave w caller seat
 MayAct w caller o m (invite d) = IsInviting caller o m d
-MayAct w caller o m new_promise = ⊥
 MayAct w caller o m (resolve p v) = ⊥
 MayAct w caller o m (send i target method arguments) = IsBy caller i
 MayAct w caller o m (when i p function held) = IsBy caller i

@@ -10,7 +10,7 @@ use Rattle.world_state.specs.Good.{AreGood, IsGoodEffect, IsMaker}
 use Rattle.world_state.specs.Known.{Extends, Grows, Keeps}
 use Rattle.world_state.specs.Promises.{CascadeStep, Flow, PromiseBook, Resolved, all_stepped, as_resolved, cascade, flowing, following, notifies, resolving, resolving_to, settlement_at, settles, settling, stepped, target_of}
 use Rattle.world_state.specs.Rights.{slots_at}
-use Rattle.world_state.specs.Worlds.{Effect, Maker, State, add_issuer, after, after_all, arrive, bind_label, empty_payment, empty_seat, end_staging, exit, halt, install, invite, issued_by, issued_by_all, keep_state, leaving_events, make_facet, moves, new_brand, new_promise, new_purse, note_call, of_host, of_instance, of_kit, offer, payouts_tree, publish, resolve, rights_left, seats_left, send, set_time, stage, start, stop, unstage, wake, when}
+use Rattle.world_state.specs.Worlds.{Effect, Maker, State, add_issuer, after, after_all, arrive, bind_label, empty_payment, empty_seat, end_staging, exit, halt, install, invite, issued_by, issued_by_all, keep_state, leaving_events, make_facet, moves, new_brand, new_purse, note_call, of_host, of_instance, of_kit, offer, payouts_tree, publish, resolve, rights_left, seats_left, send, set_time, stage, start, stop, unstage, wake, when}
 use Rattle.world_laws.proofs.Forms.{facet_grows, formed_grows, handed_all_grow, invitation_grows, issuer_grows, issuers_all_grow, known_all_grow, settling_grows, wakeup_grows}
 use Rattle.delivery_laws.specs.Told.{with_log}
 
@@ -71,7 +71,6 @@ effect_untold l w end_staging = refl
 effect_untold l w (offer o) = refl
 effect_untold l w (empty_seat i rule) = refl
 effect_untold l w (invite details) = refl
-effect_untold l w new_promise = refl
 effect_untold l w (send i target method arguments) = refl
 effect_untold l w (when i p f held) = refl
 effect_untold l w (wake t delivery) = refl
@@ -149,7 +148,6 @@ good_untold l w (offer o) is = record {
 good_untold l w (empty_seat i rule) is = record { made = is.made; at_work = is.at_work; timely = is.timely; seats = is.seats; promises = is.promises }
 good_untold l w (exit seat cause) is = is
 good_untold l w (invite d) is = record { details = invitation_grows w (with_log l w) (log_grows l w) d is.details; few = is.few; room = is.room }
-good_untold l w new_promise is = is
 good_untold l w (resolve p v) is = record { pending = is.pending; free = is.free; handed = settling_grows w (with_log l w) (log_grows l w) v is.handed; straight = is.straight }
 good_untold l w (send i target method arguments) is = record {
   made = is.made;

@@ -7,7 +7,7 @@ use Rattle.turn_records.specs.Events.{Event}
 use Rattle.turn_rows.specs.Causes.{Cause}
 use Rattle.world_state.specs.Promises.{CascadeStep, Flow, PromiseBook, Resolved, all_stepped, as_resolved, cascade, flowing, following, notifies, resolving, resolving_to, settlement_at, settles, settling, stepped, target_of}
 use Rattle.world_state.specs.Rights.{slots_at}
-use Rattle.world_state.specs.Worlds.{Effect, State, add_issuer, after, after_all, arrive, bind_label, empty_payment, empty_seat, end_staging, exit, halt, in_front, install, invite, keep_state, leaving_events, make_facet, moves, new_brand, new_promise, new_purse, note_call, offer, payouts_tree, publish, resolve, rights_left, seats_left, send, set_time, stage, start, stop, unstage, wake, when}
+use Rattle.world_state.specs.Worlds.{Effect, State, add_issuer, after, after_all, arrive, bind_label, empty_payment, empty_seat, end_staging, exit, halt, in_front, install, invite, keep_state, leaving_events, make_facet, moves, new_brand, new_purse, note_call, offer, payouts_tree, publish, resolve, rights_left, seats_left, send, set_time, stage, start, stop, unstage, wake, when}
 use Rattle.front_laws.specs.Fronts.{with_front}
 
 abbrev front : Delivery → Flow → Flow
@@ -70,7 +70,6 @@ effect_passes d w end_staging = refl
 effect_passes d w (offer o) = refl
 effect_passes d w (empty_seat i rule) = refl
 effect_passes d w (invite details) = refl
-effect_passes d w new_promise = refl
 effect_passes d w (send i target method arguments) = refl
 effect_passes d w (when i p function held) = refl
 effect_passes d w (wake t delivery) = refl

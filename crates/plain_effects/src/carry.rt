@@ -22,7 +22,6 @@ pub fn carry_promises(
     ensures start { plain_at_start stores.new ≡ plain_at_start stores.old }
 {
     match effect {
-        PromisesEffect::NewPromise => promises::make_promise(stores),
         PromisesEffect::Resolve(promise, settlement) => {
             promises::resolve(stores, promise, settlement)
         }
@@ -30,7 +29,6 @@ pub fn carry_promises(
         PromisesEffect::When(asking) => promises::when(stores, asking),
         PromisesEffect::Wake(time, wakeup) => promises::wake(stores, time, wakeup),
         PromisesEffect::SetTime(time) => promises::set_time(stores, alloc, time),
-        PromisesEffect::Arrive(delivery) => promises::arrive(stores, delivery),
     }
 }
 

@@ -5,28 +5,16 @@ ghost use Rattle.jessie_tree.specs.View.{tree, trees};
 ghost use Rattle.plain_effects.specs.After.{Becomes};
 ghost use Rattle.plain_stores.specs.Stores.{plain_at_start, plain_now};
 ghost use Rattle.promise_store.specs.States.{settlement_view};
-ghost use Rattle.turn_events.specs.Views.{delivery_view, notice_view, wakeup_view};
+ghost use Rattle.turn_events.specs.Views.{notice_view, wakeup_view};
 ghost use Rattle.world_state.specs.Promises.{IsPending, target_of};
 ghost use Rattle.world_state.specs.Worlds as worlds;
 
 use call_plans::effects::{Asking, Sending};
 use plain_stores::PlainStores;
 use promise_store::Settlement;
-use promise_table::waiting::queue_delivery;
 use std::alloc::{AllocError, Global};
 use time_effects::{Timed, deliver_at};
-use turn_events::deliveries::{Delivery, Notice, Send, Wakeup};
-
-/// A promise is made.
-pub fn make_promise(stores: &mut PlainStores) -> Result<(), AllocError>
-    ensures ok { OnOk result (Becomes stores.old stores.new worlds.new_promise) }
-    ensures start { plain_at_start stores.new ≡ plain_at_start stores.old }
-{
-    match stores.promises.make() {
-        Ok(_) => Ok(()),
-        Err(_) => Err(AllocError),
-    }
-}
+use turn_events::deliveries::{Notice, Send, Wakeup};
 
 /// A promise is resolved.
 pub fn resolve(
@@ -137,12 +125,4 @@ pub fn set_time(stores: &mut PlainStores, alloc: Global, time: u64) -> Result<()
         Ok(()) => Ok(()),
         Err(_) => Err(AllocError),
     }
-}
-
-/// A line of a party's comes in.
-pub fn arrive(stores: &mut PlainStores, delivery: Delivery) -> Result<(), AllocError>
-    ensures ok { OnOk result (Becomes stores.old stores.new (worlds.arrive (delivery_view delivery))) }
-    ensures start { plain_at_start stores.new ≡ plain_at_start stores.old }
-{
-    queue_delivery(&mut stores.queue, delivery)
 }

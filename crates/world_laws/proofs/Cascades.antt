@@ -14,7 +14,7 @@ use Rattle.turn_records.specs.Events.{Event}
 use Rattle.world_state.specs.Promises.{CascadeStep, Flow, PromiseBook, WasSettled, all_stepped, asking, asks, cascade, flowing, following, no_promise, notifies, resolving, resolving_to, settlement_at, settles, settling, stepped, target_of, with_promise}
 use Rattle.world_state.specs.Good.{AreAsked, IsGoodWorld}
 use Rattle.world_state.specs.Known.{Keeps}
-use Rattle.world_state.specs.Worlds.{Effect, State, after, leaving_events, payouts_tree, request_of, empty_seat, exit, new_promise, offer, resolve, send, start, when}
+use Rattle.world_state.specs.Worlds.{Effect, State, after, leaving_events, payouts_tree, request_of, empty_seat, exit, offer, resolve, send, start, when}
 use Rattle.world_laws.proofs.Growing.{all_stepped_made, all_stepped_still}
 use Rattle.world_laws.proofs.Lists.{all_append, all_filter, all_map, all_push}
 
@@ -184,7 +184,6 @@ pub asked-after : (w : State) (e : Effect) → IsGoodWorld w → AreAsked (after
 asked-after w (offer o) good = more_asked (with_promise None w.promises) None (more_asked w.promises None good.asked)
 asked-after w (empty_seat i rule) good = more_asked (with_promise (Some (ok null)) w.promises) None (more_asked w.promises (Some (ok null)) good.asked)
 asked-after w (exit s cause) good = resolving_asked (pair_at w.pairs s).payouts w.promises w.waiting (w.log ++ leaving_events w s cause) good.asked (ok (payouts_tree w s))
-asked-after w new_promise good = more_asked w.promises None good.asked
 asked-after w (resolve p v) good = resolving_asked p w.promises w.waiting w.log good.asked v
 asked-after w (send i target method arguments) good = more_asked w.promises None good.asked
 asked-after w (when i p function held) good = asking_asked (settlement_at w.promises.settled p) (request_of w i p function held) w.promises refl good.asked

@@ -24,7 +24,7 @@ use Rattle.turn_rows.specs.Form.{times_end}
 use Rattle.world_state.specs.Known.{IsHanded}
 use Rattle.world_state.specs.Promises.{CascadeStep, Flow, PromiseBook, Resolved, all_stepped, asking, asks, cascade, flowing, following, no_promise, notifies, WasSettled, resolving, resolving_to, settlement_at, settles, settling, stepped, target_of, told_at_once, with_promise}
 use Rattle.world_state.specs.Rights.{slots_at}
-use Rattle.world_state.specs.Worlds.{Effect, Seat, State, after, deadline_now, due_at, due_now, leaving_events, new_seat, next_pair, no_seat, offered_by, paid_out, payouts_tree, request_of, scheduled, with_deadline, arrive, bind_label, empty_seat, exit, install, invite, make_facet, new_promise, offer, resolve, send, set_time, start, wake, when}
+use Rattle.world_state.specs.Worlds.{Effect, Seat, State, after, deadline_now, due_at, due_now, leaving_events, new_seat, next_pair, no_seat, offered_by, paid_out, payouts_tree, request_of, scheduled, with_deadline, arrive, bind_label, empty_seat, exit, install, invite, make_facet, offer, resolve, send, set_time, start, wake, when}
 use Rattle.world_laws.proofs.Lists.{all_append, all_filter, all_map, all_push, all_read, all_read_or, all_set, all_under, length_append, length_map}
 use Rattle.world_laws.proofs.Growing.{grows-after}
 use Rattle.world_laws.proofs.Forms.{due_grows, facet_grows, formed_grows, function_grows, handed_all_grow, invitation_grows, label_grows, notice_grows, settled_grows, settling_grows, timed_grows, wakeup_grows}
@@ -206,7 +206,6 @@ known-after w (exit s cause) can good =
     let named = all_read_or AreNamed w.rights.slots s [] good.seats.named tt in
     let made : length w.rights.payments + length rows ≤ length v.rights.payments = omega (arith, length_append w.rights.payments (map paid_out rows), length_map paid_out rows) in
     resolving_known v (pair_at w.pairs s).payouts w.promises w.waiting (w.log ++ leaving_events w s cause) (grown w (exit s cause) good) (ok (payouts_tree w s)) (payouts_handed v (length w.rights.payments) rows apart.apart named made) refl
-known-after w new_promise can good = more_settled (after w new_promise) None _ _ _ tt (grown w new_promise good)
 known-after w (resolve p v) can good =
     resolving_known (after w (resolve p v)) p w.promises w.waiting w.log (grown w (resolve p v) good) v (settling_grows w (after w (resolve p v)) (grows-after w (resolve p v)) v can.handed) refl
 known-after w (send i target method arguments) can good =

@@ -17,7 +17,7 @@ use Rattle.world_state.specs.Good.{AreFollowing, IsFollowing, IsGoodEffect, IsGo
 use Rattle.world_state.specs.Known.{made_as}
 use Rattle.world_state.specs.Promises.{CascadeStep, IsPending, PromiseBook, WasSettled, all_stepped, asking, cascade, flowing, following, no_promise, notifies, resolving_to, settlement_at, settles, settling, target_of, with_promise}
 use Rattle.world_state.specs.Rights.{slots_at}
-use Rattle.world_state.specs.Worlds.{Effect, State, after, leaving_events, payouts_tree, promises_made, request_of, seat_at, empty_seat, exit, new_promise, offer, resolve, send, start, when}
+use Rattle.world_state.specs.Worlds.{Effect, State, after, leaving_events, payouts_tree, promises_made, request_of, seat_at, empty_seat, exit, offer, resolve, send, start, when}
 use Rattle.world_laws.proofs.Cascades.{Has, IsAway, has_first, has_second, steps_away, steps_settle}
 use Rattle.world_laws.proofs.Growing.{all_stepped_made}
 use Rattle.world_laws.proofs.Lists.{all_append, all_map}
@@ -263,7 +263,6 @@ following-after w (exit s cause) can good =
     let pends = pending_payouts w s can good in
     resolving_to_following w.promises good.following (pair_at w.pairs s).payouts pends w.waiting (w.log ++ leaving_events w s cause) (ok (payouts_tree w s)) None
     (unsettled_below w.promises.settled (pair_at w.pairs s).payouts pends.unsettled) (λ q e. absurd (none_named q e)) (λ q e. absurd (none_named q e))
-following-after w new_promise can good = more_following w.promises good.following None
 following-after w (resolve p v) can good =
     resolving_to_following w.promises good.following p can.pending w.waiting w.log v (target_of v)
     (unsettled_below w.promises.settled p can.pending.unsettled) (λ q e. target_made w v q can.handed e) can.straight
@@ -290,7 +289,6 @@ settled-after w (empty_seat i rule) p v can good lt is =
     push_stays (ss ++ Some (ok null) ∷ []) None p v (omega (arith, lt, length_push ss (Some (ok null)))) (push_stays ss (Some (ok null)) p v lt is)
 settled-after w (exit s cause) p v can good lt is =
     resolving_to_stays w.promises good.following (pair_at w.pairs s).payouts (pending_payouts w s can good) w.waiting (w.log ++ leaving_events w s cause) (ok (payouts_tree w s)) None p v is
-settled-after w new_promise p v can good lt is = push_stays w.promises.settled None p v lt is
 settled-after w (resolve q u) p v can good lt is = resolving_to_stays w.promises good.following q can.pending w.waiting w.log u (target_of u) p v is
 settled-after w (send i target method arguments) p v can good lt is = push_stays w.promises.settled None p v lt is
 settled-after w (when i q f held) p v can good lt is = asking_stays (settlement_at w.promises.settled q) (request_of w i q f held) (with_promise None w.promises) p v (push_stays w.promises.settled None p v lt is)

@@ -17,7 +17,7 @@ use Rattle.world_state.specs.Known.{Grows, WasLeft, WasSpent, instance_origin, s
 use Rattle.world_state.specs.Promises.{CascadeStep, Flow, PromiseBook, Resolved, WasSettled, all_stepped, cascade, flowing, following, no_promise, notifies, resolving, resolving_to, settlement_at, settles, settling, stepped, target_of}
 use Rattle.world_state.specs.Rights.{slots_at}
 use Rattle.world_state.specs.Worlds.{Effect, Maker, State, after, after_all, behind, in_front, leaving_events, no_seat, of_host, of_instance, of_kit, payouts_tree, rights_left, seats_left}
-use Rattle.world_state.specs.Worlds.{add_issuer, arrive, bind_label, empty_payment, empty_seat, end_staging, exit, halt, install, invite, keep_state, make_facet, moves, new_brand, new_promise, new_purse, note_call, offer, publish, resolve, send, set_time, stage, start, stop, unstage, wake, when}
+use Rattle.world_state.specs.Worlds.{add_issuer, arrive, bind_label, empty_payment, empty_seat, end_staging, exit, halt, install, invite, keep_state, make_facet, moves, new_brand, new_purse, note_call, offer, publish, resolve, send, set_time, stage, start, stop, unstage, wake, when}
 use Rattle.world_laws.proofs.Forms.{due_grows, facet_grows, formed_grows, function_grows, handed_all_grow, instance_grows, invitation_grows, issuer_grows, issuers_all_grow, known_all_grow, label_grows, notice_grows, settled_grows, settling_grows, timed_grows, wakeup_grows}
 use Rattle.world_laws.proofs.Kept.{good-after}
 use Rattle.world_laws.proofs.Lists.{all_map, extends_refl, keeps_refl}
@@ -158,7 +158,6 @@ module _ (w : State) (d : Delivery) where
   good_front (empty_seat i rule) can leaves = record { made = can.made; at_work = can.at_work; timely = can.timely; seats = can.seats; promises = can.promises }
   good_front (exit s cause) can leaves = can
   good_front (invite x) can leaves = record { details = invitation_grows w (in_front d w) grows_front x can.details; few = can.few; room = can.room }
-  good_front new_promise can leaves = can
   good_front (resolve p v) can leaves = record {
     pending = can.pending;
     free = omega (arith, can.free, owed_front p, not_for (promise_of d) p leaves);

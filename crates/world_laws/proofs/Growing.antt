@@ -23,7 +23,7 @@ use Rattle.turn_records.specs.Events.{Event}
 use Rattle.world_state.specs.Known.{Extends, Grows, Keeps, WasLeft, WasSpent, instance_origin, seat_origin, whole}
 use Rattle.world_state.specs.Promises.{CascadeStep, Flow, PromiseBook, all_stepped, asking, cascade, flowing, following, no_promise, notifies, WasSettled, resolving, resolving_to, settlement_at, settles, settling, stepped, target_of, with_promise}
 use Rattle.world_state.specs.Rights.{Rights, all_moved, all_spent, given, moved, moved_together, paid, paper_less, paper_more, slots_at, spent_from, taken, value_less, value_more, with_slots}
-use Rattle.world_state.specs.Worlds.{Effect, State, after, burn_and_escrows, empty_slots, invitation_move, leaving_events, left_seat, next_pair, no_seat, of_host, paid_out, payouts_tree, request_of, seat_at, add_issuer, empty_payment, empty_seat, exit, halt, install, invite, keep_state, make_facet, moves, new_brand, new_promise, new_purse, offer, publish, resolve, send, start, stop, when}
+use Rattle.world_state.specs.Worlds.{Effect, State, after, burn_and_escrows, empty_slots, invitation_move, leaving_events, left_seat, next_pair, no_seat, of_host, paid_out, payouts_tree, request_of, seat_at, add_issuer, empty_payment, empty_seat, exit, halt, install, invite, keep_state, make_facet, moves, new_brand, new_purse, offer, publish, resolve, send, start, stop, when}
 use Rattle.world_laws.proofs.Lists.{extends_push, extends_refl, extends_set, keeps_append, keeps_push, keeps_refl, keeps_set, keeps_trans, length_append}
 
 -- ---- movements keep how many purses there are, and leave at least as many payments
@@ -248,7 +248,6 @@ promises_grow : (w : State) (e : Effect) → length w.promises.settled ≤ lengt
 promises_grow w (offer o) = omega (arith, one_more None w.promises.settled, one_more None (w.promises.settled ++ None ∷ []))
 promises_grow w (empty_seat i rule) = omega (arith, one_more (Some (ok null)) w.promises.settled, one_more None (w.promises.settled ++ Some (ok null) ∷ []))
 promises_grow w (exit s cause) = omega (arith, resolving_made (pair_at w.pairs s).payouts (ok (payouts_tree w s)) w.promises w.waiting (w.log ++ leaving_events w s cause))
-promises_grow w new_promise = one_more None w.promises.settled
 promises_grow w (resolve p v) = omega (arith, resolving_made p v w.promises w.waiting w.log)
 promises_grow w (send i target method arguments) = one_more None w.promises.settled
 promises_grow w (when i p function held) = omega (arith, one_more None w.promises.settled, asking_made (settlement_at w.promises.settled p) (request_of w i p function held) (with_promise None w.promises))
@@ -259,7 +258,6 @@ settled_still : (w : State) (e : Effect) → StillSettled w.promises.settled (af
 settled_still w (offer o) = two_more_still None None w.promises.settled
 settled_still w (empty_seat i rule) = two_more_still (Some (ok null)) None w.promises.settled
 settled_still w (exit s cause) = resolving_still (pair_at w.pairs s).payouts (ok (payouts_tree w s)) w.promises w.waiting (w.log ++ leaving_events w s cause)
-settled_still w new_promise = one_more_still None w.promises.settled
 settled_still w (resolve p v) = resolving_still p v w.promises w.waiting w.log
 settled_still w (send i target method arguments) = one_more_still None w.promises.settled
 settled_still w (when i p function held) =

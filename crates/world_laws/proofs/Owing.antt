@@ -19,7 +19,7 @@ use Rattle.turn_records.specs.Deliveries.{Delivery, Notice, promise_of}
 use Rattle.world_state.specs.Good.{AreOwed, IsGoodEffect, IsGoodWorld, IsLine, IsTimed, IsTimedEntry, is_for, one_if, owed_answers, owed_notices, owed_payouts, owes}
 use Rattle.world_state.specs.Promises.{IsPending, PromiseBook, asking, settlement_at, told_at_once, with_promise}
 use Rattle.world_state.specs.Rights.{slots_at}
-use Rattle.world_state.specs.Worlds.{Effect, Seat, State, after, deadline_now, due_at, due_now, handler_call, left_seat, new_seat, next_pair, of_own, offered_by, payouts_tree, promises_made, request_of, seat_at, seats_left, sent_call, starting_call, arrive, empty_seat, exit, new_promise, offer, resolve, send, set_time, start, wake, when}
+use Rattle.world_state.specs.Worlds.{Effect, Seat, State, after, deadline_now, due_at, due_now, handler_call, left_seat, new_seat, next_pair, of_own, offered_by, payouts_tree, promises_made, request_of, seat_at, seats_left, sent_call, starting_call, arrive, empty_seat, exit, offer, resolve, send, set_time, start, wake, when}
 use Rattle.world_laws.proofs.Lists.{all_filter, all_map}
 use Rattle.world_laws.proofs.Owed.{answers-append, promise_made, resolving_owed}
 
@@ -162,7 +162,6 @@ owed-after w (exit s cause) can good =
     let one : one_if (q == q) ≡ 1 = ap one_if (eq-eqb q q refl) in
     let was : AreOwed seats w.pairs w.waiting w.promises = record { made = good.owed.made; once = λ p. omega (arith, less p, good.owed.once p); pending = λ p some. good.owed.pending p (omega (arith, some, less p)) } in
     resolving_owed seats w.pairs q w.promises w.waiting _ was (omega (arith, less q, one, good.owed.once q)) (good.owed.pending q (omega (arith, less q, one))) (ok (payouts_tree w s))
-owed-after w new_promise can good = more_promise w.seats w.pairs w.waiting w.promises good.owed None
 owed-after w (resolve p v) can good = resolving_owed w.seats w.pairs p w.promises w.waiting w.log good.owed can.free can.pending v
 owed-after w (send i target method arguments) can good =
     let d = sent_call w i target method arguments in

@@ -62,7 +62,7 @@ use Rattle.world_state.specs.Worlds.{IsOpen, seat_at, staged_at, burn_and_escrow
 use Rattle.world_state.specs.Worlds.{invitation_value, offered_by, payments_tree, promises_made}
 use Rattle.world_state.specs.Worlds.{add_issuer, arrive, bind_label, empty_payment, empty_seat}
 use Rattle.world_state.specs.Worlds.{end_staging, exit, halt, install, invite, keep_state}
-use Rattle.world_state.specs.Worlds.{moves, new_brand, new_promise, new_purse, note_call, offer}
+use Rattle.world_state.specs.Worlds.{moves, new_brand, new_purse, note_call, offer}
 use Rattle.world_state.specs.Worlds.{publish, resolve, send, set_time, stage, start, stop, unstage}
 use Rattle.world_state.specs.Worlds.{make_facet, wake, when}
 
@@ -710,7 +710,6 @@ IsGoodEffect w (offer o) = CanOffer w o
 IsGoodEffect w (empty_seat i rule) = CanOpenSeat w i rule
 IsGoodEffect w (exit s cause) = IsOpen (seat_at w.seats s)
 IsGoodEffect w (invite d) = CanInvite w d
-IsGoodEffect w new_promise = promises_made w < most_made
 IsGoodEffect w (resolve p v) = CanResolve w p v
 IsGoodEffect w (send i target method arguments) = CanSend w i target arguments
 IsGoodEffect w (when i p function held) = CanAsk w i p function held

@@ -117,8 +117,7 @@ pub data Effect : Type 0 where
   exit : ℕ → Cause → Effect
   -- an invitation is made: its details are kept, and the next payment is one of it
   invite : DetailsView → Effect
-  -- a promise is made; one is resolved
-  new_promise : Effect
+  -- a promise is resolved
   resolve : ℕ → SettlementView → Effect
   -- an instance sends a call, to an object or a promise, for the next promise
   send : ℕ → Obj → List ℕ → List Tree → Effect
@@ -412,7 +411,6 @@ after w (invite d) = record w {
   invitations = w.invitations ++ d ∷ [];
   log = w.log ++ movement_made (invitation_move w) ∷ [];
 }
-after w new_promise = record w { promises = with_promise None w.promises }
 after w (resolve p v) = record w {
   promises = (resolving p v w.promises w.waiting w.log).promises;
   waiting = (resolving p v w.promises w.waiting w.log).waiting;

@@ -4,9 +4,6 @@ use Rattle.call_plans.specs.declared.effects.PromisesEffect.{PromisesEffect}
 use Rattle.plain_effects.specs.After.{Becomes}
 use Rattle.plain_effects.proofs.carry.carry_promises.Goals as goal
 
-pub returns-in-NewPromise-clause-ok : goal.returns-in-NewPromise-clause-ok
-returns-in-NewPromise-clause-ok c = subst (λ (e : PromisesEffect). OnOk c.make_promise.result (Becomes c.args.stores.now c.make_promise.new.stores (promises_view e))) (sym c.in-NewPromise.is) c.make_promise.ensures.ok
-
 pub returns-in-Resolve-clause-ok : goal.returns-in-Resolve-clause-ok
 returns-in-Resolve-clause-ok c = subst (λ (e : PromisesEffect). OnOk c.resolve.result (Becomes c.args.stores.now c.resolve.new.stores (promises_view e))) (sym c.in-Resolve.is) c.resolve.ensures.ok
 
@@ -21,6 +18,3 @@ returns-in-Wake-clause-ok c = subst (λ (e : PromisesEffect). OnOk c.wake.result
 
 pub returns-in-SetTime-clause-ok : goal.returns-in-SetTime-clause-ok
 returns-in-SetTime-clause-ok c = subst (λ (e : PromisesEffect). OnOk c.set_time.result (Becomes c.args.stores.now c.set_time.new.stores (promises_view e))) (sym c.in-SetTime.is) c.set_time.ensures.ok
-
-pub returns-in-Arrive-clause-ok : goal.returns-in-Arrive-clause-ok
-returns-in-Arrive-clause-ok c = subst (λ (e : PromisesEffect). OnOk c.arrive.result (Becomes c.args.stores.now c.arrive.new.stores (promises_view e))) (sym c.in-Arrive.is) c.arrive.ensures.ok
