@@ -1,5 +1,5 @@
 -- What is left of the rows of issuers that make payments of payments, once the payments are read.
-use Rattle.std.specs.Prelude.{ℕ, List, [], ◌∷◌, length, map, Result, Ok}
+use Rattle.std.specs.Prelude.{ℕ, List, length, map, Result, Ok}
 use Rattle.amount_math.specs.Worth.{Worth}
 use Rattle.call_arguments.specs.Amounts.{held_in, is_same}
 use Rattle.call_arguments.specs.Numbers.{first_repeated, least_failing}
@@ -10,13 +10,11 @@ use Rattle.ertp_rows.specs.Lists.{combined, least_other, next_payments, parted, 
 use Rattle.jessie_tree.specs.Tree.{Tree}
 use Rattle.jessie_tree.specs.declared.data.ObjKind.TheVariants as kinds
 use Rattle.record_arguments.specs.Lists.{amounts_listed}
-use Rattle.refusals.specs.Codes.{dead_payment, not_enough, repeated_payment, wrong_amount, wrong_brand}
+use Rattle.refusals.specs.Codes.{dead_payment, repeated_payment, wrong_amount, wrong_brand}
 use Rattle.refusals.specs.Outcomes.{◌>>=◌, ◌>>◌, need, none_such}
 use Rattle.refusals.specs.declared.codes.Refusal.{Refusal}
 use Rattle.service_rows.specs.OfferRows.{is_live_in}
 use Rattle.service_rows.specs.Payments.{LivePayment}
-use Rattle.ertp_rows.specs.IssuerRows.{rest_of}
-use Rattle.value_checks.specs.Tests.{has}
 use Rattle.value_sums.specs.Sums.{whole_sum}
 use Rattle.world_state.specs.Rights.{kind_at}
 use Rattle.world_state.specs.Worlds.{State}
@@ -48,13 +46,6 @@ unfoldable pub apart : State → ℕ → ℕ → List Worth → Outcome
 apart w brand from parts = do
   payment ← next_payments w (length parts)
   Ok (parted brand from payment parts)
-
--- a part of it, which it has, goes to the one, and the rest to another
-unfoldable pub in_two : State → ℕ → LivePayment → Worth → Outcome
-in_two w brand given part = do
-  need (has given.value part) (not_enough given.value part)
-  payment ← next_payments w 2
-  Ok (parted brand given.number payment (part ∷ rest_of given.value part ∷ []))
 
 -- the parts are all of it
 unfoldable pub in_parts : State → ℕ → LivePayment → List Worth → Outcome

@@ -1,7 +1,6 @@
 //! Payments that go whole to a new one (ERTP).
 
 ghost use Rattle.std.specs.Prelude.{◌≡◌, ◌<◌, ◌∷◌, [], All, IfOk, length, map};
-ghost use Rattle.call_arguments.specs.Amounts.{held_in};
 ghost use Rattle.call_arguments.specs.Numbers.{AreApart, IsNoneOf};
 ghost use Rattle.call_data.specs.Amounts.{seen};
 ghost use Rattle.call_data.specs.Values.{object_tree};
@@ -130,39 +129,8 @@ fn joined(alloc: Global, world: &World, brand: u16, given: Vec<LivePayment>) -> 
     requires made { All (λ p. p.number < length (world_of world.now).rights.payments) given.items }
     ensures { Plans (joined (world_of world.now) brand (map live_view given.items)) result }
 {
-    match next_payment(world) {
-        Ok(payment) => Ok(joining(alloc, brand, payment, given)?),
-        Err(stop) => {
-            drop(given);
-            Err(stop)
-        }
-    }
-}
-
-/// Payments of which the sum is the one that is named go whole to the next one (ERTP).
-#[tactic(auto, unfolding(refusals::specs::Outcomes::bind))]
-fn joined_as(
-    alloc: Global,
-    world: &World,
-    brand: u16,
-    total: Value,
-    given: Vec<LivePayment>,
-    named: Option<&Data>,
-) -> Result<Plan, Stop>
-    requires apart { AreApart (map (λ p. p.number) given.items) }
-    requires made { All (λ p. p.number < length (world_of world.now).rights.payments) given.items }
-    ensures { Plans (bind (held_in brand total 2 (seen named.entry))
-        (λ _. joined (world_of world.now) brand (map live_view given.items))) result }
-{
-    let is_held = check_held(alloc, brand, &total, 2, named);
-    drop(total);
-    match is_held {
-        Ok(()) => joined(alloc, world, brand, given),
-        Err(stop) => {
-            drop(given);
-            Err(stop)
-        }
-    }
+    let payment = next_payment(world)?;
+    Ok(joining(alloc, brand, payment, given)?)
 }
 
 /// Payments of one brand go whole to the next one: what is named is their whole sum (ERTP).
@@ -183,13 +151,9 @@ fn summed(
     ensures { Plans (joined_as (world_of world.now) brand
         (map live_view given.items) (seen named.entry)) result }
 {
-    match total_of(alloc, world.plain.brands.kind(brand), given.as_slice()) {
-        Ok(total) => joined_as(alloc, world, brand, total, given, named),
-        Err(stop) => {
-            drop(given);
-            Err(stop)
-        }
-    }
+    let total = total_of(alloc, world.plain.brands.kind(brand), given.as_slice())?;
+    check_held(alloc, brand, &total, 2, named)?;
+    joined(alloc, world, brand, given)
 }
 
 /// `issuer.combine(payments, amount)`: the amount is of the whole sum (ERTP).

@@ -2,17 +2,15 @@
 
 ghost use Rattle.std.specs.Prelude.{◌≡◌, ◌<◌, ◌+◌, ◌^◌, ◌∷◌, [], All, IfOk, length, map};
 ghost use Rattle.amount_math.specs.Content.{Contains};
-ghost use Rattle.call_arguments.specs.Amounts.{is_same};
 ghost use Rattle.call_plans.specs.Lists.{IsEachShaped};
 ghost use Rattle.call_plans.specs.Plans.{Plans, plan_view};
 ghost use Rattle.call_words.specs.Handed.{AreHanded};
-ghost use Rattle.combination_plans.specs.Left.{apart, in_listed, in_parts, in_two};
+ghost use Rattle.combination_plans.specs.Left.{apart, in_listed, in_parts};
 ghost use Rattle.ertp_rows.specs.IssuerRows.{rest_of, split, split_many};
 ghost use Rattle.ertp_rows.specs.Lists.{moves_apart, parted, payments_from};
 ghost use Rattle.host_world.specs.Worlds.{world_of};
 ghost use Rattle.jessie_tree.specs.View.{tree, trees};
-ghost use Rattle.refusals.specs.Codes.{wrong_amount};
-ghost use Rattle.refusals.specs.Outcomes.{Gives, bind, need};
+ghost use Rattle.refusals.specs.Outcomes.{Gives, bind};
 ghost use Rattle.service_reads.specs.Views.{live_view};
 ghost use Rattle.value_sums.specs.Sums.{whole_sum};
 ghost use Rattle.world_state.specs.Good.{IsGoodWorld};
@@ -93,16 +91,9 @@ fn splitting(
         ≡ (tree answer, moves (moves_apart brand from first parts.items) ∷ [])) }
     ensures shaped { IfOk result (λ plan. IsEachShaped plan.effects) }
 {
-    match moves_apart(alloc, brand, from, first, parts) {
-        Ok(movements) => {
-            let splits = RightsEffect::Moves(Moves::Split(movements));
-            Plan::with_effect(alloc, answer, Effect::Rights(splits))
-        }
-        Err(fault) => {
-            drop(answer);
-            Err(fault)
-        }
-    }
+    let movements = moves_apart(alloc, brand, from, first, parts)?;
+    let splits = RightsEffect::Moves(Moves::Split(movements));
+    Plan::with_effect(alloc, answer, Effect::Rights(splits))
 }
 
 /// The same, where the payments are answered, as an array.
@@ -118,13 +109,8 @@ fn parted(
     ensures plan { IfOk result (λ plan. plan_view plan ≡ parted brand from first parts.items) }
     ensures shaped { IfOk result (λ plan. IsEachShaped plan.effects) }
 {
-    match payments_data(alloc, first, parts.as_slice()) {
-        Ok(payments) => splitting(alloc, brand, from, first, parts, Data::Array(payments)),
-        Err(fault) => {
-            drop(parts);
-            Err(fault)
-        }
-    }
+    let payments = payments_data(alloc, first, parts.as_slice())?;
+    splitting(alloc, brand, from, first, parts, Data::Array(payments))
 }
 
 /// The parts as they are lent.
@@ -159,13 +145,8 @@ fn next_parted(
     requires { 0 < length parts.items }
     ensures { Plans (apart (world_of world.now) brand from parts.items) result }
 {
-    match next_payments(world, parts.len()) {
-        Ok(first) => Ok(parted(alloc, brand, from, first, parts)?),
-        Err(stop) => {
-            drop(parts);
-            Err(stop)
-        }
-    }
+    let first = next_payments(world, parts.len())?;
+    Ok(parted(alloc, brand, from, first, parts)?)
 }
 
 /// A part of a value, which it has, and the rest.
@@ -174,19 +155,11 @@ fn halves(alloc: Global, mut whole: Value, part: Value) -> Result<Vec<Value>, Al
     requires has { Contains whole.content part.content }
     ensures { IfOk result (λ halves. halves.items ≡ part ∷ rest_of whole part ∷ []) }
 {
-    match Vec::with_capacity(alloc, 2) {
-        Ok(mut halves) => {
-            whole.lessen(&part);
-            halves.push_reserved(part);
-            halves.push_reserved(whole);
-            Ok(halves)
-        }
-        Err(fault) => {
-            drop(part);
-            drop(whole);
-            Err(fault)
-        }
-    }
+    let mut halves = Vec::with_capacity(alloc, 2)?;
+    whole.lessen(&part);
+    halves.push_reserved(part);
+    halves.push_reserved(whole);
+    Ok(halves)
 }
 
 /// A part of a payment, which it has, goes to the next one, and the rest to another (ERTP).
@@ -208,71 +181,17 @@ fn next_halves(
     next_parted(alloc, world, brand, number, parts)
 }
 
-/// A part of a payment goes to the next one, and the rest to another: else `NotEnough` (ERTP).
-#[tactic(auto, unfolding(crate::specs::Left::in_two, crate::specs::Left::apart, refusals::specs::Outcomes::bind))]
-fn in_two(
-    alloc: Global,
-    world: &World,
-    brand: u16,
-    given: LivePayment,
-    part: Value,
-) -> Result<Plan, Stop>
-    requires { given.value.kind ≡ part.kind }
-    ensures { Plans (in_two (world_of world.now) brand (live_view given) part) result }
-{
-    match check_has(&given.value, &part) {
-        Ok(()) => next_halves(alloc, world, brand, given, part),
-        Err(stop) => {
-            drop(part);
-            drop(given);
-            Err(stop)
-        }
-    }
-}
-
 /// `issuer.split(payment, amount)`: a payment of the amount, and one of the rest (ERTP).
-#[tactic(auto, unfolding(ertp_rows::specs::IssuerRows::split, crate::specs::Left::in_two, refusals::specs::Outcomes::bind))]
+#[tactic(auto, unfolding(ertp_rows::specs::IssuerRows::split, crate::specs::Left::apart, refusals::specs::Outcomes::bind))]
 pub fn split(alloc: Global, world: &World, brand: u16, args: &[Data]) -> Result<Plan, Stop>
     requires good { IsGoodWorld (world_of world.now) }
     requires handed { AreHanded (world_of world.now) (trees args.now) }
     ensures { Plans (split (world_of world.now) brand (trees args.now)) result }
 {
     let given = live_at(world, brand, 1, args)?;
-    match amount(alloc, brand, given.value.kind(), 2, argument(args, 2)) {
-        Ok(part) => in_two(alloc, world, brand, given, part),
-        Err(stop) => {
-            drop(given);
-            Err(stop)
-        }
-    }
-}
-
-/// A payment goes to the next ones in parts of which the sum is all of it: else `WrongAmount` (ERTP).
-#[tactic(auto, unfolding(refusals::specs::Outcomes::bind))]
-fn parted_as(
-    alloc: Global,
-    world: &World,
-    brand: u16,
-    given: LivePayment,
-    total: Value,
-    parts: Vec<Value>,
-) -> Result<Plan, Stop>
-    requires some { 0 < length parts.items }
-    requires kind { given.value.kind ≡ total.kind }
-    ensures { Plans (bind (need (is_same given.value total) (wrong_amount given.value total))
-        (λ _. apart (world_of world.now) brand given.number parts.items)) result }
-{
-    let is_all = check_same(&given.value, &total);
-    drop(total);
-    let from = given.number;
-    drop(given);
-    match is_all {
-        Ok(()) => next_parted(alloc, world, brand, from, parts),
-        Err(stop) => {
-            drop(parts);
-            Err(stop)
-        }
-    }
+    let part = amount(alloc, brand, given.value.kind(), 2, argument(args, 2))?;
+    check_has(&given.value, &part)?;
+    next_halves(alloc, world, brand, given, part)
 }
 
 /// A payment goes to the next ones in parts which are together all of it (ERTP).
@@ -288,14 +207,9 @@ fn in_parts(
     requires kinds { All (λ v. v.kind ≡ given.value.kind) parts.items }
     ensures { Plans (in_parts (world_of world.now) brand (live_view given) parts.items) result }
 {
-    match whole_of(alloc, given.value.kind(), parts.as_slice()) {
-        Ok(total) => parted_as(alloc, world, brand, given, total, parts),
-        Err(stop) => {
-            drop(parts);
-            drop(given);
-            Err(stop)
-        }
-    }
+    let total = whole_of(alloc, given.value.kind(), parts.as_slice())?;
+    check_same(&given.value, &total)?;
+    next_parted(alloc, world, brand, given.number, parts)
 }
 
 /// A payment goes to the next ones in the parts that are listed, one at least (ERTP).
@@ -311,13 +225,8 @@ fn in_listed(
     ensures { Plans
         (in_listed (world_of world.now) brand (live_view given) (trees items.now)) result }
 {
-    match amounts_of(alloc, brand, given.value.kind(), 2, items) {
-        Ok(parts) => in_parts(alloc, world, brand, given, parts),
-        Err(stop) => {
-            drop(given);
-            Err(stop)
-        }
-    }
+    let parts = amounts_of(alloc, brand, given.value.kind(), 2, items)?;
+    in_parts(alloc, world, brand, given, parts)
 }
 
 /// `issuer.splitMany(payment, amounts)`: a payment of each, which together are what the payment has (ERTP).
@@ -328,11 +237,6 @@ pub fn split_many(alloc: Global, world: &World, brand: u16, args: &[Data]) -> Re
     ensures { Plans (split_many (world_of world.now) brand (trees args.now)) result }
 {
     let given = live_at(world, brand, 1, args)?;
-    match filled_list_at(2, args) {
-        Ok(items) => in_listed(alloc, world, brand, given, items),
-        Err(stop) => {
-            drop(given);
-            Err(stop)
-        }
-    }
+    let items = filled_list_at(2, args)?;
+    in_listed(alloc, world, brand, given, items)
 }

@@ -1,7 +1,7 @@
 //! The methods of issuers that name one payment at most (ERTP).
 
-ghost use Rattle.std.specs.Prelude.{◌≡◌, ◌<◌, IfOk, Ok, length};
-ghost use Rattle.call_data.specs.Values.{amount_tree, object_tree};
+ghost use Rattle.std.specs.Prelude.{◌≡◌, ◌<◌, IfOk, Ok};
+ghost use Rattle.call_data.specs.Values.{amount_tree};
 ghost use Rattle.call_plans.specs.Lists.{IsEachShaped};
 ghost use Rattle.call_plans.specs.Plans.{Plans, Reads, plan_view};
 ghost use Rattle.call_rows.specs.Words.{next_payment, one_move};
@@ -61,9 +61,7 @@ pub fn get_amount_of(alloc: Global, world: &World, brand: u16, args: &[Data]) ->
     ensures { Reads (get_amount_of (world_of world.now) brand (trees args.now)) result }
 {
     let given = live_at(world, brand, 1, args)?;
-    let amount = amount_data(alloc, brand, &given.value);
-    drop(given);
-    Ok(amount?)
+    Ok(amount_data(alloc, brand, &given.value)?)
 }
 
 /// The value of a live payment goes outside.
@@ -91,33 +89,8 @@ pub fn burn(alloc: Global, world: &World, brand: u16, args: &[Data]) -> Result<P
     ensures { Plans (burn (world_of world.now) brand (trees args.now)) result }
 {
     let given = live_at(world, brand, 1, args)?;
-    match check_held(alloc, brand, &given.value, 2, argument(args, 2)) {
-        Ok(()) => Ok(burning(alloc, brand, given)?),
-        Err(stop) => {
-            drop(given);
-            Err(stop)
-        }
-    }
-}
-
-/// The value of a live payment goes to the next payment: else `Limit` (own).
-#[tactic(auto, unfolding(refusals::specs::Outcomes::bind))]
-fn claimed(alloc: Global, world: &World, brand: u16, given: LivePayment) -> Result<Plan, Stop>
-    ensures { Plans (bind (next_payment (world_of world.now)) (λ payment. Ok (
-      object_tree kinds.Payment payment,
-      one_move brand (holders.Payment given.number) (holders.Payment payment) given.value,
-    ))) result }
-{
-    match next_payment(world) {
-        Ok(payment) => {
-            let from = Holder::Payment(given.number);
-            Ok(paying(alloc, brand, from, payment, given.value)?)
-        }
-        Err(stop) => {
-            drop(given);
-            Err(stop)
-        }
-    }
+    check_held(alloc, brand, &given.value, 2, argument(args, 2))?;
+    Ok(burning(alloc, brand, given)?)
 }
 
 /// `issuer.claim(payment, amount)` (ERTP).
@@ -128,11 +101,8 @@ pub fn claim(alloc: Global, world: &World, brand: u16, args: &[Data]) -> Result<
     ensures { Plans (claim (world_of world.now) brand (trees args.now)) result }
 {
     let given = live_at(world, brand, 1, args)?;
-    match check_held(alloc, brand, &given.value, 2, argument(args, 2)) {
-        Ok(()) => claimed(alloc, world, brand, given),
-        Err(stop) => {
-            drop(given);
-            Err(stop)
-        }
-    }
+    check_held(alloc, brand, &given.value, 2, argument(args, 2))?;
+    let payment = next_payment(world)?;
+    let from = Holder::Payment(given.number);
+    Ok(paying(alloc, brand, from, payment, given.value)?)
 }

@@ -4,17 +4,16 @@
 
 ghost use Rattle.std.specs.Prelude.{◌≡◌, ◌<◌, ◌∷◌, [], IfOk, Ok, length};
 ghost use Rattle.amount_math.specs.Content.{sum};
-ghost use Rattle.brands.specs.Brands.{brand_of, most_brands};
-ghost use Rattle.call_data.specs.Values.{object_tree};
+ghost use Rattle.brands.specs.Brands.{brand_of};
 ghost use Rattle.call_plans.specs.Lists.{IsEachShaped};
 ghost use Rattle.call_plans.specs.Plans.{Plans, plan_view};
-ghost use Rattle.call_rows.specs.Words.{next_of, next_payment, one_move};
+ghost use Rattle.call_rows.specs.Words.{next_of, next_payment};
 ghost use Rattle.ertp_mint.specs.BrandSupply.{supply_at};
 ghost use Rattle.host_world.specs.Worlds.{world_of};
 ghost use Rattle.jessie_tree.specs.View.{tree, trees};
 ghost use Rattle.jessie_tree.specs.declared.data.ObjKind.TheVariants as kinds;
 ghost use Rattle.refusals.specs.Outcomes.{Gives, bind};
-ghost use Rattle.rights_model.specs.declared.Holder.TheVariants.{Outside, Payment};
+ghost use Rattle.rights_model.specs.declared.Holder.TheVariants.{Outside};
 ghost use Rattle.service_rows.specs.ErtpRows.{kit_tree, make_issuer_kit, mint_payment};
 ghost use Rattle.value_checks.specs.Tests.{counts_fit};
 ghost use Rattle.vault_rights.specs.Drafts.{IsClean};
@@ -75,26 +74,9 @@ fn making_kit(alloc: Global, name: &Text, kind: Kind, brand: u32) -> Result<Plan
     ensures shaped { IfOk result (λ plan. IsEachShaped plan.effects) }
 {
     let answer = kit_data(alloc, kind, brand)?;
-    match name.copy(alloc) {
-        Ok(name) => {
-            let makes = SeatsEffect::NewBrand(Brand { name, kind }, Maker::Kit);
-            Plan::with_effect(alloc, answer, Effect::Seats(makes))
-        }
-        Err(fault) => {
-            drop(answer);
-            Err(fault)
-        }
-    }
-}
-
-/// The next brand is made by the kit that the call answers, where one is left (ERTP).
-#[tactic(auto, unfolding(refusals::specs::Outcomes::bind))]
-fn next_kit(alloc: Global, world: &World, name: &Text, kind: Kind) -> Result<Plan, Stop>
-    ensures { Plans (bind (next_of (length (world_of world.now).brands) most_brands) (λ brand. Ok
-        (kit_tree kind brand, new_brand (brand_of name.now kind) of_kit ∷ []))) result }
-{
-    let brand = next_of(world.plain.brands.made(), MOST_BRANDS as u32)?;
-    Ok(making_kit(alloc, name, kind, brand)?)
+    let name = name.copy(alloc)?;
+    let makes = SeatsEffect::NewBrand(Brand { name, kind }, Maker::Kit);
+    Plan::with_effect(alloc, answer, Effect::Seats(makes))
 }
 
 /// `ertp.makeIssuerKit(name, kind)` (ERTP).
@@ -104,7 +86,8 @@ pub fn make_issuer_kit(alloc: Global, world: &World, args: &[Data]) -> Result<Pl
 {
     let name = text_at(1, 64, 1, args)?;
     let kind = kind_at(2, args)?;
-    next_kit(alloc, world, name, kind)
+    let brand = next_of(world.plain.brands.made(), MOST_BRANDS as u32)?;
+    Ok(making_kit(alloc, name, kind, brand)?)
 }
 
 /// That a value may come out of its brand beside what is out of it: else the refusals of what is out (ERTP).
@@ -121,23 +104,6 @@ fn check_comes_out(draft: &Draft, brand: u16, given: &Value) -> Result<(), Stop>
     check_out(draft.supply(), brand, given)
 }
 
-/// A value comes out to the next payment, where one is left (ERTP).
-#[tactic(auto, unfolding(refusals::specs::Outcomes::bind))]
-fn coming_out(alloc: Global, world: &World, brand: u16, value: Value) -> Result<Plan, Stop>
-    ensures { Plans (bind (next_payment (world_of world.now)) (λ payment. Ok (
-      object_tree kinds.Payment payment,
-      one_move brand Outside (Payment payment) value,
-    ))) result }
-{
-    match next_payment(world) {
-        Ok(payment) => Ok(paying(alloc, brand, Holder::Outside, payment, value)?),
-        Err(stop) => {
-            drop(value);
-            Err(stop)
-        }
-    }
-}
-
 /// `mint.mintPayment(amount)` (ERTP).
 #[tactic(auto, using(service_reads::proofs::HeldKinds::brand_kind, service_reads::proofs::HeldKinds::supply_made), unfolding(service_rows::specs::ErtpRows::mint_payment, refusals::specs::Outcomes::bind))]
 pub fn mint_payment(alloc: Global, world: &World, brand: u16, args: &[Data]) -> Result<Plan, Stop>
@@ -148,11 +114,7 @@ pub fn mint_payment(alloc: Global, world: &World, brand: u16, args: &[Data]) -> 
 {
     let kind = world.plain.brands.kind(brand);
     let value = amount(alloc, brand, kind, 1, argument(args, 1))?;
-    match check_comes_out(&world.draft, brand, &value) {
-        Ok(()) => coming_out(alloc, world, brand, value),
-        Err(stop) => {
-            drop(value);
-            Err(stop)
-        }
-    }
+    check_comes_out(&world.draft, brand, &value)?;
+    let payment = next_payment(world)?;
+    Ok(paying(alloc, brand, Holder::Outside, payment, value)?)
 }

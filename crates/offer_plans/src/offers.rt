@@ -75,18 +75,13 @@ fn escrow_of(alloc: Global, seat: u32, row: &Row, payment: u32) -> Result<Moveme
         (Slot seat row.now.keyword) row.now.amount.value) }
 {
     let keyword = row.keyword.copy(alloc)?;
-    match row.amount.value.copy() {
-        Ok(value) => Ok(Movement {
-            brand: row.amount.brand,
-            from: Holder::Payment(payment),
-            to: Holder::Slot(seat, keyword),
-            value,
-        }),
-        Err(fault) => {
-            drop(keyword);
-            Err(fault)
-        }
-    }
+    let value = row.amount.value.copy()?;
+    Ok(Movement {
+        brand: row.amount.brand,
+        from: Holder::Payment(payment),
+        to: Holder::Slot(seat, keyword),
+        value,
+    })
 }
 
 /// Puts the movement of a payment last.
@@ -102,13 +97,8 @@ fn push_escrow(
         (Slot seat row.now.keyword) row.now.amount.value ∷ []) }
 {
     let escrow = escrow_of(alloc, seat, row, payment)?;
-    match escrows.push(escrow) {
-        Ok(()) => Ok(()),
-        Err(failed) => {
-            drop(failed);
-            Err(AllocError)
-        }
-    }
+    escrows.push(escrow)?;
+    Ok(())
 }
 
 /// Each payment goes whole to the slot of its row.
@@ -138,20 +128,9 @@ fn proposal_of(
     requires want { AreRows want.items }
     ensures { IfOk result (λ p. p ≡ record { give = give.items; want = want.items; exit = exit }) }
 {
-    let give = match Allocation::from_rows(alloc, give) {
-        Ok(give) => give,
-        Err(fault) => {
-            drop(want);
-            return Err(fault);
-        }
-    };
-    match Allocation::from_rows(alloc, want) {
-        Ok(want) => Ok(Proposal { give, want, exit }),
-        Err(fault) => {
-            drop(give);
-            Err(fault)
-        }
-    }
+    let give = Allocation::from_rows(alloc, give)?;
+    let want = Allocation::from_rows(alloc, want)?;
+    Ok(Proposal { give, want, exit })
 }
 
 /// The invitation's payment goes outside, whole.
@@ -186,13 +165,8 @@ fn handed(
     ensures arguments { IfOk result (λ (_, given). tree given ≡ seen arguments.entry) }
 {
     let given = copy_of(alloc, arguments)?;
-    match burn_of(world, payment) {
-        Ok(burn) => Ok((burn, given)),
-        Err(fault) => {
-            drop(given);
-            Err(fault)
-        }
-    }
+    let burn = burn_of(world, payment)?;
+    Ok((burn, given))
 }
 
 /// What is offered, but for the invitation and what goes with it.
@@ -206,13 +180,8 @@ fn escrowed(
     ensures escrows { IfOk result (λ (_, ms).
         ms.items ≡ escrows_of seat proposal.give payments.now) }
 {
-    match escrows_of(alloc, seat, proposal.give.rows(), payments) {
-        Ok(escrows) => Ok((proposal, escrows)),
-        Err(fault) => {
-            drop(proposal);
-            Err(fault)
-        }
-    }
+    let escrows = escrows_of(alloc, seat, proposal.give.rows(), payments)?;
+    Ok((proposal, escrows))
 }
 
 /// What is offered.
@@ -232,20 +201,14 @@ fn offering(
 {
     let seat = seats_made(&world.draft);
     let (proposal, escrows) = escrowed(alloc, seat, proposal, payments)?;
-    match handed(alloc, world, by.payment, arguments) {
-        Ok((burn, arguments)) => Ok(Offering {
-            invitation: by.invitation,
-            proposal,
-            burn,
-            escrows,
-            arguments,
-        }),
-        Err(fault) => {
-            drop(proposal);
-            drop(escrows);
-            Err(fault)
-        }
-    }
+    let (burn, arguments) = handed(alloc, world, by.payment, arguments)?;
+    Ok(Offering {
+        invitation: by.invitation,
+        proposal,
+        burn,
+        escrows,
+        arguments,
+    })
 }
 
 /// The plan of an offer, which answers the seat that it opens.
@@ -284,13 +247,8 @@ fn fitting(alloc: Global, world: &World, read: Proposed) -> Result<Proposal, Sto
     ensures fails { IfErr result (λ stop.
         Fails stop (has_room (world_of world.now) (proposed_view read.entry).proposal)) }
 {
-    match check_room(world, &read) {
-        Ok(()) => Ok(proposal_of(alloc, read.give, read.want, read.exit)?),
-        Err(stop) => {
-            drop(read);
-            Err(stop)
-        }
-    }
+    check_room(world, &read)?;
+    Ok(proposal_of(alloc, read.give, read.want, read.exit)?)
 }
 
 /// The plan of an offer once all that it gives was read and tested, if there is room for its seat.
@@ -337,31 +295,16 @@ fn paid_for(
     ensures { Plans (paid_for (world_of world.now) (invited_view by) (proposed_view read.entry)
         (trees args.now)) result }
 {
-    match paid(
+    let payments = paid(
         alloc,
         world,
         by.payment,
         read.give.as_slice(),
         args,
         read.payments,
-    ) {
-        Ok(payments) => {
-            let plan = opened(
-                alloc,
-                world,
-                by,
-                read,
-                payments.as_slice(),
-                argument(args, 4),
-            );
-            drop(payments);
-            plan
-        }
-        Err(stop) => {
-            drop(read);
-            Err(stop)
-        }
-    }
+    )?;
+    let given = argument(args, 4);
+    opened(alloc, world, by, read, payments.as_slice(), given)
 }
 
 /// `zoe.offer(invitation, proposal, payments, offerArgs)` (Zoe).

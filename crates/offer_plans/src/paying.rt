@@ -76,9 +76,7 @@ fn check_pays(world: &World, row: &Row, payment: u32) -> Result<(), Stop>
         (wrong_amount (held_by (world_of world.now) payment) row.now.amount.value)) }
 {
     let held = value_of(world, payment)?;
-    let checked = check_value(world, row, payment, &held);
-    drop(held);
-    checked
+    check_value(world, row, payment, &held)
 }
 
 /// That each payment has just what its row says: else `WrongAmount` of the first that hasn't.
@@ -164,13 +162,8 @@ fn paid_by(
 {
     let made = payments_made(&world.draft);
     let payments = objects_under(alloc, ObjKind::Payment, made, 3, given)?;
-    match check_payments(alloc, world, invitation, give, payments.as_slice()) {
-        Ok(()) => Ok(payments),
-        Err(stop) => {
-            drop(payments);
-            Err(stop)
-        }
-    }
+    check_payments(alloc, world, invitation, give, payments.as_slice())?;
+    Ok(payments)
 }
 
 /// Payments in the order of the rows of give (Zoe): `WrongObject` 3, `DeadPayment`, `RepeatedPayment`,

@@ -129,25 +129,13 @@ fn given_with<'a>(
     ensures { Gives given_view result
         (with_give (rows_data give.entry.items) (seen proposal.entry) (seen payments.entry)) }
 {
-    let want = match amounts_of(alloc, part("want", proposal)) {
-        Ok(want) => want,
-        Err(stop) => {
-            drop(give);
-            return Err(stop);
-        }
-    };
-    match payments_in(payments) {
-        Ok(payments) => Ok(Given {
-            give,
-            want,
-            payments,
-        }),
-        Err(stop) => {
-            drop(give);
-            drop(want);
-            Err(stop)
-        }
-    }
+    let want = amounts_of(alloc, part("want", proposal))?;
+    let payments = payments_in(payments)?;
+    Ok(Given {
+        give,
+        want,
+        payments,
+    })
 }
 
 /// What is given, where all of it has its form: else `BadArgs` 2 and 3 (own).
@@ -236,26 +224,14 @@ fn proposed_by<'a>(
     ensures { Gives proposed_view result (proposed_by (given_view given.now) (seen rule.entry)) }
 {
     let give = valued(alloc, given.give.as_slice())?;
-    let want = match valued(alloc, given.want.as_slice()) {
-        Ok(want) => want,
-        Err(stop) => {
-            drop(give);
-            return Err(stop);
-        }
-    };
-    match rule_of(alloc, given, rule) {
-        Ok(exit) => Ok(Proposed {
-            give,
-            want,
-            exit,
-            payments: given.payments,
-        }),
-        Err(stop) => {
-            drop(give);
-            drop(want);
-            Err(stop)
-        }
-    }
+    let want = valued(alloc, given.want.as_slice())?;
+    let exit = rule_of(alloc, given, rule)?;
+    Ok(Proposed {
+        give,
+        want,
+        exit,
+        payments: given.payments,
+    })
 }
 
 /// What is proposed by what is given, where it can stand.
@@ -285,9 +261,7 @@ fn read_by<'a>(
         (read_by issuers.now (seen proposal.entry) (seen payments.entry)) }
 {
     let given = read_given(alloc, proposal, payments)?;
-    let read = standing(alloc, issuers, &given, part("exit", proposal));
-    drop(given);
-    read
+    standing(alloc, issuers, &given, part("exit", proposal))
 }
 
 /// A proposal and its payments (Zoe), each test over all rows before the next, give before want: `BadArgs` 2,

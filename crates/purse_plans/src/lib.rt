@@ -3,7 +3,7 @@
 #![tactic(auto)]
 
 ghost use Rattle.std.specs.Prelude.{◌≡◌, ◌<◌, IfOk, Ok, length};
-ghost use Rattle.call_data.specs.Values.{amount_tree, object_tree};
+ghost use Rattle.call_data.specs.Values.{amount_tree};
 ghost use Rattle.call_plans.specs.Lists.{IsEachShaped};
 ghost use Rattle.call_plans.specs.Plans.{Plans, Reads, plan_view};
 ghost use Rattle.call_rows.specs.Words.{next_payment, one_move};
@@ -16,10 +16,8 @@ ghost use Rattle.refusals.specs.Outcomes.{bind};
 ghost use Rattle.right_steps.specs.Lists.{amount_of};
 ghost use Rattle.rights_model.specs.declared.Holder.TheVariants.{Payment, Purse};
 ghost use Rattle.service_rows.specs.PurseRows.{deposit, get_alleged_brand, get_current_amount, purse_of, withdraw};
-ghost use Rattle.value_checks.specs.Tests.{sum_fits};
 ghost use Rattle.world_state.specs.Good.{IsGoodWorld};
 
-use amount_math::Value;
 use call_arguments::amounts::{amount, check_held};
 use call_arguments::places::argument;
 use call_data::values::{amount_data, object_data};
@@ -83,32 +81,6 @@ fn depositing(alloc: Global, purse: u32, brand: u16, given: LivePayment) -> Resu
     moving_amount(alloc, deposits)
 }
 
-/// A payment goes to a purse, which takes it beside what it has: else the refusals of their sum (ERTP).
-#[tactic(auto, unfolding(refusals::specs::Outcomes::bind))]
-fn taking_in(
-    alloc: Global,
-    world: &World,
-    purse: u32,
-    brand: u16,
-    given: LivePayment,
-) -> Result<Plan, Stop>
-    requires made { purse < length (world_of world.now).rights.purses }
-    requires kind { (purse_of (world_of world.now) purse).value.kind ≡ given.value.kind }
-    ensures { Plans (bind (sum_fits (purse_of (world_of world.now) purse).value given.value)
-        (λ _. Ok (
-          amount_tree (amount_of brand given.value),
-          one_move brand (Payment given.number) (Purse purse) given.value,
-        ))) result }
-{
-    match check_sum(purse_amount(&world.draft, purse), &given.value) {
-        Ok(()) => Ok(depositing(alloc, purse, brand, given)?),
-        Err(stop) => {
-            drop(given);
-            Err(stop)
-        }
-    }
-}
-
 /// `purse.deposit(payment, amount)`, and `deposit.receive(payment, amount)` (ERTP).
 #[tactic(auto, using(service_reads::proofs::HeldKinds::purse_kind), unfolding(service_rows::specs::PurseRows::deposit, refusals::specs::Outcomes::bind))]
 pub fn deposit(alloc: Global, world: &World, purse: u32, args: &[Data]) -> Result<Plan, Stop>
@@ -119,36 +91,9 @@ pub fn deposit(alloc: Global, world: &World, purse: u32, args: &[Data]) -> Resul
 {
     let brand = purse_brand(&world.draft, purse);
     let given = live_at(world, brand, 1, args)?;
-    match check_held(alloc, brand, &given.value, 2, argument(args, 2)) {
-        Ok(()) => taking_in(alloc, world, purse, brand, given),
-        Err(stop) => {
-            drop(given);
-            Err(stop)
-        }
-    }
-}
-
-/// A value of a purse goes to the next payment, where one is left (ERTP).
-#[tactic(auto, unfolding(refusals::specs::Outcomes::bind))]
-fn paying_out(
-    alloc: Global,
-    world: &World,
-    purse: u32,
-    brand: u16,
-    value: Value,
-) -> Result<Plan, Stop>
-    ensures { Plans (bind (next_payment (world_of world.now)) (λ payment. Ok (
-      object_tree kinds.Payment payment,
-      one_move brand (Purse purse) (Payment payment) value,
-    ))) result }
-{
-    match next_payment(world) {
-        Ok(payment) => Ok(paying(alloc, brand, Holder::Purse(purse), payment, value)?),
-        Err(stop) => {
-            drop(value);
-            Err(stop)
-        }
-    }
+    check_held(alloc, brand, &given.value, 2, argument(args, 2))?;
+    check_sum(purse_amount(&world.draft, purse), &given.value)?;
+    Ok(depositing(alloc, purse, brand, given)?)
 }
 
 /// `purse.withdraw(amount)` (ERTP).
@@ -160,13 +105,9 @@ pub fn withdraw(alloc: Global, world: &World, purse: u32, args: &[Data]) -> Resu
     let brand = purse_brand(&world.draft, purse);
     let held = purse_amount(&world.draft, purse);
     let value = amount(alloc, brand, held.kind(), 1, argument(args, 1))?;
-    match check_has(held, &value) {
-        Ok(()) => paying_out(alloc, world, purse, brand, value),
-        Err(stop) => {
-            drop(value);
-            Err(stop)
-        }
-    }
+    check_has(held, &value)?;
+    let payment = next_payment(world)?;
+    Ok(paying(alloc, brand, Holder::Purse(purse), payment, value)?)
 }
 
 /// `purse.getDepositFacet()`: it has the purse's number (ERTP).
