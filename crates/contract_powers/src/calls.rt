@@ -1,8 +1,8 @@
 //! Calls that an instance makes of the host, each carried out at once on the world.
 
-ghost use Rattle.std.specs.Prelude.{◌≡◌, ◌<◌, ◌*◌, ◌^◌, IfOk, OnOk, length};
+ghost use Rattle.std.specs.Prelude.{◌<◌, ◌*◌, ◌^◌, IfOk, length};
 ghost use Rattle.call_plans.specs.Lists.{IsEachShaped, effects_view};
-ghost use Rattle.carried_effects.specs.Carried.{AreCarried, IsInTurn};
+ghost use Rattle.carried_effects.specs.Carried.{IsInTurn};
 ghost use Rattle.contract_powers.specs.Answered.{IsCallAnswered};
 ghost use Rattle.contract_powers.specs.Planned.{CanCarry, Happened, WasCarried};
 ghost use Rattle.host_world.specs.Worlds.{IsUndoable, world_of};
@@ -33,13 +33,8 @@ fn carry_call(alloc: Global, world: &mut World, done: Answered) -> Result<Answer
     ensures back { IsUndoable world.old world.new }
 {
     let Answered { reply, effects } = done;
-    match carry_out(world, alloc, effects) {
-        Ok(()) => Ok(reply),
-        Err(fault) => {
-            drop(reply);
-            Err(fault)
-        }
-    }
+    carry_out(world, alloc, effects)?;
+    Ok(reply)
 }
 
 /// What was planned is carried out. Where nothing was, null is thrown.

@@ -6,7 +6,7 @@ ghost use Rattle.host_world.specs.Worlds.{world_of};
 ghost use Rattle.jessie_semantics.specs.Play as plays;
 ghost use Rattle.jessie_tree.specs.View.{tree, trees};
 ghost use Rattle.jessie_values.specs.Requests.{is_promise};
-ghost use Rattle.known_data.specs.Tests.{all_pass, passes};
+ghost use Rattle.known_data.specs.Tests.{passes};
 ghost use Rattle.jessie_tree.specs.Tree as nodes;
 ghost use Rattle.world_state.specs.Good.{IsGoodWorld};
 

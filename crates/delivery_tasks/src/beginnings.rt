@@ -206,13 +206,8 @@ fn notified(
         ≡ notice_beginning (world_of world.now) (notice_view notice.now) (settlement_view settlement)) }
     ensures shaped { IfOk result (λ b. IsTaskShaped b.task) }
 {
-    match notice_call(alloc, notice, &settlement) {
-        Ok(call) => Ok(read_and_run(world, Reading::Settlement(settlement), call)),
-        Err(fault) => {
-            drop(settlement);
-            Err(fault)
-        }
-    }
+    let call = notice_call(alloc, notice, &settlement)?;
+    Ok(read_and_run(world, Reading::Settlement(settlement), call))
 }
 
 /// A function is notified.

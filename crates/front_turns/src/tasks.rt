@@ -45,13 +45,8 @@ fn carried(
     ensures ok { OnOk result (AreCarried world.old world.new (effects_view effects)) }
     ensures back { IsUndoable world.old world.new }
 {
-    match carry_out(world, alloc, effects) {
-        Ok(()) => Ok(answer),
-        Err(fault) => {
-            drop(answer);
-            Err(fault)
-        }
-    }
+    carry_out(world, alloc, effects)?;
+    Ok(answer)
 }
 
 // ---- calls of the host's own objects

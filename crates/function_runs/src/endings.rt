@@ -92,13 +92,8 @@ fn keep_with(
         → HasEnded world.old world.new instance (plays.Ends e (trees state.items)) ran) }
     ensures back { IsUndoable world.old world.new }
 {
-    match keep_state(alloc, world, instance, state) {
-        Ok(()) => Ok(Ran::Ended(answer)),
-        Err(fault) => {
-            drop(answer);
-            Err(fault)
-        }
-    }
+    keep_state(alloc, world, instance, state)?;
+    Ok(Ran::Ended(answer))
 }
 
 /// The same, where the answer could be made.
@@ -117,13 +112,7 @@ fn keep_answered(
         → HasEnded world.old world.new instance (plays.Ends e (trees state.items)) ran) }
     ensures back { IsUndoable world.old world.new }
 {
-    match answered {
-        Ok(answer) => keep_with(alloc, world, instance, answer, state),
-        Err(fault) => {
-            drop(state);
-            Err(fault)
-        }
-    }
+    keep_with(alloc, world, instance, answered?, state)
 }
 
 /// What a function came to, its state kept where its meter was not spent.

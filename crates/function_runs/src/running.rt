@@ -1,6 +1,6 @@
 //! A function of a module that is evaluated over the world.
 
-ghost use Rattle.std.specs.Prelude.{◌≡◌, ◌<◌, ◌*◌, ◌^◌, IfOk, OnOk, length};
+ghost use Rattle.std.specs.Prelude.{◌≡◌, ◌<◌, ◌*◌, ◌^◌, IfOk, length};
 ghost use Rattle.carried_effects.specs.Carried.{IsInTurn};
 ghost use Rattle.contract_powers.specs.Starts.{start_of};
 ghost use Rattle.delivery_turns.specs.Functions.{module_play};
@@ -9,7 +9,6 @@ ghost use Rattle.host_world.specs.Worlds.{IsUndoable, world_of};
 ghost use Rattle.instance_store.specs.Tables.{instance_at};
 ghost use Rattle.jessie_evaluator.specs.Outcomes.{outcome};
 ghost use Rattle.jessie_semantics.specs.Keeping.{AllHave};
-ghost use Rattle.jessie_syntax.specs.Syntax.{variable_names};
 ghost use Rattle.jessie_tree.specs.View.{trees};
 ghost use Rattle.world_state.specs.Good.{IsGoodWorld};
 ghost use Rattle.world_state.specs.Known.{IsKnownTo, module_of};

@@ -61,16 +61,11 @@ fn given_answer(note: Effect, plan: Plan) -> Result<Answered, AllocError>
         → IfOk result (λ a. IsEachShaped a.effects) }
 {
     let Plan { answer, effects } = plan;
-    match told_first(note, effects) {
-        Ok(effects) => Ok(Answered {
-            reply: host::Answer::Value(answer),
-            effects,
-        }),
-        Err(fault) => {
-            drop(answer);
-            Err(fault)
-        }
-    }
+    let effects = told_first(note, effects)?;
+    Ok(Answered {
+        reply: host::Answer::Value(answer),
+        effects,
+    })
 }
 
 /// A call that is given an answer.
@@ -88,30 +83,19 @@ fn thrown_answer(alloc: Global, note: Effect, thrown: Data) -> Result<Answered, 
     ensures effects { IfOk result (λ a. effects_view a.effects ≡ effect_view note ∷ []) }
     ensures shaped { IsShaped note → IfOk result (λ a. IsEachShaped a.effects) }
 {
-    match told_first(note, Effects::new(alloc)) {
-        Ok(effects) => Ok(Answered {
-            reply: host::Answer::Refused(thrown),
-            effects,
-        }),
-        Err(fault) => {
-            drop(thrown);
-            Err(fault)
-        }
-    }
+    let effects = told_first(note, Effects::new(alloc))?;
+    Ok(Answered {
+        reply: host::Answer::Refused(thrown),
+        effects,
+    })
 }
 
 /// A call that is refused: the refusal is the data that is thrown.
 fn refused(alloc: Global, call: Told, refusal: Refusal) -> Result<Answered, AllocError>
     ensures { IfOk result (λ a. (c : Call) → IsTold c call → IsAnswered c (Err refusal) a) }
 {
-    match refusal.data(alloc) {
-        Ok(thrown) => thrown_answer(alloc, noted(call, Answer::Refused(refusal)), thrown),
-        Err(fault) => {
-            drop(refusal);
-            drop(call);
-            Err(fault)
-        }
-    }
+    let thrown = refusal.data(alloc)?;
+    thrown_answer(alloc, noted(call, Answer::Refused(refusal)), thrown)
 }
 
 /// What a call comes to, whatever its row planned.

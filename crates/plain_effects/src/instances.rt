@@ -98,13 +98,8 @@ pub fn start(stores: &mut PlainStores, starting: Starting) -> Result<(), AllocEr
         terms,
         private_arguments,
     } = starting;
-    match make_instance(stores, installation, issuers, terms) {
-        Ok(instance) => queue_start(stores, instance, private_arguments),
-        Err(fault) => {
-            drop(private_arguments);
-            Err(fault)
-        }
-    }
+    let instance = make_instance(stores, installation, issuers, terms)?;
+    queue_start(stores, instance, private_arguments)
 }
 
 /// An instance keeps an issuer under a keyword.

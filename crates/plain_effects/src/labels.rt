@@ -54,11 +54,6 @@ pub fn note_call(stores: &mut PlainStores, call: Call) -> Result<(), AllocError>
     ensures ok { OnOk result (Becomes stores.old stores.new (worlds.note_call (call_view call))) }
     ensures start { plain_at_start stores.new ≡ plain_at_start stores.old }
 {
-    match stores.log.push(Event::Called(call)) {
-        Ok(()) => Ok(()),
-        Err(failed) => {
-            drop(failed);
-            Err(AllocError)
-        }
-    }
+    stores.log.push(Event::Called(call))?;
+    Ok(())
 }

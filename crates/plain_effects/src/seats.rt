@@ -70,13 +70,8 @@ pub fn invite(
         (worlds.invite (details_view details))) }
     ensures start { plain_at_start stores.new ≡ plain_at_start stores.old }
 {
-    match keep_details(&mut stores.invitations, details) {
-        Ok(()) => log_move(&mut stores.log, movement),
-        Err(fault) => {
-            drop(movement);
-            Err(fault)
-        }
-    }
+    keep_details(&mut stores.invitations, details)?;
+    log_move(&mut stores.log, movement)
 }
 
 /// The details of the next invitation are kept.
@@ -101,13 +96,8 @@ fn keep_details(invitations: &mut Invitations, details: Details) -> Result<(), A
 fn log_event(log: &mut Log, event: Event) -> Result<(), AllocError>
     ensures { OnOk result (log_of log.new ≡ log_of log.old ++ event_view event ∷ []) }
 {
-    match log.push(event) {
-        Ok(()) => Ok(()),
-        Err(failed) => {
-            drop(failed);
-            Err(AllocError)
-        }
-    }
+    log.push(event)?;
+    Ok(())
 }
 
 /// A movement is told.
@@ -197,13 +187,8 @@ fn handler_of(alloc: Global, details: &Details) -> Result<(Text, Data), AllocErr
     ensures held { IfOk result (λ (_, held). tree held ≡ (details_view details.now).held) }
 {
     let handler = details.handler.copy(alloc)?;
-    match details.held.copy(alloc) {
-        Ok(held) => Ok((handler, held)),
-        Err(fault) => {
-            drop(handler);
-            Err(fault)
-        }
-    }
+    let held = details.held.copy(alloc)?;
+    Ok((handler, held))
 }
 
 /// What goes to the handler of an invitation that was made.
@@ -226,20 +211,15 @@ fn handler_call(
     })) }
 {
     let details = stores.invitations.details(invitation);
-    match handler_of(alloc, details) {
-        Ok((function, held)) => Ok(Delivery::Offer(Offer {
-            instance: details.instance,
-            seat,
-            function,
-            offer_arguments: arguments,
-            held,
-            promise,
-        })),
-        Err(fault) => {
-            drop(arguments);
-            Err(fault)
-        }
-    }
+    let (function, held) = handler_of(alloc, details)?;
+    Ok(Delivery::Offer(Offer {
+        instance: details.instance,
+        seat,
+        function,
+        offer_arguments: arguments,
+        held,
+        promise,
+    }))
 }
 
 /// The handler of an invitation is to be called, for the next promise.
@@ -304,26 +284,16 @@ pub fn offer(
         arguments,
     } = offering;
     let rule = proposal.exit;
-    match log_offer(&mut stores.log, seat, instance, proposal, burn, escrows) {
-        Ok(()) => queue_offer(stores, alloc, seat, invitation, rule, arguments),
-        Err(fault) => {
-            drop(arguments);
-            Err(fault)
-        }
-    }
+    log_offer(&mut stores.log, seat, instance, proposal, burn, escrows)?;
+    queue_offer(stores, alloc, seat, invitation, rule, arguments)
 }
 
 /// A movement is told, and then others.
 fn log_moves_after(log: &mut Log, first: Movement, others: Vec<Movement>) -> Result<(), AllocError>
     ensures { OnOk result (log_of log.new ≡ log_of log.old ++ map events.moved (first ∷ others.items)) }
 {
-    match log_move(log, first) {
-        Ok(()) => log_moves(log, others),
-        Err(fault) => {
-            drop(others);
-            Err(fault)
-        }
-    }
+    log_move(log, first)?;
+    log_moves(log, others)
 }
 
 /// The opening of a seat is told, and then the movements of its offer.
@@ -342,14 +312,8 @@ fn log_offer(
     })
         ∷ map events.moved (burn ∷ escrows.items)) }
 {
-    match log_opening(log, seat, instance, proposal) {
-        Ok(()) => log_moves_after(log, burn, escrows),
-        Err(fault) => {
-            drop(burn);
-            drop(escrows);
-            Err(fault)
-        }
-    }
+    log_opening(log, seat, instance, proposal)?;
+    log_moves_after(log, burn, escrows)
 }
 
 // ---- seats of an instance's own
@@ -515,21 +479,9 @@ fn told_payouts(
         ∷ map events.moved moves.items) }
     ensures record { IfOk result (λ made. tree made ≡ fields (payout_fields (payout_views payouts.items))) }
 {
-    let record = match payments_data(alloc, &payouts) {
-        Ok(record) => record,
-        Err(fault) => {
-            drop(payouts);
-            drop(moves);
-            return Err(fault);
-        }
-    };
-    match log_exit(log, seat, cause, payouts, moves) {
-        Ok(()) => Ok(record),
-        Err(fault) => {
-            drop(record);
-            Err(fault)
-        }
-    }
+    let record = payments_data(alloc, &payouts)?;
+    log_exit(log, seat, cause, payouts, moves)?;
+    Ok(record)
 }
 
 /// That a seat is left is told, and then the movements that pay it out.
@@ -552,11 +504,6 @@ fn log_exit(
         cause,
         payouts,
     };
-    match log_event(log, Event::Exited(leaving)) {
-        Ok(()) => log_moves(log, moves),
-        Err(fault) => {
-            drop(moves);
-            Err(fault)
-        }
-    }
+    log_event(log, Event::Exited(leaving))?;
+    log_moves(log, moves)
 }

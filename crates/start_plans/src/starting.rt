@@ -93,26 +93,14 @@ fn starting(
         ≡ starting installation issuers.now (arg 3 (trees args.now)) (arg 4 (trees args.now))) }
 {
     let terms = terms_in(alloc, argument(args, 3))?;
-    let private_arguments = match copy_of(alloc, argument(args, 4)) {
-        Ok(copy) => copy,
-        Err(fault) => {
-            drop(terms);
-            return Err(fault);
-        }
-    };
-    match record_of(alloc, issuers) {
-        Ok(issuers) => Ok(Starting {
-            installation,
-            issuers,
-            terms,
-            private_arguments,
-        }),
-        Err(fault) => {
-            drop(terms);
-            drop(private_arguments);
-            Err(fault)
-        }
-    }
+    let private_arguments = copy_of(alloc, argument(args, 4))?;
+    let issuers = record_of(alloc, issuers)?;
+    Ok(Starting {
+        installation,
+        issuers,
+        terms,
+        private_arguments,
+    })
 }
 
 /// The plan of a start that answers the promise of a number.
