@@ -125,7 +125,7 @@ fn function_value(alloc: Global, name: &str) -> Result<Value, AllocError>
 pub fn items_value(alloc: Global, items: &[Data]) -> Result<Value, AllocError>
     ensures { IfOk result (λ v. view v ≡ array (printed_items (items_of (trees items.now)))) }
 {
-    let mut values = Vec::new(alloc);
+    let mut values = Vec::with_capacity(alloc, items.len())?;
     for item in items {
         push(&mut values, data_value(alloc, item)?)?;
     }

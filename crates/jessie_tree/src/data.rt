@@ -244,7 +244,7 @@ fn copy_data(alloc: Global, value: &Data) -> Result<Data, AllocError>
 pub fn copy_items(alloc: Global, items: &[Data]) -> Result<Vec<Data>, AllocError>
     ensures { IfOk result (λ copies. trees copies.items ≡ trees items.now) }
 {
-    let mut copies = Vec::new(alloc);
+    let mut copies = Vec::with_capacity(alloc, items.len())?;
     for item in items {
         copies.push(copy_data(alloc, item)?)?;
     }
@@ -256,7 +256,7 @@ pub fn copy_items(alloc: Global, items: &[Data]) -> Result<Vec<Data>, AllocError
 pub fn copy_fields(alloc: Global, fields: &[(Text, Data)]) -> Result<Vec<(Text, Data)>, AllocError>
     ensures { IfOk result (λ copies. named_trees copies.items ≡ named_trees fields.now) }
 {
-    let mut copies = Vec::new(alloc);
+    let mut copies = Vec::with_capacity(alloc, fields.len())?;
     for (name, item) in fields {
         let name = name.copy(alloc)?;
         copies.push((name, copy_data(alloc, item)?))?;
