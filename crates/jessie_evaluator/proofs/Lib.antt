@@ -1,3 +1,4 @@
 pub mod Weights
 pub mod Parts
 pub mod Ends
+pub mod Starts

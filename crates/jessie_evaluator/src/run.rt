@@ -16,7 +16,7 @@ use jessie_calls::built_ins::call_built_in;
 use jessie_machine::host::Powers;
 use jessie_machine::machine::{End, Machine, read_literal, take};
 use jessie_machine::names::{assign_name, bind_all, bind_name, find_function, read_name};
-use jessie_machine::numbers::{chain_at_hand, test_at_hand};
+use jessie_machine::numbers::{assign_at_hand, chain_at_hand, test_at_hand};
 use jessie_machine::operations::{
     apply, apply_unary, call_amounts, check, decide, make_array, make_record, parts, read_index,
     run_field,
@@ -723,6 +723,9 @@ fn run_assign<P: Powers>(
     ensures runs { Runs P.answers powers.old powers.new (assign_rule name.now (expr (running «module».now room) (term_view value.now))) (here «module».now values.now machine.old) (come end_of result) (here «module».now values.now machine.new) }
     ensures fits { machine.new.meter ≤ P.room powers.new }
 {
+    if assign_at_hand(machine, name, value) {
+        return Ok(End::Next);
+    }
     let data = run_expr(alloc, powers, module, room, values, machine, value)?;
     assign_name(module, machine, name, data)?;
     Ok(End::Next)

@@ -182,7 +182,7 @@ pub fn read_name(
 }
 
 /// Gives the binding at a place another value.
-fn set_local(locals: &mut Locals<Data>, i: usize, data: Data)
+pub fn set_local(locals: &mut Locals<Data>, i: usize, data: Data)
     requires { i < length locals.old }
     ensures { named_trees locals.new ≡ set_value (named_trees locals.old) i (tree «data») }
 {

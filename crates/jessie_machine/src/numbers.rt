@@ -1,17 +1,18 @@
 // Numbers at hand: a literal, one of the function's own names that holds one, and what arithmetic makes of
 // such, worked at once. Where something else comes, or a charge is missing, nothing is worked.
-ghost use Rattle.std.specs.Prelude.{◌≡◌, ◌≤◌, ◌+◌, ℕ, List, Ok, IfSome};
+ghost use Rattle.std.specs.Prelude.{◌≡◌, ◌≤◌, ◌+◌, ℕ, List, Ok, IfSome, true, false};
 ghost use Rattle.jessie_tree.specs.Tree.{Tree, boolean as boolean_tree, number as number_tree};
 ghost use Rattle.jessie_tree.specs.View.{named_trees, tree};
 ghost use Rattle.jessie_syntax.specs.Syntax.{chain, operands_view, term_view};
 ghost use Rattle.jessie_values.specs.Dispatch.{operate};
 ghost use Rattle.jessie_values.specs.Literals.{literal_tree};
 ghost use Rattle.jessie_semantics.specs.Actions.{Bindings};
-ghost use Rattle.jessie_semantics.specs.Rules.{Program, expr, literal_rule, name_rule, operator_rule, test};
+ghost use Rattle.jessie_semantics.specs.Rules.{Program, assign_rule, expr, literal_rule, name_rule, next, operator_rule, test};
 ghost use Rattle.jessie_semantics.specs.Runs.{Computes, came};
 ghost use Rattle.jessie_machine.specs.Machine.{Makes, Decides, state, worked_tree};
 
 use crate::machine::Machine;
+use crate::names::set_local;
 use host_text::text::Text;
 use jessie_locals::locals::Locals;
 use jessie_syntax::syntax::{Expr, Literal, Operator};
@@ -316,4 +317,31 @@ pub fn test_at_hand(machine: &Machine, condition: &Expr) -> Option<TestAtHand>
         },
         _ => None,
     }
+}
+
+/// Gives one of the function's own names the number that arithmetic at hand comes to. Where it comes to none, or
+/// the name isn't one of those, nothing is done.
+#[inline(never)]
+pub fn assign_at_hand(machine: &mut Machine, name: &Text, value: &Expr) -> bool
+    ensures does { (m : Program) (names : List (List ℕ)) (values : List Tree)
+        → result ≡ true
+        → Computes (assign_rule name.now (expr m (term_view value.now)))
+        (state names values machine.old) (came next) (state names values machine.new) }
+    ensures same { result ≡ false → machine.new ≡ machine.old }
+    ensures kept { machine.new.meter ≤ machine.old.meter }
+{
+    let Expr::Chain(first, rest) = value else {
+        return false;
+    };
+    let Some(i) = machine.locals.place(name.as_str()) else {
+        return false;
+    };
+    let mut left = machine.meter;
+    let locals = &machine.locals;
+    let Some(number) = chain_number(DEEPEST, locals, &mut left, first.get(), rest.as_slice()) else {
+        return false;
+    };
+    set_local(&mut machine.locals, i, Data::Number(number));
+    machine.meter = left;
+    true
 }

@@ -15,8 +15,9 @@ use Rattle.jessie_machine.specs.Stops.{halt}
 use Rattle.jessie_machine.specs.Machine.{end_of, all_seen, fields_seen}
 use Rattle.jessie_machine.proofs.Places.{names_left, one_more, one_name_more}
 use Rattle.jessie_machine.proofs.Exits.{stops, thrown_computes, bad_computes, pure_as}
-use Rattle.jessie_evaluator.specs.Parts.{running}
+use Rattle.jessie_evaluator.specs.Parts.{running, here}
 use Rattle.jessie_evaluator.proofs.Parts.{call_at, built_in_at, amounts_at, send_at, array_at, record_at, steps_at, unary_at, chain_at, choice_at, method_at, if_at, while_at, for_at, try_at, exprs_open, exprs_end, named_open, named_end, links_open, links_end, operands_open, operands_end, branches_open, branches_end, block_open, block_end, rounds_open, rounds_end, no_items_left, right_true, right_false, either_true, either_false, round_true, round_false, calls_more, calls_none}
+use Rattle.jessie_evaluator.proofs.Starts.{runs_since}
 use Rattle.jessie_evaluator.proofs.Weights.{block_weight, routines_weight, part_falls, named_falls, link_falls, operand_falls, way_falls, statement_falls, routine_falls, calls_fall}
 use Rattle.jessie_evaluator.proofs.run.+run.Goals as goal
 
@@ -482,20 +483,27 @@ run_declare-returns-clause-runs g t c =
     (then_runs _ (computed (bind_as _ _ _ (one_name_more _ _ _ _ c.in_ok-bind.ensures)))
     (computed (pure_computes _ _)))
 
+pub run_assign-returns-then-assign_at_hand-clause-runs : goal.run_assign-returns-then-assign_at_hand-clause-runs
+run_assign-returns-then-assign_at_hand-clause-runs g t c =
+    computed (c.assign_at_hand.ensures.does _ _ _ c.if-assign_at_hand.true)
+
 pub run_assign-returns-in_err-data-clause-runs : goal.run_assign-returns-in_err-data-clause-runs
 run_assign-returns-in_err-data-clause-runs g t c =
-    stops end_of _ _ _ c.from_residual.ensures.1 c.in_err-data.ensures.runs
+    runs_since (ap (here c.args.module.now c.args.values.now) (c.assign_at_hand.ensures.same c.if-assign_at_hand.false))
+    (stops end_of _ _ _ c.from_residual.ensures.1 c.in_err-data.ensures.runs)
 
 pub run_assign-returns-in_err-assign_name-clause-runs : goal.run_assign-returns-in_err-assign_name-clause-runs
 run_assign-returns-in_err-assign_name-clause-runs g t c =
-    then_runs _ c.in_ok-data.ensures.runs
-    (stops end_of _ _ _ c.from_residual-in_err-assign_name.ensures.1 (computed (c.in_err-assign_name.ensures.does _)))
+    runs_since (ap (here c.args.module.now c.args.values.now) (c.assign_at_hand.ensures.same c.if-assign_at_hand.false))
+    (then_runs _ c.in_ok-data.ensures.runs
+    (stops end_of _ _ _ c.from_residual-in_err-assign_name.ensures.1 (computed (c.in_err-assign_name.ensures.does _))))
 
 pub run_assign-returns-clause-runs : goal.run_assign-returns-clause-runs
 run_assign-returns-clause-runs g t c =
-    then_runs _ c.in_ok-data.ensures.runs
+    runs_since (ap (here c.args.module.now c.args.values.now) (c.assign_at_hand.ensures.same c.if-assign_at_hand.false))
+    (then_runs _ c.in_ok-data.ensures.runs
     (then_runs _ (computed (c.in_ok-assign_name.ensures.does _))
-    (computed (pure_computes _ _)))
+    (computed (pure_computes _ _))))
 
 pub run_if-returns-in_err-holds-clause-runs : goal.run_if-returns-in_err-holds-clause-runs
 run_if-returns-in_err-holds-clause-runs g t c =
