@@ -64,9 +64,12 @@ local_number x bs all i b n same found h at e =
 
 -- where there is one
 
-pub makes_as : (o : Option ℤ) {a b : Action Tree} (ls : Bindings) (before after : ℕ) → b ≡ a → IfSome o (λ n. Makes a ls before n after) → IfSome o (λ n. Makes b ls before n after)
-makes_as (Some n) ls before after e h = λ gs. computes_as e (h gs)
-makes_as None ls before after e h = tt
+-- what was there was put into a place
+pub made_as : {o : Option ℤ} {k : ℤ} {a b : Action Tree} {ls : Bindings} {before after : ℕ} → o ≡ Some k → b ≡ a → IfSome o (λ n. Makes a ls before n after) → Makes b ls before k after
+made_as {a = a} {ls = ls} {before = before} {after = after} q e h = λ gs. computes_as e (subst (λ o. IfSome o (λ n. Makes a ls before n after)) q h gs)
+
+pub makes_to : {a : Action Tree} {ls : Bindings} {before after : ℕ} {n k : ℤ} → k ≡ n → Makes a ls before n after → Makes a ls before k after
+makes_to {a} {ls} {before} {after} e h = subst (λ n. Makes a ls before n after) (sym e) h
 
 pub literal_paid : (o : Option ℤ) (t : Tree) (n : ℤ) (ls : Bindings) (before after : ℕ) → t ≡ number n → IfSome o (λ k. k ≡ n) → IfSome o (λ k. after + 2 ≡ before) → IfSome o (λ k. Makes (literal_rule t) ls before k after)
 literal_paid (Some k) t n ls before after e v p = λ gs. computes_as (ap literal_rule (e ∙ ap number (sym v))) (literal_makes k ls before after p gs)
@@ -121,9 +124,6 @@ pub record Becomes (a : Action Tree) (s : State) (b : Action Tree) (u : State) :
 -- the chain is worked so far
 abbrev pub Reached : Program → Action Tree → List (Operator × Expr) → Bindings → ℕ → ℤ → ℕ → Type 0
 Reached m a rest ls before n after = (gs : Bindings) → Becomes a (standing ls gs before) (operands m (operands_view rest) (number n)) (standing ls gs after)
-
-pub reached_as : (m : Program) (a : Action Tree) (rest : List (Operator × Expr)) (ls : Bindings) (before : ℕ) (n k : ℤ) (after : ℕ) → k ≡ n → Reached m a rest ls before n after → Reached m a rest ls before k after
-reached_as m a rest ls before n k after e h = subst (λ n. Reached m a rest ls before n after) (sym e) h
 
 pub chain_begins : (m : Program) (t : Term) (rest : List (Operator × Expr)) (ls : Bindings) (before : ℕ) (n : ℤ) (after : ℕ) → Makes (expr m t) ls before n after → Reached m (expr m (chain t (operands_view rest))) rest ls before n after
 unfolding ◌>>=◌

@@ -1,6 +1,7 @@
 // Numbers at hand: a literal, one of the function's own names that holds one, and what arithmetic makes of
 // such, worked at once. Where something else comes, or a charge is missing, nothing is worked.
-ghost use Rattle.std.specs.Prelude.{◌≡◌, ◌≤◌, ◌+◌, ℕ, List, Ok, IfSome, true, false};
+ghost use Rattle.std.specs.Int.{w128};
+ghost use Rattle.std.specs.Prelude.{FitsSigned, ◌≡◌, ◌≤◌, ◌+◌, ℕ, List, Ok, IfSome, Some, true, false};
 ghost use Rattle.jessie_tree.specs.Tree.{Tree, boolean as boolean_tree, number as number_tree};
 ghost use Rattle.jessie_tree.specs.View.{named_trees, tree};
 ghost use Rattle.jessie_syntax.specs.Syntax.{chain, operands_view, term_view};
@@ -135,6 +136,20 @@ fn paid_number(meter: &mut u64, number: &i128) -> Option<i128>
     Some(*number)
 }
 
+/// Puts a number, where there is one, into a place of the caller's.
+fn put_number(made: Option<i128>, number: &mut i128) -> bool
+    ensures made { result ≡ true → made ≡ Some number.new }
+    ensures fits { result ≡ true → FitsSigned w128 number.new }
+{
+    match made {
+        Some(made) => {
+            *number = made;
+            true
+        }
+        None => false,
+    }
+}
+
 /// The number that a literal is.
 fn literal_number(meter: &mut u64, literal: &Literal) -> Option<i128>
     ensures does { (locals : Bindings)
@@ -163,29 +178,44 @@ fn local_number(locals: &Locals<Data>, meter: &mut u64, name: &Text) -> Option<i
     }
 }
 
-/// The number that an expression is.
+/// The number that an expression is, where it is one, put into a place of the caller's: within an `Option` it would
+/// be moved at each step.
 #[cycle(number)]
 #[inline(always)]
-fn number_at(depth: u32, locals: &Locals<Data>, meter: &mut u64, expression: &Expr) -> Option<i128>
+fn number_at(
+    depth: u32,
+    locals: &Locals<Data>,
+    meter: &mut u64,
+    expression: &Expr,
+    number: &mut i128,
+) -> bool
     ensures does { (m : Program)
-        → IfSome result (λ n. Makes (expr m (term_view expression.now))
-        (named_trees locals.now) meter.old n meter.new) }
+        → result ≡ true → Makes (expr m (term_view expression.now))
+        (named_trees locals.now) meter.old number.new meter.new }
+    ensures fits { result ≡ true → FitsSigned w128 number.new }
     ensures kept { meter.new ≤ meter.old }
 {
     match expression {
-        Expr::Literal(literal) => literal_number(meter, literal),
-        Expr::Name(name) => local_number(locals, meter, name),
+        Expr::Literal(literal) => put_number(literal_number(meter, literal), number),
+        Expr::Name(name) => put_number(local_number(locals, meter, name), number),
         Expr::Chain(first, rest) => {
             if depth == 0 {
-                return None;
+                return false;
             }
-            chain_number(depth - 1, locals, meter, first.get(), rest.as_slice())
+            chain_number(
+                depth - 1,
+                locals,
+                meter,
+                first.get(),
+                rest.as_slice(),
+                number,
+            )
         }
-        _ => None,
+        _ => false,
     }
 }
 
-/// The number that a chain is.
+/// The number that a chain is, where it is one, put into a place of the caller's.
 #[cycle(number)]
 #[inline(never)]
 fn chain_number(
@@ -194,45 +224,55 @@ fn chain_number(
     meter: &mut u64,
     first: &Expr,
     rest: &[(Operator, Expr)],
-) -> Option<i128>
+    number: &mut i128,
+) -> bool
     ensures does { (m : Program)
-        → IfSome result (λ n. Makes (expr m (chain (term_view first.now)
-        (operands_view rest.now))) (named_trees locals.now) meter.old n meter.new) }
+        → result ≡ true → Makes (expr m (chain (term_view first.now)
+        (operands_view rest.now))) (named_trees locals.now) meter.old number.new meter.new }
+    ensures fits { result ≡ true → FitsSigned w128 number.new }
     ensures kept { meter.new ≤ meter.old }
 {
     if !makes_numbers(rest) {
-        return None;
+        return false;
     }
-    let mut number = number_at(depth, locals, meter, first)?;
+    if !number_at(depth, locals, meter, first, number) {
+        return false;
+    }
     for (operator, right) in rest {
-        number = number_behind(depth, locals, meter, number, *operator, right)?;
+        if !number_behind(depth, locals, meter, number, *operator, right) {
+            return false;
+        }
     }
-    Some(number)
+    true
 }
 
-/// What an operator makes of a number and what is behind it.
+/// What an operator makes of a number and what is behind it, where that is a number, in place of the first.
 #[cycle(number)]
 #[inline(always)]
 fn number_behind(
     depth: u32,
     locals: &Locals<Data>,
     meter: &mut u64,
-    left: i128,
+    number: &mut i128,
     operator: Operator,
     right: &Expr,
-) -> Option<i128>
+) -> bool
     ensures does { (m : Program)
-        → IfSome result (λ n. Makes (operator_rule operator
-        (expr m (term_view right.now)) (number_tree left))
-        (named_trees locals.now) meter.old n meter.new) }
+        → result ≡ true → Makes (operator_rule operator
+        (expr m (term_view right.now)) (number_tree number.old))
+        (named_trees locals.now) meter.old number.new meter.new }
+    ensures fits { result ≡ true → FitsSigned w128 number.new }
     ensures kept { meter.new ≤ meter.old }
 {
     if *meter == 0 {
-        return None;
+        return false;
     }
     *meter -= 1;
-    let right = number_at(depth, locals, meter, right)?;
-    number_made(operator, left, right)
+    let mut behind = 0;
+    if !number_at(depth, locals, meter, right, &mut behind) {
+        return false;
+    }
+    put_number(number_made(operator, *number, behind), number)
 }
 
 /// How two numbers compare.
@@ -248,12 +288,18 @@ fn compared(
         (expr m (term_view second.now)) (named_trees locals.now) meter.old t meter.new) }
     ensures kept { meter.new ≤ meter.old }
 {
-    let a = number_at(DEEPEST, locals, meter, first)?;
+    let mut a = 0;
+    if !number_at(DEEPEST, locals, meter, first, &mut a) {
+        return None;
+    }
     if *meter == 0 {
         return None;
     }
     *meter -= 1;
-    let b = number_at(DEEPEST, locals, meter, second)?;
+    let mut b = 0;
+    if !number_at(DEEPEST, locals, meter, second, &mut b) {
+        return None;
+    }
     number_test(operator, a, b)
 }
 
@@ -292,7 +338,17 @@ pub fn chain_at_hand(
             return Some(ChainAtHand { value, left });
         }
     }
-    let number = chain_number(DEEPEST, &machine.locals, &mut left, first, rest)?;
+    let mut number = 0;
+    if !chain_number(
+        DEEPEST,
+        &machine.locals,
+        &mut left,
+        first,
+        rest,
+        &mut number,
+    ) {
+        return None;
+    }
     let value = Worked::Number(number);
     Some(ChainAtHand { value, left })
 }
@@ -338,9 +394,17 @@ pub fn assign_at_hand(machine: &mut Machine, name: &Text, value: &Expr) -> bool
     };
     let mut left = machine.meter;
     let locals = &machine.locals;
-    let Some(number) = chain_number(DEEPEST, locals, &mut left, first.get(), rest.as_slice()) else {
+    let mut number = 0;
+    if !chain_number(
+        DEEPEST,
+        locals,
+        &mut left,
+        first.get(),
+        rest.as_slice(),
+        &mut number,
+    ) {
         return false;
-    };
+    }
     set_local(&mut machine.locals, i, Data::Number(number));
     machine.meter = left;
     true

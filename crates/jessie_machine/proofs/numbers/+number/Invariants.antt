@@ -1,4 +1,5 @@
-use Rattle.std.proofs.Common.{◌≤◌, ◌+◌, ◌*◌, drop}
+use Rattle.std.specs.Int.{w128}
+use Rattle.std.proofs.Common.{FitsSigned, ◌≤◌, ◌+◌, ◌*◌, drop}
 use Rattle.jessie_tree.specs.View.{named_trees}
 use Rattle.jessie_syntax.specs.Syntax.{chain, operands_view, term_view}
 use Rattle.jessie_semantics.specs.Rules.{Program, expr}
@@ -18,4 +19,5 @@ abbrev pub invariant-chain_number-loop-operator : goal.invariant-chain_number-lo
 invariant-chain_number-loop-operator l = record {
   reached : (m : Program) → Reached m (expr m (chain (term_view l.first) (operands_view l.rest))) (drop l.operator-index l.rest) (named_trees l.locals) l.fn.meter l.number l.meter;
   kept : l.meter ≤ l.fn.meter;
+  fits : FitsSigned w128 l.number;
 }
