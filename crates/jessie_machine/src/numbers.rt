@@ -178,8 +178,23 @@ fn local_number(locals: &Locals<Data>, meter: &mut u64, name: &Text) -> Option<i
     }
 }
 
-/// The number that an expression is, where it is one, put into a place of the caller's: within an `Option` it would
-/// be moved at each step.
+/// The number that a literal is or a name holds, put into a place of the caller's: within an `Option` it would be
+/// moved at each step.
+fn held_number(locals: &Locals<Data>, meter: &mut u64, expression: &Expr, number: &mut i128) -> bool
+    ensures does { (m : Program)
+        → result ≡ true → Makes (expr m (term_view expression.now))
+        (named_trees locals.now) meter.old number.new meter.new }
+    ensures fits { result ≡ true → FitsSigned w128 number.new }
+    ensures kept { meter.new ≤ meter.old }
+{
+    match expression {
+        Expr::Literal(literal) => put_number(literal_number(meter, literal), number),
+        Expr::Name(name) => put_number(local_number(locals, meter, name), number),
+        _ => false,
+    }
+}
+
+/// The number that an expression is, where it is one, put into a place of the caller's.
 #[cycle(number)]
 #[inline(always)]
 fn number_at(
@@ -196,8 +211,6 @@ fn number_at(
     ensures kept { meter.new ≤ meter.old }
 {
     match expression {
-        Expr::Literal(literal) => put_number(literal_number(meter, literal), number),
-        Expr::Name(name) => put_number(local_number(locals, meter, name), number),
         Expr::Chain(first, rest) => {
             if depth == 0 {
                 return false;
@@ -211,7 +224,7 @@ fn number_at(
                 number,
             )
         }
-        _ => false,
+        _ => held_number(locals, meter, expression, number),
     }
 }
 
@@ -246,6 +259,28 @@ fn chain_number(
     true
 }
 
+/// The number behind an operator, where it is one: mostly a literal's or a name's, which is read straight away.
+#[cycle(number)]
+#[inline(always)]
+fn operand_number(
+    depth: u32,
+    locals: &Locals<Data>,
+    meter: &mut u64,
+    right: &Expr,
+    number: &mut i128,
+) -> bool
+    ensures does { (m : Program)
+        → result ≡ true → Makes (expr m (term_view right.now))
+        (named_trees locals.now) meter.old number.new meter.new }
+    ensures fits { result ≡ true → FitsSigned w128 number.new }
+    ensures kept { meter.new ≤ meter.old }
+{
+    match right {
+        Expr::Chain(_, _) => number_at(depth, locals, meter, right, number),
+        _ => held_number(locals, meter, right, number),
+    }
+}
+
 /// What an operator makes of a number and what is behind it, where that is a number, in place of the first.
 #[cycle(number)]
 #[inline(always)]
@@ -269,7 +304,7 @@ fn number_behind(
     }
     *meter -= 1;
     let mut behind = 0;
-    if !number_at(depth, locals, meter, right, &mut behind) {
+    if !operand_number(depth, locals, meter, right, &mut behind) {
         return false;
     }
     put_number(number_made(operator, *number, behind), number)

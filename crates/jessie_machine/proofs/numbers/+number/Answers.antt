@@ -2,17 +2,10 @@ use Rattle.std.proofs.Common.{◌-◌, FitsSigned, refl, ap, ◌∙◌, arith, r
 use Rattle.std.specs.Int.{w128}
 use Rattle.std.proofs.Math.Facts.{to_z-of_z}
 use Rattle.jessie_syntax.specs.Syntax.{term_view}
-use Rattle.jessie_syntax.proofs.Views.{term-Literal, term-Name}
 use Rattle.jessie_semantics.specs.Rules.{expr}
 use Rattle.jessie_semantics.proofs.Runs.{computes_as}
 use Rattle.jessie_machine.proofs.AtHand.{made_as, number_operated, chain_at, chain_begins, chain_goes_on, chain_ends}
 use Rattle.jessie_machine.proofs.numbers.+number.Goals as goal
-
-pub number_at-returns-in-Literal-clause-does : goal.number_at-returns-in-Literal-clause-does
-number_at-returns-in-Literal-clause-does t c = λ m put. made_as (c.put_number.ensures.made put) (ap (λ e. expr m (term_view e)) c.in-Literal.is ∙ ap (expr m) (term-Literal _)) (c.literal_number.ensures.does _)
-
-pub number_at-returns-in-Name-clause-does : goal.number_at-returns-in-Name-clause-does
-number_at-returns-in-Name-clause-does t c = λ m put. made_as (c.put_number-in-Name.ensures.made put) (ap (λ e. expr m (term_view e)) c.in-Name.is ∙ ap (expr m) (term-Name _)) (c.local_number.ensures.does m)
 
 pub number_at-returns-else-depth-eq0-clause-does : goal.number_at-returns-else-depth-eq0-clause-does
 number_at-returns-else-depth-eq0-clause-does t c = λ m put gs. computes_as (ap (expr m) (chain_at _ _ _ _ _ c.in-Chain.is c.get.ensures c.as_slice.ensures)) (c.chain_number.ensures.does m put gs)
@@ -20,9 +13,9 @@ number_at-returns-else-depth-eq0-clause-does t c = λ m put gs. computes_as (ap 
 pub number_behind-returns-clause-does : goal.number_behind-returns-clause-does
 number_behind-returns-clause-does t c = λ m put.
     let left : FitsSigned w128 c.args.number.now = search rules in
-    let right : FitsSigned w128 c.number_at.new.number = c.if-not-number_at.ensures.fits refl in
+    let right : FitsSigned w128 c.operand_number.new.number = c.if-not-operand_number.ensures.fits refl in
     made_as (c.put_number.ensures.made put) refl
-    (number_operated c.number_made.result c.args.operator _ c.args.number.now c.number_at.new.number _ _ _ c.args.meter.now (c.args.meter.now - 1) _ (to_z-of_z left) (to_z-of_z right) (omega (arith, c.if-meter-eq0.false)) (c.if-not-number_at.ensures.does m refl) c.number_made.ensures)
+    (number_operated c.number_made.result c.args.operator _ c.args.number.now c.operand_number.new.number _ _ _ c.args.meter.now (c.args.meter.now - 1) _ (to_z-of_z left) (to_z-of_z right) (omega (arith, c.if-meter-eq0.false)) (c.if-not-operand_number.ensures.does m refl) c.number_made.ensures)
 
 pub chain_number-loop-operator-init : goal.chain_number-loop-operator-init
 chain_number-loop-operator-init t c = record {

@@ -7,13 +7,16 @@ use Rattle.jessie_machine.proofs.AtHand.{Reached}
 use Rattle.jessie_machine.proofs.numbers.+number.Given as goal
 
 abbrev pub decreases-number_at : goal.decreases-number_at
-decreases-number_at l = l.depth * 3
+decreases-number_at l = l.depth * 4
 
 abbrev pub decreases-chain_number : goal.decreases-chain_number
-decreases-chain_number l = l.depth * 3 + 2
+decreases-chain_number l = l.depth * 4 + 3
+
+abbrev pub decreases-operand_number : goal.decreases-operand_number
+decreases-operand_number l = l.depth * 4 + 1
 
 abbrev pub decreases-number_behind : goal.decreases-number_behind
-decreases-number_behind l = l.depth * 3 + 1
+decreases-number_behind l = l.depth * 4 + 2
 
 abbrev pub invariant-chain_number-loop-operator : goal.invariant-chain_number-loop-operator
 invariant-chain_number-loop-operator l = record {
