@@ -1,4 +1,4 @@
-use Rattle.std.proofs.Common.{◌≡◌, FitsSigned, refl, ap, ◌∙◌, Some, map, rules}
+use Rattle.std.proofs.Common.{◌≡◌, FitsSigned, refl, ap, ◌∙◌, Some, map}
 use Rattle.std.specs.Int.{w128}
 use Rattle.std.proofs.Math.Facts.{to_z-of_z}
 use Rattle.jessie_tree.specs.Tree.{number}
