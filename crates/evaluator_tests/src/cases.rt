@@ -4,6 +4,7 @@ use crate::shown::outcome;
 use amount_math::Kind;
 use host_text::text::Text;
 use jessie_evaluator::evaluation::{Outcome, evaluate};
+use jessie_module_index::IndexedModule;
 use jessie_module_reader::reader::read_module;
 use jessie_syntax::syntax::Module;
 use jessie_texts::refused::ReadError;
@@ -33,9 +34,9 @@ fn arguments(alloc: Global) -> Result<Vec<Data>, AllocError> {
 }
 
 /// What `start` comes to with this meter. A module of the table has no state variables.
-fn run(alloc: Global, module: &Module, meter: u64) -> Result<Outcome, AllocError> {
+fn run(alloc: Global, module: &IndexedModule, meter: u64) -> Result<Outcome, AllocError> {
     let mut state = Vec::new(alloc);
-    if module.variables.len() != state.len() {
+    if module.variables().len() != state.len() {
         return Ok(Outcome::Spent);
     }
     let arguments = arguments(alloc)?;
@@ -59,7 +60,12 @@ fn tell_end(alloc: Global, end: Outcome, told: &mut String) -> Result<(), AllocE
 }
 
 /// Adds what `start` comes to with this meter.
-fn tell(alloc: Global, module: &Module, meter: u64, told: &mut String) -> Result<(), AllocError> {
+fn tell(
+    alloc: Global,
+    module: &IndexedModule,
+    meter: u64,
+    told: &mut String,
+) -> Result<(), AllocError> {
     match run(alloc, module, meter) {
         Ok(end) => tell_end(alloc, end, told),
         Err(fault) => Err(fault),
@@ -67,7 +73,7 @@ fn tell(alloc: Global, module: &Module, meter: u64, told: &mut String) -> Result
 }
 
 /// What `start` comes to with this meter, and with one less.
-fn runs(alloc: Global, module: &Module, meter: u64) -> Result<String, AllocError> {
+fn runs(alloc: Global, module: &IndexedModule, meter: u64) -> Result<String, AllocError> {
     let mut told = String::new(alloc);
     tell(alloc, module, meter, &mut told)?;
     if meter > 0 {
@@ -77,10 +83,18 @@ fn runs(alloc: Global, module: &Module, meter: u64) -> Result<String, AllocError
     Ok(told)
 }
 
+/// What `start` of the module comes to with this meter, and with one less.
+fn module_runs(alloc: Global, module: Module, meter: u64) -> Result<String, AllocError> {
+    match IndexedModule::new(alloc, module) {
+        Ok(module) => runs(alloc, &module, meter),
+        Err(_) => Err(AllocError),
+    }
+}
+
 /// What the text comes to: its refusal, or what its `start` does.
 fn text_line(alloc: Global, meter: u64, text: &str) -> Result<String, AllocError> {
     match read_module(alloc, text.as_bytes()) {
-        Ok(module) => runs(alloc, &module, meter),
+        Ok(module) => module_runs(alloc, module, meter),
         Err(ReadError::NoMemory) => Err(AllocError),
         Err(ReadError::Refused(refusal)) => {
             let place = refusal.place;

@@ -19,7 +19,7 @@ use contract_powers::rows::ContractRows;
 use host_text::text::Text;
 use host_world::World;
 use jessie_evaluator::evaluation::{Outcome, evaluate};
-use jessie_syntax::syntax::Module;
+use jessie_module_index::IndexedModule;
 use jessie_tree::data::{Data, copy_items};
 use std::alloc::{AllocError, Global};
 use std::marker::PhantomData;
@@ -31,7 +31,7 @@ pub(crate) fn prepared(
     alloc: Global,
     world: &World,
     instance: u32,
-) -> Result<(Rc<Module>, Vec<Data>), AllocError>
+) -> Result<(Rc<IndexedModule>, Vec<Data>), AllocError>
     requires good { IsGoodWorld (world_of world.now) }
     requires made { instance < length (world_of world.now).tables.instances }
     ensures shared { IfOk result (λ p. p.0.value ≡ module_of (world_of world.now).tables instance) }
@@ -50,7 +50,7 @@ pub(crate) fn run_in<T: Turn, R: ContractRows>(
     alloc: Global,
     world: World,
     instance: u32,
-    module: &Module,
+    module: &IndexedModule,
     function: &Text,
     arguments: Vec<Data>,
     state: &mut Vec<Data>,

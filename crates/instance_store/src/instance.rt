@@ -4,7 +4,7 @@ ghost use Rattle.jessie_tree.specs.View.{trees};
 ghost use Rattle.instance_store.specs.Tables.{initial_state, stopped};
 
 use brands::issuer_record::IssuerRecord;
-use jessie_syntax::syntax::Module;
+use jessie_module_index::IndexedModule;
 use jessie_tree::data::Data;
 use jessie_values::literals::constant_data;
 use std::alloc::{AllocError, Global};
@@ -53,11 +53,11 @@ impl Standing {
 }
 
 /// What the state variables of a module hold before it has run.
-pub(crate) fn initial_state(alloc: Global, module: &Module) -> Result<Vec<Data>, AllocError>
+pub(crate) fn initial_state(alloc: Global, module: &IndexedModule) -> Result<Vec<Data>, AllocError>
     ensures { IfOk result (λ state. trees state.items ≡ initial_state «module».now) }
 {
     let mut state = Vec::new(alloc);
-    for variable in module.variables.as_slice() {
+    for variable in module.variables() {
         state.push(constant_data(alloc, &variable.initial)?)?;
     }
     Ok(state)

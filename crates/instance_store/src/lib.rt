@@ -22,6 +22,7 @@ pub use crate::instance::Standing;
 use crate::instance::{Instance, initial_state};
 use brands::issuer_record::{IssuerFault, IssuerRecord, MOST_ISSUERS};
 use host_text::keyword::Keyword;
+use jessie_module_index::IndexedModule;
 use jessie_syntax::syntax::Module;
 use jessie_tree::data::Data;
 use std::alloc::{AllocError, Global};
@@ -40,7 +41,7 @@ pub enum AddFault {
 #[derive(Drop)]
 pub struct Instances {
     /// Each is shared with the turns that run it.
-    installations: Vec<Rc<Module>>,
+    installations: Vec<Rc<IndexedModule>>,
     instances: Vec<Instance>,
     /// How many installations were made at the turn's start.
     kept_installations: usize,
@@ -55,6 +56,18 @@ pub struct Instances {
     ghost made_at_start: { AreBelow kept_instances (changes_at_start changes) },
     ghost whole: { IsTrue (are_whole (tables_seen (map (λ m. m.value) installations.items) (changes_now changes) instances.items)) },
     ghost whole_at_start: { IsTrue (are_whole (tables_seen (take kept_installations (map (λ m. m.value) installations.items)) (changes_at_start changes) (take kept_instances instances.items))) },
+}
+
+/// The module with an index of its functions, to be shared. For want of memory it is handed back.
+fn shared(alloc: Global, module: Module) -> Result<Rc<IndexedModule>, Module>
+    ensures ok { IfOk result (λ shared. shared.value ≡ «module») }
+    ensures err { IfErr result (λ back. back ≡ «module») }
+{
+    let module = IndexedModule::new(alloc, module)?;
+    match Rc::new(alloc, module) {
+        Ok(shared) => Ok(shared),
+        Err(failed) => Err(failed.value.into_module()),
+    }
 }
 
 #[tactic(auto, using(crate::proofs::Numbered::length_numbered))]
@@ -107,17 +120,17 @@ impl Instances {
         if self.installations.reserve(1).is_err() {
             return Err((module, AddFault::NoMemory));
         }
-        match Rc::new(*self.installations.allocator(), module) {
+        match shared(*self.installations.allocator(), module) {
             Ok(module) => {
                 self.installations.push_reserved(module);
                 Ok(number)
             }
-            Err(failed) => Err((failed.value, AddFault::NoMemory)),
+            Err(module) => Err((module, AddFault::NoMemory)),
         }
     }
 
     /// The module of an installation.
-    pub fn module(&self, installation: u32) -> &Module
+    pub fn module(&self, installation: u32) -> &IndexedModule
         requires { installation < installations_made self.now }
         ensures { result.now ≡ the_module self.now installation }
     {
@@ -125,7 +138,7 @@ impl Instances {
     }
 
     /// The module of an installation, shared: no part of it is copied.
-    pub fn shared_module(&self, installation: u32) -> Result<Rc<Module>, AllocError>
+    pub fn shared_module(&self, installation: u32) -> Result<Rc<IndexedModule>, AllocError>
         requires { installation < installations_made self.now }
         ensures { IfOk result (λ shared. shared.value ≡ the_module self.now installation) }
     {

@@ -15,7 +15,7 @@ use jessie_locals::locals::Locals;
 use jessie_machine::host::{NoMemory, Powers};
 use jessie_machine::machine::Machine;
 use jessie_machine::stop::Stop;
-use jessie_syntax::syntax::Module;
+use jessie_module_index::IndexedModule;
 use jessie_tree::data::Data;
 use std::alloc::{AllocError, Global};
 
@@ -63,7 +63,7 @@ fn keep_changes(values: &mut Vec<Data>, changed: Vec<Option<Data>>)
 pub fn evaluate<P: Powers>(
     alloc: Global,
     powers: &mut P,
-    module: &Module,
+    module: &IndexedModule,
     f: &Text,
     args: Vec<Data>,
     state: &mut Vec<Data>,

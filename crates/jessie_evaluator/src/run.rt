@@ -15,7 +15,7 @@ use host_text::text::Text;
 use jessie_calls::built_ins::call_built_in;
 use jessie_machine::host::Powers;
 use jessie_machine::machine::{End, Machine, read_literal, take};
-use jessie_machine::names::{assign_name, bind_all, bind_name, find_function, read_name};
+use jessie_machine::names::{assign_name, bind_all, bind_name, read_name};
 use jessie_machine::numbers::{assign_at_hand, chain_at_hand, test_at_hand};
 use jessie_machine::operations::{
     apply, apply_unary, call_amounts, check, decide, make_array, make_record, parts, read_index,
@@ -23,7 +23,8 @@ use jessie_machine::operations::{
 };
 use jessie_machine::requests::{call_method, send_method};
 use jessie_machine::stop::{Stop, bad, throw_data};
-use jessie_syntax::syntax::{Branch, BuiltIn, Expr, Module, Operator, Step, Stmt, Unary};
+use jessie_module_index::IndexedModule;
+use jessie_syntax::syntax::{Branch, BuiltIn, Expr, Operator, Step, Stmt, Unary};
 use jessie_tree::data::Data;
 use jessie_values::operators::truth;
 use jessie_values::reasons::Reason;
@@ -36,7 +37,7 @@ use std::mem;
 fn run_expr<P: Powers>(
     alloc: Global,
     powers: &mut P,
-    module: &Module,
+    module: &IndexedModule,
     room: u32,
     values: &[Data],
     machine: &mut Machine,
@@ -158,7 +159,7 @@ fn run_expr<P: Powers>(
 fn run_exprs<P: Powers>(
     alloc: Global,
     powers: &mut P,
-    module: &Module,
+    module: &IndexedModule,
     room: u32,
     values: &[Data],
     machine: &mut Machine,
@@ -182,7 +183,7 @@ fn run_exprs<P: Powers>(
 fn run_named<P: Powers>(
     alloc: Global,
     powers: &mut P,
-    module: &Module,
+    module: &IndexedModule,
     room: u32,
     values: &[Data],
     machine: &mut Machine,
@@ -206,7 +207,7 @@ fn run_named<P: Powers>(
 fn run_call<P: Powers>(
     alloc: Global,
     powers: &mut P,
-    module: &Module,
+    module: &IndexedModule,
     room: u32,
     values: &[Data],
     machine: &mut Machine,
@@ -228,7 +229,7 @@ fn run_call<P: Powers>(
 fn run_built_in<P: Powers>(
     alloc: Global,
     powers: &mut P,
-    module: &Module,
+    module: &IndexedModule,
     room: u32,
     values: &[Data],
     machine: &mut Machine,
@@ -250,7 +251,7 @@ fn run_built_in<P: Powers>(
 fn run_amounts<P: Powers>(
     alloc: Global,
     powers: &mut P,
-    module: &Module,
+    module: &IndexedModule,
     room: u32,
     values: &[Data],
     machine: &mut Machine,
@@ -272,7 +273,7 @@ fn run_amounts<P: Powers>(
 fn run_send<P: Powers>(
     alloc: Global,
     powers: &mut P,
-    module: &Module,
+    module: &IndexedModule,
     room: u32,
     values: &[Data],
     machine: &mut Machine,
@@ -296,7 +297,7 @@ fn run_send<P: Powers>(
 fn run_array<P: Powers>(
     alloc: Global,
     powers: &mut P,
-    module: &Module,
+    module: &IndexedModule,
     room: u32,
     values: &[Data],
     machine: &mut Machine,
@@ -317,7 +318,7 @@ fn run_array<P: Powers>(
 fn run_record<P: Powers>(
     alloc: Global,
     powers: &mut P,
-    module: &Module,
+    module: &IndexedModule,
     room: u32,
     values: &[Data],
     machine: &mut Machine,
@@ -338,7 +339,7 @@ fn run_record<P: Powers>(
 fn run_steps<P: Powers>(
     alloc: Global,
     powers: &mut P,
-    module: &Module,
+    module: &IndexedModule,
     room: u32,
     values: &[Data],
     machine: &mut Machine,
@@ -362,7 +363,7 @@ fn run_steps<P: Powers>(
 fn run_step<P: Powers>(
     alloc: Global,
     powers: &mut P,
-    module: &Module,
+    module: &IndexedModule,
     room: u32,
     values: &[Data],
     machine: &mut Machine,
@@ -396,7 +397,7 @@ fn run_step<P: Powers>(
 fn run_method<P: Powers>(
     alloc: Global,
     powers: &mut P,
-    module: &Module,
+    module: &IndexedModule,
     room: u32,
     values: &[Data],
     machine: &mut Machine,
@@ -419,7 +420,7 @@ fn run_method<P: Powers>(
 fn run_index<P: Powers>(
     alloc: Global,
     powers: &mut P,
-    module: &Module,
+    module: &IndexedModule,
     room: u32,
     values: &[Data],
     machine: &mut Machine,
@@ -441,7 +442,7 @@ fn run_index<P: Powers>(
 fn run_unary<P: Powers>(
     alloc: Global,
     powers: &mut P,
-    module: &Module,
+    module: &IndexedModule,
     room: u32,
     values: &[Data],
     machine: &mut Machine,
@@ -463,7 +464,7 @@ fn run_unary<P: Powers>(
 fn run_chain<P: Powers>(
     alloc: Global,
     powers: &mut P,
-    module: &Module,
+    module: &IndexedModule,
     room: u32,
     values: &[Data],
     machine: &mut Machine,
@@ -493,7 +494,7 @@ fn run_chain<P: Powers>(
 fn run_operator<P: Powers>(
     alloc: Global,
     powers: &mut P,
-    module: &Module,
+    module: &IndexedModule,
     room: u32,
     values: &[Data],
     machine: &mut Machine,
@@ -521,7 +522,7 @@ fn run_operator<P: Powers>(
 fn run_right<P: Powers>(
     alloc: Global,
     powers: &mut P,
-    module: &Module,
+    module: &IndexedModule,
     room: u32,
     values: &[Data],
     machine: &mut Machine,
@@ -543,7 +544,7 @@ fn run_right<P: Powers>(
 fn run_choice<P: Powers>(
     alloc: Global,
     powers: &mut P,
-    module: &Module,
+    module: &IndexedModule,
     room: u32,
     values: &[Data],
     machine: &mut Machine,
@@ -572,7 +573,7 @@ fn run_choice<P: Powers>(
 fn run_test<P: Powers>(
     alloc: Global,
     powers: &mut P,
-    module: &Module,
+    module: &IndexedModule,
     room: u32,
     values: &[Data],
     machine: &mut Machine,
@@ -596,7 +597,7 @@ fn run_test<P: Powers>(
 fn run_stmt<P: Powers>(
     alloc: Global,
     powers: &mut P,
-    module: &Module,
+    module: &IndexedModule,
     room: u32,
     values: &[Data],
     machine: &mut Machine,
@@ -616,7 +617,7 @@ fn run_stmt<P: Powers>(
 fn run_form<P: Powers>(
     alloc: Global,
     powers: &mut P,
-    module: &Module,
+    module: &IndexedModule,
     room: u32,
     values: &[Data],
     machine: &mut Machine,
@@ -690,7 +691,7 @@ fn run_form<P: Powers>(
 fn run_declare<P: Powers>(
     alloc: Global,
     powers: &mut P,
-    module: &Module,
+    module: &IndexedModule,
     room: u32,
     values: &[Data],
     machine: &mut Machine,
@@ -712,7 +713,7 @@ fn run_declare<P: Powers>(
 fn run_assign<P: Powers>(
     alloc: Global,
     powers: &mut P,
-    module: &Module,
+    module: &IndexedModule,
     room: u32,
     values: &[Data],
     machine: &mut Machine,
@@ -737,7 +738,7 @@ fn run_assign<P: Powers>(
 fn run_if<P: Powers>(
     alloc: Global,
     powers: &mut P,
-    module: &Module,
+    module: &IndexedModule,
     room: u32,
     values: &[Data],
     machine: &mut Machine,
@@ -771,7 +772,7 @@ fn run_if<P: Powers>(
 fn run_while<P: Powers>(
     alloc: Global,
     powers: &mut P,
-    module: &Module,
+    module: &IndexedModule,
     room: u32,
     values: &[Data],
     machine: &mut Machine,
@@ -802,7 +803,7 @@ fn run_while<P: Powers>(
 fn run_for<P: Powers>(
     alloc: Global,
     powers: &mut P,
-    module: &Module,
+    module: &IndexedModule,
     room: u32,
     values: &[Data],
     machine: &mut Machine,
@@ -834,7 +835,7 @@ fn run_for<P: Powers>(
 fn run_return<P: Powers>(
     alloc: Global,
     powers: &mut P,
-    module: &Module,
+    module: &IndexedModule,
     room: u32,
     values: &[Data],
     machine: &mut Machine,
@@ -859,7 +860,7 @@ fn run_return<P: Powers>(
 fn run_throw<P: Powers>(
     alloc: Global,
     powers: &mut P,
-    module: &Module,
+    module: &IndexedModule,
     room: u32,
     values: &[Data],
     machine: &mut Machine,
@@ -879,7 +880,7 @@ fn run_throw<P: Powers>(
 fn run_try<P: Powers>(
     alloc: Global,
     powers: &mut P,
-    module: &Module,
+    module: &IndexedModule,
     room: u32,
     values: &[Data],
     machine: &mut Machine,
@@ -912,7 +913,7 @@ fn run_try<P: Powers>(
 fn run_value<P: Powers>(
     alloc: Global,
     powers: &mut P,
-    module: &Module,
+    module: &IndexedModule,
     room: u32,
     values: &[Data],
     machine: &mut Machine,
@@ -932,7 +933,7 @@ fn run_value<P: Powers>(
 fn run_scope<P: Powers>(
     alloc: Global,
     powers: &mut P,
-    module: &Module,
+    module: &IndexedModule,
     room: u32,
     values: &[Data],
     machine: &mut Machine,
@@ -954,7 +955,7 @@ fn run_scope<P: Powers>(
 fn run_with<P: Powers>(
     alloc: Global,
     powers: &mut P,
-    module: &Module,
+    module: &IndexedModule,
     room: u32,
     values: &[Data],
     machine: &mut Machine,
@@ -979,7 +980,7 @@ fn run_with<P: Powers>(
 fn run_block<P: Powers>(
     alloc: Global,
     powers: &mut P,
-    module: &Module,
+    module: &IndexedModule,
     room: u32,
     values: &[Data],
     machine: &mut Machine,
@@ -1004,7 +1005,7 @@ fn run_block<P: Powers>(
 pub fn invoke<P: Powers>(
     alloc: Global,
     powers: &mut P,
-    module: &Module,
+    module: &IndexedModule,
     room: u32,
     values: &[Data],
     machine: &mut Machine,
@@ -1018,7 +1019,7 @@ pub fn invoke<P: Powers>(
     if room == 0 {
         return Err(bad(Reason::TooDeep));
     }
-    match find_function(module.functions.as_slice(), f.as_str()) {
+    match module.function(f.as_str()) {
         None => Err(bad(Reason::WrongKind)),
         Some(function) => {
             let own = bind_all(alloc, function.params.as_slice(), args)?;

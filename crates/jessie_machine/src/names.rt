@@ -6,7 +6,7 @@ ghost use Rattle.jessie_syntax.specs.Syntax.{routine, routines, variable_names};
 ghost use Rattle.jessie_values.specs.Reasons.{bad_step};
 ghost use Rattle.jessie_values.specs.declared.reasons.Reason.TheVariants.{WrongKind};
 ghost use Rattle.jessie_semantics.specs.Actions.{Bindings, put as put_name, paid, rebind};
-ghost use Rattle.jessie_semantics.specs.Rules.{program, find_routine, function_named, name_rule, pairs};
+ghost use Rattle.jessie_semantics.specs.Rules.{program, function_named, name_rule, pairs};
 ghost use Rattle.jessie_semantics.specs.Runs.{Computes};
 ghost use Rattle.jessie_machine.specs.Stops.{come};
 ghost use Rattle.jessie_machine.specs.Machine.{state, place, current, changes, changed_at, value_at, local_at, set_value};
@@ -16,7 +16,8 @@ use crate::stop::{Stop, bad};
 use host_text::text::Text;
 use jessie_locals::locals::Locals;
 use jessie_locals::names::is_name;
-use jessie_syntax::syntax::{Function, Module, Variable};
+use jessie_module_index::IndexedModule;
+use jessie_syntax::syntax::{Function, Variable};
 use jessie_tree::data::{Data, pay};
 use jessie_values::reasons::Reason;
 use std::alloc::{AllocError, Global};
@@ -31,19 +32,6 @@ fn variable_place(variables: &[Variable], name: &str) -> Option<usize>
             return Some(others.len());
         }
         left = others;
-    }
-    None
-}
-
-/// The first function of the name.
-#[inline(never)]
-pub fn find_function<'a>(functions: &'a [Function], name: &str) -> Option<&'a Function>
-    ensures { option_map (λ f. routine f.now) result ≡ find_routine name.now (map routine functions.now) }
-{
-    for function in functions {
-        if is_name(function.name.as_str(), name) {
-            return Some(function);
-        }
     }
     None
 }
@@ -161,7 +149,7 @@ fn pay_local(
 #[inline(never)]
 pub fn read_name(
     alloc: Global,
-    module: &Module,
+    module: &IndexedModule,
     values: &[Data],
     machine: &mut Machine,
     name: &Text,
@@ -173,12 +161,11 @@ pub fn read_name(
     if let Some(i) = machine.locals.place(name.as_str()) {
         return pay_local(alloc, &mut machine.meter, machine.locals.as_slice(), i);
     }
-    if let Some(i) = variable_place(module.variables.as_slice(), name.as_str()) {
+    if let Some(i) = variable_place(module.variables(), name.as_str()) {
         let changed = machine.changed.as_slice();
         return pay_variable(alloc, &mut machine.meter, values, changed, i);
     }
-    let function = find_function(module.functions.as_slice(), name.as_str());
-    pay_function(alloc, &mut machine.meter, function)
+    pay_function(alloc, &mut machine.meter, module.function(name.as_str()))
 }
 
 /// Gives the binding at a place another value.
@@ -211,7 +198,7 @@ fn set_variable(changed: &mut Vec<Option<Data>>, i: usize, data: Data)
 /// Gives the innermost of the function's own names, else a state variable, another value.
 #[inline(never)]
 pub fn assign_name(
-    module: &Module,
+    module: &IndexedModule,
     machine: &mut Machine,
     name: &Text,
     data: Data,
@@ -223,7 +210,7 @@ pub fn assign_name(
         set_local(&mut machine.locals, i, data);
         return Ok(());
     }
-    if let Some(i) = variable_place(module.variables.as_slice(), name.as_str()) {
+    if let Some(i) = variable_place(module.variables(), name.as_str()) {
         make_place(&mut machine.changed, i)?;
         set_variable(&mut machine.changed, i, data);
         return Ok(());

@@ -17,7 +17,6 @@ pub mod objects;
 use host_text::text::Text;
 use host_text::word::is_field_name;
 use host_world::World;
-use jessie_machine::names::find_function;
 use jessie_tree::data::Data;
 use objects::knows_object;
 use std::cmp::Ordering;
@@ -34,7 +33,7 @@ pub fn names_function(world: &World, instance: u32, name: &Text) -> bool
 {
     let instances = &world.plain.instances;
     let module = instances.module(instances.installation(instance));
-    find_function(module.functions.as_slice(), name.as_str()).is_some()
+    module.function(name.as_str()).is_some()
 }
 
 /// Whether a name stands before that of the first field, in byte order.

@@ -281,9 +281,9 @@ fn is_shared(instances: &Instances) -> bool
 {
     match instances.shared_module(0) {
         Ok(module) => {
-            let is_whole = module.as_ref().variables.len() == 1;
+            let is_whole = module.as_ref().variables().len() == 1;
             drop(module);
-            is_whole && instances.module(0).variables.len() == 1
+            is_whole && instances.module(0).variables().len() == 1
         }
         Err(_) => false,
     }

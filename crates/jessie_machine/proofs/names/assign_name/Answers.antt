@@ -25,7 +25,7 @@ returns-in-Some-variable_place-clause-does c = λ values.
     let none : None ≡ place x (map (λ b. b.0) bs) =
     c.in_default.ensures.place ∙ (ap (λ y. locals.place y (map (λ b. b.0) bs)) c.as_str.ensures ∙ same_place x (map (λ b. b.0) bs)) in
     let here : Some c.in-Some-variable_place.i ≡ place x xs =
-    c.in-Some-variable_place.ensures ∙ (ap (λ y. place y (map (λ v. v.name) c.as_slice.result.now)) c.as_str-2.ensures ∙ ap (λ vs. place x (map (λ v. v.name) vs)) c.as_slice.ensures) in
+    c.in-Some-variable_place.ensures ∙ (ap (λ y. place y (map (λ v. v.name) c.variables.result.now)) c.as_str-2.ensures ∙ ap (λ vs. place x (map (λ v. v.name) vs)) c.variables.ensures) in
     put_variable (bad_step WrongKind) x (tree c.args.«data») _ (local_bound x bs None none) (variable_bound x xs values _ (Some c.in-Some-variable_place.i) here)
     (c.set_variable.ensures x xs values here ∙ ap (rebind x (tree c.args.«data»)) (c.in_ok-make_place.ensures.same xs values))
 
@@ -37,5 +37,5 @@ returns-clause-does c = λ values.
     let none : None ≡ place x (map (λ b. b.0) bs) =
     c.in_default.ensures.place ∙ (ap (λ y. locals.place y (map (λ b. b.0) bs)) c.as_str.ensures ∙ same_place x (map (λ b. b.0) bs)) in
     let nowhere : None ≡ place x xs =
-    c.in_default-variable_place.ensures ∙ (ap (λ y. place y (map (λ v. v.name) c.as_slice.result.now)) c.as_str-2.ensures ∙ ap (λ vs. place x (map (λ v. v.name) vs)) c.as_slice.ensures) in
+    c.in_default-variable_place.ensures ∙ (ap (λ y. place y (map (λ v. v.name) c.variables.result.now)) c.as_str-2.ensures ∙ ap (λ vs. place x (map (λ v. v.name) vs)) c.variables.ensures) in
     put_nowhere _ WrongKind x (tree c.args.«data») _ (local_bound x bs None none) (variable_bound x xs values _ None nowhere) c.bad.ensures

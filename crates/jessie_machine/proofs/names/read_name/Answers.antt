@@ -1,6 +1,6 @@
 use Rattle.std.proofs.Common.{◌≡◌, ap, sym, ◌∙◌, Some, None, map}
 use Rattle.jessie_tree.specs.View.{tree, trees, named_trees}
-use Rattle.jessie_syntax.specs.Syntax.{routine, routines, variable_names}
+use Rattle.jessie_syntax.specs.Syntax.{routines, variable_names}
 use Rattle.jessie_values.specs.Reasons.{bad_step}
 use Rattle.jessie_values.specs.declared.reasons.Reason.TheVariants.{WrongKind}
 use Rattle.jessie_semantics.specs.Actions.{first_of, look, paid}
@@ -41,7 +41,7 @@ returns-in-Some-variable_place-clause-does c = λ room.
     let none : None ≡ place x (map (λ b. b.0) m.locals) =
     c.in_default.ensures.place ∙ (ap (λ y. locals.place y (map (λ b. b.0) m.locals)) c.as_str.ensures ∙ same_place x (map (λ b. b.0) m.locals)) in
     let here : Some c.in-Some-variable_place.i ≡ place x xs =
-    c.in-Some-variable_place.ensures ∙ (ap (λ y. place y (map (λ v. v.name) c.as_slice-2.result.now)) c.as_str-2.ensures ∙ ap (λ vs. place x (map (λ v. v.name) vs)) c.as_slice-2.ensures) in
+    c.in-Some-variable_place.ensures ∙ (ap (λ y. place y (map (λ v. v.name) c.variables.result.now)) c.as_str-2.ensures ∙ ap (λ vs. place x (map (λ v. v.name) vs)) c.variables.ensures) in
     let passed = local_look x m.locals None none in
     let found = variable_look x xs vs (changes m.changed.items) (Some c.in-Some-variable_place.i) here in
     let value = ap (λ cs. value_at vs (changes cs) c.in-Some-variable_place.i) (sym c.as_slice-changed.ensures.value) in
@@ -61,9 +61,9 @@ returns-clause-does c = λ room.
     let none : None ≡ place x (map (λ b. b.0) m.locals) =
     c.in_default.ensures.place ∙ (ap (λ y. locals.place y (map (λ b. b.0) m.locals)) c.as_str.ensures ∙ same_place x (map (λ b. b.0) m.locals)) in
     let nowhere : None ≡ place x xs =
-    c.in_default-variable_place.ensures ∙ (ap (λ y. place y (map (λ v. v.name) c.as_slice-2.result.now)) c.as_str-2.ensures ∙ ap (λ vs. place x (map (λ v. v.name) vs)) c.as_slice-2.ensures) in
+    c.in_default-variable_place.ensures ∙ (ap (λ y. place y (map (λ v. v.name) c.variables.result.now)) c.as_str-2.ensures ∙ ap (λ vs. place x (map (λ v. v.name) vs)) c.variables.ensures) in
     let passed = local_look x m.locals None none in
     let found = variable_look x xs vs (changes m.changed.items) None nowhere in
-    let function = ap (λ fs. find_routine x (map routine fs)) (sym c.as_slice-3.ensures) ∙ (ap (λ y. find_routine y (map routine c.as_slice-3.result.now)) (sym c.as_str-3.ensures) ∙ sym c.find_function-function.ensures) in
+    let function = ap (λ y. find_routine y rs) (sym c.as_str-3.ensures) ∙ sym c.function.ensures in
     then_computes _ (c.in_ok-take.ensures.does _ _) (then_computes _ (named_computes x other _)
     (computes_as (ap (λ o. paid t (first_of o (first_of (look x globals) other))) passed ∙ (ap (λ o. paid t (first_of o other)) found ∙ ap (λ r. paid t (function_named r)) function)) (c.pay_function.ensures.does _ _)))
