@@ -1,5 +1,5 @@
 -- What parts have at each place is what touched seats have.
-use Rattle.std.proofs.Common.{◌≡◌, ◌≢◌, ℕ, ◌+◌, ◌<◌, ◌≤◌, cond, false, Option, Some, None, MatchOption, List, [], ◌∷◌, ◌++◌, length, get_or, map, take, sym, ap, ◌∙◌, arith}
+use Rattle.std.proofs.Common.{◌≡◌, ◌≢◌, ℕ, ◌+◌, ◌<◌, ◌≤◌, ◌↔◌, cond, false, Option, Some, None, IsTrue, MatchOption, is_none, List, [], ◌∷◌, ◌++◌, length, get_or, map, take, refl, sym, ap, ◌∙◌, arith}
 use Rattle.std.proofs.lemmas.List.Sums.{sum_by-append}
 use Rattle.std.proofs.lemmas.List.{map-append, take_more}
 use Rattle.std.proofs.lemmas.List.Sorted.{sum_by-IsPermutation}
@@ -12,7 +12,7 @@ use Rattle.std.specs.declared.cmp.Ordering.TheVariants.{Less, Equal, Greater}
 use Rattle.amount_math.specs.Content.{key_cmp}
 use Rattle.proposals.specs.declared.plans.SeatState.{SeatState}
 use Rattle.proposals.specs.declared.plans.Touched.{Touched}
-use Rattle.rearrange.specs.Parts.{AreEven, HaveAll, HaveMore, HaveSeat, IsFirstUneven, is_at, parts_after, parts_before}
+use Rattle.rearrange.specs.Parts.{AreEven, HaveAll, HaveMore, HaveSeat, HaveTouched, IsFirstUneven, is_at, parts_after, parts_before}
 use Rattle.rearrange.specs.Sums.{AreConserved, IsFirstUnkept, all_touched, count_after, count_before, rows_count, touched_of}
 use Rattle.rearrange.specs.declared.parts.Part.{Part}
 use Rattle.rearrange.specs.declared.parts.Side.TheVariants.{Before, After}
@@ -66,3 +66,13 @@ module _ (touched : List Touched) (ps qs : List Part) (all : HaveAll [] touched 
   pub answer_from : (found : Option Unkept) → MatchOption found (AreEven qs) (IsFirstUneven qs) → MatchOption found (AreConserved touched) (IsFirstUnkept touched)
   answer_from None even = record { each = λ b k. sym (before (b, k)) ∙ even (b, k) ∙ after (b, k) }
   answer_from (Some u) is = unkept_from u is
+
+-- ---- what differs, sorted
+
+module _ (touched : List Touched) (ps qs : List Part) (change : HaveTouched touched [] ps) (same : IsPermutation ps qs) where
+  changed : (x : ℕ × List ℕ) → parts_before x qs + count_after x.0 x.1 touched ≡ parts_after x qs + count_before x.0 x.1 touched
+  changed x = omega (arith, sum_by-IsPermutation (λ (p : Part). cond (is_at x p) p.before 0) ps qs same, sum_by-IsPermutation (λ (p : Part). cond (is_at x p) p.after 0) ps qs same, change.each x)
+
+  pub conserved_from : (found : Option Unkept) → MatchOption found (AreEven qs) (IsFirstUneven qs) → IsTrue (is_none found) ↔ AreConserved touched
+  conserved_from None even = ((λ _. record { each = λ b k. omega (arith, changed (b, k), even (b, k)) }), (λ _. refl))
+  conserved_from (Some u) is = ((λ e. absurd (false≢true e)), (λ kept. absurd (is.differ (omega (arith, changed (u.brand, u.element), kept.each u.brand u.element, is.left, is.right)))))

@@ -2,6 +2,7 @@ pub mod Unlike
 pub mod PartLists
 pub mod PartCounts
 pub mod Sorting
+pub mod Changes
 pub mod Conserved
 pub mod Agreeing
 pub mod Touching

@@ -6,6 +6,7 @@
 //! change is refused by the first test that it fails.
 #![tactic(auto)]
 
+mod differences;
 mod listed;
 mod parts;
 pub mod plans;

@@ -1,9 +1,11 @@
 //! Conservation: of each element of each brand the touched seats have as many after as before (Zoe).
 
-ghost use Rattle.std.specs.Prelude.{[], IfOk, MatchOption, OnOk};
+ghost use Rattle.std.specs.Prelude.{[], ◌↔◌, IfOk, IsTrue, MatchOption, OnOk};
 ghost use Rattle.rearrange.specs.Sums.{AreConserved, IsFirstUnkept, all_touched, touched_of};
-ghost use Rattle.rearrange.specs.Parts.{HaveAll, HaveSeat};
+ghost use Rattle.rearrange.specs.Parts.{HaveAll, HaveRows, HaveSeat, HaveTouched};
+ghost use Rattle.rearrange.specs.Seats as given;
 
+use crate::differences::add_unlike_rows;
 use crate::parts::{Part, Side, add_rows, first_uneven, sort};
 use crate::seats::allocation_of;
 use amount_math::Key;
@@ -51,6 +53,48 @@ fn parts_of(alloc: Global, states: &[SeatState], list: &[SeatRows]) -> Result<Ve
     Ok(parts)
 }
 
+/// What a seat has before and after, but what it has alike.
+fn add_unlike_seat(
+    alloc: Global,
+    parts: &mut Vec<Part>,
+    states: &[SeatState],
+    seat: &SeatRows,
+) -> Result<(), AllocError>
+    ensures { OnOk result (HaveRows (given.allocation_of states.now seat.now.seat) seat.now.rows.items parts.old.items parts.new.items) }
+{
+    add_unlike_rows(
+        alloc,
+        parts,
+        allocation_of(states, seat.seat),
+        seat.rows.as_slice(),
+    )
+}
+
+fn unlike_parts_of(
+    alloc: Global,
+    states: &[SeatState],
+    list: &[SeatRows],
+) -> Result<Vec<Part>, AllocError>
+    ensures { IfOk result (λ parts. HaveTouched (all_touched states.now list.now) [] parts.items) }
+{
+    let mut parts = Vec::new(alloc);
+    for seat in list {
+        add_unlike_seat(alloc, &mut parts, states, seat)?;
+    }
+    Ok(parts)
+}
+
+/// Whether of each element of each brand the seats have as many after as before. What a seat has alike is
+/// passed over, so this costs what differs.
+fn are_conserved(alloc: Global, states: &[SeatState], list: &[SeatRows]) -> Result<bool, AllocError>
+    ensures { IfOk result (λ conserved. IsTrue conserved ↔ AreConserved (all_touched states.now list.now)) }
+{
+    let mut parts = unlike_parts_of(alloc, states, list)?;
+    sort(&mut parts);
+    let uneven = first_uneven(parts.as_slice())?;
+    Ok(uneven.is_none())
+}
+
 /// The least brand, and of its elements the first in byte order, of which the seats have not as many
 /// after as before, if there is one.
 pub fn first_unkept(
@@ -60,6 +104,10 @@ pub fn first_unkept(
 ) -> Result<Option<Unkept>, AllocError>
     ensures { IfOk result (λ found. MatchOption found (AreConserved (all_touched states.now list.now)) (IsFirstUnkept (all_touched states.now list.now))) }
 {
+    let conserved = are_conserved(alloc, states, list)?;
+    if conserved {
+        return Ok(None);
+    }
     let mut parts = parts_of(alloc, states, list)?;
     sort(&mut parts);
     first_uneven(parts.as_slice())

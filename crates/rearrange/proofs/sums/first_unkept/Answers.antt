@@ -7,6 +7,9 @@ use Rattle.rearrange.specs.declared.sums.Unkept.{Unkept}
 use Rattle.rearrange.proofs.Conserved.{answer_from}
 use Rattle.rearrange.proofs.sums.first_unkept.Goals as goal
 
+pub returns-then-conserved : goal.returns-then-conserved
+returns-then-conserved c = c.in_ok-conserved.ensures.0 c.if-conserved.true
+
 pub returns : goal.returns
 returns c =
     let touched = all_touched c.args.states.now c.args.list.now in
