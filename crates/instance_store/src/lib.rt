@@ -1,9 +1,9 @@
 //! Installations and instances by number (Zoe); and, beside them, the facets that contracts make and the two
-//! promises of each seat. It stands on the data and syntax of the contract language, on issuer records and
-//! on maps that can go back. Its one contract: each call gives the whole new tables, in which an instance
+//! promises of each seat. It stands on the data of the contract language, on modules with their index, on
+//! issuer records and on maps that can go back. Its one contract: each call gives the whole new tables, in which an instance
 //! has a value for each state variable of its module; and a turn that goes back leaves the tables as they
-//! were at its start, without memory and at the cost of what it changed. An installation's module is shared
-//! with the turns that run it, and never copied.
+//! were at its start, without memory and at the cost of what it changed. An installation's module is shared,
+//! with its index, with the turns that run it.
 #![tactic(auto)]
 
 mod changes;

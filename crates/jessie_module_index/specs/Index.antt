@@ -16,4 +16,5 @@ IsIndexOf fs places = (x : List ℕ) → get_by_text places x ≡ first_place x 
 
 -- a name has this place, and each other name the one that it had
 abbrev pub IsPut : BTreeMap (String Global) ℕ → BTreeMap (String Global) ℕ → List ℕ → ℕ → Type 0
-IsPut old new x i = (q : List ℕ) → get_by_text new q ≡ (if bytes_eq x q then Some i else get_by_text old q)
+IsPut old new x i =
+    (q : List ℕ) → get_by_text new q ≡ (if bytes_eq x q then Some i else get_by_text old q)

@@ -1,6 +1,7 @@
-//! A module of the contract language as it is kept to be run: with an index of its functions by name. It stands on
-//! the syntax of the language. Its one contract: it is seen as its module, and the first function of a name is found
-//! without a walk over all of them, however many there are and however alike their names.
+//! A module of the contract language as it is kept to be run: with an index of its functions by name, so
+//! that none is found by a walk over all of them. It stands on the syntax and the rules of the language.
+//! Its one contract: it is seen as its module, and the function found by a name is the one that the rules
+//! find.
 #![tactic(auto)]
 
 ghost use Rattle.std.specs.Prelude.{◌≡◌, IfErr, IfOk, OnOk, option_copied, option_map, slice_get};
@@ -15,11 +16,19 @@ use std::collections::BTreeMap;
 use std::marker::Model;
 
 /// A module with an index of its functions. Contracts see the module.
-#[derive(Drop)]
 pub struct IndexedModule {
     module: Module,
     /// The place of the first function of each name.
     places: BTreeMap<String, usize>,
+}
+
+impl Drop for IndexedModule {
+    fn drop(self) {
+        let IndexedModule {
+            module: _,
+            places: _,
+        } = self;
+    }
 }
 
 impl Model for IndexedModule {
@@ -55,7 +64,7 @@ fn put_place(
     Ok(())
 }
 
-/// The place of the first function of each name: the last are put first, so that those before them stay.
+/// The place of the first function of each name: the last are put first, so that those before stay.
 fn places_of(alloc: Global, functions: &[Function]) -> Result<BTreeMap<String, usize>, AllocError>
     ensures { IfOk result (IsIndexOf functions.now) }
 {
@@ -112,7 +121,8 @@ impl IndexedModule {
 
     /// The first function of the name.
     pub fn function(&self, name: &str) -> Option<&Function>
-        ensures { option_map (λ f. routine f.now) result ≡ find_routine name.now (routines self.now) }
+        ensures { option_map (λ f. routine f.now) result
+            ≡ find_routine name.now (routines self.now) }
     {
         let place = self.place(name)?;
         function_at(self.module.functions.as_slice(), place)

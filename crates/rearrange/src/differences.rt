@@ -38,15 +38,16 @@ fn without_first<'a>(entry: &Entry, entries: &'a [Entry]) -> Option<&'a [Entry]>
     }
 }
 
-/// Adds the entries after that come before one, and the one before unless it stands next after as well.
-/// What is left of those after.
+/// Adds the entries after that come before one, and the one before unless it stands next after as
+/// well. What is left of those after.
 fn add_unlike_entry<'a>(
     parts: &mut Vec<Part>,
     brand: u16,
     entry: &Entry,
     after: &'a [Entry],
 ) -> Result<&'a [Entry], AllocError>
-    ensures { IfOk result (λ rest. HaveEntries brand (entry.now ∷ rest.now) after.now parts.old.items parts.new.items) }
+    ensures { IfOk result (λ rest. HaveEntries brand (entry.now ∷ rest.now) after.now
+        parts.old.items parts.new.items) }
 {
     let lower = lower_len(entry, after);
     add_entries(parts, Side::After, brand, &after[..lower])?;
@@ -102,7 +103,8 @@ fn add_unlike_row<'a>(
     row: &Row,
     after: &'a [Row],
 ) -> Result<&'a [Row], AllocError>
-    ensures { IfOk result (λ rest. HaveRows (row.now ∷ rest.now) after.now parts.old.items parts.new.items) }
+    ensures { IfOk result (λ rest. HaveRows (row.now ∷ rest.now) after.now
+        parts.old.items parts.new.items) }
 {
     if let Some((first, rest)) = after.split_first() {
         add_pair(alloc, parts, row, first)?;

@@ -43,6 +43,7 @@ fn add_seat(
     add_rows(alloc, parts, Side::After, seat.rows.as_slice())
 }
 
+/// What the seats have before and after.
 fn parts_of(alloc: Global, states: &[SeatState], list: &[SeatRows]) -> Result<Vec<Part>, AllocError>
     ensures { IfOk result (λ parts. HaveAll [] (all_touched states.now list.now) parts.items) }
 {
@@ -53,14 +54,15 @@ fn parts_of(alloc: Global, states: &[SeatState], list: &[SeatRows]) -> Result<Ve
     Ok(parts)
 }
 
-/// What a seat has before and after, but what it has alike.
+/// What a seat has before and after, but entries that two rows at one place have alike.
 fn add_unlike_seat(
     alloc: Global,
     parts: &mut Vec<Part>,
     states: &[SeatState],
     seat: &SeatRows,
 ) -> Result<(), AllocError>
-    ensures { OnOk result (HaveRows (given.allocation_of states.now seat.now.seat) seat.now.rows.items parts.old.items parts.new.items) }
+    ensures { OnOk result (HaveRows (given.allocation_of states.now seat.now.seat)
+        seat.now.rows.items parts.old.items parts.new.items) }
 {
     add_unlike_rows(
         alloc,
@@ -70,6 +72,7 @@ fn add_unlike_seat(
     )
 }
 
+/// What the seats have before and after, but entries that two rows at one place have alike.
 fn unlike_parts_of(
     alloc: Global,
     states: &[SeatState],
@@ -84,10 +87,12 @@ fn unlike_parts_of(
     Ok(parts)
 }
 
-/// Whether of each element of each brand the seats have as many after as before. What a seat has alike is
-/// passed over, so this costs what differs.
+/// Whether of each element of each brand the seats have as many after as before. Entries that two rows
+/// at one place have alike are passed over: they are walked once, and only what is left is sorted and
+/// added up.
 fn are_conserved(alloc: Global, states: &[SeatState], list: &[SeatRows]) -> Result<bool, AllocError>
-    ensures { IfOk result (λ conserved. IsTrue conserved ↔ AreConserved (all_touched states.now list.now)) }
+    ensures { IfOk result (λ conserved. IsTrue conserved
+        ↔ AreConserved (all_touched states.now list.now)) }
 {
     let mut parts = unlike_parts_of(alloc, states, list)?;
     sort(&mut parts);
@@ -96,7 +101,7 @@ fn are_conserved(alloc: Global, states: &[SeatState], list: &[SeatRows]) -> Resu
 }
 
 /// The least brand, and of its elements the first in byte order, of which the seats have not as many
-/// after as before, if there is one.
+/// after as before, if there is one. Both sides are added up whole only where there is one.
 pub fn first_unkept(
     alloc: Global,
     states: &[SeatState],
