@@ -1,4 +1,4 @@
-use Rattle.std.proofs.Common.{◌-◌, ◌+◌, ◌++◌, drop, map, length, sym, ap, ◌∙◌, arith, rules}
+use Rattle.std.proofs.Common.{◌-◌, ◌+◌, ◌++◌, drop, length, sym, ap, ◌∙◌, arith, rules}
 use Rattle.std.specs.Option.{option_to_list}
 use Rattle.std.specs.Vec.Iter.{into_iter_items}
 use Rattle.jessie_tree.specs.View.{tree, trees, named_trees}
@@ -745,7 +745,7 @@ invoke-returns-in-None-clause-runs g t c =
     let rs = routines c.args.module.now in
     let vs = trees c.args.args.items in
     let m = running c.args.module.now (c.args.room - 1) in
-    let found = ap (λ l. find_routine c.args.f.now (map routine l)) (sym c.as_slice.ensures) ∙ (ap (λ y. find_routine y (map routine c.as_slice.result.now)) (sym c.as_str.ensures) ∙ sym c.in-None.ensures) in
+    let found = ap (λ y. find_routine y rs) (sym c.as_str.ensures) ∙ sym c.in-None.ensures in
     runs_as (calls_more rs c.args.room (c.args.room - 1) c.args.f.now vs (omega arith) ∙ ap (λ o. enter m o vs) found) (computed (bad_computes _ WrongKind c.bad-in-None.ensures))
 
 pub invoke-returns-in-Ok-clause-runs : goal.invoke-returns-in-Ok-clause-runs
@@ -753,8 +753,8 @@ invoke-returns-in-Ok-clause-runs g t c =
     let rs = routines c.args.module.now in
     let vs = trees c.args.args.items in
     let m = running c.args.module.now (c.args.room - 1) in
-    let found = ap (λ l. find_routine c.args.f.now (map routine l)) (sym c.as_slice.ensures) ∙ (ap (λ y. find_routine y (map routine c.as_slice.result.now)) (sym c.as_str.ensures) ∙ sym c.in-Some.ensures) in
-    let own = sym (ap (λ v. named_trees v) c.replace-outer.ensures.after ∙ (c.in_ok-own-in-Some.ensures ∙ ap (λ l. pairs l vs) c.as_slice-in-Some.ensures)) in
+    let found = ap (λ y. find_routine y rs) (sym c.as_str.ensures) ∙ sym c.in-Some.ensures in
+    let own = sym (ap (λ v. named_trees v) c.replace-outer.ensures.after ∙ (c.in_ok-own-in-Some.ensures ∙ ap (λ l. pairs l vs) c.as_slice.ensures)) in
     let back = ap (λ v. named_trees v) c.replace-outer.ensures.value in
     let body = ap (λ l. block m (block_view l)) (sym c.as_slice-body.ensures) in
     runs_as (calls_more rs c.args.room (c.args.room - 1) c.args.f.now vs (omega arith) ∙ ap (λ o. enter m o vs) found)
@@ -765,8 +765,8 @@ invoke-returns-in-Err-clause-runs g t c =
     let rs = routines c.args.module.now in
     let vs = trees c.args.args.items in
     let m = running c.args.module.now (c.args.room - 1) in
-    let found = ap (λ l. find_routine c.args.f.now (map routine l)) (sym c.as_slice.ensures) ∙ (ap (λ y. find_routine y (map routine c.as_slice.result.now)) (sym c.as_str.ensures) ∙ sym c.in-Some.ensures) in
-    let own = sym (ap (λ v. named_trees v) c.replace-outer.ensures.after ∙ (c.in_ok-own-in-Some.ensures ∙ ap (λ l. pairs l vs) c.as_slice-in-Some.ensures)) in
+    let found = ap (λ y. find_routine y rs) (sym c.as_str.ensures) ∙ sym c.in-Some.ensures in
+    let own = sym (ap (λ v. named_trees v) c.replace-outer.ensures.after ∙ (c.in_ok-own-in-Some.ensures ∙ ap (λ l. pairs l vs) c.as_slice.ensures)) in
     let back = ap (λ v. named_trees v) c.replace-outer.ensures.value in
     let body = ap (λ l. block m (block_view l)) (sym c.as_slice-body.ensures) in
     runs_as (calls_more rs c.args.room (c.args.room - 1) c.args.f.now vs (omega arith) ∙ ap (λ o. enter m o vs) found)
@@ -776,7 +776,7 @@ pub invoke-run_block-end-requires : goal.invoke-run_block-end-requires
 invoke-run_block-end-requires g t c =
     let rs = routines c.args.module.now in
     let vs = trees c.args.args.items in
-    let found = ap (λ l. find_routine c.args.f.now (map routine l)) (sym c.as_slice.ensures) ∙ (ap (λ y. find_routine y (map routine c.as_slice.result.now)) (sym c.as_str.ensures) ∙ sym c.in-Some.ensures) in
+    let found = ap (λ y. find_routine y rs) (sym c.as_str.ensures) ∙ sym c.in-Some.ensures in
     let body = ap (λ l. block_weight (block_view l)) c.as_slice-body.ensures in
     let falls = calls_fall (c.args.room - 1) c.args.room (routines_weight rs) (block_weight (block_view c.as_slice-body.result.now)) (omega arith) (omega (arith, body, routine_falls rs c.args.f.now _ found)) in
     λ κs h. (omega (arith, falls, c.decreases), (search rules, c.requires))
