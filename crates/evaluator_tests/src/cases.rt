@@ -1,6 +1,6 @@
 //! A line of the table: a meter, a tab, and a text with a function `start`.
 use crate::host::NullHost;
-use crate::shown::outcome;
+use crate::shown::print_outcome;
 use amount_math::Kind;
 use host_text::text::Text;
 use jessie_evaluator::evaluation::{Outcome, evaluate};
@@ -10,6 +10,7 @@ use jessie_syntax::syntax::Module;
 use jessie_texts::refused::ReadError;
 use jessie_tree::data::{Data, Obj, ObjKind};
 use std::alloc::{AllocError, Global};
+use std::io;
 
 /// A brand as an argument.
 fn brand(kind: Kind, number: u32) -> Data {
@@ -52,65 +53,60 @@ fn run(alloc: Global, module: &IndexedModule, meter: u64) -> Result<Outcome, All
     )
 }
 
-/// Adds what a run came to.
-fn tell_end(alloc: Global, end: Outcome, told: &mut String) -> Result<(), AllocError> {
-    let shown = outcome(alloc, &end);
-    drop(end);
-    told.push_str(shown?.as_str())
-}
-
-/// Adds what `start` comes to with this meter.
-fn tell(
-    alloc: Global,
-    module: &IndexedModule,
-    meter: u64,
-    told: &mut String,
-) -> Result<(), AllocError> {
-    match run(alloc, module, meter) {
-        Ok(end) => tell_end(alloc, end, told),
-        Err(fault) => Err(fault),
+/// Prints what `start` comes to with this meter.
+fn print_run(rt: &HostRuntime, module: &IndexedModule, meter: u64) -> io::Result<()> {
+    match run(rt.alloc(), module, meter) {
+        Ok(end) => {
+            let printed = print_outcome(rt, &end);
+            drop(end);
+            printed
+        }
+        Err(_) => print!(rt; "no memory"),
     }
 }
 
-/// What `start` comes to with this meter, and with one less.
-fn runs(alloc: Global, module: &IndexedModule, meter: u64) -> Result<String, AllocError> {
-    let mut told = String::new(alloc);
-    tell(alloc, module, meter, &mut told)?;
+/// Prints what `start` comes to with this meter, and with one less, to the end of the line.
+fn print_runs(rt: &HostRuntime, module: &IndexedModule, meter: u64) -> io::Result<()> {
+    print_run(rt, module, meter)?;
     if meter > 0 {
-        told.push_str("; ")?;
-        tell(alloc, module, meter - 1, &mut told)?;
+        print!(rt; "; ")?;
+        print_run(rt, module, meter - 1)?;
     }
-    Ok(told)
+    println!(rt)
 }
 
-/// What `start` of the module comes to with this meter, and with one less.
-fn module_runs(alloc: Global, module: Module, meter: u64) -> Result<String, AllocError> {
-    match IndexedModule::new(alloc, module) {
-        Ok(module) => runs(alloc, &module, meter),
-        Err(_) => Err(AllocError),
+/// Prints what `start` of the module comes to with this meter, and with one less.
+fn print_module(rt: &HostRuntime, module: Module, meter: u64) -> io::Result<()> {
+    match IndexedModule::new(rt.alloc(), module) {
+        Ok(module) => {
+            let printed = print_runs(rt, &module, meter);
+            drop(module);
+            printed
+        }
+        Err(_) => println!(rt; "no memory"),
     }
 }
 
-/// What the text comes to: its refusal, or what its `start` does.
-fn text_line(alloc: Global, meter: u64, text: &str) -> Result<String, AllocError> {
-    match read_module(alloc, text.as_bytes()) {
-        Ok(module) => module_runs(alloc, module, meter),
-        Err(ReadError::NoMemory) => Err(AllocError),
+/// Prints what the text comes to: its refusal, or what its `start` does.
+fn print_text(rt: &HostRuntime, meter: u64, text: &str) -> io::Result<()> {
+    match read_module(rt.alloc(), text.as_bytes()) {
+        Ok(module) => print_module(rt, module, meter),
+        Err(ReadError::NoMemory) => println!(rt; "no memory"),
         Err(ReadError::Refused(refusal)) => {
             let place = refusal.place;
             let kind = refusal.kind_name();
-            format!(in alloc; "refused {place} {kind}")
+            println!(rt; "refused {place} {kind}")
         }
     }
 }
 
-/// What a line of the table comes to.
-pub fn case_line(alloc: Global, line: &str) -> Result<String, AllocError> {
+/// Prints what a line of the table comes to.
+pub fn print_case(rt: &HostRuntime, line: &str) -> io::Result<()> {
     let Some((meter, text)) = line.split_once("\t") else {
-        return format!(in alloc; "no case");
+        return println!(rt; "no case");
     };
     match meter.parse::<u64>() {
-        Ok(meter) => text_line(alloc, meter, text),
-        Err(_) => format!(in alloc; "no meter"),
+        Ok(meter) => print_text(rt, meter, text),
+        Err(_) => println!(rt; "no meter"),
     }
 }

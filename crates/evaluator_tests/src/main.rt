@@ -8,7 +8,7 @@ mod cases;
 mod host;
 mod shown;
 
-use cases::case_line;
+use cases::print_case;
 use std::io::{self, BufReader, Read};
 
 /// The whole input.
@@ -18,14 +18,6 @@ fn read_input(rt: &HostRuntime) -> io::Result<String> {
     let mut reader = BufReader::new(alloc, rt.reader())?;
     reader.read_to_string(&mut all)?;
     Ok(all)
-}
-
-/// Prints what a line of the table comes to.
-fn print_case(rt: &HostRuntime, line: &str) -> io::Result<()> {
-    match case_line(rt.alloc(), line) {
-        Ok(told) => println!(rt; "{told}"),
-        Err(_) => println!(rt; "no memory"),
-    }
 }
 
 fn main(rt: HostRuntime) -> io::Result<()> {

@@ -1,31 +1,31 @@
-//! What a run comes to, as a line of text. Of an array and a record only how much it has is shown, and of
-//! what is thrown as a refusal its code and the first text that it shows.
+//! What a run comes to is printed as a part of a line. Of an array and a record only how much it has is shown,
+//! and of what is thrown as a refusal its code and the first text that it shows.
 use jessie_evaluator::evaluation::Outcome;
 use jessie_tree::data::Data;
-use std::alloc::{AllocError, Global};
+use std::io;
 
-/// A value, shown shortly.
-fn value(alloc: Global, data: &Data) -> Result<String, AllocError> {
+/// Prints a value, shortly.
+fn print_value(rt: &HostRuntime, data: &Data) -> io::Result<()> {
     match data {
-        Data::Number(number) => format!(in alloc; "{number}"),
+        Data::Number(number) => print!(rt; "{number}"),
         Data::Text(text) => {
             let text = text.as_str();
-            format!(in alloc; "'{text}'")
+            print!(rt; "'{text}'")
         }
-        Data::Bool(truth) => format!(in alloc; "{truth}"),
-        Data::Null => format!(in alloc; "null"),
+        Data::Bool(truth) => print!(rt; "{truth}"),
+        Data::Null => print!(rt; "null"),
         Data::Array(items) => {
             let count = items.len();
-            format!(in alloc; "array of {count}")
+            print!(rt; "array of {count}")
         }
         Data::Record(fields) => {
             let count = fields.len();
-            format!(in alloc; "record of {count}")
+            print!(rt; "record of {count}")
         }
-        Data::Object(_) => format!(in alloc; "object"),
+        Data::Object(_) => print!(rt; "object"),
         Data::Function(name) => {
             let name = name.as_str();
-            format!(in alloc; "function {name}")
+            print!(rt; "function {name}")
         }
     }
 }
@@ -37,32 +37,30 @@ fn first_shown(data: &Data) -> Option<&Data> {
     items.first()
 }
 
-/// What is thrown: a refusal's code, with the first that it shows, or the value.
-fn thrown(alloc: Global, data: &Data) -> Result<String, AllocError> {
+/// Prints what is thrown: a refusal's code, with the first that it shows, or the value.
+fn print_thrown(rt: &HostRuntime, data: &Data) -> io::Result<()> {
     let Some(code) = data.field("code") else {
-        return value(alloc, data);
+        return print_value(rt, data);
     };
-    let code = value(alloc, code)?;
-    match first_shown(data) {
-        Some(first) => {
-            let first = value(alloc, first)?;
-            format!(in alloc; "{code} {first}")
-        }
-        None => Ok(code),
-    }
+    print_value(rt, code)?;
+    let Some(first) = first_shown(data) else {
+        return Ok(());
+    };
+    print!(rt; " ")?;
+    print_value(rt, first)
 }
 
-/// What a run comes to.
-pub fn outcome(alloc: Global, outcome: &Outcome) -> Result<String, AllocError> {
+/// Prints what a run comes to.
+pub fn print_outcome(rt: &HostRuntime, outcome: &Outcome) -> io::Result<()> {
     match outcome {
         Outcome::Returned(data) => {
-            let shown = value(alloc, data)?;
-            format!(in alloc; "returned {shown}")
+            print!(rt; "returned ")?;
+            print_value(rt, data)
         }
         Outcome::Threw(data) => {
-            let shown = thrown(alloc, data)?;
-            format!(in alloc; "threw {shown}")
+            print!(rt; "threw ")?;
+            print_thrown(rt, data)
         }
-        Outcome::Spent => format!(in alloc; "spent"),
+        Outcome::Spent => print!(rt; "spent"),
     }
 }

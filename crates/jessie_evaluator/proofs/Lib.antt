@@ -1,4 +1,1 @@
-pub mod Weights
-pub mod Parts
 pub mod Ends
-pub mod Starts

@@ -9,8 +9,8 @@ ghost use Rattle.jessie_semantics.specs.Hosts.{Granted};
 ghost use Rattle.jessie_machine.specs.Machine.{changes};
 ghost use Rattle.jessie_evaluator.specs.Outcomes.{outcome, kept, kept_at};
 
-use crate::run::invoke;
 use host_text::text::Text;
+use jessie_interpreter::run::invoke;
 use jessie_locals::locals::Locals;
 use jessie_machine::host::{NoMemory, Powers};
 use jessie_machine::machine::Machine;

@@ -39,6 +39,9 @@ pub enum End {
 /// What a call of the host costs beside the sizes of what it is shown.
 const CALL: u64 = 100;
 
+/// What a statement costs beside its parts.
+const STATEMENT: u64 = 1;
+
 /// Takes a charge, where the meter has it.
 #[tactic(auto, unfolding(jessie_semantics::specs::Actions::charge))]
 pub fn take(machine: &mut Machine, amount: u64) -> Result<(), Stop>
@@ -50,6 +53,17 @@ pub fn take(machine: &mut Machine, amount: u64) -> Result<(), Stop>
     }
     machine.meter -= amount;
     Ok(())
+}
+
+/// Takes what a statement costs, before it is run, where the meter has it.
+#[inline]
+pub fn begin_statement(machine: &mut Machine) -> Result<(), Stop>
+    ensures does { (names : List (List ℕ)) (values : List Tree)
+        → Computes (charge 1) (state names values machine.old) (come (λ u. u) result)
+        (state names values machine.new) }
+    ensures kept { machine.new.meter ≤ machine.old.meter }
+{
+    take(machine, STATEMENT)
 }
 
 /// Takes the size of the data, where the meter has it.

@@ -4,7 +4,7 @@ use Rattle.std.specs.Vec.Iter.{into_iter_items}
 use Rattle.jessie_tree.specs.View.{tree, trees}
 use Rattle.jessie_machine.specs.Machine.{changes}
 use Rattle.jessie_evaluator.specs.Outcomes.{kept}
-use Rattle.jessie_evaluator.proofs.Parts.{no_items_left}
+use Rattle.jessie_interpreter.proofs.Parts.{no_items_left}
 use Rattle.jessie_evaluator.proofs.Ends.{kept_from, kept_next, kept_all, kept_past}
 use Rattle.jessie_evaluator.proofs.evaluation.keep_changes.Goals as goal
 

@@ -1,4 +1,4 @@
--- The evaluator's steps beside the rules'.
+-- The steps of the forms beside the rules'.
 use Rattle.std.proofs.Common.{◌≡◌, ℕ, suc, ◌+◌, ◌-◌, ◌<◌, ◌≤◌, List, [], ◌∷◌, ◌++◌, Bool, true, false, refl, sym, ap, ◌∙◌, length, get_or, drop, arith}
 use Rattle.std.proofs.lemmas.List.{drop_more, drop_all}
 use Rattle.jessie_tree.specs.Tree.{Tree}

@@ -15,11 +15,11 @@ use Rattle.jessie_machine.specs.Stops.{halt}
 use Rattle.jessie_machine.specs.Machine.{end_of, all_seen, fields_seen}
 use Rattle.jessie_machine.proofs.Places.{names_left, one_more, one_name_more}
 use Rattle.jessie_machine.proofs.Exits.{stops, thrown_computes, bad_computes, pure_as}
-use Rattle.jessie_evaluator.specs.Parts.{running, here}
-use Rattle.jessie_evaluator.proofs.Parts.{call_at, built_in_at, amounts_at, send_at, array_at, record_at, steps_at, unary_at, chain_at, choice_at, method_at, if_at, while_at, for_at, try_at, exprs_open, exprs_end, named_open, named_end, links_open, links_end, operands_open, operands_end, branches_open, branches_end, block_open, block_end, rounds_open, rounds_end, no_items_left, right_true, right_false, either_true, either_false, round_true, round_false, calls_more, calls_none}
-use Rattle.jessie_evaluator.proofs.Starts.{runs_since}
-use Rattle.jessie_evaluator.proofs.Weights.{block_weight, routines_weight, part_falls, named_falls, link_falls, operand_falls, way_falls, statement_falls, routine_falls, calls_fall}
-use Rattle.jessie_evaluator.proofs.run.+run.Goals as goal
+use Rattle.jessie_interpreter.specs.Parts.{running, here}
+use Rattle.jessie_interpreter.proofs.Parts.{call_at, built_in_at, amounts_at, send_at, array_at, record_at, steps_at, unary_at, chain_at, choice_at, method_at, if_at, while_at, for_at, try_at, exprs_open, exprs_end, named_open, named_end, links_open, links_end, operands_open, operands_end, branches_open, branches_end, block_open, block_end, rounds_open, rounds_end, no_items_left, right_true, right_false, either_true, either_false, round_true, round_false, calls_more, calls_none}
+use Rattle.jessie_interpreter.proofs.Starts.{runs_since}
+use Rattle.jessie_interpreter.proofs.Weights.{block_weight, routines_weight, part_falls, named_falls, link_falls, operand_falls, way_falls, statement_falls, routine_falls, calls_fall}
+use Rattle.jessie_interpreter.proofs.run.+run.Goals as goal
 
 pub run_expr-returns-in-Literal-clause-runs : goal.run_expr-returns-in-Literal-clause-runs
 run_expr-returns-in-Literal-clause-runs g t c =
@@ -414,13 +414,13 @@ run_test-returns-clause-runs g t c =
     then_runs _ c.in_ok-data.ensures.runs
     (computed (c.check.ensures _))
 
-pub run_stmt-returns-in_err-take-clause-runs : goal.run_stmt-returns-in_err-take-clause-runs
-run_stmt-returns-in_err-take-clause-runs g t c =
-    stops end_of _ _ _ c.from_residual.ensures.1 (computed (c.in_err-take.ensures.does _ _))
+pub run_stmt-returns-in_err-begin_statement-clause-runs : goal.run_stmt-returns-in_err-begin_statement-clause-runs
+run_stmt-returns-in_err-begin_statement-clause-runs g t c =
+    stops end_of _ _ _ c.from_residual.ensures.1 (computed (c.in_err-begin_statement.ensures.does _ _))
 
 pub run_stmt-returns-clause-runs : goal.run_stmt-returns-clause-runs
 run_stmt-returns-clause-runs g t c =
-    then_runs _ (computed (c.in_ok-take.ensures.does _ _))
+    then_runs _ (computed (c.in_ok-begin_statement.ensures.does _ _))
     (c.run_form.ensures.runs)
 
 pub run_form-returns-in-Const-clause-runs : goal.run_form-returns-in-Const-clause-runs

@@ -5,9 +5,9 @@ use Rattle.jessie_syntax.specs.Syntax.{routines, term_view, terms_view, named_te
 use Rattle.jessie_semantics.specs.Actions.{scoped}
 use Rattle.jessie_semantics.specs.Rules.{expr, exprs, named_exprs, links, operands, repeat_rule, for_rule, with_name, test, branches, block, rounds, walk}
 use Rattle.jessie_semantics.specs.Runs.{Reaches}
-use Rattle.jessie_evaluator.specs.Parts.{running, here, behind}
-use Rattle.jessie_evaluator.proofs.Weights.{weight, terms_weight, named_weight, operands_weight, link_weight, links_weight, statement_weight, branches_weight, block_weight, routines_weight}
-use Rattle.jessie_evaluator.proofs.run.+run.Given as goal
+use Rattle.jessie_interpreter.specs.Parts.{running, here, behind}
+use Rattle.jessie_interpreter.proofs.Weights.{weight, terms_weight, named_weight, operands_weight, link_weight, links_weight, statement_weight, branches_weight, block_weight, routines_weight}
+use Rattle.jessie_interpreter.proofs.run.+run.Given as goal
 
 abbrev pub decreases-run_expr : goal.decreases-run_expr
 decreases-run_expr g l = l.room * routines_weight (routines l.module.now) + (weight (term_view l.expression.now))

@@ -1,4 +1,4 @@
-// The evaluator: a function for each form, down the tree as it was read.
+// A function for each form, down the tree as it was read.
 ghost use Rattle.std.specs.Prelude.{[], ◌≤◌, false};
 ghost use Rattle.jessie_tree.specs.View.{tree, trees};
 ghost use Rattle.jessie_syntax.specs.Syntax.{routines, term_view, terms_view, named_terms_view, operands_view, link_view, links_view, return_view, statement_view, branches_view, block_view};
@@ -8,13 +8,13 @@ ghost use Rattle.jessie_semantics.specs.Rules.{expr, exprs, named_exprs, links, 
 ghost use Rattle.jessie_semantics.specs.Runs.{Runs};
 ghost use Rattle.jessie_machine.specs.Stops.{come};
 ghost use Rattle.jessie_machine.specs.Machine.{end_of, all_seen, fields_seen};
-ghost use Rattle.jessie_evaluator.specs.Parts.{running, here, behind, array_rule, amounts_rule};
+ghost use Rattle.jessie_interpreter.specs.Parts.{running, here, behind, array_rule, amounts_rule};
 
 use crate::conditions::condition_value;
 use host_text::text::Text;
 use jessie_calls::built_ins::call_built_in;
 use jessie_machine::host::Powers;
-use jessie_machine::machine::{End, Machine, read_literal, take};
+use jessie_machine::machine::{End, Machine, begin_statement, read_literal, take};
 use jessie_machine::names::{assign_name, bind_all, bind_name, read_name};
 use jessie_machine::numbers::{assign_at_hand, chain_at_hand, test_at_hand};
 use jessie_machine::operations::{
@@ -607,7 +607,7 @@ fn run_stmt<P: Powers>(
     ensures runs { Runs P.answers powers.old powers.new (stmt (running «module».now room) (statement_view statement.now)) (here «module».now values.now machine.old) (come end_of result) (here «module».now values.now machine.new) }
     ensures fits { machine.new.meter ≤ P.room powers.new }
 {
-    take(machine, 1)?;
+    begin_statement(machine)?;
     run_form(alloc, powers, module, room, values, machine, statement)
 }
 
