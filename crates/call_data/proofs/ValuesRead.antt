@@ -10,8 +10,8 @@ use Rattle.amount_math.specs.Worth.{IsValue, Worth, nat_bound}
 use Rattle.amount_math.specs.declared.Kind.{Kind}
 use Rattle.amount_math.specs.declared.Kind.TheVariants.{Nat, Set, Bag}
 use Rattle.amount_math.proofs.Permuted.{made_set}
-use Rattle.jessie_tree.specs.Tree.{Tree, number_of}
-use Rattle.call_data.specs.Amounts.{AmountData, IsValueOf, amount_in, are_entries, bag_in, keyed_value, nat_from, nat_value, set_in, value_in}
+use Rattle.jessie_tree.specs.Tree.{Tree}
+use Rattle.call_data.specs.Amounts.{IsValueOf, are_entries, bag_in, keyed_value, nat_from, nat_value, set_in}
 use Rattle.call_data.specs.Outcomes.{Gives, bind, need}
 use Rattle.call_data.specs.declared.refusals.Refusal.{Refusal}
 use Rattle.call_data.specs.declared.refusals.Stop.{Stop}
@@ -62,14 +62,3 @@ unfolding bag_in
 bag_has t =
     after_bind (IsValueOf Bag) _ _ (λ items. after_bind (IsValueOf Bag) _ _ (λ ps. after_bind (IsValueOf Bag) _ _ (λ es.
     keyed_has Bag es (entries_make_bag es))))
-
-pub value_in_has : (kind : Kind) (t : Tree) → IfOk (value_in kind t) (IsValueOf kind)
-unfolding value_in
-value_in_has Nat t = nat_from_has (number_of t)
-value_in_has Set t = set_has t
-value_in_has Bag t = bag_has t
-
-pub amount_in_has : (t : Tree) (place brand : ℕ) (kind : Kind) → IfOk (amount_in t place brand kind) (IsValueOf kind)
-unfolding amount_in
-amount_in_has t place brand kind =
-    after_bind (IsValueOf kind) _ _ (λ (parts : AmountData). after_bind (IsValueOf kind) _ _ (λ _. value_in_has kind parts.value))

@@ -16,7 +16,7 @@ use Rattle.jessie_tree.specs.declared.data.ObjKind.TheVariants.{Brand}
 use Rattle.call_data.specs.Outcomes.{◌>>=◌, ◌>>◌, need, wanted}
 use Rattle.call_data.specs.declared.amounts.GivenAmount.{GivenAmount}
 use Rattle.call_data.specs.declared.refusals.Refusal.{Refusal}
-use Rattle.call_data.specs.declared.refusals.Refusal.TheVariants.{BadArgs, BadValue, WrongBrand}
+use Rattle.call_data.specs.declared.refusals.Refusal.TheVariants.{BadValue}
 
 -- what an argument is, null where it is missing
 abbrev pub seen : Option (Bor Data) → Tree
@@ -122,10 +122,3 @@ has_two (Some n) = n == 2
 -- exactly two fields, of which one is a brand and one a value
 abbrev pub amount_fields : Tree → Option AmountData
 amount_fields t = if has_two (field_count t) then option_and_then (λ o. option_and_then (λ kind. option_map (λ v. record { brand = o.number; kind = kind; value = v }) (field_of (codes "value") t)) (kind_of_brand o.kind)) (option_and_then object_of (field_of (codes "brand") t)) else None
-
--- an amount of the brand, of which the values are of the kind
-unfoldable pub amount_in : Tree → ℕ → ℕ → Kind → Result Worth Refusal
-amount_in t place brand kind = do
-  parts ← wanted (amount_fields t) (BadArgs place)
-  need (parts.brand == brand) (WrongBrand parts.brand)
-  value_in kind parts.value

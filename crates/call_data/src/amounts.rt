@@ -5,11 +5,10 @@ ghost use Rattle.std.specs.Prelude.{◌≡◌, IfOk, map, option_map};
 ghost use Rattle.amount_math.specs.Entries.{as_one};
 ghost use Rattle.jessie_tree.specs.Tree.{number_of, text_of};
 ghost use Rattle.jessie_tree.specs.View.{tree, trees};
-ghost use Rattle.call_data.specs.Amounts.{IsValueOf, amount_data, amount_fields, amount_in, bag_in, counted_key, kind_of_brand, keyed_value, nat_from, nat_value, pair_from, pair_in, read_all, seen, set_in, value_in};
+ghost use Rattle.call_data.specs.Amounts.{IsValueOf, amount_data, amount_fields, bag_in, counted_key, kind_of_brand, keyed_value, nat_from, nat_value, pair_from, pair_in, read_all, set_in, value_in};
 ghost use Rattle.call_data.specs.Outcomes.{Gives, bind, wanted};
 ghost use Rattle.call_data.specs.declared.refusals.Refusal.TheVariants as refusals;
 
-use crate::outcomes::need;
 use crate::refusals::{Refusal, Stop};
 use amount_math::{AmountKind, BagKind, Key, Kind, MakeFault, NatKind, SetKind, Value};
 use jessie_tree::data::{Data, ObjKind};
@@ -176,30 +175,4 @@ fn kind_of_brand(kind: ObjKind) -> Option<Kind>
         ObjKind::Brand(kind) => Some(kind),
         _ => None,
     }
-}
-
-/// An amount of the brand, of which the values are of the kind (ERTP): `BadArgs` with the place where it is
-/// no record of exactly brand and value, `WrongBrand` with the brand that is named, `BadValue`.
-#[tactic(auto, unfolding(crate::specs::Amounts::amount_in, crate::specs::Outcomes::bind, crate::specs::Outcomes::need, crate::specs::Outcomes::wanted))]
-pub fn read_amount(
-    alloc: Global,
-    given: Option<&Data>,
-    place: u32,
-    brand: u16,
-    kind: Kind,
-) -> Result<Value, Stop>
-    ensures gives { Gives (λ value. value) result (amount_in (seen given.entry) place brand kind) }
-    ensures own { IfOk result (IsValueOf kind) }
-{
-    let Some(given) = given else {
-        return Err(Stop::Refused(Refusal::BadArgs(place)));
-    };
-    let Some(amount) = amount_fields(given) else {
-        return Err(Stop::Refused(Refusal::BadArgs(place)));
-    };
-    need(
-        amount.brand == u32::from(brand),
-        Refusal::WrongBrand(amount.brand),
-    )?;
-    read_value(alloc, kind, amount.value)
 }

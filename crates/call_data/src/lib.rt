@@ -5,6 +5,5 @@
 #![tactic(auto)]
 
 pub mod amounts;
-pub mod outcomes;
 pub mod refusals;
 pub mod values;

@@ -10,7 +10,6 @@ use Rattle.call_arguments.specs.Arguments.{arg, is_kind, number_of_kind, object_
 use Rattle.call_arguments.proofs.Made.{read_made}
 use Rattle.call_data.specs.Amounts.{IsValueOf, value_in}
 use Rattle.call_data.specs.declared.refusals.Refusal as earlier
-use Rattle.call_data.proofs.ValuesRead.{value_in_has}
 use Rattle.jessie_tree.specs.Tree.{Tree, null, boolean, number, text, array, fields, object, function}
 use Rattle.jessie_tree.specs.declared.data.Obj.{Obj}
 use Rattle.jessie_tree.specs.declared.data.ObjKind.{ObjKind}
@@ -21,6 +20,7 @@ use Rattle.refusals.proofs.Steps.{after_need, after_step, wanted_there}
 use Rattle.world_state.specs.Known.{IsFormed, ObjectKnown, known_as, made_as}
 use Rattle.world_state.specs.Worlds.{State}
 use Rattle.call_rows.specs.Licence.{IsObject, NamesPayment, SomeObject}
+use Rattle.call_row_laws.proofs.Values.{value_in_has}
 
 -- what is wanted has what it has where it is there
 pub if_wanted : {A : Type 0} (P : A → Type 0) (o : Option A) (r : Refusal) → ((x : A) → o ≡ Some x → P x) → IfOk (wanted o r) P

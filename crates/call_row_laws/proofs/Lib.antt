@@ -1,3 +1,4 @@
+pub mod Values
 pub mod Reading
 pub mod Forms
 pub mod Sums

@@ -13,7 +13,7 @@ use Rattle.amount_math.specs.declared.Kind.TheVariants.{Nat, Set, Bag}
 use Rattle.call_arguments.specs.Amounts.{given_by, value_of}
 use Rattle.call_data.specs.Amounts.{AmountData, IsValueOf, amount_fields, has_two, kind_of_brand, read_all, value_in}
 use Rattle.call_data.specs.declared.refusals.Refusal as earlier
-use Rattle.call_data.proofs.ValuesRead.{value_in_has}
+use Rattle.call_row_laws.proofs.Values.{value_in_has}
 use Rattle.data_nodes.specs.Nodes.{AreInOrder, EachField, EachNode, ObjectIs}
 use Rattle.host_text.specs.Words.{is_keyword}
 use Rattle.jessie_tree.specs.Tree as trees

@@ -12,7 +12,7 @@ use Rattle.jessie_tree.specs.declared.data.ObjKind.TheVariants as kinds
 use Rattle.plan_check_laws.proofs.Conserved.{conserved_if}
 use Rattle.plan_checks.specs.Plans.{can_take_over, first_unkept, is_small, keeps, least_unsafe, staged_changes}
 use Rattle.proposals.specs.OfferSafety.{IsOfferSafe}
-use Rattle.proposals.specs.Reading.{least, least_of}
+use Rattle.proposals.specs.Leasts.{least, least_of}
 use Rattle.proposals.specs.Rows.{most_rows}
 use Rattle.proposals.specs.declared.allocations.Row.{Row}
 use Rattle.proposals.specs.declared.plans.SeatState.{SeatState}

@@ -16,7 +16,7 @@ use Rattle.plan_checks.specs.Moves.{by_number, moves_of, opened_at, opened_by}
 use Rattle.plan_checks.specs.Plans.{is_safe_after, is_small, least_unsafe}
 use Rattle.plan_checks.specs.Slots.{is_safe}
 use Rattle.proposals.specs.OfferSafety.{IsOfferSafe}
-use Rattle.proposals.specs.Reading.{least, least_of}
+use Rattle.proposals.specs.Leasts.{least, least_of}
 use Rattle.proposals.specs.Rows.{most_rows}
 use Rattle.proposals.specs.declared.allocations.Row.{Row}
 use Rattle.proposals.specs.declared.plans.SeatState.{SeatState}

@@ -5,12 +5,6 @@ use Rattle.jessie_tree.specs.View.{tree, items_of, fields_of, trees, named_trees
 use Rattle.jessie_tree.specs.declared.data.Data.{Data}
 use Rattle.jessie_tree.specs.declared.data.Obj.{Obj}
 use Rattle.jessie_tree.specs.declared.data.Data as D
-use Rattle.jessie_tree.specs.Syntax.{literal, name, composed, linked, method, term_view, terms_view, named_terms_view, link_view, links_view}
-use Rattle.jessie_tree.specs.declared.syntax.Literal.{Literal}
-use Rattle.jessie_tree.specs.declared.syntax.Expr.{Expr}
-use Rattle.jessie_tree.specs.declared.syntax.Step.{Step}
-use Rattle.jessie_tree.specs.declared.syntax.Expr as E
-use Rattle.jessie_tree.specs.declared.syntax.Step as P
 
 pub tree-Number : (z : ℤ) → tree (D.Number z) ≡ number z
 tree-Number z = search (rules, D.the_lemmas)
@@ -47,18 +41,3 @@ paired_back (m ∷ ms) = ap (λ (ns : List (List ℕ × Tree)). m ∷ ns) (paire
 pub count_back : (fs : List (List ℕ × Data)) → count (fields_of (named_trees fs)) ≡ length fs
 count_back [] = refl
 count_back (f ∷ fs) = ap (λ n. n + 1) (count_back fs) ∙ add-one (length fs)
-
-pub term-Literal : (c : Literal) → term_view (E.Literal c) ≡ literal c
-term-Literal c = search (rules, E.the_lemmas)
-
-pub term-Name : (x : List ℕ) → term_view (E.Name x) ≡ name x
-term-Name x = search (rules, E.the_lemmas)
-
-pub term-Record : (fs : List (List ℕ × Expr)) → term_view (E.Record fs) ≡ composed (named_terms_view fs)
-term-Record fs = search (rules, E.the_lemmas)
-
-pub term-Steps : (e : Expr) (ks : List Step) → term_view (E.Steps e ks) ≡ linked (term_view e) (links_view ks)
-term-Steps e ks = search (rules, E.the_lemmas)
-
-pub link-Method : (x : List ℕ) (es : List Expr) → link_view (P.Method x es) ≡ method x (terms_view es)
-link-Method x es = search (rules, P.the_lemmas)

@@ -11,7 +11,7 @@ use Rattle.amount_math.specs.Content.{count, count-nothing, count-sum, count_lis
 use Rattle.amount_math.specs.Entries.{Entries}
 use Rattle.amount_math.proofs.Listed.{same_key}
 use Rattle.plan_checks.specs.Plans.{brands_of, elements_of, first_unkept, is_unkept, rows_of, unkept_at, unkept_brand, unkept_element, unkept_of, values_of}
-use Rattle.proposals.specs.Reading.{least, least_of}
+use Rattle.proposals.specs.Leasts.{least, least_of}
 use Rattle.proposals.specs.declared.allocations.Row.{Row}
 use Rattle.proposals.specs.declared.plans.Touched.{Touched}
 use Rattle.rearrange.specs.Sums.{AreConserved, count_after, count_before, row_count, rows_count}

@@ -10,7 +10,7 @@ use Rattle.plan_checks.specs.Plans.{is_safe_after, is_small, keeps, least_unsafe
 use Rattle.plan_checks.specs.Slots.{is_safe}
 use Rattle.plan_refusals.specs.Told.{plan_told}
 use Rattle.proposals.specs.OfferSafety.{IsOfferSafe}
-use Rattle.proposals.specs.Reading.{least}
+use Rattle.proposals.specs.Leasts.{least}
 use Rattle.proposals.specs.Rows.{most_rows}
 use Rattle.proposals.specs.declared.plans.SeatState.{SeatState}
 use Rattle.proposals.specs.declared.plans.Touched.{Touched}

@@ -11,7 +11,7 @@ use Rattle.amount_math.specs.Content.{key_cmp, listed}
 use Rattle.amount_math.specs.Entries.{Entries, IsRising}
 use Rattle.amount_math.specs.Totals.{first, less, second}
 use Rattle.amount_math.proofs.Listed.{below_rest, rising_rest, same_key}
-use Rattle.proposals.specs.Reading.{least, least_of}
+use Rattle.proposals.specs.Leasts.{least, least_of}
 use Rattle.plan_check_laws.proofs.Conserved.{Named}
 
 -- ---- the least

@@ -6,7 +6,7 @@ use Rattle.std.proofs.lemmas.Bool.{leb-false, leb-true, ltb-false, ltb-true}
 use Rattle.plan_checks.specs.Plans.{can_take_over, can_take_part}
 use Rattle.plan_refusals.specs.Told.{seats_told}
 use Rattle.proposals.specs.declared.plans.SeatState.{SeatState}
-use Rattle.proposals.specs.Reading.{least}
+use Rattle.proposals.specs.Leasts.{least}
 use Rattle.rearrange.specs.Seats.{has_exited, is_foreign, is_left_out, is_repeated, least_such, seats_such, staged_refusal, transfers_refusal}
 use Rattle.rearrange.specs.declared.seats.SeatsFault.{SeatsFault}
 use Rattle.rearrange.specs.declared.seats.SeatsFault.TheVariants.{OneSeat, RepeatedSeat, SeatExited, StagedLeftOut, WrongInstance}

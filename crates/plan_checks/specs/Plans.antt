@@ -4,7 +4,7 @@ use Rattle.std.specs.Prelude.{ℕ, pos, ◌==◌, nat_le, not, Bool, true, List,
 use Rattle.std.specs.List.{find, list_all}
 use Rattle.std.specs.Option.{option_map_or}
 use Rattle.amount_math.specs.Worth.{Worth}
-use Rattle.proposals.specs.Reading.{least}
+use Rattle.proposals.specs.Leasts.{least}
 use Rattle.proposals.specs.Rows.{most_rows}
 use Rattle.proposals.specs.declared.allocations.Row.{Row}
 use Rattle.proposals.specs.declared.plans.SeatState.{SeatState}

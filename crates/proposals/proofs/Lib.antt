@@ -2,9 +2,4 @@ pub mod RowLists
 pub mod RowsKeyed
 pub mod SlotLists
 pub mod Coverings
-pub mod IssuerLists
-pub mod Keywords
-pub mod Brands
-pub mod NamesAt
-pub mod ValuesRead
-pub mod OffersRead
+pub mod Leasts

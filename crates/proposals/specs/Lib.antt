@@ -2,6 +2,5 @@ pub mod Rows
 pub mod Slots
 pub mod Proposals
 pub mod OfferSafety
-pub mod IssuerRecords
-pub mod Reading
 pub mod Plans
+pub mod Leasts

@@ -4,7 +4,7 @@ use Rattle.std.proofs.Common.{◌⊎◌, inl, inr, ◌≡◌, ℕ, ◌<◌, ◌�
 use Rattle.std.proofs.lemmas.Bool.{cases_lt}
 use Rattle.plan_check_laws.proofs.Conserved.{Named}
 use Rattle.plan_check_laws.proofs.Leasts.{AllFrom, least_is}
-use Rattle.proposals.specs.Reading.{least, least_of}
+use Rattle.proposals.specs.Leasts.{least, least_of}
 
 pub record IsLeast (m : ℕ) (ns : List ℕ) : Type 0 where
   pub named : Named m ns

@@ -5,7 +5,7 @@ use Rattle.std.specs.Option.{option_map_or}
 use Rattle.std.proofs.Common.{inl, inr, ◌≡◌, ℕ, ◌<◌, Bool, true, false, cond, List, [], ◌∷◌, length, Option, Result, Ok, refl, sym, ap, ◌∙◌}
 use Rattle.plan_checks.specs.Plans.{can_take_over, first_unkept, is_safe_after, is_small, keeps, least_unsafe, staged_changes}
 use Rattle.plan_checks.specs.Slots.{is_safe}
-use Rattle.proposals.specs.Reading.{least}
+use Rattle.proposals.specs.Leasts.{least}
 use Rattle.proposals.specs.Rows.{most_rows}
 use Rattle.proposals.specs.declared.allocations.Row.{Row}
 use Rattle.proposals.specs.declared.plans.SeatState.{SeatState}

@@ -4,7 +4,7 @@ use Rattle.std.proofs.Common.{inl, inr, ◌≡◌, ℕ, suc, ◌+◌, ◌<◌, �
 use Rattle.std.proofs.lemmas.Bool.{and_parts, eqb-false, eqb-true, false≢true}
 use Rattle.std.proofs.lemmas.List.Elements.{All-head, All-tail}
 use Rattle.plan_check_laws.proofs.Conserved.{Named}
-use Rattle.proposals.specs.Reading.{least}
+use Rattle.proposals.specs.Leasts.{least}
 use Rattle.proposals.specs.declared.plans.SeatState.{SeatState}
 use Rattle.rearrange.specs.Seats as given
 use Rattle.rearrange.specs.Seats.{is_left_out, seats_such}

@@ -91,7 +91,7 @@ pub(crate) fn lesser(least: Option<u32>, seat: u32) -> u32
     }
 }
 
-#[tactic(auto, using(proposals::proofs::Brands::least_of_three))]
+#[tactic(auto, using(proposals::proofs::Leasts::least_of_three))]
 fn least_foreign(instance: u32, states: &[SeatState], seats: &[u32]) -> Option<u32>
     ensures { result ≡ given.least_such (given.is_foreign instance states.now) seats.now }
 {
@@ -104,7 +104,7 @@ fn least_foreign(instance: u32, states: &[SeatState], seats: &[u32]) -> Option<u
     least
 }
 
-#[tactic(auto, using(proposals::proofs::Brands::least_of_three))]
+#[tactic(auto, using(proposals::proofs::Leasts::least_of_three))]
 fn least_exited(states: &[SeatState], seats: &[u32]) -> Option<u32>
     ensures { result ≡ given.least_such (given.has_exited states.now) seats.now }
 {
@@ -118,7 +118,7 @@ fn least_exited(states: &[SeatState], seats: &[u32]) -> Option<u32>
 }
 
 /// The least of the seats that stand more than once in the list that ascends.
-#[tactic(auto, using(proposals::proofs::Brands::least_of_three))]
+#[tactic(auto, using(proposals::proofs::Leasts::least_of_three))]
 fn least_counted(seats: &[u32], sorted: &[u32]) -> Option<u32>
     requires { IsNonDecreasing sorted.now }
     ensures { result ≡ given.least_such (given.is_repeated sorted.now) seats.now }
@@ -141,7 +141,7 @@ fn least_repeated(seats: &[u32], sorted: &[u32]) -> Option<u32>
 }
 
 /// The least of the seats that are left out of a list that ascends.
-#[tactic(auto, using(proposals::proofs::Brands::least_of_three))]
+#[tactic(auto, using(proposals::proofs::Leasts::least_of_three))]
 fn least_unlisted(instance: u32, states: &[SeatState], sorted: &[u32]) -> Option<u32>
     requires { IsNonDecreasing sorted.now }
     ensures { result ≡ given.least (given.seats_such (given.is_left_out instance sorted.now) states.now) }

@@ -2,10 +2,8 @@
 use Rattle.std.specs.Prelude.{ℕ, ◌^◌, ◌<◌}
 use Rattle.amount_math.specs.declared.PutFault.{PutFault}
 use Rattle.amount_math.specs.declared.PutFault.TheVariants as put_fault
-use Rattle.amount_math.specs.declared.shortfall.LossFault.{LossFault}
-use Rattle.amount_math.specs.declared.shortfall.LossFault.TheVariants as loss_fault
 use Rattle.refusals.specs.Codes.{too_much}
-use Rattle.refusals.specs.declared.codes.Refusal.TheVariants.{NotEnough, Overlap}
+use Rattle.refusals.specs.declared.codes.Refusal.TheVariants.{Overlap}
 use Rattle.refusals.specs.declared.stops.Stop.{Stop}
 use Rattle.refusals.specs.declared.stops.Stop.TheVariants.{NoMemory, Refused}
 
@@ -23,8 +21,3 @@ put_told put_fault.NoMemory = NoMemory
 abbrev pub PutCanShow : PutFault → Type 0
 PutCanShow (put_fault.TooMuch over) = CanShow over.sum over.bound
 PutCanShow _ = Unit {0}
-
--- why a part isn't taken out of a value
-abbrev pub loss_told : LossFault → Stop
-loss_told (loss_fault.NotEnough short) = Refused (NotEnough short)
-loss_told loss_fault.NoMemory = NoMemory

@@ -2,11 +2,10 @@
 
 ghost use Rattle.std.specs.Prelude.{◌≡◌};
 ghost use Rattle.refusals.specs.Codes.{too_much};
-ghost use Rattle.refusals.specs.Told.{CanShow, PutCanShow, loss_told, put_told};
+ghost use Rattle.refusals.specs.Told.{CanShow, PutCanShow, put_told};
 
 use crate::codes::Refusal;
 use crate::stops::Stop;
-use amount_math::shortfall::LossFault;
 use amount_math::{PutFault, TooMuch};
 
 /// A sum passes its bound.
@@ -27,16 +26,6 @@ impl Stop {
             PutFault::Overlap(key) => Stop::Refused(Refusal::Overlap(key)),
             PutFault::TooMuch(over) => Stop::Refused(too_much(over)),
             PutFault::NoMemory => Stop::NoMemory,
-        }
-    }
-
-    /// Why a part isn't taken out of a value.
-    pub fn of_loss(fault: LossFault) -> Stop
-        ensures { result ≡ loss_told fault }
-    {
-        match fault {
-            LossFault::NotEnough(short) => Stop::Refused(Refusal::NotEnough(short)),
-            LossFault::NoMemory => Stop::NoMemory,
         }
     }
 }

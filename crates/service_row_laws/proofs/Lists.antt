@@ -17,9 +17,9 @@ use Rattle.call_arguments.proofs.Lists.{none_twice}
 use Rattle.call_arguments.proofs.Made.{read_made}
 use Rattle.call_data.specs.Amounts.{AmountData, IsValueOf, read_all, value_in}
 use Rattle.call_data.specs.declared.refusals.Refusal as earlier
-use Rattle.call_data.proofs.ValuesRead.{value_in_has}
 use Rattle.call_rows.specs.Licence.{IsObject, NamesPayment, SomeItem, SomeObject}
 use Rattle.call_row_laws.proofs.Given.{data_names, if_wanted}
+use Rattle.call_row_laws.proofs.Values.{value_in_has}
 use Rattle.data_nodes.specs.Nodes.{EachItem, EachNode, ObjectIs}
 use Rattle.ertp_mint.specs.Stocks.{most_made}
 use Rattle.ertp_rows.specs.Lists.{least_other, live_listed, next_payments, with_value}

@@ -5,7 +5,6 @@
 
 ghost use Rattle.std.specs.Prelude.{◌≡◌, All, IfOk};
 ghost use Rattle.allocation_changes.specs.Gains.{with_gains};
-ghost use Rattle.allocation_changes.specs.Losses.{with_losses};
 ghost use Rattle.plan_checks.specs.Slots.{can_give, can_take, each_passes, fits_slot, is_apart, is_safe};
 ghost use Rattle.plan_refusals.specs.Bounds.{HasValue};
 ghost use Rattle.proposals.specs.OfferSafety.{MeetSlots, MeetsSlot};
@@ -14,8 +13,7 @@ ghost use Rattle.refusals.specs.Outcomes.{Gives};
 ghost use Rattle.slot_checks.specs.Covered.{takes_row};
 
 use allocation_changes::gains::with_gains;
-use allocation_changes::losses::without;
-use allocation_changes::slots::{amount_of, is_offer_safe, open_further};
+use allocation_changes::slots::{amount_of, is_offer_safe};
 use amount_math::Value;
 use proposals::allocations::{Allocation, Row};
 use proposals::offers::Proposal;
@@ -133,24 +131,6 @@ pub fn increased(alloc: Global, slots: &[Row], gains: &Allocation) -> Result<Vec
     match with_gains(alloc, slots, gains) {
         Ok(after) => Ok(after),
         Err(fault) => Err(Stop::of_put(fault)),
-    }
-}
-
-/// Slots with a record less, and further ones for the keywords that had none, which are last in byte order: else
-/// `NotEnough` with what the first slot that has less has, and what is asked (Zoe).
-pub fn decreased(alloc: Global, slots: &[Row], losses: &Allocation) -> Result<Vec<Row>, Stop>
-    requires meet { MeetSlots slots.now losses.now }
-    requires apart { AreApart slots.now }
-    ensures gives { Gives (λ _. tt) result (can_take slots.now losses.now) }
-    ensures after { IfOk result (λ after. after.items ≡ with_losses slots.now losses.now) }
-    ensures apart { IfOk result (λ after. AreApart after.items) }
-{
-    match without(alloc, slots, losses) {
-        Ok(mut after) => {
-            open_further(alloc, &mut after, slots, losses.rows())?;
-            Ok(after)
-        }
-        Err(fault) => Err(Stop::of_loss(fault)),
     }
 }
 

@@ -1,2 +1,1 @@
-pub mod Coins
 pub mod HoldingLaws

@@ -24,5 +24,3 @@ mod timer_tests;
 mod turn_queue_tests;
 #[cfg(test)]
 mod undo_map_tests;
-#[cfg(test)]
-mod zcf_mint_tests;

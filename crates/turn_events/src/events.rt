@@ -3,7 +3,6 @@
 ghost use Rattle.std.specs.Prelude.{◌≡◌};
 ghost use Rattle.std.specs.Option.{option_copied, option_to_list};
 ghost use Rattle.turn_records.specs.Events.{move_in};
-ghost use Rattle.turn_events.specs.Logs.{promise_settled, seat_left, seat_opened};
 ghost use Rattle.turn_events.specs.Views.{event_view};
 
 use host_text::keyword::Keyword;
@@ -170,36 +169,6 @@ impl Event {
     {
         match self {
             Event::Moved(movement) => Some(movement),
-            _ => None,
-        }
-    }
-
-    /// The seat that is opened, where it opens one.
-    pub fn seat_opened(&self) -> Option<u32>
-        ensures { result ≡ seat_opened (event_view self.now) }
-    {
-        match self {
-            Event::Opened(opening) => Some(opening.seat),
-            _ => None,
-        }
-    }
-
-    /// The seat that is left, where it leaves one.
-    pub fn seat_left(&self) -> Option<u32>
-        ensures { result ≡ seat_left (event_view self.now) }
-    {
-        match self {
-            Event::Exited(leaving) => Some(leaving.seat),
-            _ => None,
-        }
-    }
-
-    /// The promise that is settled, where it settles one.
-    pub fn promise_settled(&self) -> Option<u32>
-        ensures { result ≡ promise_settled (event_view self.now) }
-    {
-        match self {
-            Event::Settled(promise, _) => Some(*promise),
             _ => None,
         }
     }

@@ -60,12 +60,4 @@ impl Log {
     {
         std::mem::replace(&mut self.events, Vec::new(alloc))
     }
-
-    /// What has happened, in order, without a copy.
-    pub fn into_events(self) -> Vec<Event>
-        ensures { event_views result.items ≡ log_of self }
-    {
-        let Log { events } = self;
-        events
-    }
 }

@@ -1,7 +1,0 @@
-use Rattle.jessie_tree.specs.View.{named}
-use Rattle.call_data.proofs.ReadLists.{IsRead}
-use Rattle.proposals.specs.Reading.{row_in, rows_data}
-use Rattle.proposals.proofs.reading.given_rows.Given as goal
-
-abbrev pub invariant-loop-keyword : goal.invariant-loop-keyword
-invariant-loop-keyword l = IsRead row_in named l.fields l.keyword-index (rows_data l.rows.items)
