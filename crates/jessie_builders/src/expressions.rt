@@ -184,19 +184,6 @@ pub fn add_field(
     found.push((name, value.into_inner()))
 }
 
-/// One field more, which reads the name.
-pub fn add_shorthand(
-    alloc: Global,
-    name: &Token,
-    found: &mut Items<(Text, Expr)>,
-) -> Result<(), AllocError>
-    ensures { OnOk result
-        (found.new ≡ found.old ++ (name.now.text, Expr.Name name.now.text) ∷ []) }
-{
-    let value = name_expression(alloc, name)?;
-    add_field(alloc, name, value, found)
-}
-
 /// One operator more, with the operand behind it.
 pub fn add_operand(
     operator: Operator,

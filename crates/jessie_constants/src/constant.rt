@@ -5,10 +5,10 @@ ghost use Rattle.jessie_language.specs.Parse.{Gives};
 ghost use Rattle.jessie_language.specs.Levels.{more_items};
 ghost use Rattle.jessie_language.specs.Rules as rules;
 
-use crate::build::{
+use host_text::text::Text;
+use jessie_builders::constants::{
     add_constant, add_constant_field, array_constant, literal_constant, record_constant,
 };
-use host_text::text::Text;
 use jessie_builders::deeds::fills;
 use jessie_language::fault::ParseError;
 use jessie_lexer::token::{Kind, Token, peek};

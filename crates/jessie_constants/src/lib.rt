@@ -5,5 +5,4 @@
 //! that may be open bound how deep the calls go.
 #![tactic(auto)]
 
-mod build;
 pub mod constant;

@@ -24,9 +24,9 @@ use jessie_machine::operations::{
 use jessie_machine::requests::{call_method, send_method};
 use jessie_machine::stop::{Stop, bad, throw_data};
 use jessie_module_index::IndexedModule;
+use jessie_operators::operators::truth;
 use jessie_syntax::syntax::{Branch, BuiltIn, Expr, Operator, Step, Stmt, Unary};
 use jessie_tree::data::Data;
-use jessie_values::operators::truth;
 use jessie_values::reasons::Reason;
 use std::alloc::Global;
 use std::mem;

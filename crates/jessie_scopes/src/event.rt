@@ -13,7 +13,6 @@ pub enum Binding {
 }
 
 /// What a text does with names, in its order. A place is that of the name's first byte.
-#[derive(Drop)]
 pub enum Event {
     /// A block, a parameter list, a record, or what a `for` or a `catch` names, begins.
     Opens,
@@ -35,6 +34,23 @@ pub enum Event {
     Field(usize, Text),
     /// A field of a record that reads the name.
     Shorthand(usize, Text),
+}
+
+impl Drop for Event {
+    fn drop(self) {
+        match self {
+            Event::Opens => {}
+            Event::Closes => {}
+            Event::Defines(_, _, _) => {}
+            Event::Declares(_, _) => {}
+            Event::Binds(_, _) => {}
+            Event::Uses(_, _) => {}
+            Event::Calls(_, _) => {}
+            Event::Assigns(_, _) => {}
+            Event::Field(_, _) => {}
+            Event::Shorthand(_, _) => {}
+        }
+    }
 }
 
 /// What is wrong with a name.

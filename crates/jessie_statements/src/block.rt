@@ -8,12 +8,12 @@ ghost use Rattle.jessie_language.specs.Words as words;
 
 use crate::headers::{begin_handler, caught_name, end_for, header};
 use crate::simple::{bare_run, declaration, giving, led, throwing};
+use jessie_builders::blocks::{add_branch, add_statement, close_if, end_if};
+use jessie_builders::statements::{try_statement, while_statement};
 use jessie_expressions::expression::grouped;
 use jessie_language::fault::ParseError;
 use jessie_lexer::token::{Kind, Token, peek};
 use jessie_scopes::event::Event;
-use jessie_statement_builders::blocks::{add_branch, add_statement, close_if, end_if};
-use jessie_statement_builders::statements::{try_statement, while_statement};
 use jessie_syntax::syntax::{Branch, Expr, Stmt};
 use jessie_terminals::kinds::{begins_statement, is, is_leading_word};
 use jessie_terminals::symbols::{expect, open};

@@ -5,11 +5,11 @@ ghost use Rattle.jessie_language.specs.Rules as rules;
 ghost use Rattle.jessie_language.specs.Words as words;
 
 use jessie_builders::deeds::{binds, declares};
+use jessie_builders::statements::for_statement;
 use jessie_expressions::expression::expression;
 use jessie_language::fault::ParseError;
 use jessie_lexer::token::{Kind, Token};
 use jessie_scopes::event::{Binding, Event};
-use jessie_statement_builders::statements::for_statement;
 use jessie_syntax::syntax::{Expr, Stmt};
 use jessie_terminals::names::name;
 use jessie_terminals::symbols::{expect, open};

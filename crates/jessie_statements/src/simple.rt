@@ -7,14 +7,14 @@ ghost use Rattle.jessie_language.specs.Rules as rules;
 ghost use Rattle.jessie_language.specs.Words as words;
 
 use jessie_builders::deeds::{assigns, binds, declares};
+use jessie_builders::statements::{
+    assign_statement, declaration_statement, empty_return, return_statement, run_statement,
+    throw_statement,
+};
 use jessie_expressions::expression::{bare_expression, expression, led_expression};
 use jessie_language::fault::ParseError;
 use jessie_lexer::token::{Kind, Token};
 use jessie_scopes::event::{Binding, Event};
-use jessie_statement_builders::statements::{
-    assign_statement, declaration_statement, empty_return, return_statement, run_statement,
-    throw_statement,
-};
 use jessie_syntax::syntax::{Expr, Stmt};
 use jessie_terminals::kinds::is;
 use jessie_terminals::names::{leading_name, name};

@@ -4,12 +4,22 @@ use host_text::text::Text;
 use sqlite_items::{Boxed, Items};
 
 /// A literal. It holds no object and no function.
-#[derive(Drop)]
 pub enum Literal {
     Number(i128),
     Text(Text),
     Bool(bool),
     Null,
+}
+
+impl Drop for Literal {
+    fn drop(self) {
+        match self {
+            Literal::Number(_) => {}
+            Literal::Text(_) => {}
+            Literal::Bool(_) => {}
+            Literal::Null => {}
+        }
+    }
 }
 
 /// What a state variable can hold at first. A negative number is a literal.
@@ -132,18 +142,35 @@ pub struct Branch {
 }
 
 /// A function of the module.
-#[derive(Drop)]
 pub struct Function {
     pub name: Text,
     pub params: Items<Text>,
     pub body: Items<Stmt>,
 }
 
+impl Drop for Function {
+    fn drop(self) {
+        let Function {
+            name: _,
+            params: _,
+            body: _,
+        } = self;
+    }
+}
+
 /// A state variable, and what it holds before the module has run.
-#[derive(Drop)]
 pub struct Variable {
     pub name: Text,
     pub initial: Constant,
+}
+
+impl Drop for Variable {
+    fn drop(self) {
+        let Variable {
+            name: _,
+            initial: _,
+        } = self;
+    }
 }
 
 /// A module: its state variables and its functions, each in the text's order.

@@ -6,9 +6,9 @@ ghost use Rattle.jessie_tree.specs.View.{tree};
 ghost use Rattle.jessie_values.specs.Operators.{at_least, at_most, difference_of, equality, greater, has_parts, in_range, in_size, inequality, is_same, less, logical_not, most_bytes, opposite, order_of, product_of, quotient_of, rest_of, sameness, sum_of, truth};
 ghost use Rattle.jessie_values.specs.Outcomes.{Gives, seen};
 
-use crate::reasons::{Reason, ValueFault};
 use host_text::text::Text;
 use jessie_tree::data::Data;
+use jessie_values::reasons::{Reason, ValueFault};
 use std::alloc::{AllocError, Global};
 use std::cmp::Ordering;
 

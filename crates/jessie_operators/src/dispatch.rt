@@ -9,9 +9,9 @@ use crate::operators::{
     at_least, at_most, difference_of, equality, greater, inequality, less, logical_not, opposite,
     product_of, quotient_of, rest_of, sum_of, truth,
 };
-use crate::reasons::{Reason, ValueFault};
 use jessie_syntax::syntax::{Operator, Unary};
 use jessie_tree::data::Data;
+use jessie_values::reasons::{Reason, ValueFault};
 use std::alloc::Global;
 
 /// What an operator before a value makes of it.
