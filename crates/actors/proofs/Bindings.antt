@@ -8,11 +8,11 @@ use Rattle.std.specs.Option.{option_copied, option_map_or}
 use Rattle.std.specs.Str.{bytes_eq}
 use Rattle.indexmap.specs.IndexMap.{IndexMap, get, insert_entry}
 use Rattle.indexmap.proofs.CallerLemmas.{insert_entry-new}
-use Rattle.host_text.specs.Words.{is_label}
-use Rattle.jessie_tree.specs.Tree.{Tree, object}
-use Rattle.jessie_tree.specs.View.{tree}
-use Rattle.jessie_tree.specs.declared.data.Data.{Data}
-use Rattle.jessie_tree.specs.declared.data.Obj.{Obj}
+use Rattle.brands.specs.host_text.Words.{is_label}
+use Rattle.promise_store.specs.host_data.Tree.{Tree, object}
+use Rattle.promise_store.specs.host_data.View.{tree}
+use Rattle.promise_store.specs.host_data.declared.data.Data.{Data}
+use Rattle.promise_store.specs.host_data.declared.data.Obj.{Obj}
 use Rattle.actors.specs.Labels.{Bound, are_labels, binding, bound, bound_to, is_of, label_in, service_of}
 use Rattle.actors.specs.Turns.{seen}
 use Rattle.actors.specs.declared.name.Name.{Name}

@@ -1,2 +1,10 @@
 pub mod Bindings
 pub mod Walks
+pub mod Numbered
+pub mod Puts
+pub mod Wholes
+pub mod Steps
+pub mod Calls
+pub mod Cuts
+pub use Rattle.jessie_index.proofs.jessie_grammar
+pub use Rattle.jessie_index.proofs.jessie_semantics

@@ -7,12 +7,12 @@ use Rattle.std.proofs.lemmas.Bool.{ne_eqb}
 use Rattle.std.proofs.lemmas.List.{get_or_default}
 use Rattle.std.proofs.lemmas.List.Splits.{length-slice_split, slice_split_at, slice_split_none}
 use Rattle.std.proofs.lemmas.Str.Pattern.{IsSplitOnceResult, split_parts}
-use Rattle.jessie_tree.specs.Tree.{Tree, object}
-use Rattle.jessie_tree.specs.declared.data.Obj.{Obj}
+use Rattle.promise_store.specs.host_data.Tree.{Tree, object}
+use Rattle.promise_store.specs.host_data.declared.data.Obj.{Obj}
 use Rattle.promise_store.specs.States.{StateView, is_promise_kind}
 use Rattle.actors.specs.Labels.{Bound, label_in, service, service_of}
 use Rattle.actors.specs.Paths.{and_then, followed, part_at, part_met, stands_at, steps_behind, steps_of, stood, walked, walked_from}
-use Rattle.jessie_tree.specs.declared.data.ObjKind.TheVariants.{Ertp, Zoe, Timer}
+use Rattle.promise_store.specs.host_data.declared.data.ObjKind.TheVariants.{Ertp, Zoe, Timer}
 use Rattle.actors.specs.declared.paths.Stands.{Stands}
 use Rattle.actors.specs.declared.paths.Stands.TheVariants.{Service}
 use Rattle.actors.specs.declared.paths.ResolveFault.{ResolveFault}

@@ -4,13 +4,13 @@ use Rattle.std.specs.List.{list_all}
 use Rattle.std.specs.Map.{lookup}
 use Rattle.std.specs.Option.{option_map_or}
 use Rattle.std.specs.Str.{bytes_eq}
-use Rattle.host_text.specs.Words.{is_label}
-use Rattle.jessie_tree.specs.Tree.{Tree, object}
-use Rattle.jessie_tree.specs.View.{tree}
-use Rattle.jessie_tree.specs.declared.data.Data.{Data}
-use Rattle.jessie_tree.specs.declared.data.Obj.{Obj}
-use Rattle.jessie_tree.specs.declared.data.ObjKind.{ObjKind}
-use Rattle.jessie_tree.specs.declared.data.ObjKind.TheVariants.{Ertp, Zoe, Timer}
+use Rattle.brands.specs.host_text.Words.{is_label}
+use Rattle.promise_store.specs.host_data.Tree.{Tree, object}
+use Rattle.promise_store.specs.host_data.View.{tree}
+use Rattle.promise_store.specs.host_data.declared.data.Data.{Data}
+use Rattle.promise_store.specs.host_data.declared.data.Obj.{Obj}
+use Rattle.promise_store.specs.host_data.declared.data.ObjKind.{ObjKind}
+use Rattle.promise_store.specs.host_data.declared.data.ObjKind.TheVariants.{Ertp, Zoe, Timer}
 use Rattle.actors.specs.declared.name.Name.{Name}
 
 -- a label of a party, and what it was bound to

@@ -4,10 +4,10 @@ use Rattle.std.specs.Borrow.{Bor}
 use Rattle.std.specs.List.{slice_split}
 use Rattle.std.specs.Option.{ok_or, option_map_or}
 use Rattle.std.specs.Result.{result_map_both}
-use Rattle.host_text.specs.Numbers.{number_in}
-use Rattle.jessie_tree.specs.Tree.{Tree, array, fields, get, listed, object}
-use Rattle.jessie_tree.specs.View.{tree}
-use Rattle.jessie_tree.specs.declared.data.Data.{Data}
+use Rattle.brands.specs.host_text.Numbers.{number_in}
+use Rattle.promise_store.specs.host_data.Tree.{Tree, array, fields, get, listed, object}
+use Rattle.promise_store.specs.host_data.View.{tree}
+use Rattle.promise_store.specs.host_data.declared.data.Data.{Data}
 use Rattle.promise_store.specs.States.{StateView, broken, follows, is_promise_kind, ok, pending, settled}
 use Rattle.promise_store.specs.Turns.{Store, state_at}
 use Rattle.actors.specs.Labels.{Bound, bound_to}

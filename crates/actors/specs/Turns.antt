@@ -1,6 +1,6 @@
 -- What contracts see of all parties: the labels that were bound at the turn's start, and those of now.
 use Rattle.std.specs.Prelude.{ℕ, List, [], ◌∷◌, ◌++◌, Option, map, take}
-use Rattle.jessie_tree.specs.Tree.{Tree}
+use Rattle.promise_store.specs.host_data.Tree.{Tree}
 use Rattle.actors.specs.Labels.{Bound, binding, bound, bound_to}
 use Rattle.actors.specs.declared.Parties.{Parties}
 

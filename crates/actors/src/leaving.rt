@@ -1,10 +1,10 @@
 //! What may leave its instance (Zoe: facets of a contract, and its functions, stay with it).
 
 ghost use Rattle.std.specs.Prelude.{IsErr, IsTrue, ◌↔◌};
-ghost use Rattle.jessie_tree.specs.Tree.{is_local};
-ghost use Rattle.jessie_tree.specs.View.{tree};
+ghost use Rattle.promise_store.specs.host_data.Tree.{is_local};
+ghost use Rattle.promise_store.specs.host_data.View.{tree};
 
-use jessie_tree::data::Data;
+use promise_store::host_data_lib::data::Data;
 
 /// The data holds something that stays with its instance.
 #[derive(Clone, Copy, PartialEq, Eq)]

@@ -1,23 +1,27 @@
-//! What each party has under its labels, what stands at a path of a party's, and what may leave its
-//! instance. It stands on texts and the data of the contract language. Its one contract: a party has
-//! `ertp`, `zoe` and `timer` from the start and, beside them, what was bound for it, and nothing else; and
-//! a turn that goes back leaves the labels as they were at its start, without memory.
+//! Instances with what they keep, facets, and the parties with what each has under its labels: a
+//! turn that goes back leaves them as they were at its start, without memory.
 #![tactic(auto)]
 
+pub mod instance_store;
 pub mod leaving;
 mod name;
 pub mod paths;
 
 ghost use Rattle.std.specs.Prelude.{◌≡◌, ◌↔◌, ◌++◌, ◌∷◌, [], ℕ, false, List, None, Some, IfErr, IsOk, IsSome, IsTrue, OnErr, OnOk, is_some, length, map, option_map, ◌≤◌};
-ghost use Rattle.jessie_tree.specs.Tree.{Tree};
-ghost use Rattle.jessie_tree.specs.View.{tree};
+ghost use Rattle.promise_store.specs.host_data.Tree.{Tree};
+ghost use Rattle.promise_store.specs.host_data.View.{tree};
 ghost use Rattle.actors.specs.Labels.{Bound, are_labels, binding, bound, bound_to, is_of, label_in, service_of};
 
 use crate::name::Name;
-use host_text::label::Label;
+pub use brands as brands_lib;
+use brands::host_text_lib::label::Label;
 use indexmap::IndexMap;
-use jessie_tree::data::{Data, Obj, ObjKind};
+pub use jessie_index::jessie_grammar_lib;
+pub use promise_store as promise_store_lib;
+pub use promise_store::host_data_lib;
+use promise_store::host_data_lib::data::{Data, Obj, ObjKind};
 use std::alloc::Global;
+pub use turn_stores as turn_stores_lib;
 
 /// Why no label is bound.
 #[derive(Clone, Copy, PartialEq, Eq)]

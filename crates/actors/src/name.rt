@@ -1,6 +1,6 @@
 // A party's label as the key of a map.
 ghost use Rattle.std.specs.Prelude.{◌≡◌, IsTrue};
-ghost use Rattle.host_text.specs.Words.{is_label};
+ghost use Rattle.brands.specs.host_text.Words.{is_label};
 
 use arrayvec::ArrayString;
 

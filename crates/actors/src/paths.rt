@@ -2,7 +2,7 @@
 //! Each promise on the way, and at the end, is followed to what it was fulfilled with (eventual send).
 
 ghost use Rattle.std.specs.Prelude.{◌≡◌, ◌<◌, ◌∷◌, Err, IfOk, IfSome, IsSome, None, Ok, length, option_map};
-ghost use Rattle.jessie_tree.specs.View.{tree, trees};
+ghost use Rattle.promise_store.specs.host_data.View.{tree, trees};
 ghost use Rattle.promise_store.specs.Views.{now_of};
 ghost use Rattle.actors.specs.Paths.{followed, found, fulfilled, item_at, part_at, part_met, stands, stands_at, states_in, steps_behind, steps_of, stood, walked};
 ghost use Rattle.actors.specs.declared.paths.ResolveFault.TheVariants.{UnknownName};
@@ -10,10 +10,10 @@ ghost use Rattle.actors.specs.declared.paths.Stands.TheVariants.{Service};
 ghost use Rattle.actors.specs.Turns.{parties_of};
 
 use crate::{Parties, service};
-use host_text::label::Label;
-use host_text::number::read_number;
-use host_text::text::Text;
-use jessie_tree::data::{Data, Obj, ObjKind};
+use brands::host_text_lib::label::Label;
+use brands::host_text_lib::number::read_number;
+use brands::host_text_lib::text::Text;
+use promise_store::host_data_lib::data::{Data, Obj, ObjKind};
 use promise_store::{Promises, Settlement, State};
 use std::alloc::{AllocError, Global};
 

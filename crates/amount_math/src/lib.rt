@@ -1,7 +1,5 @@
-//! The algebra of amounts, after ERTP's AmountMath: a value is a kind and a content, the finite map
-//! from element to positive count. It stands on nothing but std. Its one contract: each call is the
-//! operation on contents, or the refusal that its clause names, with everything handed back. A `Holding` is
-//! a content in a place of its own: within its room it is changed without memory.
+//! The algebra of amounts (ERTP's AmountMath): a value is a kind and a finite map from element to
+//! count, and each call is the operation on these, or the refusal that its clause names.
 #![tactic(auto)]
 
 ghost use Rattle.std.specs.Prelude.{◌≡◌, ◌≢◌, ◌≤◌, ◌↔◌, IsTrue, IsNone, IsOk, IsErr, IsSome, IfSome, IfOk, IfErr, OnOk, OnErr};

@@ -1,2 +1,3 @@
 pub mod Brands
 pub mod IssuerRecords
+pub use Rattle.host_text.specs as host_text

@@ -1,7 +1,5 @@
-//! Brands by number, each with its alleged name and the kind of its values, and the records in which an
-//! instance keeps issuers by keyword (ERTP, Zoe). It stands on texts, amounts and an ordered map. Its one
-//! contract: brand n has one name, one kind and one issuer, for good once its turn is kept; a turn's new
-//! brands are undone without memory.
+//! Brands by number, each with one name, one kind and one issuer for good, and the issuers that an
+//! instance keeps under keywords (ERTP, Zoe); a turn's new brands are undone without memory.
 #![tactic(auto)]
 
 pub mod issuer_record;
@@ -10,6 +8,7 @@ ghost use Rattle.std.specs.Prelude.{◌≡◌, ◌<◌, ◌≤◌, ◌↔◌, �
 ghost use Rattle.brands.specs.Brands.{back_at, brand_at, brand_of, kept_at, most_brands, started};
 
 use amount_math::Kind;
+pub use host_text as host_text_lib;
 use host_text::text::Text;
 use std::alloc::{AllocError, Global};
 use std::marker::Model;

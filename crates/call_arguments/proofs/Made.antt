@@ -1,10 +1,10 @@
 -- Objects in data of which all were made: what is read of it is one that was.
 use Rattle.std.proofs.Common.{◌≡◌, ℕ, ◌<◌, Bool, true, false, Some, None, if◌then◌else◌, refl, subst}
 use Rattle.std.proofs.lemmas.Option.{same_Some}
-use Rattle.jessie_tree.specs.Tree.{Tree, null, boolean, number, text, array, fields, object, function}
-use Rattle.jessie_tree.specs.declared.data.Obj.{Obj}
-use Rattle.jessie_tree.specs.declared.data.ObjKind.{ObjKind}
-use Rattle.data_nodes.specs.Nodes.{EachNode, ObjectIs}
+use Rattle.refusals.specs.host_data.Tree.{Tree, null, boolean, number, text, array, fields, object, function}
+use Rattle.refusals.specs.host_data.declared.data.Obj.{Obj}
+use Rattle.refusals.specs.host_data.declared.data.ObjKind.{ObjKind}
+use Rattle.refusals.specs.host_data.Nodes.{EachNode, ObjectIs}
 use Rattle.call_arguments.specs.Arguments.{IsMade, is_kind, number_of_kind, object_in}
 
 module _ (P : Obj → Type 0) (kind : ObjKind) (made : ℕ) (below : (o : Obj) → is_kind kind o.kind ≡ true → P o → o.number < made) where

@@ -3,8 +3,8 @@ use Rattle.std.proofs.Common.{◌≡◌, ℕ, Bool, true, false, eqb, ◌&&◌, 
 use Rattle.std.specs.Str.{bytes_eq}
 use Rattle.std.proofs.lemmas.Bool.{eqb-true, eq-eqb}
 use Rattle.std.proofs.lemmas.Slice.Eq.{bytes_eq-Decides}
-use Rattle.amount_math.specs.Content.{Content, entries, of_entries, of_entries-entries}
-use Rattle.amount_math.specs.Worth.{Worth}
+use Rattle.refusals.specs.amount_math.Content.{Content, entries, of_entries, of_entries-entries}
+use Rattle.refusals.specs.amount_math.Worth.{Worth}
 use Rattle.call_arguments.specs.Amounts.{is_same, same_entries}
 
 both_true : (a b : Bool) → (a && b) ≡ true → (a ≡ true) × (b ≡ true)

@@ -1,13 +1,13 @@
 -- Amounts that a call is given (ERTP): what is read as one, of values of each kind.
 use Rattle.std.specs.Prelude.{ℕ, ◌==◌, ◌&&◌, List, [], ◌∷◌, Bool, true, false, Option, Some, None, Result, Ok, Err, if◌then◌else◌}
 use Rattle.std.specs.Str.{bytes_eq}
-use Rattle.amount_math.specs.Content.{entries}
-use Rattle.amount_math.specs.Worth.{Worth}
-use Rattle.amount_math.specs.declared.Kind.{Kind}
-use Rattle.jessie_tree.specs.Tree.{Tree, is_null}
-use Rattle.call_data.specs.Amounts.{amount_fields, value_in}
-use Rattle.call_data.specs.declared.refusals.Stop as earlier
-use Rattle.call_data.specs.declared.refusals.Stop.TheVariants as reading
+use Rattle.refusals.specs.amount_math.Content.{entries}
+use Rattle.refusals.specs.amount_math.Worth.{Worth}
+use Rattle.refusals.specs.amount_math.declared.Kind.{Kind}
+use Rattle.refusals.specs.host_data.Tree.{Tree, is_null}
+use Rattle.refusals.specs.host_data.Amounts.{amount_fields, value_in}
+use Rattle.refusals.specs.host_data.declared.refusals.Stop as earlier
+use Rattle.refusals.specs.host_data.declared.refusals.Stop.TheVariants as reading
 use Rattle.refusals.specs.Codes.{bad_args, bad_value, wrong_amount, wrong_brand}
 use Rattle.refusals.specs.Outcomes.{◌>>=◌, ◌>>◌, need, wanted}
 use Rattle.refusals.specs.declared.codes.Refusal.{Refusal}

@@ -1,14 +1,14 @@
 -- What a call is given: arguments by their places, and what an argument has to be.
 use Rattle.std.specs.Prelude.{ℕ, ℤ, pos, ◌-◌, ◌<◌, ◌==◌, ◌&&◌, nat_le, List, [], ◌∷◌, length, slice_index_or, Bool, true, false, not, Option, Some, None, option_and_then, Result, Ok, if◌then◌else◌, codes}
 use Rattle.std.specs.Str.{bytes_eq}
-use Rattle.host_text.specs.Words.{is_keyword}
-use Rattle.amount_math.specs.declared.Kind.{Kind}
-use Rattle.amount_math.specs.declared.Kind.TheVariants.{Nat, Set, Bag}
+use Rattle.refusals.specs.host_text.Words.{is_keyword}
+use Rattle.refusals.specs.amount_math.declared.Kind.{Kind}
+use Rattle.refusals.specs.amount_math.declared.Kind.TheVariants.{Nat, Set, Bag}
 use Rattle.std.specs.Option.{ForSome}
-use Rattle.jessie_tree.specs.Tree.{Tree, is_null, null, function_of, list_of, number_of, object_of, pairs_of, text_of}
-use Rattle.jessie_tree.specs.declared.data.Obj.{Obj}
-use Rattle.jessie_tree.specs.declared.data.ObjKind.{ObjKind}
-use Rattle.jessie_tree.specs.declared.data.ObjKind.TheVariants.{Ertp, Zoe, Timer, Brand, Issuer, Mint, Purse, Deposit, Payment, Installation, Instance, Zcf, Seat, Zseat, Zmint, Facet, Promise}
+use Rattle.refusals.specs.host_data.Tree.{Tree, is_null, null, function_of, list_of, number_of, object_of, pairs_of, text_of}
+use Rattle.refusals.specs.host_data.declared.data.Obj.{Obj}
+use Rattle.refusals.specs.host_data.declared.data.ObjKind.{ObjKind}
+use Rattle.refusals.specs.host_data.declared.data.ObjKind.TheVariants.{Ertp, Zoe, Timer, Brand, Issuer, Mint, Purse, Deposit, Payment, Installation, Instance, Zcf, Seat, Zseat, Zmint, Facet, Promise}
 use Rattle.refusals.specs.Codes.{bad_args, bad_keyword, wrong_object}
 use Rattle.refusals.specs.Outcomes.{◌>>=◌, ◌>>◌, need, wanted}
 use Rattle.refusals.specs.declared.codes.Refusal.{Refusal}

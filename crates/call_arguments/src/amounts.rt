@@ -1,18 +1,18 @@
 //! Amounts that a call is given (ERTP).
 
 ghost use Rattle.std.specs.Prelude.{◌≡◌, IfOk};
-ghost use Rattle.jessie_tree.specs.View.{tree};
-ghost use Rattle.call_data.specs.Amounts.{IsValueOf, amount_data, amount_fields, seen};
+ghost use Rattle.refusals.specs.host_data.View.{tree};
+ghost use Rattle.refusals.specs.host_data.Amounts.{IsValueOf, amount_data, amount_fields, seen};
 ghost use Rattle.refusals.specs.Codes.{bad_args, bad_value, wrong_amount};
 ghost use Rattle.refusals.specs.Outcomes.{Gives, need, wanted};
 ghost use Rattle.call_arguments.specs.Amounts.{amount_in, held_in, is_refused, is_same, unread, value_of};
 
 use crate::places::is_missing;
-use amount_math::{Kind, Value};
-use call_data::amounts::{GivenAmount, amount_fields, read_value};
-use call_data::refusals as earlier;
-use jessie_tree::data::Data;
+use refusals::amount_math_lib::{Kind, Value};
 use refusals::codes::{BareCode, NumberCode};
+use refusals::host_data_lib::amounts::{GivenAmount, amount_fields, read_value};
+use refusals::host_data_lib::data::Data;
+use refusals::host_data_lib::refusals as earlier;
 use refusals::stops::{Stop, wrong_amount};
 use std::alloc::Global;
 

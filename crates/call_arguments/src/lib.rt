@@ -1,9 +1,14 @@
-//! What calls are given, argument by argument: by place, as an amount, as numbers of objects. It stands on the
-//! data of the contract language and on the refusals; records and lists have a crate above it. Its one
-//! contract: each reader gives what its definition reads, or the refusal that comes first; a definition speaks
-//! of data as trees, whatever the rows that cite it plan. A reader that takes no memory never wants it (`told`).
+//! What calls are given (single arguments, records, lists, keywords, exit rules): each reader gives
+//! what its definition reads, or the refusal that comes first.
 #![tactic(auto)]
 
 pub mod amounts;
+pub mod exit_arguments;
+pub mod keyword_arguments;
+pub mod lists;
 pub mod numbers;
 pub mod places;
+pub mod records;
+
+pub use proposals as proposals_lib;
+pub use refusals as refusals_lib;

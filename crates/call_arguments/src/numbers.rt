@@ -35,7 +35,7 @@ fn lesser(number: Option<u32>, other: u32) -> Option<u32>
 }
 
 /// The least number that fails the test.
-#[tactic(auto, using(crate::proofs::Lists::least_of_three), unfolding(crate::specs::Numbers::least_failing))]
+#[tactic(auto, using(crate::proofs::ArgumentLists::least_of_three), unfolding(crate::specs::Numbers::least_failing))]
 pub fn least_failing<T: NumberTest>(test: &T, numbers: &[u32]) -> Option<u32>
     requires { All (T.may_test test.now) numbers.now }
     ensures { result ≡ least_failing (T.does_pass test.now) numbers.now }
@@ -64,7 +64,7 @@ pub fn first_repeated(alloc: Global, numbers: &[u32]) -> Result<Option<u32>, All
 }
 
 /// That no payment stands twice: else `RepeatedPayment` with the first that does (ERTP).
-#[tactic(auto, using(crate::proofs::Lists::apart), unfolding(refusals::specs::Outcomes::none_such))]
+#[tactic(auto, using(crate::proofs::ArgumentLists::apart), unfolding(refusals::specs::Outcomes::none_such))]
 pub fn check_apart(alloc: Global, payments: &[u32]) -> Result<(), Stop>
     ensures gives { Gives (λ _. tt) result (none_such (first_repeated payments.now) repeated_payment) }
     ensures apart { OnOk result (AreApart payments.now) }
@@ -76,7 +76,7 @@ pub fn check_apart(alloc: Global, payments: &[u32]) -> Result<(), Stop>
 }
 
 /// The least of numbers.
-#[tactic(auto, using(crate::proofs::Lists::least_of_three))]
+#[tactic(auto, using(crate::proofs::ArgumentLists::least_of_three))]
 pub fn least(numbers: &[u32]) -> Option<u32>
     ensures { result ≡ least numbers.now }
 {
@@ -88,7 +88,7 @@ pub fn least(numbers: &[u32]) -> Option<u32>
 }
 
 /// That each payment is live: else `DeadPayment` with the least that isn't (ERTP).
-#[tactic(auto, using(crate::proofs::Lists::all_passed), unfolding(refusals::specs::Outcomes::none_such))]
+#[tactic(auto, using(crate::proofs::ArgumentLists::all_passed), unfolding(refusals::specs::Outcomes::none_such))]
 pub fn check_live<T: NumberTest>(live: &T, payments: &[u32]) -> Result<(), Stop>
     requires { All (T.may_test live.now) payments.now }
     ensures gives { Gives (λ _. tt) result (none_such (least_failing (T.does_pass live.now) payments.now) dead_payment) }
@@ -102,7 +102,7 @@ pub fn check_live<T: NumberTest>(live: &T, payments: &[u32]) -> Result<(), Stop>
 }
 
 /// That each brand is known: else `WrongBrand` with the least that isn't (ERTP, Zoe).
-#[tactic(auto, using(crate::proofs::Lists::all_passed), unfolding(refusals::specs::Outcomes::none_such))]
+#[tactic(auto, using(crate::proofs::ArgumentLists::all_passed), unfolding(refusals::specs::Outcomes::none_such))]
 pub fn check_brands<T: NumberTest>(known: &T, brands: &[u32]) -> Result<(), Stop>
     requires { All (T.may_test known.now) brands.now }
     ensures gives { Gives (λ _. tt) result (none_such (least_failing (T.does_pass known.now) brands.now) wrong_brand) }

@@ -2,18 +2,18 @@
 //! refuses, is as its definition says.
 
 ghost use Rattle.std.specs.Prelude.{◌≡◌, ◌<◌, ◌≤◌, true, IfErr, IfOk, IfSome, length, option_map};
-ghost use Rattle.host_text.specs.Words.{is_keyword};
-ghost use Rattle.jessie_tree.specs.Tree.{is_null, text_of};
-ghost use Rattle.jessie_tree.specs.View.{named_trees, tree, trees};
-ghost use Rattle.call_data.specs.Amounts.{seen};
+ghost use Rattle.refusals.specs.host_text.Words.{is_keyword};
+ghost use Rattle.refusals.specs.host_data.Tree.{is_null, text_of};
+ghost use Rattle.refusals.specs.host_data.View.{named_trees, tree, trees};
+ghost use Rattle.refusals.specs.host_data.Amounts.{seen};
 ghost use Rattle.refusals.specs.Outcomes.{Gives};
 ghost use Rattle.call_arguments.specs.Arguments.{IsMade, IsRefusal, arg, fields_at, filled_list_at, function_at, keyword_at, kind_at, kind_in, kind_named, list_at, number_at, number_in, object_at, object_in, place_of, record_at, text_at, text_or_empty};
 
-use amount_math::Kind;
-use host_text::keyword::Keyword;
-use host_text::text::Text;
-use jessie_tree::data::{Data, ObjKind};
+use refusals::amount_math_lib::Kind;
 use refusals::codes::{NumberCode, TextCode};
+use refusals::host_data_lib::data::{Data, ObjKind};
+use refusals::host_text_lib::keyword::Keyword;
+use refusals::host_text_lib::text::Text;
 use refusals::stops::Stop;
 use std::alloc::{AllocError, Global};
 

@@ -1,1 +1,2 @@
 pub mod Shaped
+pub use Rattle.plain_stores.proofs as plain_stores

@@ -1,6 +1,6 @@
 -- Effects in their order, as the world's.
 use Rattle.std.specs.Prelude.{List}
-use Rattle.world_state.specs.Worlds as worlds
+use Rattle.plain_stores.specs.world_state.Worlds as worlds
 use Rattle.call_plans.specs.Views.{AreShaped, effect_views}
 use Rattle.call_plans.specs.declared.lists.Effects.{Effects}
 

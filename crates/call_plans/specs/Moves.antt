@@ -1,7 +1,7 @@
 -- Movements that are made together, as they are written, and what each way of making them asks of them.
 use Rattle.std.specs.Prelude.{List}
-use Rattle.movement_shapes.specs.Shapes.{AreTransfers, IsCombination, IsRearrangement, IsSplit}
-use Rattle.rights_model.specs.declared.Movement.{Movement}
+use Rattle.plain_stores.specs.world_state.Shapes.{AreTransfers, IsCombination, IsRearrangement, IsSplit}
+use Rattle.plain_stores.specs.rights_model.declared.Movement.{Movement}
 use Rattle.call_plans.specs.declared.moves.Moves.{Moves}
 use Rattle.call_plans.specs.declared.moves.Moves.TheVariants as ways
 

@@ -1,13 +1,13 @@
 -- What the code of a row has to meet: it plans what the row's definition gives.
 use Rattle.std.specs.Prelude.{◌≡◌, List, Result, Ok, Err}
-use Rattle.jessie_tree.specs.Tree.{Tree}
-use Rattle.jessie_tree.specs.View.{tree}
-use Rattle.jessie_tree.specs.declared.data.Data.{Data}
+use Rattle.refusals.specs.host_data.Tree.{Tree}
+use Rattle.refusals.specs.host_data.View.{tree}
+use Rattle.refusals.specs.host_data.declared.data.Data.{Data}
 use Rattle.refusals.specs.Outcomes.{Fails, Gives}
 use Rattle.refusals.specs.declared.codes.Refusal.{Refusal}
 use Rattle.refusals.specs.declared.stops.Stop.{Stop}
-use Rattle.world_state.specs.Worlds.{Effect}
-use Rattle.call_rows.specs.Rows.{Outcome}
+use Rattle.plain_stores.specs.world_state.Worlds.{Effect}
+use Rattle.rules.specs.Rows.{Outcome}
 use Rattle.call_plans.specs.Lists.{IsEachShaped, effects_view}
 use Rattle.call_plans.specs.declared.plans.Plan.{Plan}
 

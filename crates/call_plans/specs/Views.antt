@@ -1,13 +1,13 @@
 -- What the code's effects are in the world.
 use Rattle.std.specs.Prelude.{List, [], ◌∷◌, map}
-use Rattle.brand_makers.specs.Makers.{maker_view}
-use Rattle.brands.specs.IssuerRecords.{issuer_of}
-use Rattle.instance_store.specs.Facets.{facet_view}
-use Rattle.invitations.specs.Details.{details_view}
-use Rattle.jessie_tree.specs.View.{tree, trees}
-use Rattle.promise_store.specs.States.{settlement_view}
-use Rattle.turn_events.specs.Views.{call_view, cause_view, wakeup_view}
-use Rattle.world_state.specs.Worlds as worlds
+use Rattle.plain_stores.specs.Makers.{maker_view}
+use Rattle.rules.specs.brands.IssuerRecords.{issuer_of}
+use Rattle.rules.specs.actors.Facets.{facet_view}
+use Rattle.rules.specs.turn_stores.Details.{details_view}
+use Rattle.refusals.specs.host_data.View.{tree, trees}
+use Rattle.rules.specs.promise_store.States.{settlement_view}
+use Rattle.plain_stores.specs.turn_records.Views.{call_view, cause_view, wakeup_view}
+use Rattle.plain_stores.specs.world_state.Worlds as worlds
 use Rattle.call_plans.specs.Moves.{HasShape, moves_view}
 use Rattle.call_plans.specs.declared.effects.Effect.{Effect}
 use Rattle.call_plans.specs.declared.effects.Effect.TheVariants as effects

@@ -1,22 +1,22 @@
 //! Effects on the world, by the stores that they touch.
 
 use crate::moves::Moves;
-use brand_makers::Maker;
-use brands::Brand;
-use brands::issuer_record::IssuerRecord;
-use host_text::keyword::Keyword;
-use host_text::label::Label;
-use host_text::text::Text;
-use instance_store::facets::Facet;
-use invitations::Details;
-use jessie_syntax::syntax::Module;
-use jessie_tree::data::{Data, Obj};
-use promise_store::Settlement;
-use proposals::allocations::Allocation;
-use proposals::offers::{Exit, Proposal};
-use rights_model::Movement;
-use turn_events::deliveries::Wakeup;
-use turn_events::events::{Call, Cause};
+use plain_stores::brand_makers::Maker;
+use plain_stores::rights_model_lib::Movement;
+use plain_stores::turn_records_lib::deliveries::Wakeup;
+use plain_stores::turn_records_lib::events::{Call, Cause};
+use refusals::host_data_lib::data::{Data, Obj};
+use refusals::host_text_lib::keyword::Keyword;
+use refusals::host_text_lib::label::Label;
+use refusals::host_text_lib::text::Text;
+use rules::actors_lib::instance_store::facets::Facet;
+use rules::brands_lib::Brand;
+use rules::brands_lib::issuer_record::IssuerRecord;
+use rules::jessie_grammar_lib::syntax::Module;
+use rules::promise_store_lib::Settlement;
+use rules::proposals_lib::allocations::Allocation;
+use rules::proposals_lib::offers::{Exit, Proposal};
+use rules::turn_stores_lib::invitations::Details;
 
 /// An effect on rights alone.
 #[derive(Drop)]

@@ -1,6 +1,6 @@
 //! Movements that are made together.
 
-use rights_model::Movement;
+use plain_stores::rights_model_lib::Movement;
 
 /// Movements that are made together, as they are written, by the way in which that is done. `HasShape`
 /// (specs/Moves.antt) says what each way asks of them.

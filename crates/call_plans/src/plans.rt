@@ -1,8 +1,8 @@
 //! Plans.
 
 ghost use Rattle.std.specs.Prelude.{◌≡◌, [], ◌∷◌, IfOk};
-ghost use Rattle.jessie_tree.specs.View.{tree};
-ghost use Rattle.call_rows.specs.Rows.{Outcome};
+ghost use Rattle.refusals.specs.host_data.View.{tree};
+ghost use Rattle.rules.specs.Rows.{Outcome};
 ghost use Rattle.refusals.specs.Outcomes.{reading};
 ghost use Rattle.call_plans.specs.Lists.{IsEachShaped};
 ghost use Rattle.call_plans.specs.Plans.{Plans, Reads, ReadOutcome, plan_view};
@@ -10,7 +10,7 @@ ghost use Rattle.call_plans.specs.Views.{IsShaped, effect_view};
 
 use crate::effects::Effect;
 use crate::lists::Effects;
-use jessie_tree::data::Data;
+use refusals::host_data_lib::data::Data;
 use refusals::stops::Stop;
 use std::alloc::{AllocError, Global};
 

@@ -2,23 +2,23 @@
 use Rattle.std.specs.Prelude.{IfOk}
 use Rattle.std.specs.declared.alloc.AllocError.{AllocError}
 use Rattle.std.proofs.Common.{inl, inr, ℕ, ◌*◌, ◌^◌, ◌<◌, List, Option, Some, None, Result, Ok, Err, length, sym, ap, ◌∙◌, subst}
-use Rattle.carried_effects.specs.Carried.{AreCarried, IsInTurn}
+use Rattle.world_effects.specs.Carried.{AreCarried, IsInTurn}
 use Rattle.contract_powers.specs.Answered.{IsCallAnswered}
 use Rattle.contract_powers.specs.Planned.{CanCarry, IsPlanned, WasCarried}
-use Rattle.contract_row_laws.proofs.Calls.{calls_are}
+use Rattle.delivery_laws.proofs.row_laws.Calls.{calls_are}
 use Rattle.delivery_laws.proofs.Replies.{call_is}
 use Rattle.delivery_laws.specs.Works.{IsCallWork}
-use Rattle.host_calls.specs.declared.answered.Answered.{Answered}
-use Rattle.host_world.specs.Worlds.{world_of}
-use Rattle.host_world.specs.declared.World.{World}
+use Rattle.contract_powers.specs.declared.host_calls.answered.Answered.{Answered}
+use Rattle.world_effects.specs.host_world.Worlds.{world_of}
+use Rattle.world_effects.specs.host_world.declared.World.{World}
 use Rattle.jessie_machine.specs.Host.{reply_of}
 use Rattle.jessie_machine.specs.declared.host.Answer.{Answer}
-use Rattle.jessie_semantics.specs.Keeping.{CallHas}
-use Rattle.jessie_semantics.specs.Play.{Call, cost}
-use Rattle.world_state.specs.Good.{AreGood, IsGoodWorld}
-use Rattle.world_state.specs.Known.{IsKnownTo}
-use Rattle.world_state.specs.Rights.{IsRoomy}
-use Rattle.world_state.specs.Worlds.{Effect, State}
+use Rattle.jessie_machine.specs.jessie_semantics.Keeping.{CallHas}
+use Rattle.jessie_machine.specs.jessie_semantics.Play.{Call, cost}
+use Rattle.world_effects.specs.world_state.Good.{AreGood, IsGoodWorld}
+use Rattle.world_effects.specs.world_state.Known.{IsKnownTo}
+use Rattle.world_effects.specs.world_state.Rights.{IsRoomy}
+use Rattle.world_effects.specs.world_state.Worlds.{Effect, State}
 
 module _ (w : State) (i : ℕ) (c : Call) (good : IsGoodWorld w) (made : i < length w.tables.instances) (room : IsRoomy w.rights.out (2 ^ 63 * cost c)) where
   work_of : CallHas (IsKnownTo w i) c → IsCallWork w i (2 ^ 63 * cost c) c

@@ -1,3 +1,5 @@
+pub mod Keeping
+pub mod Methods
 pub mod Oks
 pub mod Passes
 pub mod Carried

@@ -1,21 +1,21 @@
 -- What is so of what was given, told further.
 use Rattle.std.specs.Prelude.{IfOk}
 use Rattle.std.proofs.Common.{◌≡◌, ◌∙◌, ℕ, List, [], ◌∷◌, Result, Ok, Err, refl, ap, subst}
-use Rattle.call_plans.specs.Plans.{Plans}
-use Rattle.call_plans.specs.declared.plans.Plan.{Plan}
-use Rattle.call_rows.specs.Rows.{Outcome}
+use Rattle.world_effects.specs.call_plans.Plans.{Plans}
+use Rattle.world_effects.specs.call_plans.declared.plans.Plan.{Plan}
+use Rattle.delivery_turns.specs.rules.Rows.{Outcome}
 use Rattle.delivery_turns.specs.HostCalls.{method_fields as told_fields}
-use Rattle.host_calls.specs.Answered.{IsAnswered}
-use Rattle.host_calls.specs.Told.{IsTold}
-use Rattle.host_calls.specs.declared.answered.Answered.{Answered}
-use Rattle.host_calls.specs.declared.told.Told.{Told}
-use Rattle.jessie_semantics.specs.Keeping.{method_fields}
-use Rattle.jessie_semantics.specs.Play.{Call, far}
-use Rattle.jessie_tree.specs.Tree.{Fields, Tree, field, fields, function, null}
-use Rattle.jessie_tree.specs.View.{trees}
+use Rattle.contract_powers.specs.AnsweredCalls.{IsAnswered}
+use Rattle.contract_powers.specs.Told.{IsTold}
+use Rattle.contract_powers.specs.declared.host_calls.answered.Answered.{Answered}
+use Rattle.contract_powers.specs.declared.host_calls.told.Told.{Told}
+use Rattle.jessie_machine.specs.jessie_semantics.Keeping.{method_fields}
+use Rattle.jessie_machine.specs.jessie_semantics.Play.{Call, far}
+use Rattle.refusals.specs.host_data.Tree.{Fields, Tree, field, fields, function, null}
+use Rattle.refusals.specs.host_data.View.{trees}
 use Rattle.refusals.specs.declared.stops.Stop.{Stop}
 use Rattle.std.specs.declared.alloc.AllocError.{AllocError}
-use Rattle.turn_records.specs.Events as told
+use Rattle.world_effects.specs.turn_records.Events as told
 
 pub answered_as : (r : Result Answered AllocError) (c : Call) (outcome : Outcome) (t : Told) (row : Result Plan Stop)
     → IfOk r (λ a. (c : Call) (outcome : Outcome) → IsTold c t → Plans outcome row → IsAnswered c outcome a) → IsTold c t → Plans outcome row → IfOk r (IsAnswered c outcome)

@@ -2,14 +2,14 @@
 use Rattle.std.specs.Prelude.{◌&&◌}
 use Rattle.std.proofs.Common.{◌≡◌, ℕ, ◌<◌, Bool, true, false, List, [], ◌∷◌, length, refl}
 use Rattle.contract_powers.specs.Passing.{asks_rightly, call_passes, shown}
-use Rattle.jessie_semantics.specs.Keeping.{AllHave, CallHas}
-use Rattle.jessie_semantics.specs.Play.{Call, call, far, send, when}
-use Rattle.jessie_tree.specs.Tree.{Tree}
-use Rattle.known_data.proofs.Known.{known_passes, passed_known}
-use Rattle.known_data.specs.Tests.{all_pass, passes}
-use Rattle.world_state.specs.Good.{IsGoodWorld}
-use Rattle.world_state.specs.Known.{IsKnownTo}
-use Rattle.world_state.specs.Worlds.{State}
+use Rattle.jessie_machine.specs.jessie_semantics.Keeping.{AllHave, CallHas}
+use Rattle.jessie_machine.specs.jessie_semantics.Play.{Call, call, far, send, when}
+use Rattle.refusals.specs.host_data.Tree.{Tree}
+use Rattle.world_effects.proofs.world_reads.Known.{known_passes, passed_known}
+use Rattle.world_effects.specs.world_reads.Tests.{all_pass, passes}
+use Rattle.world_effects.specs.world_state.Good.{IsGoodWorld}
+use Rattle.world_effects.specs.world_state.Known.{IsKnownTo}
+use Rattle.world_effects.specs.world_state.Worlds.{State}
 
 both_true : (a b : Bool) → (a && b) ≡ true → (a ≡ true) × (b ≡ true)
 both_true true b e = (refl, e)

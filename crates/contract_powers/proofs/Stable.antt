@@ -1,20 +1,20 @@
 -- That a run is ready, and that its turn goes back, can be told of what was shown to be so.
 use Rattle.std.proofs.Common.{◌≡◌, false}
 use denote.Struct.Props.{props}
-use Rattle.amount_math.specs.Content.{coded_content}
+use Rattle.refusals.specs.amount_math.Content.{coded_content}
 use Rattle.contract_powers.specs.Running.{IsReady, IsRunning, Situation}
 use Rattle.contract_powers.specs.Starts.{GoesBackTo, Start}
-use Rattle.escrow.specs.contracts.totals.Totals as a_total
-use Rattle.escrow.specs.Told.{EscrowState}
-use Rattle.host_world.specs.declared.World.{World}
-use Rattle.jessie_syntax.specs.contracts.syntax.Module as a_module
-use Rattle.plain_stores.specs.Plain.{PlainState}
+use Rattle.world_effects.specs.escrow.contracts.totals.Totals as a_total
+use Rattle.world_effects.specs.escrow.Told.{EscrowState}
+use Rattle.world_effects.specs.host_world.declared.World.{World}
+use Rattle.jessie_machine.specs.jessie_grammar.contracts.syntax.Module as a_module
+use Rattle.world_effects.specs.plain_stores.Plain.{PlainState}
 use Rattle.refusals.specs.contracts.codes.Refusal as a_refusal
-use Rattle.right_steps.specs.Lists.{coded_lists}
-use Rattle.stable_facts.specs.Stable.{IsStable}
-use Rattle.stable_worlds.proofs.PartSets.{Parts-set}
-use Rattle.stable_worlds.proofs.Worlds.{stable_parts, stable_world, world_facts}
-use Rattle.turn_records.specs.Deliveries.{Delivery}
+use Rattle.delivery_turns.specs.right_steps.Lists.{coded_lists}
+use Rattle.world_effects.specs.lemmas.Stable.{IsStable}
+use Rattle.world_effects.proofs.world_laws.PartSets.{Parts-set}
+use Rattle.world_effects.proofs.world_laws.Worlds.{stable_parts, stable_world, world_facts}
+use Rattle.world_effects.specs.turn_records.Deliveries.{Delivery}
 
 pub ready_stable : (s : Situation) → IsStable (IsReady s)
 ready_stable s = hlevel (stable_parts, world_facts, stable_world)

@@ -1,18 +1,18 @@
 -- The run goes on after a call, and the turn can be undone as before.
 use Rattle.std.proofs.Common.{◌≡◌, inl, inr, ℕ, ◌+◌, ◌*◌, ◌^◌, ◌≤◌, true, false, refl, sym, ◌∙◌, subst, arith}
-use Rattle.carried_effects.specs.Carried.{IsInTurn}
+use Rattle.world_effects.specs.Carried.{IsInTurn}
 use Rattle.contract_powers.specs.Answered.{IsCallAnswered}
-use Rattle.contract_powers.specs.Keeping.{answered_grows}
+use Rattle.contract_powers.proofs.Keeping.{answered_grows, names_grow, reply_known}
 use Rattle.contract_powers.specs.Running.{IsAnswered, IsReady, IsRunning, Situation, situation}
 use Rattle.contract_powers.specs.Starts.{GoesBackTo, Start}
 use Rattle.delivery_laws.proofs.Runs.{scaled}
 use Rattle.delivery_turns.specs.HostCalls.{call_effects}
-use Rattle.host_world.specs.Worlds.{IsUndoable, world_of}
-use Rattle.host_world.specs.declared.World.{World}
-use Rattle.jessie_semantics.specs.Play.{Call, Reply, cost}
-use Rattle.world_laws.proofs.Roomy.{roomy-after_all}
-use Rattle.world_state.specs.Rights.{IsRoomy}
-use Rattle.world_state.specs.Worlds.{State}
+use Rattle.world_effects.specs.host_world.Worlds.{IsUndoable, world_of}
+use Rattle.world_effects.specs.host_world.declared.World.{World}
+use Rattle.jessie_machine.specs.jessie_semantics.Play.{Call, Reply, cost}
+use Rattle.world_effects.proofs.world_laws.Roomy.{roomy-after_all}
+use Rattle.world_effects.specs.world_state.Rights.{IsRoomy}
+use Rattle.world_effects.specs.world_state.Worlds.{State}
 
 -- room for more is room for less
 pub less_room : (w : State) (a b : ℕ) → a ≤ b → IsRoomy w.rights.out (2 ^ 63 * b) → IsRoomy w.rights.out (2 ^ 63 * a)
@@ -38,7 +38,14 @@ module _ (s : Situation) (w : World) (left : ℕ) (c : Call) (reply : Reply) (wa
   }
 
   pub is_answered : IsCallAnswered s.world w s.instance c reply → IsAnswered s (situation w s.instance left false) (record { call = c; reply = reply })
-  is_answered is = record { instance = refl; running = runs_on is; answered = is; room = omega (arith, takes) }
+  is_answered is = record {
+    instance = refl;
+    running = runs_on is;
+    answered = is;
+    room = omega (arith, takes);
+    replied = reply_known s.world w s.instance c reply is;
+    grown = names_grow s.world w s.instance c reply is;
+  }
 
 pub ready : (s : Situation) → IsRunning s → IsReady s
 ready s running = record { running = λ e. running }

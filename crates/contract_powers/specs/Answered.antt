@@ -1,14 +1,14 @@
 -- How a call of an instance's function was answered over the world of a turn.
 use Rattle.std.specs.Prelude.{◌≡◌, ◌*◌, ◌^◌, ◌⊎◌, ℕ}
-use Rattle.carried_effects.specs.Carried.{AreCarried}
+use Rattle.world_effects.specs.Carried.{AreCarried}
 use Rattle.delivery_laws.specs.Works.{IsCallWork}
 use Rattle.delivery_turns.specs.HostCalls.{call_effects, call_reply}
-use Rattle.host_world.specs.Worlds.{world_of}
-use Rattle.host_world.specs.declared.World.{World}
-use Rattle.jessie_semantics.specs.Keeping.{CallHas}
-use Rattle.jessie_semantics.specs.Play.{Call, Reply, cost, refused}
-use Rattle.jessie_tree.specs.Tree.{null}
-use Rattle.world_state.specs.Known.{IsKnownTo}
+use Rattle.world_effects.specs.host_world.Worlds.{world_of}
+use Rattle.world_effects.specs.host_world.declared.World.{World}
+use Rattle.jessie_machine.specs.jessie_semantics.Keeping.{CallHas}
+use Rattle.jessie_machine.specs.jessie_semantics.Play.{Call, Reply, cost, refused}
+use Rattle.refusals.specs.host_data.Tree.{null}
+use Rattle.world_effects.specs.world_state.Known.{IsKnownTo}
 
 -- it was answered as the definition says, and has had its effects, which were good; the turn goes on
 pub record IsCallDone (old new : World) (i : ℕ) (c : Call) (reply : Reply) : Type 0 where

@@ -1,3 +1,5 @@
+pub mod Told
+pub mod AnsweredCalls
 pub mod Passing
 pub mod Answered
 pub mod Planned

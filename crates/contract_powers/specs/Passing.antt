@@ -1,11 +1,11 @@
 -- Whether an instance may name all that a call of its functions names, as a test that computes.
 use Rattle.std.specs.Prelude.{ℕ, ◌&&◌, Bool, true, List, [], ◌∷◌}
-use Rattle.jessie_semantics.specs.Keeping.{method_fields}
-use Rattle.jessie_semantics.specs.Play.{Call, call, far, send, when}
-use Rattle.jessie_tree.specs.Tree.{Tree, fields, function, object}
-use Rattle.jessie_values.specs.Requests.{is_promise}
-use Rattle.known_data.specs.Tests.{all_pass}
-use Rattle.world_state.specs.Worlds.{State}
+use Rattle.jessie_machine.specs.jessie_semantics.Keeping.{method_fields}
+use Rattle.jessie_machine.specs.jessie_semantics.Play.{Call, call, far, send, when}
+use Rattle.refusals.specs.host_data.Tree.{Tree, fields, function, object}
+use Rattle.jessie_machine.specs.jessie_values.Requests.{is_promise}
+use Rattle.world_effects.specs.world_reads.Tests.{all_pass}
+use Rattle.world_effects.specs.world_state.Worlds.{State}
 
 -- all that the call shows: its target or promise, the functions that it names, and its arguments
 abbrev pub shown : Call → List Tree

@@ -1,19 +1,19 @@
 -- A call that is planned and not carried out yet; none where it names what the instance may not name.
 use Rattle.std.specs.Prelude.{◌≡◌, ℕ, Option, Some, None}
-use Rattle.call_plans.specs.Lists.{IsEachShaped, effects_view}
-use Rattle.carried_effects.specs.Carried.{AreCarried}
+use Rattle.world_effects.specs.call_plans.Lists.{IsEachShaped, effects_view}
+use Rattle.world_effects.specs.Carried.{AreCarried}
 use Rattle.delivery_turns.specs.HostCalls.{call_row}
-use Rattle.host_calls.specs.Answered.{IsAnswered}
-use Rattle.host_calls.specs.declared.answered.Answered.{Answered}
-use Rattle.host_world.specs.declared.World.{World}
+use Rattle.contract_powers.specs.AnsweredCalls.{IsAnswered}
+use Rattle.contract_powers.specs.declared.host_calls.answered.Answered.{Answered}
+use Rattle.world_effects.specs.host_world.declared.World.{World}
 use Rattle.jessie_machine.specs.Host.{reply_of}
 use Rattle.jessie_machine.specs.declared.host.Answer.{Answer}
-use Rattle.jessie_semantics.specs.Keeping.{CallHas}
-use Rattle.jessie_semantics.specs.Play.{Call, refused}
-use Rattle.jessie_tree.specs.Tree.{null}
-use Rattle.world_state.specs.Good.{AreGood}
-use Rattle.world_state.specs.Known.{IsKnownTo}
-use Rattle.world_state.specs.Worlds.{State}
+use Rattle.jessie_machine.specs.jessie_semantics.Keeping.{CallHas}
+use Rattle.jessie_machine.specs.jessie_semantics.Play.{Call, refused}
+use Rattle.refusals.specs.host_data.Tree.{null}
+use Rattle.world_effects.specs.world_state.Good.{AreGood}
+use Rattle.world_effects.specs.world_state.Known.{IsKnownTo}
+use Rattle.world_effects.specs.world_state.Worlds.{State}
 
 pub record IsPlannedCall (w : State) (i : ℕ) (c : Call) (done : Answered) : Type 0 where
   pub known : CallHas (IsKnownTo w i) c

@@ -1,14 +1,14 @@
 -- Where a function of an instance stands with the world that it is run over.
 use Rattle.std.specs.Prelude.{◌≡◌, ◌<◌, ◌*◌, ◌^◌, ◌≤◌, ◌+◌, ℕ, Bool, false, length}
-use Rattle.carried_effects.specs.Carried.{IsInTurn}
+use Rattle.world_effects.specs.Carried.{IsInTurn}
 use Rattle.contract_powers.specs.Answered.{IsCallAnswered}
-use Rattle.host_world.specs.Worlds.{world_of}
-use Rattle.host_world.specs.declared.World.{World}
-use Rattle.jessie_semantics.specs.Keeping.{Known, to_function, to_object}
-use Rattle.jessie_semantics.specs.Play.{Exchange, cost, reply_size}
-use Rattle.world_state.specs.Known.{FunctionKnown, ObjectKnown}
-use Rattle.world_state.specs.Rights.{IsRoomy}
-use Rattle.world_state.specs.Worlds.{State}
+use Rattle.world_effects.specs.host_world.Worlds.{world_of}
+use Rattle.world_effects.specs.host_world.declared.World.{World}
+use Rattle.jessie_machine.specs.jessie_semantics.Keeping.{Known, Reference, ReplyHas, Within, to_function, to_object}
+use Rattle.jessie_machine.specs.jessie_semantics.Play.{Exchange, cost, reply_size}
+use Rattle.world_effects.specs.world_state.Known.{FunctionKnown, ObjectKnown}
+use Rattle.world_effects.specs.world_state.Rights.{IsRoomy}
+use Rattle.world_effects.specs.world_state.Worlds.{State}
 use Rattle.std.specs.Prelude.{Some}
 
 -- the world, the instance that runs, what calls and their answers may still cost, and whether memory was wanted in the
@@ -41,9 +41,12 @@ MayName w i (to_function f) = FunctionKnown (Some i) w f
 abbrev pub Knows : Situation → Known
 Knows s = MayName (world_of s.world) s.instance
 
--- the same instance goes on running, and its call was answered
+-- the same instance goes on running, and its call was answered with what it may name; what it might name it may name
+-- after it
 pub record IsAnswered (old new : Situation) (x : Exchange) : Type 0 where
   pub instance : new.instance ≡ old.instance
   pub running : IsRunning new
   pub answered : IsCallAnswered old.world new.world old.instance x.call x.reply
   pub room : old.room ≤ new.room + (cost x.call + reply_size x.reply)
+  pub replied : ReplyHas (Within (Knows new)) x.reply
+  pub grown : (r : Reference) → Knows old r → Knows new r

@@ -1,11 +1,11 @@
 -- What a turn goes back to, if it is undone.
 use Rattle.std.specs.Prelude.{◌≡◌}
-use Rattle.escrow.specs.Told.{EscrowState, nothing_told}
-use Rattle.host_world.specs.declared.World.{World}
-use Rattle.plain_stores.specs.Plain.{PlainState, new_plain}
-use Rattle.plain_stores.specs.Stores.{plain_at_start}
-use Rattle.right_steps.specs.Lists.{Lists, no_lists}
-use Rattle.vault_rights.specs.Drafts.{HandGoes}
+use Rattle.world_effects.specs.escrow.Told.{EscrowState, nothing_told}
+use Rattle.world_effects.specs.host_world.declared.World.{World}
+use Rattle.world_effects.specs.plain_stores.Plain.{PlainState, new_plain}
+use Rattle.world_effects.specs.plain_stores.Stores.{plain_at_start}
+use Rattle.delivery_turns.specs.right_steps.Lists.{Lists, no_lists}
+use Rattle.world_effects.specs.vault.Drafts.{HandGoes}
 
 -- the rights, the stores that touch none, and what was told up to the last turn
 pub record Start : Type 0 where

@@ -1,27 +1,27 @@
 //! Calls that an instance makes of the host, each carried out at once on the world.
 
 ghost use Rattle.std.specs.Prelude.{◌<◌, ◌*◌, ◌^◌, IfOk, length};
-ghost use Rattle.call_plans.specs.Lists.{IsEachShaped, effects_view};
-ghost use Rattle.carried_effects.specs.Carried.{IsInTurn};
+ghost use Rattle.world_effects.specs.call_plans.Lists.{IsEachShaped, effects_view};
+ghost use Rattle.world_effects.specs.Carried.{IsInTurn};
 ghost use Rattle.contract_powers.specs.Answered.{IsCallAnswered};
 ghost use Rattle.contract_powers.specs.Planned.{CanCarry, Happened, WasCarried};
-ghost use Rattle.host_world.specs.Worlds.{IsUndoable, world_of};
+ghost use Rattle.world_effects.specs.host_world.Worlds.{IsUndoable, world_of};
 ghost use Rattle.jessie_machine.specs.Host.{reply_of};
-ghost use Rattle.jessie_semantics.specs.Play as plays;
-ghost use Rattle.jessie_semantics.specs.Play.{cost};
-ghost use Rattle.jessie_tree.specs.View.{tree, trees};
-ghost use Rattle.world_state.specs.Good.{AreGood};
-ghost use Rattle.world_state.specs.Rights.{IsRoomy};
+ghost use Rattle.jessie_machine.specs.jessie_semantics.Play as plays;
+ghost use Rattle.jessie_machine.specs.jessie_semantics.Play.{cost};
+ghost use Rattle.refusals.specs.host_data.View.{tree, trees};
+ghost use Rattle.world_effects.specs.world_state.Good.{AreGood};
+ghost use Rattle.world_effects.specs.world_state.Rights.{IsRoomy};
 
+use crate::host_calls::answered::Answered;
 use crate::planned::{planned_call, planned_far, planned_send, planned_when};
 use crate::rows::ContractRows;
-use host_calls::answered::Answered;
-use host_text::text::Text;
-use host_world::World;
 use jessie_machine::host::Answer;
-use jessie_tree::data::{Data, Obj};
+use refusals::host_data_lib::data::{Data, Obj};
+use refusals::host_text_lib::text::Text;
 use std::alloc::{AllocError, Global};
 use world_effects::carry_out;
+use world_effects::host_world_lib::World;
 
 /// A call is told, and has its effects; what is answered comes back. For want of memory some effects may have been
 /// carried out, and the turn is to be undone.
@@ -38,7 +38,7 @@ fn carry_call(alloc: Global, world: &mut World, done: Answered) -> Result<Answer
 }
 
 /// What was planned is carried out. Where nothing was, null is thrown.
-#[tactic(auto, using(carried_effects::proofs::Carrying::not_moved))]
+#[tactic(auto, using(world_effects::proofs::Carrying::not_moved))]
 fn carry(alloc: Global, world: &mut World, planned: Option<Answered>) -> Result<Answer, AllocError>
     requires turn { IsInTurn world.old }
     requires can { CanCarry (world_of world.old) planned }
@@ -52,7 +52,7 @@ fn carry(alloc: Global, world: &mut World, planned: Option<Answered>) -> Result<
 }
 
 /// A call of a method of an object (Zoe).
-#[tactic(auto, using(carried_effects::proofs::Carrying::not_moved))]
+#[tactic(auto, using(world_effects::proofs::Carrying::not_moved))]
 pub fn call<R: ContractRows>(
     alloc: Global,
     world: &mut World,
@@ -74,7 +74,7 @@ pub fn call<R: ContractRows>(
 }
 
 /// A call of a method of an object, to be delivered later (eventual send).
-#[tactic(auto, using(carried_effects::proofs::Carrying::not_moved))]
+#[tactic(auto, using(world_effects::proofs::Carrying::not_moved))]
 pub fn send(
     alloc: Global,
     world: &mut World,
@@ -96,7 +96,7 @@ pub fn send(
 }
 
 /// A request to be told of a promise (eventual send).
-#[tactic(auto, using(carried_effects::proofs::Carrying::not_moved))]
+#[tactic(auto, using(world_effects::proofs::Carrying::not_moved))]
 pub fn when(
     alloc: Global,
     world: &mut World,
@@ -118,7 +118,7 @@ pub fn when(
 }
 
 /// A facet that is made (Endo's Far).
-#[tactic(auto, using(carried_effects::proofs::Carrying::not_moved))]
+#[tactic(auto, using(world_effects::proofs::Carrying::not_moved))]
 pub fn far(
     alloc: Global,
     world: &mut World,

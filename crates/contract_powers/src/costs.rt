@@ -1,13 +1,13 @@
 //! What is left of a room after what calls cost.
 
 ghost use Rattle.std.specs.Prelude.{◌≡◌, ◌≤◌, ◌+◌, length};
-ghost use Rattle.jessie_semantics.specs.Play as plays;
-ghost use Rattle.jessie_semantics.specs.Play.{cost, held_size, methods_size};
-ghost use Rattle.jessie_tree.specs.Tree.{items_size};
-ghost use Rattle.jessie_tree.specs.View.{items_of, tree, trees};
+ghost use Rattle.jessie_machine.specs.jessie_semantics.Play as plays;
+ghost use Rattle.jessie_machine.specs.jessie_semantics.Play.{cost, held_size, methods_size};
+ghost use Rattle.refusals.specs.host_data.Tree.{items_size};
+ghost use Rattle.refusals.specs.host_data.View.{items_of, tree, trees};
 
-use host_text::text::Text;
-use jessie_tree::data::{Data, pay, pay_items};
+use refusals::host_data_lib::data::{Data, pay, pay_items};
+use refusals::host_text_lib::text::Text;
 
 /// After a call or a send.
 pub(crate) fn after_call(room: u64, args: &[Data]) -> u64

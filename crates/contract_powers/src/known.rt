@@ -2,20 +2,20 @@
 
 ghost use Rattle.std.specs.Prelude.{◌≡◌, ◌<◌, ℕ, List, length};
 ghost use Rattle.contract_powers.specs.Passing.{call_passes};
-ghost use Rattle.host_world.specs.Worlds.{world_of};
-ghost use Rattle.jessie_semantics.specs.Play as plays;
-ghost use Rattle.jessie_tree.specs.View.{tree, trees};
-ghost use Rattle.jessie_values.specs.Requests.{is_promise};
-ghost use Rattle.known_data.specs.Tests.{passes};
-ghost use Rattle.jessie_tree.specs.Tree as nodes;
-ghost use Rattle.world_state.specs.Good.{IsGoodWorld};
+ghost use Rattle.world_effects.specs.host_world.Worlds.{world_of};
+ghost use Rattle.jessie_machine.specs.jessie_semantics.Play as plays;
+ghost use Rattle.refusals.specs.host_data.View.{tree, trees};
+ghost use Rattle.jessie_machine.specs.jessie_values.Requests.{is_promise};
+ghost use Rattle.world_effects.specs.world_reads.Tests.{passes};
+ghost use Rattle.refusals.specs.host_data.Tree as nodes;
+ghost use Rattle.world_effects.specs.world_state.Good.{IsGoodWorld};
 
-use host_text::text::Text;
-use host_text::word::is_field_name;
-use host_world::World;
-use jessie_tree::data::{Data, Obj, ObjKind};
-use known_data::objects::knows_object;
-use known_data::{may_hold, may_hold_all, names_function};
+use refusals::host_data_lib::data::{Data, Obj, ObjKind};
+use refusals::host_text_lib::text::Text;
+use refusals::host_text_lib::word::is_field_name;
+use world_effects::host_world_lib::World;
+use world_effects::world_reads_lib::known_data::objects::knows_object;
+use world_effects::world_reads_lib::known_data::{may_hold, may_hold_all, names_function};
 
 /// Whether an instance may name the target of a call or of a send, and hold its arguments.
 pub fn knows_call(world: &World, instance: u32, target: Obj, args: &[Data]) -> bool

@@ -2,35 +2,35 @@
 //! instance may not name.
 
 ghost use Rattle.std.specs.Prelude.{◌<◌, ◌*◌, ◌^◌, ℕ, List, IfOk, length};
-ghost use Rattle.call_plans.specs.Plans.{Plans};
-ghost use Rattle.call_rows.specs.Rows.{Outcome};
+ghost use Rattle.world_effects.specs.call_plans.Plans.{Plans};
+ghost use Rattle.delivery_turns.specs.rules.Rows.{Outcome};
 ghost use Rattle.contract_powers.specs.Planned.{IsPlanned};
 ghost use Rattle.delivery_turns.specs.HostCalls.{call_row};
-ghost use Rattle.host_calls.specs.Answered.{IsAnswered};
-ghost use Rattle.host_calls.specs.Told.{IsTold};
-ghost use Rattle.host_world.specs.Worlds.{world_of};
-ghost use Rattle.jessie_semantics.specs.Keeping.{CallHas};
-ghost use Rattle.jessie_semantics.specs.Play as plays;
-ghost use Rattle.jessie_semantics.specs.Play.{Call, cost};
-ghost use Rattle.jessie_tree.specs.Tree.{Tree};
-ghost use Rattle.jessie_tree.specs.View.{tree, trees};
-ghost use Rattle.vault_rights.specs.Drafts.{IsClean};
-ghost use Rattle.world_state.specs.Good.{IsGoodWorld};
-ghost use Rattle.world_state.specs.Known.{IsKnownTo};
-ghost use Rattle.world_state.specs.Rights.{IsRoomy};
+ghost use Rattle.contract_powers.specs.AnsweredCalls.{IsAnswered};
+ghost use Rattle.contract_powers.specs.Told.{IsTold};
+ghost use Rattle.world_effects.specs.host_world.Worlds.{world_of};
+ghost use Rattle.jessie_machine.specs.jessie_semantics.Keeping.{CallHas};
+ghost use Rattle.jessie_machine.specs.jessie_semantics.Play as plays;
+ghost use Rattle.jessie_machine.specs.jessie_semantics.Play.{Call, cost};
+ghost use Rattle.refusals.specs.host_data.Tree.{Tree};
+ghost use Rattle.refusals.specs.host_data.View.{tree, trees};
+ghost use Rattle.world_effects.specs.vault.Drafts.{IsClean};
+ghost use Rattle.world_effects.specs.world_state.Good.{IsGoodWorld};
+ghost use Rattle.world_effects.specs.world_state.Known.{IsKnownTo};
+ghost use Rattle.world_effects.specs.world_state.Rights.{IsRoomy};
 
+use crate::host_calls::answered::{Answered, answer_call};
+use crate::host_calls::rows::{plan_far, plan_send, plan_when};
+use crate::host_calls::told::{Told, told_call, told_far, told_send, told_when};
 use crate::known::{knows_call, knows_request};
 use crate::rows::ContractRows;
-use call_plans::plans::Plan;
-use host_calls::answered::{Answered, answer_call};
-use host_calls::rows::{plan_far, plan_send, plan_when};
-use host_calls::told::{Told, told_call, told_far, told_send, told_when};
-use host_text::text::Text;
-use host_world::World;
-use jessie_tree::data::{Data, Obj};
-use known_data::may_hold_all;
+use refusals::host_data_lib::data::{Data, Obj};
+use refusals::host_text_lib::text::Text;
 use refusals::stops::Stop;
 use std::alloc::{AllocError, Global};
+use world_effects::call_plans_lib::plans::Plan;
+use world_effects::host_world_lib::World;
+use world_effects::world_reads_lib::known_data::may_hold_all;
 
 // ---- calls
 

@@ -6,12 +6,12 @@ ghost use Rattle.contract_powers.specs.Starts.{GoesBackTo};
 use crate::calls;
 use crate::costs::{after_call, after_far, after_when};
 use crate::rows::ContractRows;
-use host_text::text::Text;
-use host_world::World;
 use jessie_machine::host::{Answer, NoMemory, Powers};
-use jessie_tree::data::{Data, Obj};
+use refusals::host_data_lib::data::{Data, Obj};
+use refusals::host_text_lib::text::Text;
 use std::alloc::{AllocError, Global};
 use std::marker::{Brand, PhantomData};
+use world_effects::host_world_lib::World;
 
 /// A turn, by what it goes back to if it is undone.
 pub trait Turn {

@@ -1,18 +1,18 @@
 //! The plans of the calls of methods, as the powers take them.
 
 ghost use Rattle.std.specs.Prelude.{Some};
-ghost use Rattle.call_plans.specs.Plans.{Plans};
-ghost use Rattle.call_rows.specs.Obligations.{CanCall};
-ghost use Rattle.host_world.specs.Worlds.{world_of};
-ghost use Rattle.jessie_tree.specs.View.{trees};
-ghost use Rattle.trade_rows.specs.Trades.{serve};
-ghost use Rattle.vault_rights.specs.Drafts.{IsClean};
+ghost use Rattle.world_effects.specs.call_plans.Plans.{Plans};
+ghost use Rattle.delivery_turns.specs.rules.Obligations.{CanCall};
+ghost use Rattle.world_effects.specs.host_world.Worlds.{world_of};
+ghost use Rattle.refusals.specs.host_data.View.{trees};
+ghost use Rattle.delivery_turns.specs.rules.Trades.{serve};
+ghost use Rattle.world_effects.specs.vault.Drafts.{IsClean};
 
-use call_plans::plans::Plan;
-use host_world::World;
-use jessie_tree::data::{Data, Obj};
+use refusals::host_data_lib::data::{Data, Obj};
 use refusals::stops::Stop;
 use std::alloc::Global;
+use world_effects::call_plans_lib::plans::Plan;
+use world_effects::host_world_lib::World;
 
 /// What plans the calls of methods that an instance's functions make.
 pub trait ContractRows {

@@ -6,17 +6,17 @@ use Rattle.std.specs.Ordering.{nat_cmp, ordering_reverse}
 use Rattle.std.proofs.lemmas.Cmp.{nat_list_cmp_total}
 use Rattle.std.specs.declared.cmp.Ordering.{Ordering}
 use Rattle.std.specs.declared.cmp.Ordering.TheVariants.{Less, Equal, Greater}
-use Rattle.host_text.specs.Words.{is_field_name}
-use Rattle.data_nodes.proofs.Nodes.{ordered, weaker}
-use Rattle.data_nodes.specs.Nodes.{EachNode, EachItem, EachField, NodeFact, ObjectIs, FunctionIs, IsShallow}
-use Rattle.data_rows.specs.Printable.{HaveFieldNames, IsNumber}
-use Rattle.jessie_syntax.specs.Syntax.{Fixed, plain, row, fixed_record, Fixeds, no_fixeds, fixed, NamedFixeds, no_named_fixeds, named_fixed}
-use Rattle.jessie_syntax.specs.declared.syntax.Literal.{Literal}
-use Rattle.jessie_syntax.specs.declared.syntax.Literal.TheVariants as l
-use Rattle.jessie_tree.specs.Tree.{Tree, null, boolean, number, text, array, fields, object, function, Fields, no_fields, field, Before, Ordered, OrderedItems, OrderedFields}
-use Rattle.jessie_values.specs.Literals.{fixed_items, fixed_pairs, fixed_tree, literal_tree}
-use Rattle.jessie_values.specs.Records.{placed, record_of, with_field, with_fields}
-use Rattle.world_state.specs.Known.{HasNames, HasWidth, IsPlain}
+use Rattle.jessie_reader.specs.host_text.Words.{is_field_name}
+use Rattle.rules.proofs.host_data.Nodes.{ordered, weaker}
+use Rattle.rules.specs.host_data.Nodes.{EachNode, EachItem, EachField, NodeFact, ObjectIs, FunctionIs, IsShallow}
+use Rattle.rules.specs.turn_records.Printable.{HaveFieldNames, IsNumber}
+use Rattle.rules.specs.jessie_grammar.Syntax.{Fixed, plain, row, fixed_record, Fixeds, no_fixeds, fixed, NamedFixeds, no_named_fixeds, named_fixed}
+use Rattle.rules.specs.jessie_grammar.declared.syntax.Literal.{Literal}
+use Rattle.rules.specs.jessie_grammar.declared.syntax.Literal.TheVariants as l
+use Rattle.rules.specs.host_data.Tree.{Tree, null, boolean, number, text, array, fields, object, function, Fields, no_fields, field, Before, Ordered, OrderedItems, OrderedFields}
+use Rattle.rules.specs.jessie_values.Literals.{fixed_items, fixed_pairs, fixed_tree, literal_tree}
+use Rattle.rules.specs.jessie_values.Records.{placed, record_of, with_field, with_fields}
+use Rattle.rules.specs.world_state.Known.{HasNames, HasWidth, IsPlain}
 
 -- ---- a constant as a text writes it, d brackets deep
 

@@ -1,13 +1,13 @@
 -- What a language gives of a text's tokens, where they break no limit.
 use Rattle.std.proofs.Common.{◌≡◌, inl, inr, ℕ, zero, suc, Bool, true, List, [], ◌∷◌, ◌++◌, Option, None, refl, subst}
 use Rattle.std.specs.List.{AllByRecursion}
-use Rattle.jessie_language.specs.Lang.{◌>>=◌, ◌>>◌, ◌or◌, pure, one, symbol, turns, iterate, opening, bracketed, any}
-use Rattle.jessie_language.specs.Parse.{deep, nothing}
-use Rattle.jessie_language.specs.Refused.{Lang, Marked, clean}
-use Rattle.jessie_language.specs.declared.fault.Limit.{Limit}
-use Rattle.jessie_lexer.specs.Tokens.{has}
-use Rattle.jessie_lexer.specs.declared.token.Kind.{Kind}
-use Rattle.jessie_lexer.specs.declared.token.Token.{Token}
+use Rattle.rules.specs.jessie_grammar.Lang.{◌>>=◌, ◌>>◌, ◌or◌, pure, one, symbol, turns, iterate, opening, bracketed, any}
+use Rattle.rules.specs.jessie_grammar.Parse.{deep, nothing}
+use Rattle.rules.specs.jessie_grammar.Refused.{Lang, Marked, clean}
+use Rattle.rules.specs.jessie_grammar.declared.jessie_language.fault.Limit.{Limit}
+use Rattle.rules.specs.jessie_grammar.Tokens.{has}
+use Rattle.rules.specs.jessie_grammar.declared.jessie_lexer.token.Kind.{Kind}
+use Rattle.rules.specs.jessie_grammar.declared.jessie_lexer.token.Token.{Token}
 use Rattle.contract_texts.proofs.Tokens.{IsToken}
 
 -- tokens of a text, which break no limit

@@ -2,14 +2,14 @@
 use Rattle.std.proofs.Common.{◌≡◌, Bool, true, false, List, [], ◌∷◌, ◌++◌, None, Some, refl}
 use Rattle.std.specs.Prelude.{length, nat_le, if◌then◌else◌}
 use Rattle.std.specs.List.{AllByRecursion}
-use Rattle.host_text.specs.Words.{is_field_name}
-use Rattle.jessie_language.specs.Grammar.{comma_step, listed, name}
-use Rattle.jessie_language.specs.Lang.{◌>>=◌, ◌or◌, pure, one, symbol, iterate}
-use Rattle.jessie_language.specs.Refused.{Lang}
-use Rattle.jessie_language.specs.Words.{Found, Named, declared, long, more, ongoing, spotted, words}
-use Rattle.jessie_language.specs.declared.fault.Limit.{Limit}
-use Rattle.jessie_lexer.specs.declared.token.Kind.TheVariants as k
-use Rattle.jessie_scopes.specs.declared.event.Event.{Event}
+use Rattle.jessie_reader.specs.host_text.Words.{is_field_name}
+use Rattle.rules.specs.jessie_grammar.Grammar.{comma_step, listed, name}
+use Rattle.rules.specs.jessie_grammar.Lang.{◌>>=◌, ◌or◌, pure, one, symbol, iterate}
+use Rattle.rules.specs.jessie_grammar.Refused.{Lang}
+use Rattle.rules.specs.jessie_grammar.Words.{Found, Named, declared, long, more, ongoing, spotted, words}
+use Rattle.rules.specs.jessie_grammar.declared.jessie_language.fault.Limit.{Limit}
+use Rattle.rules.specs.jessie_grammar.declared.jessie_lexer.token.Kind.TheVariants as k
+use Rattle.rules.specs.jessie_grammar.declared.jessie_scopes.event.Event.{Event}
 use Rattle.contract_texts.proofs.Langs.{Gives, after_gives, iterate_gives, one_gives, or_gives, pure_gives, then_gives}
 
 -- ---- names

@@ -5,38 +5,38 @@ use Rattle.std.proofs.lemmas.Slice.Eq.{bytes_eq-Decides}
 use Rattle.std.specs.Prelude.{codes, nat_le, nat_lt, pos, neg_ℤ}
 use Rattle.std.specs.List.{AllByRecursion}
 use Rattle.std.specs.Str.{bytes_eq}
-use Rattle.host_text.specs.Words.{is_field_name}
-use Rattle.data_rows.specs.Printable.{IsNumber}
-use Rattle.jessie_language.specs.Grammar as grammar
-use Rattle.jessie_language.specs.Grammar.{body, braced, constant, constant_array, constant_field, constant_in, constant_record, constant_value, ending_block, function, heading, item, listed, module_text, name, variable}
-use Rattle.jessie_language.specs.Lang.{◌>>=◌, ◌>>◌, ◌or◌, pure, one, symbol, bracketed}
-use Rattle.jessie_language.specs.Refused.{Lang, clean}
-use Rattle.jessie_language.specs.Words.{Found, Named, also, always, add_function, add_variable, constant_array_of, constant_field_of, constant_record_of, declared, defined, function_of, inside, literal_by, literal_constant, literal_of, literals, most_functions, most_variables, negative_of, no_items, spotted, variable_of, wide, words}
-use Rattle.jessie_lexer.specs.Lex.{cut, limit}
-use Rattle.jessie_lexer.specs.Tokens.{has}
-use Rattle.jessie_lexer.specs.declared.token.Kind.{Kind}
-use Rattle.jessie_lexer.specs.declared.token.Kind.TheVariants as k
-use Rattle.jessie_lexer.specs.declared.token.Token.{Token}
-use Rattle.jessie_scopes.specs.declared.event.Binding.TheVariants as binding
-use Rattle.jessie_scopes.specs.declared.event.Event.{Event}
-use Rattle.jessie_scopes.specs.declared.event.Event.TheVariants as event
-use Rattle.jessie_semantics.specs.Naming.{IsFieldName, RoutinesWrite}
-use Rattle.jessie_syntax.proofs.Views.{fixed-Array, fixed-Literal, fixed-Record}
-use Rattle.jessie_syntax.specs.Syntax.{Routine, fixed_view, fixeds_view, named_fixeds_view, routine}
-use Rattle.jessie_syntax.specs.declared.syntax.Constant.{Constant}
-use Rattle.jessie_syntax.specs.declared.syntax.Constant as C
-use Rattle.jessie_syntax.specs.declared.syntax.Function.{Function}
-use Rattle.jessie_syntax.specs.declared.syntax.Literal.{Literal}
-use Rattle.jessie_syntax.specs.declared.syntax.Module.{Module}
-use Rattle.jessie_syntax.specs.declared.syntax.Stmt.{Stmt}
-use Rattle.jessie_syntax.specs.declared.syntax.Variable.{Variable}
-use Rattle.jessie_texts.proofs.Answered.{each_comes}
-use Rattle.jessie_texts.specs.Answers.{read}
-use Rattle.jessie_texts.specs.Texts.{Answer, Comes, IsText, has_function, most_brackets}
-use Rattle.jessie_values.specs.Literals.{constant_tree}
-use Rattle.service_rows.specs.ZoeRows.{ReadsModules}
-use Rattle.world_state.specs.Good.{IsModule}
-use Rattle.world_state.specs.Known.{IsNamed, IsPlain}
+use Rattle.jessie_reader.specs.host_text.Words.{is_field_name}
+use Rattle.rules.specs.turn_records.Printable.{IsNumber}
+use Rattle.rules.specs.jessie_grammar.Grammar as grammar
+use Rattle.rules.specs.jessie_grammar.Grammar.{body, braced, constant, constant_array, constant_field, constant_in, constant_record, constant_value, ending_block, function, heading, item, listed, module_text, name, variable}
+use Rattle.rules.specs.jessie_grammar.Lang.{◌>>=◌, ◌>>◌, ◌or◌, pure, one, symbol, bracketed}
+use Rattle.rules.specs.jessie_grammar.Refused.{Lang, clean}
+use Rattle.rules.specs.jessie_grammar.Words.{Found, Named, also, always, add_function, add_variable, constant_array_of, constant_field_of, constant_record_of, declared, defined, function_of, inside, literal_by, literal_constant, literal_of, literals, most_functions, most_variables, negative_of, no_items, spotted, variable_of, wide, words}
+use Rattle.rules.specs.jessie_grammar.Lex.{cut, limit}
+use Rattle.rules.specs.jessie_grammar.Tokens.{has}
+use Rattle.rules.specs.jessie_grammar.declared.jessie_lexer.token.Kind.{Kind}
+use Rattle.rules.specs.jessie_grammar.declared.jessie_lexer.token.Kind.TheVariants as k
+use Rattle.rules.specs.jessie_grammar.declared.jessie_lexer.token.Token.{Token}
+use Rattle.rules.specs.jessie_grammar.declared.jessie_scopes.event.Binding.TheVariants as binding
+use Rattle.rules.specs.jessie_grammar.declared.jessie_scopes.event.Event.{Event}
+use Rattle.rules.specs.jessie_grammar.declared.jessie_scopes.event.Event.TheVariants as event
+use Rattle.rules.specs.jessie_semantics.Naming.{IsFieldName, RoutinesWrite}
+use Rattle.rules.proofs.jessie_grammar.Views.{fixed-Array, fixed-Literal, fixed-Record}
+use Rattle.rules.specs.jessie_grammar.Syntax.{Routine, fixed_view, fixeds_view, named_fixeds_view, routine}
+use Rattle.rules.specs.jessie_grammar.declared.syntax.Constant.{Constant}
+use Rattle.rules.specs.jessie_grammar.declared.syntax.Constant as C
+use Rattle.rules.specs.jessie_grammar.declared.syntax.Function.{Function}
+use Rattle.rules.specs.jessie_grammar.declared.syntax.Literal.{Literal}
+use Rattle.rules.specs.jessie_grammar.declared.syntax.Module.{Module}
+use Rattle.rules.specs.jessie_grammar.declared.syntax.Stmt.{Stmt}
+use Rattle.rules.specs.jessie_grammar.declared.syntax.Variable.{Variable}
+use Rattle.rules.proofs.jessie_grammar.Answered.{each_comes}
+use Rattle.rules.specs.jessie_grammar.Answers.{read}
+use Rattle.rules.specs.jessie_grammar.Texts.{Answer, Comes, IsText, has_function, most_brackets}
+use Rattle.rules.specs.jessie_values.Literals.{constant_tree}
+use Rattle.rules.specs.ZoeRows.{ReadsModules}
+use Rattle.rules.specs.world_state.Good.{IsModule}
+use Rattle.rules.specs.world_state.Known.{IsNamed, IsPlain}
 use Rattle.contract_texts.proofs.Constants.{AreFixed, AreNamed, IsFixed, IsLiteral, fixed_plain}
 use Rattle.contract_texts.proofs.Langs.{Any, Gives, HasRoom, after_gives, any_gives, anything, bracketed_gives, clean_sound, iterate_gives, one_gives, or_gives, pure_gives, then_gives}
 use Rattle.contract_texts.proofs.Lists.{Holds, IsSpotted, declared_gives, in_length, listed_gives, name_gives, push}

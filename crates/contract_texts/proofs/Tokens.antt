@@ -7,14 +7,14 @@ use Rattle.std.proofs.lemmas.Str.{IsUtf8-nil, IsUtf8-from_ascii, IsUtf8-from_is_
 use Rattle.std.specs.Prelude.{nat_le}
 use Rattle.std.specs.List.{list_all, AllByRecursion}
 use Rattle.std.specs.Str.{IsAscii, IsUtf8, is_utf8}
-use Rattle.host_text.specs.Words.{is_field_name, is_name_start}
-use Rattle.host_text.specs.Words as names
-use Rattle.jessie_language.specs.Words.{words}
-use Rattle.jessie_lexer.specs.Lex.{Piece, bad, cut, cut_at, cut_from, head, is_digit, is_word_byte, is_word_start, keyword, mark, of_digits, of_mark, of_quoted, piece, quoted, short_mark, simple, skip, is_byte}
-use Rattle.jessie_lexer.specs.Tokens.{has}
-use Rattle.jessie_lexer.specs.declared.token.Kind.{Kind}
-use Rattle.jessie_lexer.specs.declared.token.Kind.TheVariants as k
-use Rattle.jessie_lexer.specs.declared.token.Token.{Token}
+use Rattle.jessie_reader.specs.host_text.Words.{is_field_name, is_name_start}
+use Rattle.jessie_reader.specs.host_text.Words as names
+use Rattle.rules.specs.jessie_grammar.Words.{words}
+use Rattle.rules.specs.jessie_grammar.Lex.{Piece, bad, cut, cut_at, cut_from, head, is_digit, is_word_byte, is_word_start, keyword, mark, of_digits, of_mark, of_quoted, piece, quoted, short_mark, simple, skip, is_byte}
+use Rattle.rules.specs.jessie_grammar.Tokens.{has}
+use Rattle.rules.specs.jessie_grammar.declared.jessie_lexer.token.Kind.{Kind}
+use Rattle.rules.specs.jessie_grammar.declared.jessie_lexer.token.Kind.TheVariants as k
+use Rattle.rules.specs.jessie_grammar.declared.jessie_lexer.token.Token.{Token}
 
 -- of a text of at most 64 bytes, that it is a name
 abbrev pub IsShortName : List ℕ → Type 0

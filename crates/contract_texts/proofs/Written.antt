@@ -1,30 +1,30 @@
 -- The names that a text gives to the fields of the records that it writes are names.
 use Rattle.std.proofs.Common.{ℕ, zero, suc, Bool, true, false, List, [], ◌∷◌, ◌++◌, Option, None, Some, sym, subst}
 use Rattle.std.specs.List.{AllByRecursion}
-use Rattle.jessie_language.specs.Grammar.{after, amount, args, arm, array, assigning, bare, body, braced, branches, call_tail, catching, choice, declaration, dot_step, each, eventually, expr, field, full, giving, initializer, looping, method_call, name, named, op_step, ops, own_value, post_step, post_tail, prim, record_text, running, signed, simple, statements, step_on, steps_from, tails, throwing, trying, unary, walking}
-use Rattle.jessie_language.specs.Lang.{◌>>=◌, ◌or◌, one}
-use Rattle.jessie_language.specs.Refused.{Lang}
-use Rattle.jessie_language.specs.StatementList.{else_if, in_order, last, next, whole_if}
-use Rattle.jessie_language.specs.Words.{Call, Chained, Found, Handler, Header, Level, Named, Stepped, always, called, closing, declaring, free_words, inside, literal_of, literals, long, ongoing, spotted, table, wide, with_operands, with_steps}
-use Rattle.jessie_lexer.specs.declared.token.Kind.{Kind}
-use Rattle.jessie_lexer.specs.declared.token.Kind.TheVariants as k
-use Rattle.jessie_scopes.specs.declared.event.Binding.{Binding}
-use Rattle.jessie_scopes.specs.declared.event.Binding.TheVariants as binding
-use Rattle.jessie_scopes.specs.declared.event.Event.{Event}
-use Rattle.jessie_semantics.specs.Naming.{BlockWrites, BranchesWrite, IsFieldName, LinkWrites, LinksWrite, NamedTermsWrite, OperandsWrite, StatementWrites, TermWrites, TermsWrite}
-use Rattle.jessie_syntax.proofs.Views.{link-Field, link-Index, link-Method, statement-Assign, statement-Const, statement-ForOf, statement-If, statement-Let, statement-Return, statement-Run, statement-Throw, statement-Try, statement-While, term-AmountMath, term-Array, term-BuiltIn, term-Call, term-Chain, term-Choice, term-Literal, term-Name, term-Record, term-Send, term-Steps, term-Unary, way-of}
-use Rattle.jessie_syntax.specs.Syntax.{Way, block_view, branch, branches_view, link_view, links_view, named_terms_view, operands_view, statement_view, term_view, terms_view}
-use Rattle.jessie_syntax.specs.declared.syntax.Branch.{Branch}
-use Rattle.jessie_syntax.specs.declared.syntax.BuiltIn.{BuiltIn}
-use Rattle.jessie_syntax.specs.declared.syntax.Expr.{Expr}
-use Rattle.jessie_syntax.specs.declared.syntax.Expr as E
-use Rattle.jessie_syntax.specs.declared.syntax.Literal.{Literal}
-use Rattle.jessie_syntax.specs.declared.syntax.Operator.{Operator}
-use Rattle.jessie_syntax.specs.declared.syntax.Step.{Step}
-use Rattle.jessie_syntax.specs.declared.syntax.Step as P
-use Rattle.jessie_syntax.specs.declared.syntax.Stmt.{Stmt}
-use Rattle.jessie_syntax.specs.declared.syntax.Stmt as S
-use Rattle.jessie_syntax.specs.declared.syntax.Unary.{Unary}
+use Rattle.rules.specs.jessie_grammar.Grammar.{after, amount, args, arm, array, assigning, bare, body, braced, branches, call_tail, catching, choice, declaration, dot_step, each, eventually, expr, field, full, giving, initializer, looping, method_call, name, named, op_step, ops, own_value, post_step, post_tail, prim, record_text, running, signed, simple, statements, step_on, steps_from, tails, throwing, trying, unary, walking}
+use Rattle.rules.specs.jessie_grammar.Lang.{◌>>=◌, ◌or◌, one}
+use Rattle.rules.specs.jessie_grammar.Refused.{Lang}
+use Rattle.rules.specs.jessie_grammar.StatementList.{else_if, in_order, last, next, whole_if}
+use Rattle.rules.specs.jessie_grammar.Words.{Call, Chained, Found, Handler, Header, Level, Named, Stepped, always, called, closing, declaring, free_words, inside, literal_of, literals, long, ongoing, spotted, table, wide, with_operands, with_steps}
+use Rattle.rules.specs.jessie_grammar.declared.jessie_lexer.token.Kind.{Kind}
+use Rattle.rules.specs.jessie_grammar.declared.jessie_lexer.token.Kind.TheVariants as k
+use Rattle.rules.specs.jessie_grammar.declared.jessie_scopes.event.Binding.{Binding}
+use Rattle.rules.specs.jessie_grammar.declared.jessie_scopes.event.Binding.TheVariants as binding
+use Rattle.rules.specs.jessie_grammar.declared.jessie_scopes.event.Event.{Event}
+use Rattle.rules.specs.jessie_semantics.Naming.{BlockWrites, BranchesWrite, IsFieldName, LinkWrites, LinksWrite, NamedTermsWrite, OperandsWrite, StatementWrites, TermWrites, TermsWrite}
+use Rattle.rules.proofs.jessie_grammar.Views.{link-Field, link-Index, link-Method, statement-Assign, statement-Const, statement-ForOf, statement-If, statement-Let, statement-Return, statement-Run, statement-Throw, statement-Try, statement-While, term-AmountMath, term-Array, term-BuiltIn, term-Call, term-Chain, term-Choice, term-Literal, term-Name, term-Record, term-Send, term-Steps, term-Unary, way-of}
+use Rattle.rules.specs.jessie_grammar.Syntax.{Way, block_view, branch, branches_view, link_view, links_view, named_terms_view, operands_view, statement_view, term_view, terms_view}
+use Rattle.rules.specs.jessie_grammar.declared.syntax.Branch.{Branch}
+use Rattle.rules.specs.jessie_grammar.declared.syntax.BuiltIn.{BuiltIn}
+use Rattle.rules.specs.jessie_grammar.declared.syntax.Expr.{Expr}
+use Rattle.rules.specs.jessie_grammar.declared.syntax.Expr as E
+use Rattle.rules.specs.jessie_grammar.declared.syntax.Literal.{Literal}
+use Rattle.rules.specs.jessie_grammar.declared.syntax.Operator.{Operator}
+use Rattle.rules.specs.jessie_grammar.declared.syntax.Step.{Step}
+use Rattle.rules.specs.jessie_grammar.declared.syntax.Step as P
+use Rattle.rules.specs.jessie_grammar.declared.syntax.Stmt.{Stmt}
+use Rattle.rules.specs.jessie_grammar.declared.syntax.Stmt as S
+use Rattle.rules.specs.jessie_grammar.declared.syntax.Unary.{Unary}
 use Rattle.contract_texts.proofs.Langs.{Any, Gives, after_gives, anything, bracketed_gives, iterate_gives, or_gives, pure_gives, then_gives}
 use Rattle.contract_texts.proofs.Lists.{Holds, IsSpotted, listed_gives, name_gives, push}
 

@@ -1,6 +1,8 @@
-//! Contract texts as the host's rows see them. It stands on what a text comes to, and on the rows
-//! that install one. The reader is specs/Reader.antt. Its one contract is that what a text is read as
-//! is a module as the world is to hold it: `laws`.
+//! Contract texts read for the calls that install them: what a text is read as is a module as the
+//! world is to hold it, or the refusal of its first fault.
 #![tactic(auto)]
 
 pub mod laws;
+pub mod reading;
+
+pub use rules::turn_records_lib;

@@ -4,33 +4,33 @@ use Rattle.std.specs.List.{AllByRecursion}
 use Rattle.std.specs.Option.{option_map_or}
 use Rattle.std.proofs.Common.{◌≡◌, inl, inr, ℕ, ◌+◌, ◌≤◌, ◌<◌, Bool, true, false, List, [], ◌∷◌, ◌++◌, Option, Some, None, length, refl, sym, ap, ◌∙◌, subst, arith}
 use Rattle.std.proofs.lemmas.Bool.{eq-eqb, eqb-true}
-use Rattle.actors.specs.Labels.{bound_to}
-use Rattle.call_rows.specs.Traces.{all_open}
-use Rattle.call_row_laws.proofs.Fields.{FormedAt, formed_here, record_formed}
-use Rattle.call_row_laws.proofs.Forms.{field_formed, got, null_formed}
-use Rattle.contract_row_laws.proofs.OpenSeats.{AreAllOpen, all_are_open, others_are_open}
-use Rattle.jessie_tree.specs.Tree as trees
-use Rattle.jessie_tree.specs.Tree.{Fields, Tree, field, fields, field_of, get, no_fields, null}
-use Rattle.promise_store.specs.Linked.{IsForest, LeadsTo, here, leader, through}
-use Rattle.promise_store.specs.States.{SettlementView, broken, ok}
-use Rattle.promise_store.specs.declared.links.Following.{Following}
-use Rattle.proposals.specs.declared.allocations.Row.{Row}
-use Rattle.refusals.specs.Codes.{promise_cycle, refusal_tree}
-use Rattle.refusals.specs.Codes as codes_of
-use Rattle.turn_answers.specs.Settlements.{part, settled_after, start_record}
-use Rattle.turn_records.specs.Deliveries as deliveries
-use Rattle.turn_records.specs.Deliveries.{Delivery, promise_of}
-use Rattle.turn_records.specs.Events.{Answer, given, refused, spent, threw}
-use Rattle.turn_rows.specs.Causes as causes
-use Rattle.turn_rows.specs.Causes.{Cause}
-use Rattle.world_state.specs.Good.{AreGood, CanPublish, CanResolve, IsGoodWorld, IsInHand, IsSettling}
-use Rattle.world_state.specs.Known.{IsFormed, IsHanded}
-use Rattle.world_state.specs.Promises.{target_of}
-use Rattle.world_state.specs.Rights.{slots_at}
-use Rattle.world_state.specs.Worlds.{Effect, IsOpen, State, after, after_all, bind_label, end_staging, exit, halt, in_front, publish, resolve, seat_at}
-use Rattle.world_laws.proofs.Forms.{formed_grows}
-use Rattle.world_laws.proofs.Growing.{grows-after}
-use Rattle.world_laws.proofs.Fronts.{due_behind, front-after, good_behind, in_hand}
+use Rattle.delivery_turns.specs.actors.Labels.{bound_to}
+use Rattle.delivery_turns.specs.rules.Traces.{all_open}
+use Rattle.row_laws.proofs.Fields.{FormedAt, formed_here, record_formed}
+use Rattle.row_laws.proofs.Forms.{field_formed, got, null_formed}
+use Rattle.row_laws.proofs.OpenSeats.{AreAllOpen, all_are_open, others_are_open}
+use Rattle.turn_writer.specs.host_data.Tree as trees
+use Rattle.turn_writer.specs.host_data.Tree.{Fields, Tree, field, fields, field_of, get, no_fields, null}
+use Rattle.delivery_turns.specs.promise_store.Linked.{IsForest, LeadsTo, here, leader, through}
+use Rattle.delivery_turns.specs.promise_store.States.{SettlementView, broken, ok}
+use Rattle.delivery_turns.specs.promise_store.declared.links.Following.{Following}
+use Rattle.turn_writer.specs.proposals.declared.allocations.Row.{Row}
+use Rattle.turn_writer.specs.refusals.Codes.{promise_cycle, refusal_tree}
+use Rattle.turn_writer.specs.refusals.Codes as codes_of
+use Rattle.delivery_turns.specs.turn_records.Settlements.{part, settled_after, start_record}
+use Rattle.delivery_turns.specs.turn_records.Deliveries as deliveries
+use Rattle.delivery_turns.specs.turn_records.Deliveries.{Delivery, promise_of}
+use Rattle.delivery_turns.specs.turn_records.Events.{Answer, given, refused, spent, threw}
+use Rattle.delivery_turns.specs.turn_rows.Causes as causes
+use Rattle.delivery_turns.specs.turn_rows.Causes.{Cause}
+use Rattle.delivery_turns.specs.world_state.Good.{AreGood, CanPublish, CanResolve, IsGoodWorld, IsInHand, IsSettling}
+use Rattle.delivery_turns.specs.world_state.Known.{IsFormed, IsHanded}
+use Rattle.delivery_turns.specs.world_state.Promises.{target_of}
+use Rattle.delivery_turns.specs.world_state.Rights.{slots_at}
+use Rattle.delivery_turns.specs.world_state.Worlds.{Effect, IsOpen, State, after, after_all, bind_label, end_staging, exit, halt, in_front, publish, resolve, seat_at}
+use Rattle.row_laws.proofs.world_laws.Forms.{formed_grows}
+use Rattle.row_laws.proofs.world_laws.Growing.{grows-after}
+use Rattle.row_laws.proofs.world_laws.Fronts.{due_behind, front-after, good_behind, in_hand}
 use Rattle.delivery_turns.specs.Endings.{binds, binds_to, departs, ending, last_followed, leads_back, publishes, settles, without_cycle}
 use Rattle.delivery_turns.specs.Tasks.{exit_if_open, exits_with, halt_with}
 use Rattle.delivery_laws.specs.Works.{IsOut, LabelIsFree}

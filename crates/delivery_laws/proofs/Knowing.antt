@@ -2,18 +2,18 @@
 -- its names are.
 use Rattle.std.specs.List.{AllByRecursion}
 use Rattle.std.proofs.Common.{◌≡◌, ℕ, ◌+◌, ◌≤◌, ◌<◌, true, false, List, [], ◌∷◌, Option, Some, None, length, refl, arith}
-use Rattle.data_nodes.specs.Nodes.{Both, EachField, EachItem, EachNode, FunctionIs, HasFieldsInOrder, IsFree, IsShallow, ObjectIs}
-use Rattle.data_nodes.proofs.Nodes.{both, free, in_order_throughout, nested, ordered, shallow, weaker}
-use Rattle.data_rows.specs.Printable.{HaveFieldNames}
-use Rattle.jessie_semantics.specs.Form.{InForm}
-use Rattle.jessie_semantics.specs.Keeping.{AllHave, FieldsWithin, ItemsWithin, Known, Reference, Within, to_function, to_object}
-use Rattle.jessie_semantics.specs.Naming.{FieldNamesAre, HasFieldNames, IsFieldName, ItemNamesAre, NamesAre}
-use Rattle.jessie_tree.specs.Tree.{Tree, null, boolean, number, text, array, fields, object, function, Items, no_items, item, Fields, no_fields, field, is_local, nesting, stays}
-use Rattle.jessie_tree.specs.declared.data.Obj.{Obj}
-use Rattle.jessie_tree.specs.declared.data.ObjKind.{ObjKind}
-use Rattle.jessie_tree.specs.declared.data.ObjKind.TheVariants as kinds
-use Rattle.world_state.specs.Known.{FunctionKnown, HasNames, IsFormed, IsHanded, IsKnownTo, ObjectKnown, known_as, made_as}
-use Rattle.world_state.specs.Worlds.{State}
+use Rattle.turn_writer.specs.host_data.Nodes.{Both, EachField, EachItem, EachNode, FunctionIs, HasFieldsInOrder, IsFree, IsShallow, ObjectIs}
+use Rattle.turn_writer.proofs.host_data.Nodes.{both, free, in_order_throughout, nested, ordered, shallow, weaker}
+use Rattle.delivery_turns.specs.turn_records.Printable.{HaveFieldNames}
+use Rattle.row_laws.specs.jessie_semantics.Form.{InForm}
+use Rattle.row_laws.specs.jessie_semantics.Keeping.{AllHave, FieldsWithin, ItemsWithin, Known, Reference, Within, to_function, to_object}
+use Rattle.row_laws.specs.jessie_semantics.Naming.{FieldNamesAre, HasFieldNames, IsFieldName, ItemNamesAre, NamesAre}
+use Rattle.turn_writer.specs.host_data.Tree.{Tree, null, boolean, number, text, array, fields, object, function, Items, no_items, item, Fields, no_fields, field, is_local, nesting, stays}
+use Rattle.turn_writer.specs.host_data.declared.data.Obj.{Obj}
+use Rattle.turn_writer.specs.host_data.declared.data.ObjKind.{ObjKind}
+use Rattle.turn_writer.specs.host_data.declared.data.ObjKind.TheVariants as kinds
+use Rattle.delivery_turns.specs.world_state.Known.{FunctionKnown, HasNames, IsFormed, IsHanded, IsKnownTo, ObjectKnown, known_as, made_as}
+use Rattle.delivery_turns.specs.world_state.Worlds.{State}
 
 -- ---- what data refers to
 

@@ -1,17 +1,17 @@
 -- What the world's objects and functions are named, and what is held, can be printed.
 use Rattle.std.specs.List.{AllByRecursion}
 use Rattle.std.proofs.Common.{ℕ, ◌<◌, List, [], ◌∷◌, Option, Some, None, arith}
-use Rattle.data_nodes.specs.Nodes.{Both, IsShallow, ObjectIs}
-use Rattle.data_nodes.proofs.Nodes.{both, weaker}
-use Rattle.jessie_tree.specs.Tree as trees
-use Rattle.jessie_tree.specs.Tree.{Tree}
-use Rattle.jessie_tree.specs.declared.data.Obj.{Obj}
-use Rattle.jessie_tree.specs.declared.data.ObjKind.{ObjKind}
-use Rattle.jessie_tree.specs.declared.data.ObjKind.TheVariants as kinds
-use Rattle.turn_form.specs.Printing.{CanPrintAll, CanPrintData, CanPrintNode, IsBrandBelow}
-use Rattle.world_state.specs.Good.{IsGoodWorld}
-use Rattle.world_state.specs.Known.{HasNames, IsFormed, ObjectKnown, known_as, made_as}
-use Rattle.world_state.specs.Worlds.{State}
+use Rattle.turn_writer.specs.host_data.Nodes.{Both, IsShallow, ObjectIs}
+use Rattle.turn_writer.proofs.host_data.Nodes.{both, weaker}
+use Rattle.turn_writer.specs.host_data.Tree as trees
+use Rattle.turn_writer.specs.host_data.Tree.{Tree}
+use Rattle.turn_writer.specs.host_data.declared.data.Obj.{Obj}
+use Rattle.turn_writer.specs.host_data.declared.data.ObjKind.{ObjKind}
+use Rattle.turn_writer.specs.host_data.declared.data.ObjKind.TheVariants as kinds
+use Rattle.turn_writer.specs.Printing.{CanPrintAll, CanPrintData, CanPrintNode, IsBrandBelow}
+use Rattle.delivery_turns.specs.world_state.Good.{IsGoodWorld}
+use Rattle.delivery_turns.specs.world_state.Known.{HasNames, IsFormed, ObjectKnown, known_as, made_as}
+use Rattle.delivery_turns.specs.world_state.Worlds.{State}
 
 module _ (w : State) (good : IsGoodWorld w) where
   below_made : (k : ObjKind) (n : ℕ) → made_as w k n → IsBrandBelow k n

@@ -5,32 +5,32 @@ use Rattle.std.proofs.Common.{◌≡◌, ℕ, zero, suc, ◌+◌, ◌≤◌, ◌
 use Rattle.std.proofs.lemmas.Bool.{leb-true, ltb-true}
 use Rattle.std.specs.Option.{ok_or, option_map_or}
 use Rattle.std.specs.Str.{bytes_eq}
-use Rattle.actors.specs.Labels.{Bound, bound_to, is_of, label_in, service_of}
-use Rattle.actors.specs.Paths.{Found, and_then, followed, fulfilled, item_at, part_at, part_met, stands_at, steps_of, walked, walked_from}
-use Rattle.actors.specs.declared.paths.ResolveFault.{ResolveFault}
-use Rattle.actors.specs.declared.paths.ResolveFault.TheVariants.{UnknownName}
-use Rattle.call_row_laws.proofs.Forms.{field_formed, object_formed, raised}
-use Rattle.data_nodes.specs.Nodes.{AreInOrder, EachField, EachItem, EachNode, FunctionIs, HasFieldsInOrder, IsShallow, NodeFact, ObjectIs}
-use Rattle.data_nodes.proofs.Nodes.{shallow}
-use Rattle.data_rows.specs.Printable.{HaveFieldNames, most_nested}
-use Rattle.jessie_tree.specs.Tree as trees
-use Rattle.jessie_tree.specs.Tree.{Before, Fields, Items, Tree, get, items_nesting, listed, nesting, object_of}
-use Rattle.jessie_tree.specs.declared.data.Obj.{Obj}
-use Rattle.jessie_tree.specs.declared.data.ObjKind.TheVariants as kinds
-use Rattle.promise_store.specs.Linked.{leader}
-use Rattle.promise_store.specs.States.{SettlementView, broken, is_promise_kind, ok, pending}
-use Rattle.refusals.specs.Outcomes.{◌>>=◌, ◌>>◌, bind, need, wanted}
-use Rattle.refusals.specs.declared.codes.Refusal.{Refusal}
-use Rattle.refusals.proofs.Steps.{after_known, after_need, after_wanted, need_holds}
-use Rattle.turn_records.specs.Deliveries.{Send}
-use Rattle.turn_records.specs.Messages as parts
-use Rattle.turn_records.specs.Messages.{FieldParts, LineCall, LineGift, Part, Parts}
-use Rattle.world_state.specs.Good.{IsGoodWorld, IsLabel, IsSend, IsSettled}
-use Rattle.world_state.specs.Known.{FunctionKnown, HasNames, IsFormed, IsHanded, ObjectKnown}
-use Rattle.world_state.specs.Lines.{AreFormedFields, AreFormedParts, IsBefore, IsFormedCall, IsFormedPart}
-use Rattle.world_state.specs.Promises.{no_promise, settlement_at, state_by}
-use Rattle.world_state.specs.Worlds.{State, promises_made}
-use Rattle.world_laws.proofs.Lists.{all_read}
+use Rattle.delivery_turns.specs.actors.Labels.{Bound, bound_to, is_of, label_in, service_of}
+use Rattle.delivery_turns.specs.actors.Paths.{Found, and_then, followed, fulfilled, item_at, part_at, part_met, stands_at, steps_of, walked, walked_from}
+use Rattle.delivery_turns.specs.actors.declared.paths.ResolveFault.{ResolveFault}
+use Rattle.delivery_turns.specs.actors.declared.paths.ResolveFault.TheVariants.{UnknownName}
+use Rattle.row_laws.proofs.Forms.{field_formed, object_formed, raised}
+use Rattle.turn_writer.specs.host_data.Nodes.{AreInOrder, EachField, EachItem, EachNode, FunctionIs, HasFieldsInOrder, IsShallow, NodeFact, ObjectIs}
+use Rattle.turn_writer.proofs.host_data.Nodes.{shallow}
+use Rattle.delivery_turns.specs.turn_records.Printable.{HaveFieldNames, most_nested}
+use Rattle.turn_writer.specs.host_data.Tree as trees
+use Rattle.turn_writer.specs.host_data.Tree.{Before, Fields, Items, Tree, get, items_nesting, listed, nesting, object_of}
+use Rattle.turn_writer.specs.host_data.declared.data.Obj.{Obj}
+use Rattle.turn_writer.specs.host_data.declared.data.ObjKind.TheVariants as kinds
+use Rattle.delivery_turns.specs.promise_store.Linked.{leader}
+use Rattle.delivery_turns.specs.promise_store.States.{SettlementView, broken, is_promise_kind, ok, pending}
+use Rattle.turn_writer.specs.refusals.Outcomes.{◌>>=◌, ◌>>◌, bind, need, wanted}
+use Rattle.turn_writer.specs.refusals.declared.codes.Refusal.{Refusal}
+use Rattle.turn_writer.proofs.refusals.Steps.{after_known, after_need, after_wanted, need_holds}
+use Rattle.delivery_turns.specs.turn_records.Deliveries.{Send}
+use Rattle.delivery_turns.specs.turn_records.Messages as parts
+use Rattle.delivery_turns.specs.turn_records.Messages.{FieldParts, LineCall, LineGift, Part, Parts}
+use Rattle.delivery_turns.specs.world_state.Good.{IsGoodWorld, IsLabel, IsSend, IsSettled}
+use Rattle.delivery_turns.specs.world_state.Known.{FunctionKnown, HasNames, IsFormed, IsHanded, ObjectKnown}
+use Rattle.delivery_turns.specs.world_state.Lines.{AreFormedFields, AreFormedParts, IsBefore, IsFormedCall, IsFormedPart}
+use Rattle.delivery_turns.specs.world_state.Promises.{no_promise, settlement_at, state_by}
+use Rattle.delivery_turns.specs.world_state.Worlds.{State, promises_made}
+use Rattle.row_laws.proofs.world_laws.Lists.{all_read}
 use Rattle.delivery_turns.specs.Messages.{Addressed, addressed, found_or_refused, gift_of, label_is_free, promise_states, resolved, resolved_all, resolved_fields, sent_to, value_at}
 
 -- ---- results

@@ -4,46 +4,46 @@ use Rattle.std.specs.Prelude.{IfOk, IfSome, nat_lt}
 use Rattle.std.specs.List.{AllByRecursion}
 use Rattle.std.proofs.Common.{◌≡◌, ℕ, ◌+◌, ◌*◌, ◌^◌, ◌-◌, ◌≤◌, ◌<◌, Bool, true, false, not, ◌||◌, List, [], ◌∷◌, ◌++◌, Option, Some, None, Result, Ok, Err, length, refl, sym, ap, subst, arith}
 use Rattle.std.specs.Prelude.{slice_index_or}
-use Rattle.call_arguments.specs.Arguments.{arg}
-use Rattle.call_rows.specs.Acts.{MayAct}
-use Rattle.call_rows.specs.Obligations.{CanCall, IsRow, most_issued_by}
-use Rattle.call_rows.specs.Rows.{Outcome}
-use Rattle.call_row_laws.proofs.Forms.{null_formed, object_formed}
-use Rattle.call_row_laws.proofs.Next.{after_next_of}
-use Rattle.data_nodes.specs.Nodes.{EachField, FunctionIs, ObjectIs, IsShallow}
-use Rattle.data_nodes.proofs.Nodes.{weaker}
-use Rattle.ertp_mint.specs.Stocks.{most_made}
-use Rattle.jessie_semantics.specs.Keeping.{AllHave, CallHas, ReplyHas, method_fields}
-use Rattle.jessie_semantics.specs.Play.{Call, call, cost, far, send, when}
-use Rattle.jessie_tree.specs.Tree as trees
-use Rattle.jessie_tree.specs.Tree.{Tree, is_local, object, some_local, stays}
-use Rattle.jessie_tree.specs.View.{items_of}
-use Rattle.jessie_tree.specs.declared.data.Obj.{Obj}
-use Rattle.jessie_tree.specs.declared.data.ObjKind.{ObjKind}
-use Rattle.jessie_tree.specs.declared.data.ObjKind.TheVariants as kinds
-use Rattle.jessie_values.specs.Requests.{is_promise}
-use Rattle.refusals.specs.Codes.{refusal_tree}
-use Rattle.refusals.specs.Plain.{IsPlain}
-use Rattle.refusals.specs.declared.codes.Refusal.{Refusal}
-use Rattle.refusals.proofs.Plainly.{in_order, plain, shallow}
-use Rattle.refusals.proofs.Steps.{after_need}
-use Rattle.trade_rows.specs.Trades.{serve}
-use Rattle.turn_form.specs.Printing.{CanPrintAll, CanPrintAnswer, CanPrintCall, CanPrintData, CanPrintNode, CanPrintObject}
-use Rattle.turn_form.proofs.Brought.{refusal_prints}
-use Rattle.promise_store.specs.States.{SettlementView}
-use Rattle.turn_records.specs.Deliveries.{Notice}
-use Rattle.turn_records.specs.Events.{called}
-use Rattle.turn_records.specs.Printed.{printed_answer}
-use Rattle.turn_rows.specs.Form.{IsCallAnswer}
-use Rattle.world_state.specs.Promises.{PromiseBook, asking, settlement_at, with_promise}
-use Rattle.world_state.specs.Good.{AreGood, IsGoodWorld, IsMethod}
-use Rattle.world_state.specs.Known.{FunctionKnown, HasNames, IsFormed, IsHanded, IsKnownTo, ObjectKnown, known_as, made_as}
-use Rattle.world_state.specs.Rights.{IsRoomy}
-use Rattle.world_state.specs.Worlds as worlds
-use Rattle.world_state.specs.Worlds.{Effect, State, after, after_all, bind_label, issued_by_all, note_call, promises_made, request_of, resolve}
-use Rattle.world_laws.proofs.Forms.{formed_grows}
-use Rattle.world_laws.proofs.Kept.{good-after_all}
-use Rattle.world_laws.proofs.Lists.{all_read_or, length_append}
+use Rattle.row_laws.specs.call_arguments.Arguments.{arg}
+use Rattle.delivery_turns.specs.rules.Acts.{MayAct}
+use Rattle.delivery_turns.specs.rules.Obligations.{CanCall, IsRow, most_issued_by}
+use Rattle.delivery_turns.specs.rules.Rows.{Outcome}
+use Rattle.row_laws.proofs.Forms.{null_formed, object_formed}
+use Rattle.row_laws.proofs.Next.{after_next_of}
+use Rattle.turn_writer.specs.host_data.Nodes.{EachField, FunctionIs, ObjectIs, IsShallow}
+use Rattle.turn_writer.proofs.host_data.Nodes.{weaker}
+use Rattle.row_laws.specs.ertp_mint.Stocks.{most_made}
+use Rattle.row_laws.specs.jessie_semantics.Keeping.{AllHave, CallHas, ReplyHas, method_fields}
+use Rattle.row_laws.specs.jessie_semantics.Play.{Call, call, cost, far, send, when}
+use Rattle.turn_writer.specs.host_data.Tree as trees
+use Rattle.turn_writer.specs.host_data.Tree.{Tree, is_local, object, some_local, stays}
+use Rattle.turn_writer.specs.host_data.View.{items_of}
+use Rattle.turn_writer.specs.host_data.declared.data.Obj.{Obj}
+use Rattle.turn_writer.specs.host_data.declared.data.ObjKind.{ObjKind}
+use Rattle.turn_writer.specs.host_data.declared.data.ObjKind.TheVariants as kinds
+use Rattle.row_laws.specs.jessie_values.Requests.{is_promise}
+use Rattle.turn_writer.specs.refusals.Codes.{refusal_tree}
+use Rattle.turn_writer.specs.refusals.Plain.{IsPlain}
+use Rattle.turn_writer.specs.refusals.declared.codes.Refusal.{Refusal}
+use Rattle.turn_writer.proofs.refusals.Plainly.{in_order, plain, shallow}
+use Rattle.turn_writer.proofs.refusals.Steps.{after_need}
+use Rattle.delivery_turns.specs.rules.Trades.{serve}
+use Rattle.turn_writer.specs.Printing.{CanPrintAll, CanPrintAnswer, CanPrintCall, CanPrintData, CanPrintNode, CanPrintObject}
+use Rattle.turn_writer.proofs.Brought.{refusal_prints}
+use Rattle.delivery_turns.specs.promise_store.States.{SettlementView}
+use Rattle.delivery_turns.specs.turn_records.Deliveries.{Notice}
+use Rattle.delivery_turns.specs.turn_records.Events.{called}
+use Rattle.delivery_turns.specs.turn_records.Printed.{printed_answer}
+use Rattle.delivery_turns.specs.turn_rows.Form.{IsCallAnswer}
+use Rattle.delivery_turns.specs.world_state.Promises.{PromiseBook, asking, settlement_at, with_promise}
+use Rattle.delivery_turns.specs.world_state.Good.{AreGood, IsGoodWorld, IsMethod}
+use Rattle.delivery_turns.specs.world_state.Known.{FunctionKnown, HasNames, IsFormed, IsHanded, IsKnownTo, ObjectKnown, known_as, made_as}
+use Rattle.delivery_turns.specs.world_state.Rights.{IsRoomy}
+use Rattle.delivery_turns.specs.world_state.Worlds as worlds
+use Rattle.delivery_turns.specs.world_state.Worlds.{Effect, State, after, after_all, bind_label, issued_by_all, note_call, promises_made, request_of, resolve}
+use Rattle.row_laws.proofs.world_laws.Forms.{formed_grows}
+use Rattle.row_laws.proofs.world_laws.Kept.{good-after_all}
+use Rattle.row_laws.proofs.world_laws.Lists.{all_read_or, length_append}
 use Rattle.delivery_turns.specs.HostCalls.{method_fields as told_fields}
 use Rattle.delivery_turns.specs.HostCalls.{answer_of, call_effects, call_reply, call_row, effects_of, far_row, reply_of, send_row, told_call, told_effects, when_row}
 use Rattle.delivery_laws.specs.Told.{with_log}

@@ -3,19 +3,19 @@
 use Rattle.std.specs.List.{AllByRecursion}
 use Rattle.std.proofs.Math.Nat.{mul-add, mul-le-mul_left}
 use Rattle.std.proofs.Common.{◌≡◌, ℕ, ◌+◌, ◌*◌, ◌^◌, ◌-◌, ◌≤◌, ◌<◌, List, [], ◌∷◌, ◌++◌, Some, length, refl, sym, ap, ◌∙◌, subst, arith}
-use Rattle.jessie_semantics.specs.Keeping.{AllHave, CallHas, EndingHas, Fits, NextHas, RepliesHave, ReplyHas}
-use Rattle.jessie_semantics.specs.Play.{Asks, Call, Ending, Ends, Play, Reply, Spends, after, cost, reply_size}
-use Rattle.jessie_tree.specs.Tree.{Tree}
-use Rattle.world_state.specs.Good.{AreGood, IsGoodWorld}
-use Rattle.world_state.specs.Known.{Extends, Grows, IsKnownTo, Keeps}
-use Rattle.world_state.specs.Rights.{IsRoomy}
-use Rattle.world_state.specs.Worlds.{Effect, State, after_all, issued_by_all}
-use Rattle.world_state.specs.Worlds as worlds
-use Rattle.world_laws.proofs.Forms.{formed_grows}
-use Rattle.world_laws.proofs.Growing.{grows-after}
-use Rattle.world_laws.proofs.Kept.{good-after_all}
-use Rattle.world_laws.proofs.Lists.{extends_refl, extends_trans, keeps_refl, keeps_trans}
-use Rattle.world_laws.proofs.Roomy.{roomy-after_all}
+use Rattle.row_laws.specs.jessie_semantics.Keeping.{AllHave, CallHas, EndingHas, Fits, NextHas, RepliesHave, ReplyHas}
+use Rattle.row_laws.specs.jessie_semantics.Play.{Asks, Call, Ending, Ends, Play, Reply, Spends, after, cost, reply_size}
+use Rattle.turn_writer.specs.host_data.Tree.{Tree}
+use Rattle.delivery_turns.specs.world_state.Good.{AreGood, IsGoodWorld}
+use Rattle.delivery_turns.specs.world_state.Known.{Extends, Grows, IsKnownTo, Keeps}
+use Rattle.delivery_turns.specs.world_state.Rights.{IsRoomy}
+use Rattle.delivery_turns.specs.world_state.Worlds.{Effect, State, after_all, issued_by_all}
+use Rattle.delivery_turns.specs.world_state.Worlds as worlds
+use Rattle.row_laws.proofs.world_laws.Forms.{formed_grows}
+use Rattle.row_laws.proofs.world_laws.Growing.{grows-after}
+use Rattle.row_laws.proofs.world_laws.Kept.{good-after_all}
+use Rattle.row_laws.proofs.world_laws.Lists.{extends_refl, extends_trans, keeps_refl, keeps_trans}
+use Rattle.row_laws.proofs.world_laws.Roomy.{roomy-after_all}
 use Rattle.delivery_turns.specs.Functions.{Run, ended, ran_out, run, run_after}
 use Rattle.delivery_turns.specs.HostCalls.{call_effects, call_reply}
 use Rattle.delivery_laws.specs.Works.{AreGoodHostCalls, Evaluates, IsCallWork, IsEnded, IsOfCall, IsRun}

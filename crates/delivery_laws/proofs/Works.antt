@@ -7,58 +7,58 @@ use Rattle.std.specs.Str.{bytes_eq}
 use Rattle.std.proofs.Common.{◌≡◌, ℕ, ◌+◌, ◌*◌, ◌^◌, ◌-◌, ◌≤◌, ◌<◌, Bool, true, false, List, [], ◌∷◌, ◌++◌, Option, Some, None, Result, Ok, Err, length, map, refl, sym, ap, ◌∙◌, subst, arith}
 use Rattle.std.proofs.Math.Nat.{mul-le-mul_left}
 use Rattle.std.proofs.lemmas.Bool.{ltb-false, ltb-true}
-use Rattle.actors.specs.Labels.{bound_to}
-use Rattle.call_arguments.specs.Arguments.{arg}
-use Rattle.call_data.specs.Values.{number_tree, object_tree}
-use Rattle.call_rows.specs.Obligations.{CanCall, IsRow}
-use Rattle.call_rows.specs.Rows.{Outcome}
-use Rattle.call_rows.specs.Traces.{all_open}
-use Rattle.call_rows.specs.Words.{has_halted, standing_of}
-use Rattle.call_row_laws.proofs.Fields.{FormedAt, formed_here, record_formed}
-use Rattle.call_row_laws.proofs.Forms.{null_formed, object_formed}
-use Rattle.call_row_laws.proofs.Shown.{handed_held}
-use Rattle.contract_row_laws.proofs.OpenSeats.{AreAllOpen, all_are_open, others_are_open}
-use Rattle.instance_store.specs.Facets.{FacetView, facet_at, no_facet}
-use Rattle.instance_store.specs.Tables.{InstanceView, instance_at}
-use Rattle.jessie_semantics.specs.Keeping.{AllHave, EndingHas}
-use Rattle.jessie_semantics.specs.Play as plays
-use Rattle.jessie_semantics.specs.Play.{Ending}
-use Rattle.jessie_semantics.proofs.Licence.{room_fits}
-use Rattle.jessie_syntax.specs.Syntax.{routines, variable_names}
-use Rattle.jessie_syntax.specs.declared.syntax.Module.{Module}
-use Rattle.jessie_tree.specs.Tree as trees
-use Rattle.data_nodes.proofs.Nodes.{shallow}
-use Rattle.data_rows.specs.Printable.{most_nested}
-use Rattle.jessie_tree.specs.Tree.{Tree, is_local, nesting, null}
-use Rattle.jessie_tree.specs.declared.data.Obj.{Obj}
-use Rattle.jessie_tree.specs.declared.data.ObjKind.{ObjKind}
-use Rattle.jessie_tree.specs.declared.data.ObjKind.TheVariants as kinds
-use Rattle.promise_store.specs.States.{SettlementView, broken, ok}
-use Rattle.proposals.specs.declared.allocations.Row.{Row}
-use Rattle.refusals.specs.Codes.{closed, local_only, no_method, refusal_tree}
-use Rattle.refusals.specs.declared.codes.Refusal.{Refusal}
-use Rattle.refusals.specs.declared.codes.Refusal.TheVariants.{Backwards}
-use Rattle.service_rows.specs.ZoeRows.{TextReader}
-use Rattle.service_row_laws.specs.Good.{AreGoodServices}
-use Rattle.turn_records.specs.Deliveries as deliveries
-use Rattle.turn_records.specs.Deliveries.{Delivery}
-use Rattle.turn_records.specs.Events.{Answer, given, refused, spent, threw}
-use Rattle.turn_records.specs.Messages.{LineGift}
-use Rattle.turn_records.specs.Printed.{notice_tree, told_value}
-use Rattle.turn_rows.specs.Causes as causes
-use Rattle.turn_rows.specs.Causes.{Cause}
-use Rattle.world_state.specs.Good.{AreGood, CanKeep, IsFacet, IsGoodWorld, IsSettled, IsSettling, LeavesAnswer}
-use Rattle.world_state.specs.Known.{Grows, IsHanded, IsKnownTo, made_as, module_of}
-use Rattle.turn_rows.specs.Form.{times_end}
-use Rattle.world_state.specs.Promises.{no_promise, settlement_at}
-use Rattle.world_state.specs.Rights.{IsRoomy, most_issued}
-use Rattle.world_state.specs.Worlds.{Effect, State, after, after_all, bind_label, end_staging, exit, halt, in_front, issued_by_all, keep_state, note_call, resolve, seat_at, set_time}
-use Rattle.world_laws.proofs.Forms.{formed_grows, module_stays}
-use Rattle.world_laws.proofs.Fronts.{due_behind, front-after_all, good_behind}
-use Rattle.world_laws.proofs.Growing.{grows-after}
-use Rattle.world_laws.proofs.Kept.{good-after_all}
-use Rattle.world_laws.proofs.Lists.{all_read, all_read_or, length_map}
-use Rattle.zoe_rows.specs.Host.{serve as serve_call}
+use Rattle.delivery_turns.specs.actors.Labels.{bound_to}
+use Rattle.row_laws.specs.call_arguments.Arguments.{arg}
+use Rattle.turn_writer.specs.host_data.Values.{number_tree, object_tree}
+use Rattle.delivery_turns.specs.rules.Obligations.{CanCall, IsRow}
+use Rattle.delivery_turns.specs.rules.Rows.{Outcome}
+use Rattle.delivery_turns.specs.rules.Traces.{all_open}
+use Rattle.delivery_turns.specs.rules.Words.{has_halted, standing_of}
+use Rattle.row_laws.proofs.Fields.{FormedAt, formed_here, record_formed}
+use Rattle.row_laws.proofs.Forms.{null_formed, object_formed}
+use Rattle.row_laws.proofs.Shown.{handed_held}
+use Rattle.row_laws.proofs.OpenSeats.{AreAllOpen, all_are_open, others_are_open}
+use Rattle.delivery_turns.specs.actors.Facets.{FacetView, facet_at, no_facet}
+use Rattle.delivery_turns.specs.actors.Tables.{InstanceView, instance_at}
+use Rattle.row_laws.specs.jessie_semantics.Keeping.{AllHave, EndingHas}
+use Rattle.row_laws.specs.jessie_semantics.Play as plays
+use Rattle.row_laws.specs.jessie_semantics.Play.{Ending}
+use Rattle.row_laws.proofs.jessie_semantics.Licence.{room_fits}
+use Rattle.row_laws.specs.jessie_grammar.Syntax.{routines, variable_names}
+use Rattle.row_laws.specs.jessie_grammar.declared.syntax.Module.{Module}
+use Rattle.turn_writer.specs.host_data.Tree as trees
+use Rattle.turn_writer.proofs.host_data.Nodes.{shallow}
+use Rattle.delivery_turns.specs.turn_records.Printable.{most_nested}
+use Rattle.turn_writer.specs.host_data.Tree.{Tree, is_local, nesting, null}
+use Rattle.turn_writer.specs.host_data.declared.data.Obj.{Obj}
+use Rattle.turn_writer.specs.host_data.declared.data.ObjKind.{ObjKind}
+use Rattle.turn_writer.specs.host_data.declared.data.ObjKind.TheVariants as kinds
+use Rattle.delivery_turns.specs.promise_store.States.{SettlementView, broken, ok}
+use Rattle.turn_writer.specs.proposals.declared.allocations.Row.{Row}
+use Rattle.turn_writer.specs.refusals.Codes.{closed, local_only, no_method, refusal_tree}
+use Rattle.turn_writer.specs.refusals.declared.codes.Refusal.{Refusal}
+use Rattle.turn_writer.specs.refusals.declared.codes.Refusal.TheVariants.{Backwards}
+use Rattle.delivery_turns.specs.rules.ZoeRows.{TextReader}
+use Rattle.row_laws.specs.GoodServices.{AreGoodServices}
+use Rattle.delivery_turns.specs.turn_records.Deliveries as deliveries
+use Rattle.delivery_turns.specs.turn_records.Deliveries.{Delivery}
+use Rattle.delivery_turns.specs.turn_records.Events.{Answer, given, refused, spent, threw}
+use Rattle.delivery_turns.specs.turn_records.Messages.{LineGift}
+use Rattle.delivery_turns.specs.turn_records.Printed.{notice_tree, told_value}
+use Rattle.delivery_turns.specs.turn_rows.Causes as causes
+use Rattle.delivery_turns.specs.turn_rows.Causes.{Cause}
+use Rattle.delivery_turns.specs.world_state.Good.{AreGood, CanKeep, IsFacet, IsGoodWorld, IsSettled, IsSettling, LeavesAnswer}
+use Rattle.delivery_turns.specs.world_state.Known.{Grows, IsHanded, IsKnownTo, made_as, module_of}
+use Rattle.delivery_turns.specs.turn_rows.Form.{times_end}
+use Rattle.delivery_turns.specs.world_state.Promises.{no_promise, settlement_at}
+use Rattle.delivery_turns.specs.world_state.Rights.{IsRoomy, most_issued}
+use Rattle.delivery_turns.specs.world_state.Worlds.{Effect, State, after, after_all, bind_label, end_staging, exit, halt, in_front, issued_by_all, keep_state, note_call, resolve, seat_at, set_time}
+use Rattle.row_laws.proofs.world_laws.Forms.{formed_grows, module_stays}
+use Rattle.row_laws.proofs.world_laws.Fronts.{due_behind, front-after_all, good_behind}
+use Rattle.row_laws.proofs.world_laws.Growing.{grows-after}
+use Rattle.row_laws.proofs.world_laws.Kept.{good-after_all}
+use Rattle.row_laws.proofs.world_laws.Lists.{all_read, all_read_or, length_map}
+use Rattle.delivery_turns.specs.rules.Host.{serve as serve_call}
 use Rattle.delivery_turns.specs.Functions.{FunctionCall, Run, ended, function_run, module_play, ran_out, run}
 use Rattle.delivery_turns.specs.HostCalls.{answer_of, effects_of}
 use Rattle.delivery_turns.specs.Endings.{ending}

@@ -1,8 +1,8 @@
 -- What holds of a host between its calls.
 use Rattle.std.specs.Prelude.{◌≡◌, ℕ, ◌-◌, ◌*◌, ◌≤◌, []}
 use Rattle.delivery_turns.specs.Hosts.{HostState}
-use Rattle.world_state.specs.Good.{IsGoodWorld}
-use Rattle.world_state.specs.Rights.{IsRoomy, most_issued, most_turns}
+use Rattle.delivery_turns.specs.world_state.Good.{IsGoodWorld}
+use Rattle.delivery_turns.specs.world_state.Rights.{IsRoomy, most_issued, most_turns}
 use Rattle.delivery_laws.specs.Works.{most_meter}
 
 -- its functions may cost so much at most; its world is good, and has room for all that the turns that are left may

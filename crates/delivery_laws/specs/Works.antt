@@ -1,24 +1,24 @@
 -- What is owed of what is done in a turn.
 use Rattle.std.specs.Prelude.{◌≡◌, ℕ, ◌≤◌, ◌*◌, ◌^◌, List, length, Some, None, IfSome}
 use Rattle.std.specs.List.{AllByRecursion}
-use Rattle.actors.specs.Labels.{bound_to}
-use Rattle.call_rows.specs.Obligations.{CanCall, IsGoodOutcome}
-use Rattle.jessie_semantics.specs.Keeping.{AllHave, EndingHas, NextHas, RepliesHave, ReplyHas}
-use Rattle.jessie_semantics.specs.Play.{Call, Ending, Play, Reply, after}
-use Rattle.jessie_tree.specs.Tree.{Tree}
-use Rattle.jessie_tree.specs.declared.data.Obj.{Obj}
-use Rattle.trade_rows.specs.Trades.{serve}
-use Rattle.turn_form.specs.Printing.{CanPrintCall}
-use Rattle.turn_records.specs.Deliveries.{Delivery, call}
-use Rattle.turn_records.specs.Events.{Answer, given, refused, spent, threw}
+use Rattle.delivery_turns.specs.actors.Labels.{bound_to}
+use Rattle.delivery_turns.specs.rules.Obligations.{CanCall, IsGoodOutcome}
+use Rattle.row_laws.specs.jessie_semantics.Keeping.{AllHave, EndingHas, NextHas, RepliesHave, ReplyHas}
+use Rattle.row_laws.specs.jessie_semantics.Play.{Call, Ending, Play, Reply, after}
+use Rattle.turn_writer.specs.host_data.Tree.{Tree}
+use Rattle.turn_writer.specs.host_data.declared.data.Obj.{Obj}
+use Rattle.delivery_turns.specs.rules.Trades.{serve}
+use Rattle.turn_writer.specs.Printing.{CanPrintCall}
+use Rattle.delivery_turns.specs.turn_records.Deliveries.{Delivery, call}
+use Rattle.delivery_turns.specs.turn_records.Events.{Answer, given, refused, spent, threw}
 use Rattle.delivery_turns.specs.Functions.{Run, ended, ran_out}
 use Rattle.delivery_turns.specs.HostCalls.{call_effects, call_reply}
 use Rattle.delivery_turns.specs.Tasks.{Work}
-use Rattle.world_state.specs.Good.{AreGood, IsGoodWorld}
-use Rattle.world_state.specs.Known.{Grows, IsHanded, IsKnownTo}
-use Rattle.world_state.specs.Rights.{most_issued}
-use Rattle.world_state.specs.Worlds.{Effect, State, after_all, bind_label, in_front, issued_by_all}
-use Rattle.world_state.specs.Worlds.{note_call, resolve}
+use Rattle.delivery_turns.specs.world_state.Good.{AreGood, IsGoodWorld}
+use Rattle.delivery_turns.specs.world_state.Known.{Grows, IsHanded, IsKnownTo}
+use Rattle.delivery_turns.specs.world_state.Rights.{most_issued}
+use Rattle.delivery_turns.specs.world_state.Worlds.{Effect, State, after_all, bind_label, in_front, issued_by_all}
+use Rattle.delivery_turns.specs.world_state.Worlds.{note_call, resolve}
 
 -- each call that a function of an instance makes is a good row
 abbrev pub AreGoodHostCalls : Type 0

@@ -10,15 +10,15 @@ ghost use Rattle.delivery_turns.specs.Functions.{run};
 ghost use Rattle.delivery_turns.specs.Hosts.{HostState, step_of};
 ghost use Rattle.delivery_turns.specs.Messages.{value_at};
 ghost use Rattle.delivery_turns.specs.Turns.{delivery_turn};
-ghost use Rattle.jessie_semantics.specs.Keeping.{CallHas, Fits};
-ghost use Rattle.jessie_semantics.specs.Play.{Call, Play, cost};
-ghost use Rattle.service_rows.specs.ZoeRows.{ReadsModules, TextReader};
-ghost use Rattle.turn_records.specs.Deliveries.{Delivery};
-ghost use Rattle.turn_records.specs.Events.{Answer, Event};
-ghost use Rattle.world_state.specs.Good.{AreGood, IsGoodWorld};
-ghost use Rattle.world_state.specs.Known.{IsHanded, IsKnownTo};
-ghost use Rattle.world_state.specs.Rights.{IsRoomy, most_issued, most_turns};
-ghost use Rattle.world_state.specs.Worlds.{Effect, State, after_all, in_front, issued_by_all};
+ghost use Rattle.row_laws.specs.jessie_semantics.Keeping.{CallHas, Fits};
+ghost use Rattle.row_laws.specs.jessie_semantics.Play.{Call, Play, cost};
+ghost use Rattle.delivery_turns.specs.rules.ZoeRows.{ReadsModules, TextReader};
+ghost use Rattle.delivery_turns.specs.turn_records.Deliveries.{Delivery};
+ghost use Rattle.delivery_turns.specs.turn_records.Events.{Answer, Event};
+ghost use Rattle.delivery_turns.specs.world_state.Good.{AreGood, IsGoodWorld};
+ghost use Rattle.delivery_turns.specs.world_state.Known.{IsHanded, IsKnownTo};
+ghost use Rattle.delivery_turns.specs.world_state.Rights.{IsRoomy, most_issued, most_turns};
+ghost use Rattle.delivery_turns.specs.world_state.Worlds.{Effect, State, after_all, in_front, issued_by_all};
 
 /// What was told in the turn changes nothing of what effects need, do and issue.
 pub fn what_was_told_changes_nothing()

@@ -1,5 +1,8 @@
-//! Laws of what a delivery comes to. It stands on the definitions of delivery_turns, on the laws of the world and of
-//! rows, and on what contracts' functions come to. Its one contract: the laws that the functions of `laws` state.
+//! Laws of what a delivery comes to: its effects are good, the host stays good, and the record of
+//! its turn can be printed.
 #![tactic(auto)]
 
+pub mod delivery_forms;
 pub mod laws;
+
+pub use turn_writer as turn_writer_lib;

@@ -1,18 +1,18 @@
 -- What is known of the delivery that waits in front of a good world.
 use Rattle.std.specs.Prelude.{IfOk}
 use Rattle.std.proofs.Common.{◌≡◌, ℕ, ◌<◌, Result, Ok, length, subst}
-use Rattle.instance_store.specs.Facets.{facet_at, no_facet}
-use Rattle.jessie_tree.specs.Tree.{object}
-use Rattle.jessie_tree.specs.declared.data.Obj.{Obj}
-use Rattle.jessie_tree.specs.declared.data.ObjKind.TheVariants.{Facet}
+use Rattle.delivery_turns.specs.actors.Facets.{facet_at, no_facet}
+use Rattle.host_data.specs.Tree.{object}
+use Rattle.host_data.specs.declared.data.Obj.{Obj}
+use Rattle.host_data.specs.declared.data.ObjKind.TheVariants.{Facet}
 use Rattle.refusals.specs.declared.codes.Refusal.{Refusal}
-use Rattle.turn_records.specs.Deliveries.{Send, call, send}
-use Rattle.turn_records.specs.Messages.{LineCall}
-use Rattle.world_state.specs.Good.{IsFacet, IsGoodWorld}
-use Rattle.world_state.specs.Known.{IsHanded, made_as}
-use Rattle.world_state.specs.Worlds.{State, in_front}
-use Rattle.world_laws.proofs.Fronts.{due_behind, good_behind}
-use Rattle.world_laws.proofs.Lists.{all_read}
+use Rattle.delivery_turns.specs.turn_records.Deliveries.{Send, call, send}
+use Rattle.delivery_turns.specs.turn_records.Messages.{LineCall}
+use Rattle.delivery_turns.specs.world_state.Good.{IsFacet, IsGoodWorld}
+use Rattle.delivery_turns.specs.world_state.Known.{IsHanded, made_as}
+use Rattle.delivery_turns.specs.world_state.Worlds.{State, in_front}
+use Rattle.delivery_turns.proofs.world_laws.Fronts.{due_behind, good_behind}
+use Rattle.delivery_turns.proofs.world_laws.Lists.{all_read}
 use Rattle.delivery_turns.specs.Messages.{Addressed, addressed, sent_to}
 use Rattle.delivery_laws.proofs.Reading.{IsAddressed, IsCalled, addressed_there, sent_there}
 

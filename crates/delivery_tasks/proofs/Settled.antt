@@ -1,9 +1,9 @@
 -- What a promise was settled with, by its state.
 use Rattle.std.specs.Prelude.{unwrap_or}
 use Rattle.std.proofs.Common.{◌≡◌, ℕ, Option, Some, None, refl}
-use Rattle.jessie_tree.specs.Tree.{null}
-use Rattle.promise_store.specs.States.{SettlementView, StateView, broken, follows, pending, settled}
-use Rattle.world_state.specs.Promises.{state_by}
+use Rattle.host_data.specs.Tree.{null}
+use Rattle.delivery_turns.specs.promise_store.States.{SettlementView, StateView, broken, follows, pending, settled}
+use Rattle.delivery_turns.specs.world_state.Promises.{state_by}
 
 -- one that isn't settled counts as broken with null
 abbrev pub settlement_in : StateView → SettlementView

@@ -1,12 +1,12 @@
 -- What the code's tasks are in the definitions.
-use Rattle.call_plans.specs.Lists.{IsEachShaped, effects_view}
+use Rattle.world_reads.specs.call_plans.Lists.{IsEachShaped, effects_view}
 use Rattle.delivery_turns.specs.Functions as functions
 use Rattle.delivery_turns.specs.Tasks as definitions
 use Rattle.delivery_turns.specs.Tasks.{unread}
-use Rattle.jessie_tree.specs.View.{trees}
+use Rattle.host_data.specs.View.{trees}
 use Rattle.refusals.specs.declared.stops.Stop.{Stop}
 use Rattle.refusals.specs.declared.stops.Stop.TheVariants.{NoMemory, Refused}
-use Rattle.turn_events.specs.Views.{reading_view}
+use Rattle.delivery_turns.specs.turn_records.Views.{reading_view}
 use Rattle.delivery_tasks.specs.declared.tasks.Beginning.{Beginning}
 use Rattle.delivery_tasks.specs.declared.tasks.FunctionCall.{FunctionCall}
 use Rattle.delivery_tasks.specs.declared.tasks.Task.{Task}

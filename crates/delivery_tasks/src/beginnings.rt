@@ -1,35 +1,37 @@
 //! What is read for a delivery, and what is then to be done: all kinds of deliveries.
 
 ghost use Rattle.std.specs.Prelude.{◌≡◌, ◌<◌, ◌∷◌, [], Ok, IfOk, length};
-ghost use Rattle.call_plans.specs.Lists.{IsEachShaped, effects_view};
+ghost use Rattle.world_reads.specs.call_plans.Lists.{IsEachShaped, effects_view};
 ghost use Rattle.delivery_turns.specs.Tasks as tasks;
 ghost use Rattle.delivery_turns.specs.Tasks.{beginning, gift_beginning, notice_beginning, run_task, unread};
-ghost use Rattle.host_world.specs.Worlds.{world_of};
-ghost use Rattle.jessie_tree.specs.View.{tree};
-ghost use Rattle.promise_store.specs.States.{settlement_view};
-ghost use Rattle.turn_events.specs.Views.{delivery_view, line_call_view, line_gift_view, notice_view, offer_view, send_view, start_view, wakeup_view};
-ghost use Rattle.turn_records.specs.Deliveries as deliveries;
-ghost use Rattle.world_state.specs.Good.{IsGoodWorld};
-ghost use Rattle.world_state.specs.Worlds.{bind_label, in_front};
+ghost use Rattle.world_reads.specs.host_world.Worlds.{world_of};
+ghost use Rattle.host_data.specs.View.{tree};
+ghost use Rattle.delivery_turns.specs.promise_store.States.{settlement_view};
+ghost use Rattle.delivery_turns.specs.turn_records.Views.{delivery_view, line_call_view, line_gift_view, notice_view, offer_view, send_view, start_view, wakeup_view};
+ghost use Rattle.delivery_turns.specs.turn_records.Deliveries as deliveries;
+ghost use Rattle.delivery_turns.specs.world_state.Good.{IsGoodWorld};
+ghost use Rattle.delivery_turns.specs.world_state.Worlds.{bind_label, in_front};
 ghost use Rattle.delivery_tasks.specs.Views.{IsTaskShaped, RefusedBy, beginning_view, function_call_view, task_view};
 
 use crate::calls::called;
 use crate::effects::{binding, exit_if_open, one_effect};
 use crate::functions::{handler_call, notice_call, run_task, start_call, wakeup_call};
+use crate::messages::{addressed_call, gift_of, sent_to};
 use crate::notices::settlement_of;
 use crate::tasks::{Beginning, FunctionCall, Task};
-use call_plans::effects::{Effect, PromisesEffect};
-use call_plans::lists::Effects;
-use host_world::World;
-use jessie_tree::data::Data;
-use message_reads::messages::{addressed_call, gift_of, sent_to};
-use promise_store::Settlement;
+use delivery_turns::promise_store_lib::Settlement;
+use delivery_turns::turn_records_lib::deliveries::{
+    Delivery, Notice, Offer, Reading, Send, Start, Wakeup,
+};
+use delivery_turns::turn_records_lib::events::Cause;
+use delivery_turns::turn_records_lib::messages::{LineCall, LineGift};
+use host_data::data::Data;
 use refusals::codes::Refusal;
 use refusals::stops::Stop;
 use std::alloc::{AllocError, Global};
-use turn_events::deliveries::{Delivery, Notice, Offer, Reading, Send, Start, Wakeup};
-use turn_events::events::Cause;
-use turn_events::messages::{LineCall, LineGift};
+use world_reads::call_plans_lib::effects::{Effect, PromisesEffect};
+use world_reads::call_plans_lib::lists::Effects;
+use world_reads::host_world_lib::World;
 
 /// What is read, and what is then to be done.
 pub(crate) fn read(reading: Reading, task: Task) -> Beginning

@@ -4,26 +4,26 @@ ghost use Rattle.std.specs.Prelude.{◌≡◌, ◌<◌, ◌∷◌, Ok, IfOk, len
 ghost use Rattle.std.specs.Map.{lookup};
 ghost use Rattle.std.specs.Str.{bytes_eq};
 ghost use Rattle.delivery_turns.specs.Tasks.{call_beginning, facet_task, method_task, task_on};
-ghost use Rattle.host_world.specs.Worlds.{world_of};
-ghost use Rattle.instance_store.specs.Facets.{facet_view};
-ghost use Rattle.jessie_tree.specs.Tree.{object};
-ghost use Rattle.jessie_tree.specs.View.{tree, trees};
-ghost use Rattle.message_reads.specs.Views.{addressed_view};
-ghost use Rattle.world_state.specs.Good.{IsGoodWorld};
-ghost use Rattle.world_state.specs.Known.{IsHanded};
+ghost use Rattle.world_reads.specs.host_world.Worlds.{world_of};
+ghost use Rattle.delivery_turns.specs.actors.Facets.{facet_view};
+ghost use Rattle.host_data.specs.Tree.{object};
+ghost use Rattle.host_data.specs.View.{tree, trees};
+ghost use Rattle.delivery_tasks.specs.MessageViews.{addressed_view};
+ghost use Rattle.delivery_turns.specs.world_state.Good.{IsGoodWorld};
+ghost use Rattle.delivery_turns.specs.world_state.Known.{IsHanded};
 ghost use Rattle.delivery_turns.specs.Tasks as tasks;
 ghost use Rattle.delivery_tasks.specs.Views.{IsTaskShaped, beginning_view, function_call_view, task_view};
 
 use crate::functions::has_halted;
+use crate::messages::Addressed;
 use crate::tasks::{Beginning, FunctionCall, Task};
-use host_text::text::Text;
-use host_world::World;
-use instance_store::facets::Facet;
-use jessie_tree::data::{Data, Obj, ObjKind, copy_items};
-use message_reads::messages::Addressed;
+use delivery_turns::actors_lib::instance_store::facets::Facet;
+use delivery_turns::turn_records_lib::deliveries::Reading;
+use host_data::data::{Data, Obj, ObjKind, copy_items};
 use refusals::codes::{NumberCode, Refusal, TextCode};
+use refusals::host_text_lib::text::Text;
 use std::alloc::{AllocError, Global};
-use turn_events::deliveries::Reading;
+use world_reads::host_world_lib::World;
 
 /// The function behind a method.
 fn function_behind<'a>(methods: &'a [(Text, Text)], method: &Text) -> Option<&'a Text>

@@ -1,22 +1,22 @@
 //! Effects that deliveries have by themselves.
 
 ghost use Rattle.std.specs.Prelude.{◌≡◌, ◌<◌, ◌∷◌, [], IfOk, length};
-ghost use Rattle.call_plans.specs.Lists.{IsEachShaped, effects_view};
-ghost use Rattle.call_plans.specs.Views.{IsShaped, effect_view};
+ghost use Rattle.world_reads.specs.call_plans.Lists.{IsEachShaped, effects_view};
+ghost use Rattle.world_reads.specs.call_plans.Views.{IsShaped, effect_view};
 ghost use Rattle.delivery_turns.specs.Tasks.{exit_if_open};
-ghost use Rattle.host_world.specs.Worlds.{world_of};
-ghost use Rattle.jessie_tree.specs.View.{tree};
-ghost use Rattle.turn_events.specs.Views.{cause_view};
-ghost use Rattle.world_state.specs.Worlds.{bind_label};
+ghost use Rattle.world_reads.specs.host_world.Worlds.{world_of};
+ghost use Rattle.host_data.specs.View.{tree};
+ghost use Rattle.delivery_turns.specs.turn_records.Views.{cause_view};
+ghost use Rattle.delivery_turns.specs.world_state.Worlds.{bind_label};
 
-use call_plans::effects::{Effect, LabelsEffect};
-use call_plans::lists::Effects;
-use host_text::label::Label;
-use host_world::World;
-use jessie_tree::data::Data;
-use open_seats::add_exit;
+use crate::open_seats::add_exit;
+use delivery_turns::turn_records_lib::events::Cause;
+use host_data::data::Data;
+use refusals::host_text_lib::label::Label;
 use std::alloc::{AllocError, Global};
-use turn_events::events::Cause;
+use world_reads::call_plans_lib::effects::{Effect, LabelsEffect};
+use world_reads::call_plans_lib::lists::Effects;
+use world_reads::host_world_lib::World;
 
 /// Effects, of which there is one.
 pub fn one_effect(alloc: Global, effect: Effect) -> Result<Effects, AllocError>

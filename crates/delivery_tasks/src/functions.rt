@@ -1,25 +1,25 @@
 //! Functions of instances that deliveries call, with their arguments (Zoe).
 
 ghost use Rattle.std.specs.Prelude.{◌≡◌, ◌++◌, ◌∷◌, [], ◌<◌, IfOk, OnOk, length};
-ghost use Rattle.call_rows.specs.Words.{has_halted, standing_of};
+ghost use Rattle.delivery_turns.specs.rules.Words.{has_halted, standing_of};
 ghost use Rattle.delivery_turns.specs.Tasks.{handler_call, notice_call, run_task, start_call, wakeup_call};
-ghost use Rattle.host_world.specs.Worlds.{world_of};
-ghost use Rattle.jessie_tree.specs.View.{tree, trees};
-ghost use Rattle.promise_store.specs.States.{settlement_view};
-ghost use Rattle.turn_events.specs.Views.{notice_view, offer_view, start_view, wakeup_view};
+ghost use Rattle.world_reads.specs.host_world.Worlds.{world_of};
+ghost use Rattle.host_data.specs.View.{tree, trees};
+ghost use Rattle.delivery_turns.specs.promise_store.States.{settlement_view};
+ghost use Rattle.delivery_turns.specs.turn_records.Views.{notice_view, offer_view, start_view, wakeup_view};
 ghost use Rattle.delivery_tasks.specs.Views.{IsTaskShaped, function_call_view, task_view};
 
 use crate::notices::notice_data;
 use crate::tasks::{FunctionCall, Task};
-use call_data::values::object_data;
-use host_text::text::Text;
-use host_world::World;
-use instance_store::Standing;
-use jessie_tree::data::{Data, ObjKind};
-use promise_store::Settlement;
+use delivery_turns::actors_lib::instance_store::Standing;
+use delivery_turns::promise_store_lib::Settlement;
+use delivery_turns::turn_records_lib::deliveries::{Notice, Offer, Start, Wakeup};
+use host_data::data::{Data, ObjKind};
+use host_data::values::object_data;
 use refusals::codes::{NumberCode, Refusal};
+use refusals::host_text_lib::text::Text;
 use std::alloc::{AllocError, Global};
-use turn_events::deliveries::{Notice, Offer, Start, Wakeup};
+use world_reads::host_world_lib::World;
 
 /// Whether an instance has halted.
 pub(crate) fn has_halted(world: &World, instance: u32) -> bool

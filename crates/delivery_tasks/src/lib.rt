@@ -1,11 +1,19 @@
-//! What is read for a delivery when its turn comes, and what is then to be done for it. It stands on what is read for
-//! messages (message_reads), on plans, and on the types of turns. Its one contract: what `delivery_beginning` gives is the
-//! definition's (delivery_turns); the delivery stays where it waits, and all data is a copy.
+//! What is read for a delivery when its turn comes, what is then to be done, and how its turn ends,
+//! as the definitions of deliveries say.
 #![tactic(auto)]
 
 pub mod beginnings;
 pub mod calls;
 pub mod effects;
+pub mod endings;
 pub mod functions;
+mod leaving;
+pub mod messages;
 pub mod notices;
+pub mod open_seats;
+pub mod parts;
+pub mod paths;
+mod settling;
 pub mod tasks;
+
+pub use host_data as host_data_lib;

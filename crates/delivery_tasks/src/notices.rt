@@ -2,19 +2,19 @@
 
 ghost use Rattle.std.specs.Prelude.{◌≡◌, ◌<◌, ◌++◌, ◌∷◌, [], IfOk, OnOk, codes};
 ghost use Rattle.delivery_turns.specs.Tasks.{settlement_of};
-ghost use Rattle.host_world.specs.Worlds.{world_of};
-ghost use Rattle.jessie_tree.specs.Tree.{boolean, field, fields, no_fields};
-ghost use Rattle.jessie_tree.specs.View.{named_trees, tree};
-ghost use Rattle.promise_store.specs.States.{settlement_view};
-ghost use Rattle.turn_records.specs.Printed.{notice_tree, told_value};
-ghost use Rattle.world_state.specs.Worlds.{promises_made};
+ghost use Rattle.world_reads.specs.host_world.Worlds.{world_of};
+ghost use Rattle.host_data.specs.Tree.{boolean, field, fields, no_fields};
+ghost use Rattle.host_data.specs.View.{named_trees, tree};
+ghost use Rattle.delivery_turns.specs.promise_store.States.{settlement_view};
+ghost use Rattle.delivery_turns.specs.turn_records.Printed.{notice_tree, told_value};
+ghost use Rattle.delivery_turns.specs.world_state.Worlds.{promises_made};
 
-use host_text::text::Text;
-use host_world::World;
-use jessie_tree::data::Data;
-use promise_store::{Settlement, State};
-use record_data::put;
+use delivery_turns::promise_store_lib::{Settlement, State};
+use host_data::data::Data;
+use refusals::host_text_lib::text::Text;
 use std::alloc::{AllocError, Global};
+use world_reads::host_world_lib::World;
+use world_reads::record_data::put;
 
 /// How deep data may nest inside a record of the most depth (our own).
 const MOST_INSIDE: u32 = 31;

@@ -1,10 +1,10 @@
 //! What is to be done for a delivery.
 
-use call_plans::lists::Effects;
-use host_text::text::Text;
-use jessie_tree::data::{Data, Obj};
+use delivery_turns::turn_records_lib::deliveries::Reading;
+use host_data::data::{Data, Obj};
 use refusals::codes::Refusal;
-use turn_events::deliveries::Reading;
+use refusals::host_text_lib::text::Text;
+use world_reads::call_plans_lib::lists::Effects;
 
 /// A function of an instance that is called.
 #[derive(Drop)]

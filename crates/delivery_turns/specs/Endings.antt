@@ -3,17 +3,17 @@
 use Rattle.std.specs.Prelude.{ℕ, ◌==◌, false, Bool, List, [], ◌∷◌, ◌++◌, Option, Some, None, codes}
 use Rattle.std.specs.Prelude.{if◌then◌else◌}
 use Rattle.std.specs.Option.{option_map_or}
-use Rattle.jessie_tree.specs.Tree.{Tree}
-use Rattle.promise_store.specs.States.{SettlementView, broken}
-use Rattle.promise_store.specs.declared.links.Following.{Following}
-use Rattle.refusals.specs.Codes.{promise_cycle, refusal_tree}
-use Rattle.turn_answers.specs.Settlements.{part, settled_after}
-use Rattle.turn_records.specs.Deliveries as deliveries
-use Rattle.turn_records.specs.Deliveries.{Delivery, promise_of}
-use Rattle.turn_records.specs.Events.{Answer, given, threw}
-use Rattle.turn_rows.specs.Causes as causes
-use Rattle.world_state.specs.Promises.{target_of}
-use Rattle.world_state.specs.Worlds.{Effect, State, bind_label, end_staging, publish, resolve}
+use Rattle.world_laws.specs.host_data.Tree.{Tree}
+use Rattle.world_laws.specs.promise_store.States.{SettlementView, broken}
+use Rattle.world_laws.specs.promise_store.declared.links.Following.{Following}
+use Rattle.world_laws.specs.refusals.Codes.{promise_cycle, refusal_tree}
+use Rattle.world_laws.specs.turn_records.Settlements.{part, settled_after}
+use Rattle.world_laws.specs.turn_records.Deliveries as deliveries
+use Rattle.world_laws.specs.turn_records.Deliveries.{Delivery, promise_of}
+use Rattle.world_laws.specs.turn_records.Events.{Answer, given, threw}
+use Rattle.world_laws.specs.turn_rows.Causes as causes
+use Rattle.world_laws.specs.world_state.Promises.{target_of}
+use Rattle.world_laws.specs.world_state.Worlds.{Effect, State, bind_label, end_staging, publish, resolve}
 use Rattle.delivery_turns.specs.Tasks.{exit_if_open, halt_with}
 
 -- ---- promises

@@ -1,14 +1,14 @@
 -- What the function of an instance comes to that is run over the host: what it asks is answered from the world so
 -- far (Zoe; the meter is our own).
 use Rattle.std.specs.Prelude.{ℕ, List, [], ◌++◌}
-use Rattle.instance_store.specs.Tables.{instance_at}
-use Rattle.jessie_semantics.specs.Play.{Asks, Ending, Ends, Play, Spends}
-use Rattle.jessie_semantics.specs.Rules.{play}
-use Rattle.jessie_syntax.specs.Syntax.{routines, variable_names}
-use Rattle.jessie_syntax.specs.declared.syntax.Module.{Module}
-use Rattle.jessie_tree.specs.Tree.{Tree}
-use Rattle.world_state.specs.Known.{module_of}
-use Rattle.world_state.specs.Worlds.{Effect, State, after_all}
+use Rattle.world_laws.specs.actors.Tables.{instance_at}
+use Rattle.rules.specs.jessie_semantics.Play.{Asks, Ending, Ends, Play, Spends}
+use Rattle.rules.specs.jessie_semantics.Rules.{play}
+use Rattle.rules.specs.jessie_grammar.Syntax.{routines, variable_names}
+use Rattle.rules.specs.jessie_grammar.declared.syntax.Module.{Module}
+use Rattle.world_laws.specs.host_data.Tree.{Tree}
+use Rattle.world_laws.specs.world_state.Known.{module_of}
+use Rattle.world_laws.specs.world_state.Worlds.{Effect, State, after_all}
 use Rattle.delivery_turns.specs.HostCalls.{call_effects, call_reply}
 
 -- how a function ends, with the new values of the state variables and the effects of its calls in their order; or

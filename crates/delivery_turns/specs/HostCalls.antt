@@ -1,23 +1,23 @@
 -- What the host answers to the calls of an instance's functions: rows of sends, of `when` and of Far beside those
 -- of methods; each call is told, and then has its effects (eventual send; Endo's Far; Zoe).
 use Rattle.std.specs.Prelude.{ℕ, ◌||◌, not, List, [], ◌∷◌, length, Option, Some, None, Result, Ok, Err}
-use Rattle.call_data.specs.Values.{object_tree}
-use Rattle.call_rows.specs.Rows.{Outcome}
-use Rattle.call_rows.specs.Words.{next_of}
-use Rattle.ertp_mint.specs.Stocks.{most_made}
-use Rattle.jessie_semantics.specs.Play.{Call, Reply, call, far, send, when}
-use Rattle.jessie_semantics.specs.Play as plays
-use Rattle.jessie_tree.specs.Tree.{Fields, Tree, field, fields, function, no_fields, some_local, stays}
-use Rattle.jessie_tree.specs.View.{items_of}
-use Rattle.jessie_tree.specs.declared.data.Obj.{Obj}
-use Rattle.jessie_tree.specs.declared.data.ObjKind.TheVariants as kinds
-use Rattle.refusals.specs.Codes.{local_only, refusal_tree}
-use Rattle.refusals.specs.Outcomes.{◌>>=◌, ◌>>◌, need}
-use Rattle.trade_rows.specs.Trades.{serve}
-use Rattle.turn_records.specs.Events as told
-use Rattle.turn_rows.specs.Kinds as hows
-use Rattle.world_state.specs.Worlds as worlds
-use Rattle.world_state.specs.Worlds.{Effect, State, make_facet, note_call, promises_made}
+use Rattle.world_laws.specs.host_data.Values.{object_tree}
+use Rattle.rules.specs.Rows.{Outcome}
+use Rattle.rules.specs.Words.{next_of}
+use Rattle.world_laws.specs.ertp_mint.Stocks.{most_made}
+use Rattle.rules.specs.jessie_semantics.Play.{Call, Reply, call, far, send, when}
+use Rattle.rules.specs.jessie_semantics.Play as plays
+use Rattle.world_laws.specs.host_data.Tree.{Fields, Tree, field, fields, function, no_fields, some_local, stays}
+use Rattle.world_laws.specs.host_data.View.{items_of}
+use Rattle.world_laws.specs.host_data.declared.data.Obj.{Obj}
+use Rattle.world_laws.specs.host_data.declared.data.ObjKind.TheVariants as kinds
+use Rattle.world_laws.specs.refusals.Codes.{local_only, refusal_tree}
+use Rattle.world_laws.specs.refusals.Outcomes.{◌>>=◌, ◌>>◌, need}
+use Rattle.rules.specs.Trades.{serve}
+use Rattle.world_laws.specs.turn_records.Events as told
+use Rattle.world_laws.specs.turn_rows.Kinds as hows
+use Rattle.world_laws.specs.world_state.Worlds as worlds
+use Rattle.world_laws.specs.world_state.Worlds.{Effect, State, make_facet, note_call, promises_made}
 
 -- ---- sends, requests and facets
 

@@ -1,15 +1,15 @@
 -- A host between its calls, and what a step makes of it: the turn of the delivery in front, with its record.
 use Rattle.std.specs.Prelude.{ℕ, ◌+◌, List, [], ◌∷◌, map, Option, Some, None}
-use Rattle.rights_model.specs.Totals.{brands_of}
-use Rattle.rights_model.specs.declared.Movement.{Movement}
-use Rattle.rights_model.specs.declared.Sum.{Sum}
-use Rattle.rights_tables.specs.Tables.{sum_of}
-use Rattle.service_rows.specs.ZoeRows.{TextReader}
-use Rattle.turn_records.specs.Deliveries.{Delivery}
-use Rattle.turn_records.specs.Events.{moves_in}
-use Rattle.turn_records.specs.Turns.{Turn}
-use Rattle.world_state.specs.Rights.{Rights}
-use Rattle.world_state.specs.Worlds.{State, after, after_all, arrive, behind}
+use Rattle.world_laws.specs.rights_model.Totals.{brands_of}
+use Rattle.world_laws.specs.rights_model.declared.Movement.{Movement}
+use Rattle.world_laws.specs.rights_model.declared.Sum.{Sum}
+use Rattle.world_laws.specs.Tables.{sum_of}
+use Rattle.rules.specs.ZoeRows.{TextReader}
+use Rattle.world_laws.specs.turn_records.Deliveries.{Delivery}
+use Rattle.world_laws.specs.turn_records.Events.{moves_in}
+use Rattle.world_laws.specs.turn_records.Turns.{Turn}
+use Rattle.world_laws.specs.world_state.Rights.{Rights}
+use Rattle.world_laws.specs.world_state.Worlds.{State, after, after_all, arrive, behind}
 use Rattle.delivery_turns.specs.Turns.{DeliveryTurn, delivery_turn}
 
 -- ---- sums

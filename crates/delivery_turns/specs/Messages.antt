@@ -2,24 +2,24 @@
 -- target and the arguments of a call, what a gift gives, and the target of a call that was sent.
 use Rattle.std.specs.Prelude.{ℕ, not, is_some, nat_le, nat_lt, List, [], Option, Some, None, Result}
 use Rattle.std.specs.Prelude.{Ok, Err, if◌then◌else◌, codes}
-use Rattle.actors.specs.Labels.{bound_to}
-use Rattle.actors.specs.Paths.{Found, followed, stands_at}
-use Rattle.actors.specs.declared.paths.ResolveFault.{ResolveFault}
-use Rattle.actors.specs.declared.paths.ResolveFault.TheVariants.{Broken, Pending, UnknownName}
-use Rattle.data_rows.specs.Printable.{most_nested}
-use Rattle.jessie_tree.specs.Tree as trees
-use Rattle.jessie_tree.specs.Tree.{Fields, Items, Tree, items_nesting, listed, object, object_of}
-use Rattle.jessie_tree.specs.declared.data.Obj.{Obj}
-use Rattle.promise_store.specs.States.{StateView, pending}
-use Rattle.refusals.specs.Codes as refusals
-use Rattle.refusals.specs.Codes.{bad_field, name_taken, unknown_name, wrong_object}
-use Rattle.refusals.specs.Outcomes.{◌>>=◌, ◌>>◌, need, wanted}
-use Rattle.refusals.specs.declared.codes.Refusal.{Refusal}
-use Rattle.turn_records.specs.Deliveries.{Send}
-use Rattle.turn_records.specs.Messages as parts
-use Rattle.turn_records.specs.Messages.{FieldParts, LineCall, LineGift, Part, Parts}
-use Rattle.world_state.specs.Promises.{state_of}
-use Rattle.world_state.specs.Worlds.{State, promises_made}
+use Rattle.world_laws.specs.actors.Labels.{bound_to}
+use Rattle.world_laws.specs.actors.Paths.{Found, followed, stands_at}
+use Rattle.world_laws.specs.actors.declared.paths.ResolveFault.{ResolveFault}
+use Rattle.world_laws.specs.actors.declared.paths.ResolveFault.TheVariants.{Broken, Pending, UnknownName}
+use Rattle.world_laws.specs.turn_records.Printable.{most_nested}
+use Rattle.world_laws.specs.host_data.Tree as trees
+use Rattle.world_laws.specs.host_data.Tree.{Fields, Items, Tree, items_nesting, listed, object, object_of}
+use Rattle.world_laws.specs.host_data.declared.data.Obj.{Obj}
+use Rattle.world_laws.specs.promise_store.States.{StateView, pending}
+use Rattle.world_laws.specs.refusals.Codes as refusals
+use Rattle.world_laws.specs.refusals.Codes.{bad_field, name_taken, unknown_name, wrong_object}
+use Rattle.world_laws.specs.refusals.Outcomes.{◌>>=◌, ◌>>◌, need, wanted}
+use Rattle.world_laws.specs.refusals.declared.codes.Refusal.{Refusal}
+use Rattle.world_laws.specs.turn_records.Deliveries.{Send}
+use Rattle.world_laws.specs.turn_records.Messages as parts
+use Rattle.world_laws.specs.turn_records.Messages.{FieldParts, LineCall, LineGift, Part, Parts}
+use Rattle.world_laws.specs.world_state.Promises.{state_of}
+use Rattle.world_laws.specs.world_state.Worlds.{State, promises_made}
 
 -- ---- paths
 

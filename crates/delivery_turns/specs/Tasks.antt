@@ -4,33 +4,33 @@ use Rattle.std.specs.Prelude.{ℕ, nat_lt, is_none, List, [], ◌∷◌, ◌++�
 use Rattle.std.specs.Prelude.{Result, Ok, Err, if◌then◌else◌, codes, unwrap_or}
 use Rattle.std.specs.Map.{lookup}
 use Rattle.std.specs.Str.{bytes_eq}
-use Rattle.call_data.specs.Values.{number_tree, object_tree}
-use Rattle.call_rows.specs.Rows.{Outcome}
-use Rattle.call_rows.specs.Traces.{all_open}
-use Rattle.call_rows.specs.Words.{has_halted, standing_of}
-use Rattle.instance_store.specs.Facets.{FacetView, facet_at}
-use Rattle.jessie_semantics.specs.Play as plays
-use Rattle.jessie_semantics.specs.Play.{Ending}
-use Rattle.jessie_tree.specs.Tree.{Tree, is_local, null}
-use Rattle.jessie_tree.specs.declared.data.Obj.{Obj}
-use Rattle.jessie_tree.specs.declared.data.ObjKind.{ObjKind}
-use Rattle.jessie_tree.specs.declared.data.ObjKind.TheVariants as kinds
-use Rattle.promise_store.specs.States.{SettlementView, broken}
-use Rattle.refusals.specs.Codes.{closed, local_only, no_method, refusal_tree}
-use Rattle.refusals.specs.declared.codes.Refusal.{Refusal}
-use Rattle.refusals.specs.declared.codes.Refusal.TheVariants.{Backwards}
-use Rattle.service_rows.specs.ZoeRows.{TextReader}
-use Rattle.turn_records.specs.Deliveries as deliveries
-use Rattle.turn_records.specs.Deliveries.{Delivery, Notice, Offer, Reading, Start, Wakeup}
-use Rattle.turn_records.specs.Events.{Answer, given, refused, spent, threw}
-use Rattle.turn_records.specs.Messages.{LineGift}
-use Rattle.turn_records.specs.Printed.{notice_tree}
-use Rattle.turn_rows.specs.Causes as causes
-use Rattle.turn_rows.specs.Causes.{Cause}
-use Rattle.world_state.specs.Promises.{settlement_at}
-use Rattle.world_state.specs.Worlds.{Effect, State, bind_label, exit, halt, keep_state, seat_at}
-use Rattle.world_state.specs.Worlds.{set_time}
-use Rattle.zoe_rows.specs.Host.{serve as serve_call}
+use Rattle.world_laws.specs.host_data.Values.{number_tree, object_tree}
+use Rattle.rules.specs.Rows.{Outcome}
+use Rattle.rules.specs.Traces.{all_open}
+use Rattle.rules.specs.Words.{has_halted, standing_of}
+use Rattle.world_laws.specs.actors.Facets.{FacetView, facet_at}
+use Rattle.rules.specs.jessie_semantics.Play as plays
+use Rattle.rules.specs.jessie_semantics.Play.{Ending}
+use Rattle.world_laws.specs.host_data.Tree.{Tree, is_local, null}
+use Rattle.world_laws.specs.host_data.declared.data.Obj.{Obj}
+use Rattle.world_laws.specs.host_data.declared.data.ObjKind.{ObjKind}
+use Rattle.world_laws.specs.host_data.declared.data.ObjKind.TheVariants as kinds
+use Rattle.world_laws.specs.promise_store.States.{SettlementView, broken}
+use Rattle.world_laws.specs.refusals.Codes.{closed, local_only, no_method, refusal_tree}
+use Rattle.world_laws.specs.refusals.declared.codes.Refusal.{Refusal}
+use Rattle.world_laws.specs.refusals.declared.codes.Refusal.TheVariants.{Backwards}
+use Rattle.rules.specs.ZoeRows.{TextReader}
+use Rattle.world_laws.specs.turn_records.Deliveries as deliveries
+use Rattle.world_laws.specs.turn_records.Deliveries.{Delivery, Notice, Offer, Reading, Start, Wakeup}
+use Rattle.world_laws.specs.turn_records.Events.{Answer, given, refused, spent, threw}
+use Rattle.world_laws.specs.turn_records.Messages.{LineGift}
+use Rattle.world_laws.specs.turn_records.Printed.{notice_tree}
+use Rattle.world_laws.specs.turn_rows.Causes as causes
+use Rattle.world_laws.specs.turn_rows.Causes.{Cause}
+use Rattle.world_laws.specs.world_state.Promises.{settlement_at}
+use Rattle.world_laws.specs.world_state.Worlds.{Effect, State, bind_label, exit, halt, keep_state, seat_at}
+use Rattle.world_laws.specs.world_state.Worlds.{set_time}
+use Rattle.rules.specs.Host.{serve as serve_call}
 use Rattle.delivery_turns.specs.Functions.{FunctionCall, Run, ended, function_run, ran_out}
 use Rattle.delivery_turns.specs.HostCalls.{answer_of, effects_of}
 use Rattle.delivery_turns.specs.Messages.{Addressed, addressed, gift_of, sent_to}

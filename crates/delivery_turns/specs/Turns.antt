@@ -1,9 +1,9 @@
 -- What a delivery comes to: what is read for it, its answer, and its effects, from the world behind it.
 use Rattle.std.specs.Prelude.{ℕ, List, ◌++◌}
-use Rattle.service_rows.specs.ZoeRows.{TextReader}
-use Rattle.turn_records.specs.Deliveries.{Delivery, Reading}
-use Rattle.turn_records.specs.Events.{Answer}
-use Rattle.world_state.specs.Worlds.{Effect, State, after_all}
+use Rattle.rules.specs.ZoeRows.{TextReader}
+use Rattle.world_laws.specs.turn_records.Deliveries.{Delivery, Reading}
+use Rattle.world_laws.specs.turn_records.Events.{Answer}
+use Rattle.world_laws.specs.world_state.Worlds.{Effect, State, after_all}
 use Rattle.delivery_turns.specs.Endings.{ending}
 use Rattle.delivery_turns.specs.Tasks.{Beginning, Work, beginning, task_work}
 

@@ -9,8 +9,8 @@ use Rattle.std.specs.Option.{option_map_or}
 use Rattle.std.specs.declared.cmp.Ordering.{Ordering}
 use Rattle.std.specs.declared.cmp.Ordering.TheVariants.{Less, Equal, Greater}
 use Rattle.std.specs.Ordering.{is_eq, nat_cmp, ordering_then}
-use Rattle.amount_math.specs.Content.{Content}
-use Rattle.amount_math.specs.Counted.{counted}
+use Rattle.rights_model.specs.amount_math.Content.{Content}
+use Rattle.rights_model.specs.amount_math.Counted.{counted}
 use Rattle.rights_model.specs.declared.Holder.{Holder}
 use Rattle.rights_model.specs.declared.Movement.{Movement}
 use Rattle.rights_model.specs.Place.{place}

@@ -4,10 +4,10 @@ use Rattle.std.proofs.Common.{inl, inr, sym, ◌∙◌, ap, subst, arith}
 use Rattle.std.specs.FinMap as fin
 use Rattle.std.specs.FinMap.{find}
 use lib.Dec.{T, T_not}
-use Rattle.amount_math.specs.Content.{Content, nothing, sum, difference, Contains}
-use Rattle.amount_math.specs.Counted.{counted, counted-nothing, counted-sum, counted-difference}
-use Rattle.amount_math.specs.Sparse.{put, is_something, tied}
-use Rattle.amount_math.specs.Totals.{total-put, total-empty, weighed}
+use Rattle.rights_model.specs.amount_math.Content.{Content, nothing, sum, difference, Contains}
+use Rattle.rights_model.specs.amount_math.Counted.{counted, counted-nothing, counted-sum, counted-difference}
+use Rattle.rights_model.specs.amount_math.Sparse.{put, is_something, tied}
+use Rattle.rights_model.specs.amount_math.Totals.{total-put, total-empty, weighed}
 use Rattle.rights_model.specs.declared.Holder.{Holder}
 use Rattle.rights_model.specs.declared.Holder.TheVariants.{Purse, Payment, Slot, Hand, Outside}
 use Rattle.rights_model.specs.declared.Movement.{Movement}

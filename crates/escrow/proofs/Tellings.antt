@@ -3,8 +3,8 @@ use Rattle.std.specs.Prelude.{◌≡◌, ◌≢◌, ◌⊎◌, ◌≤◌, ◌<�
 use Rattle.std.proofs.Common.{inl, inr, sym, ◌∙◌, ap, subst, arith, length-append}
 use Rattle.std.proofs.lemmas.Bool.{cases_eq, eq-eqb}
 use Rattle.std.specs.Option.{option_map_or}
-use Rattle.amount_math.specs.Content.{Content, nothing}
-use Rattle.amount_math.specs.Counted.{counted}
+use Rattle.rights_model.specs.amount_math.Content.{Content, nothing}
+use Rattle.rights_model.specs.amount_math.Counted.{counted}
 use Rattle.rights_model.specs.declared.Holder.{Holder}
 use Rattle.rights_model.specs.declared.Holder.TheVariants.{Purse, Payment, Slot, Hand, Outside}
 use Rattle.rights_model.specs.declared.Movement.{Movement}
@@ -13,7 +13,7 @@ use Rattle.rights_model.specs.Table.{Table, no_holdings, holds, taken, moved, Ca
 use Rattle.rights_model.specs.Supply.{is_hand, is_inside, is_outside}
 use Rattle.rights_model.specs.Totals.{held_over, is_payment, is_purse, is_slot, weight_of}
 use Rattle.rights_model.proofs.TableLaws.{holds-given_other, holds-taken_other}
-use Rattle.amount_math.specs.Sparse.{at-empty}
+use Rattle.rights_model.specs.amount_math.Sparse.{at-empty}
 use Rattle.rights_model.specs.Table.{holdings}
 use Rattle.escrow.specs.declared.totals.Totals.{Totals}
 use Rattle.escrow.specs.Running.{HasPortion, portion}

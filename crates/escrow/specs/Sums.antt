@@ -1,6 +1,6 @@
 -- The sums from scratch over a table, which what is kept running equals.
 use Rattle.std.specs.Prelude.{◌≡◌, ◌+◌, ◌<◌, ◌≤◌, ◌^◌, ℕ, List, length}
-use Rattle.amount_math.specs.Content.{nothing}
+use Rattle.rights_model.specs.amount_math.Content.{nothing}
 use Rattle.rights_model.specs.declared.Holder.TheVariants.{Slot}
 use Rattle.rights_model.specs.declared.Movement.{Movement}
 use Rattle.rights_model.specs.declared.Sum.{Sum}

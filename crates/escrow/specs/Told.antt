@@ -5,7 +5,7 @@ use Rattle.std.specs.Ordering.{nat_cmp, ordering_then}
 use Rattle.std.specs.declared.cmp.Ordering.{Ordering}
 use Rattle.std.specs.BTreeMap.{is_at}
 use Rattle.std.specs.Map.{lookup}
-use Rattle.amount_math.specs.Counted.{counted}
+use Rattle.rights_model.specs.amount_math.Counted.{counted}
 use Rattle.rights_model.specs.declared.Holder.{Holder}
 use Rattle.rights_model.specs.declared.Holder.TheVariants.{Slot}
 use Rattle.rights_model.specs.declared.Movement.{Movement}

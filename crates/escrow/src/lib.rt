@@ -1,8 +1,6 @@
-//! What all purses, all payments and all slots have of each brand, and what the slots of an instance's
-//! seats have of it, kept running while the movements of rights are told. It stands on the definitions of
-//! rights. Its one contract: the totals equal the sums from scratch over the table that the told movements
-//! make, forwards and backwards; each call costs a search, whatever was told before, and takes memory only
-//! where a brand, or a pair of instance and brand, is new.
+//! Running totals of what all purses, payments and slots have of each brand, and each instance's
+//! seats: they equal the sums from scratch over the table that the told movements make, forwards
+//! and back.
 #![tactic(auto)]
 
 mod rows;
@@ -18,6 +16,8 @@ use crate::rows::{
     ensure_share, ensure_totals, lower_share, raise_share, shift_totals, undo_shift_totals,
 };
 use crate::totals::Totals;
+pub use rights_model as rights_model_lib;
+pub use rights_model::{amount_math_lib, host_text_lib};
 use rights_model::{Movement, Sum};
 use std::alloc::{AllocError, Global};
 use std::collections::BTreeMap;

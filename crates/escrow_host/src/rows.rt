@@ -1,20 +1,20 @@
 //! The rows of all calls, and functions that are run over them.
 
 ghost use Rattle.std.specs.Prelude.{ℕ, IfOk};
-ghost use Rattle.delivery_turns.specs.Functions as functions;
+ghost use Rattle.front_turns.specs.delivery_turns.Functions as functions;
 ghost use Rattle.front_turns.specs.Ran.{HasRun};
-ghost use Rattle.function_runs.specs.Ran.{CameTo};
+ghost use Rattle.front_turns.specs.FunctionRuns.{CameTo};
 
-use call_plans::plans::Plan;
-use contract_plans::plan_call;
-use contract_powers::rows::ContractRows;
-use delivery_tasks::tasks::FunctionCall;
+use contract_calls::contract_plans::plan_call;
+use front_turns::call_plans_lib::plans::Plan;
+use front_turns::contract_powers_lib::rows::ContractRows;
+use front_turns::delivery_tasks_lib::tasks::FunctionCall;
+use front_turns::function_runs::run_function;
+use front_turns::host_world_lib::World;
 use front_turns::works::{Ran, Works};
-use function_runs::run_function;
-use host_world::World;
-use jessie_tree::data::{Data, Obj};
+use host_data::data::{Data, Obj};
 use refusals::stops::Stop;
-use service_plans::serve;
+use service_calls::service_plans::serve;
 use std::alloc::{AllocError, Global};
 
 /// All rows: of the host's own objects, and of what contracts' functions call.
@@ -34,13 +34,13 @@ impl ContractRows for Rows {
 }
 
 /// What a function came to, as the work on deliveries takes it, where memory may have been wanted.
-fn ran(came: Result<function_runs::Ran, AllocError>) -> Result<Ran, AllocError>
+fn ran(came: Result<front_turns::function_runs::Ran, AllocError>) -> Result<Ran, AllocError>
     ensures { (meter : ℕ) (call : functions.FunctionCall) (old new : World)
         → IfOk came (CameTo meter call old new) → IfOk result (HasRun meter old new call) }
 {
     match came {
-        Ok(function_runs::Ran::Ended(answer)) => Ok(Ran::Ended(answer)),
-        Ok(function_runs::Ran::Spent) => Ok(Ran::Spent),
+        Ok(front_turns::function_runs::Ran::Ended(answer)) => Ok(Ran::Ended(answer)),
+        Ok(front_turns::function_runs::Ran::Spent) => Ok(Ran::Spent),
         Err(fault) => Err(fault),
     }
 }

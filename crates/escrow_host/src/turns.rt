@@ -1,9 +1,9 @@
 //! The turns of deliveries over all rows.
 
 use crate::rows::Rows;
+use front_turns::host_world_lib::World;
 use front_turns::turns::deliver;
 use host_turns::deliveries::{Delivered, Deliveries};
-use host_world::World;
 use std::alloc::Global;
 
 /// The turns of deliveries.

@@ -2,10 +2,10 @@
 use Rattle.std.specs.Prelude.{◌≡◌, ℕ, ◌+◌}
 use Rattle.std.proofs.Common.{sym, subst}
 use Rattle.std.proofs.Math.Nat.{le-add_right}
-use Rattle.jessie_tree.specs.Tree.{null}
-use Rattle.jessie_semantics.specs.Play.{Exchange, given, cost, reply_size}
-use Rattle.jessie_semantics.specs.Keeping.{Known, Within, ReplyHas}
-use Rattle.jessie_semantics.specs.Hosts.{Keeps}
+use Rattle.jessie_interpreter.specs.host_data.Tree.{null}
+use Rattle.jessie_interpreter.specs.jessie_semantics.Play.{Exchange, given, cost, reply_size}
+use Rattle.jessie_interpreter.specs.jessie_semantics.Keeping.{Known, Within, ReplyHas}
+use Rattle.jessie_interpreter.specs.jessie_semantics.Hosts.{Keeps}
 
 abbrev pub room : ℕ
 room = 18446744073709551615

@@ -1,14 +1,14 @@
 //! A line of the table: a meter, a tab, and a text with a function `start`.
 use crate::host::NullHost;
 use crate::shown::print_outcome;
-use amount_math::Kind;
-use host_text::text::Text;
-use jessie_evaluator::evaluation::{Outcome, evaluate};
-use jessie_module_index::IndexedModule;
-use jessie_module_reader::reader::read_module;
-use jessie_syntax::syntax::Module;
-use jessie_texts::refused::ReadError;
-use jessie_tree::data::{Data, Obj, ObjKind};
+use jessie_interpreter::amount_math_lib::Kind;
+use jessie_interpreter::evaluation::{Outcome, evaluate};
+use jessie_interpreter::host_data_lib::data::{Data, Obj, ObjKind};
+use jessie_interpreter::host_text_lib::text::Text;
+use jessie_interpreter::jessie_grammar_lib::jessie_texts::refused::ReadError;
+use jessie_interpreter::jessie_grammar_lib::syntax::Module;
+use jessie_interpreter::jessie_index_lib::jessie_module_index::IndexedModule;
+use jessie_reader::reader::read_module;
 use std::alloc::{AllocError, Global};
 use std::io;
 

@@ -1,16 +1,16 @@
 //! A host to which everything is known, and which answers null.
 ghost use Rattle.std.specs.Prelude.{◌≡◌};
 
-use host_text::text::Text;
-use jessie_machine::host::{Answer, NoMemory, Powers};
-use jessie_tree::data::{Data, Obj};
+use jessie_interpreter::host_data_lib::data::{Data, Obj};
+use jessie_interpreter::host_text_lib::text::Text;
+use jessie_interpreter::jessie_machine_lib::host::{Answer, NoMemory, Powers};
 
 #[derive(Drop)]
 pub struct NullHost {}
 
 impl Powers for NullHost {
-    ghost use Rattle.jessie_tree.specs.Tree.{null};
-    ghost use Rattle.jessie_semantics.specs.Play.{given};
+    ghost use Rattle.jessie_interpreter.specs.host_data.Tree.{null};
+    ghost use Rattle.jessie_interpreter.specs.jessie_semantics.Play.{given};
     ghost use Rattle.evaluator_tests.specs.NullHosts.{Everything, keeps_to_its_side, room};
 
     ghost answers = { λ w x v. x.reply ≡ given null };

@@ -1,7 +1,5 @@
-//! A table of outcomes and charges of the contract language, as a program: each line of the input is a
-//! meter and a text whose function `start` is read, run with that meter, and run again with one less. It stands on jessie_module_reader and jessie_evaluator, over a host that answers null.
-//! Its one contract is its stored run: `stdin` is the table, `stdout` what the language's own rules give
-//! for each line, worked apart from the program.
+//! Tests of a contract's evaluation: a program of tables over texts, answers of the host and
+//! outcomes.
 #![tactic(auto)]
 
 mod cases;

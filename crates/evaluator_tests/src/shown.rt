@@ -1,7 +1,7 @@
 //! What a run comes to is printed as a part of a line. Of an array and a record only how much it has is shown,
 //! and of what is thrown as a refusal its code and the first text that it shows.
-use jessie_evaluator::evaluation::Outcome;
-use jessie_tree::data::Data;
+use jessie_interpreter::evaluation::Outcome;
+use jessie_interpreter::host_data_lib::data::Data;
 use std::io;
 
 /// Prints a value, shortly.

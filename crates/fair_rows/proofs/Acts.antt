@@ -6,11 +6,11 @@ use Rattle.std.specs.Str.{bytes_eq}
 use Rattle.std.proofs.lemmas.Bool.Decides.{nat_tests}
 use Rattle.std.proofs.lemmas.List.Folds.{list_any-append}
 use Rattle.std.proofs.lemmas.Slice.Eq.{bytes_eq-Decides}
-use Rattle.amount_math.specs.Worth.{IsValue}
-use Rattle.amount_math.specs.declared.Kind.{Kind}
-use Rattle.rights_model.specs.Table.{Table, holds, table_after}
-use Rattle.rights_model.specs.declared.Holder.TheVariants.{Outside, Payment, Slot}
-use Rattle.rights_model.specs.declared.Movement.{Movement}
+use Rattle.turn_rows.specs.amount_math.Worth.{IsValue}
+use Rattle.turn_rows.specs.amount_math.declared.Kind.{Kind}
+use Rattle.turn_rows.specs.rights_model.Table.{Table, holds, table_after}
+use Rattle.turn_rows.specs.rights_model.declared.Holder.TheVariants.{Outside, Payment, Slot}
+use Rattle.turn_rows.specs.rights_model.declared.Movement.{Movement}
 use Rattle.turn_rows.specs.Turns.{called, Event, exited, KeywordAmount, moved, Move, opened, Opening, Payout, settled, Turn}
 use Rattle.fair_rows.specs.Acts.{Act, ActsShowRows, AreActs, AreEscrows, AreNamed, ExitIsAct, IsAt, OfferIsAct, Place, SinglesAreActs, after_empty, after_exit, after_move, after_offer, exit_rows, offer_rows, payout_move, payout_moves, place_after, place_in, rows_of_acts}
 use Rattle.fair_rows.specs.ExitCauses.{Owners}

@@ -2,17 +2,17 @@
 use Rattle.std.proofs.Common.{◌≡◌, ◌<◌, ◌≤◌, ℕ, ◌+◌, None, Bool, true, false, cond, ◌&&◌, ◌||◌, ◌==◌, List, [], ◌∷◌, ◌++◌, map, refl, sym, ap, subst, ◌∙◌, append_assoc, append-nil, arith}
 use Rattle.std.specs.List.{AllByRecursion, flat_map}
 use Rattle.std.proofs.lemmas.List.Folds.{list_any-append}
-use Rattle.amount_math.specs.Content.{difference, difference-sum, nothing, nothing-sum, sum, sum-assoc, sum-comm}
-use Rattle.amount_math.specs.Counted.{counted as size, counted-sum}
-use Rattle.amount_math.specs.Worth.{Fits}
-use Rattle.amount_math.specs.declared.Kind.{Kind}
-use Rattle.rights_model.proofs.SupplyLaws.{balanced_after}
-use Rattle.rights_model.specs.Supply.{Balanced, burned, is_outside, minted, moved_where, supply}
-use Rattle.rights_model.specs.Table.{CanMoveAll, Table, holds, moved as table_moved, no_holdings, table_after}
-use Rattle.rights_model.specs.Totals.{brands_of}
-use Rattle.rights_model.specs.declared.Holder.{Holder}
-use Rattle.rights_model.specs.declared.Holder.TheVariants.{Hand, Payment}
-use Rattle.rights_model.specs.declared.Movement.{Movement}
+use Rattle.turn_rows.specs.amount_math.Content.{difference, difference-sum, nothing, nothing-sum, sum, sum-assoc, sum-comm}
+use Rattle.turn_rows.specs.amount_math.Counted.{counted as size, counted-sum}
+use Rattle.turn_rows.specs.amount_math.Worth.{Fits}
+use Rattle.turn_rows.specs.amount_math.declared.Kind.{Kind}
+use Rattle.turn_rows.proofs.rights_model.SupplyLaws.{balanced_after}
+use Rattle.turn_rows.specs.rights_model.Supply.{Balanced, burned, is_outside, minted, moved_where, supply}
+use Rattle.turn_rows.specs.rights_model.Table.{CanMoveAll, Table, holds, moved as table_moved, no_holdings, table_after}
+use Rattle.turn_rows.specs.rights_model.Totals.{brands_of}
+use Rattle.turn_rows.specs.rights_model.declared.Holder.{Holder}
+use Rattle.turn_rows.specs.rights_model.declared.Holder.TheVariants.{Hand, Payment}
+use Rattle.turn_rows.specs.rights_model.declared.Movement.{Movement}
 use Rattle.serde_json.specs.Data.{Items}
 use Rattle.turn_rows.specs.Turns.{called, Event, exited, moved, opened, refused, settled, Turn}
 use Rattle.fair_rows.specs.Amounts.{IsReadByTurn}

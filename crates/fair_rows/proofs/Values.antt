@@ -5,11 +5,11 @@ use Rattle.std.specs.FinMap as fin
 use Rattle.std.specs.FinMap.{find}
 use Rattle.std.specs.Ordering.{is_eq}
 use lib.Dec.{T}
-use Rattle.amount_math.specs.Content.{Content, count-of_entries, entries, is_zero, key_cmp, of_entries, of_entries-entries, same_content}
-use Rattle.amount_math.specs.Sparse.{is_something}
-use Rattle.amount_math.specs.Worth.{IsValue}
-use Rattle.amount_math.specs.declared.Kind.{Kind}
-use Rattle.amount_math.specs.declared.Kind.TheVariants.{Nat, Set, Bag}
+use Rattle.turn_rows.specs.amount_math.Content.{Content, count-of_entries, entries, is_zero, key_cmp, of_entries, of_entries-entries, same_content}
+use Rattle.turn_rows.specs.amount_math.Sparse.{is_something}
+use Rattle.turn_rows.specs.amount_math.Worth.{IsValue}
+use Rattle.turn_rows.specs.amount_math.declared.Kind.{Kind}
+use Rattle.turn_rows.specs.amount_math.declared.Kind.TheVariants.{Nat, Set, Bag}
 use Rattle.turn_rows.specs.Turns.{counted, key}
 use Rattle.fair_rows.specs.Values.{content_of, entry_of, value_of}
 

@@ -2,12 +2,12 @@
 use Rattle.std.specs.Prelude.{◌≡◌, ◌≢◌, ℕ, List, [], ◌∷◌, Option, Some, None, length, true, if◌then◌else◌, codes}
 use Rattle.std.specs.List.{AllZip, slice_get}
 use Rattle.std.specs.Str.{bytes_eq}
-use Rattle.amount_math.specs.Content.{Content, nothing}
-use Rattle.amount_math.specs.Worth.{IsValue}
-use Rattle.amount_math.specs.declared.Kind.{Kind}
-use Rattle.rights_model.specs.Table.{Table, holds}
-use Rattle.rights_model.specs.declared.Holder.{Holder}
-use Rattle.rights_model.specs.declared.Holder.TheVariants.{Payment, Purse, Slot}
+use Rattle.turn_rows.specs.amount_math.Content.{Content, nothing}
+use Rattle.turn_rows.specs.amount_math.Worth.{IsValue}
+use Rattle.turn_rows.specs.amount_math.declared.Kind.{Kind}
+use Rattle.turn_rows.specs.rights_model.Table.{Table, holds}
+use Rattle.turn_rows.specs.rights_model.declared.Holder.{Holder}
+use Rattle.turn_rows.specs.rights_model.declared.Holder.TheVariants.{Payment, Purse, Slot}
 use Rattle.serde_json.specs.Data as json
 use Rattle.turn_rows.specs.Kinds as kinds
 use Rattle.turn_rows.specs.Rows.{amount_json, amounts_json, brand_name, only, payment_name}

@@ -8,3 +8,7 @@ pub mod Rows
 pub mod Turns
 pub mod Steps
 pub mod Acts
+pub use Rattle.turn_rows.specs.amount_math
+pub use Rattle.turn_rows.specs.host_text
+pub use Rattle.turn_rows.specs.rights_model
+pub use Rattle.turn_rows.specs as turn_rows

@@ -1,10 +1,10 @@
 -- The movements that rows tell, and which payments they name.
 use Rattle.std.specs.Prelude.{ℕ, ◌==◌, ◌||◌, Bool, false, List, [], ◌∷◌}
 use Rattle.std.specs.List.{flat_map, list_any}
-use Rattle.amount_math.specs.declared.Kind.TheVariants.{Nat}
-use Rattle.rights_model.specs.declared.Holder.{Holder}
-use Rattle.rights_model.specs.declared.Holder.TheVariants.{Payment}
-use Rattle.rights_model.specs.declared.Movement.{Movement}
+use Rattle.turn_rows.specs.amount_math.declared.Kind.TheVariants.{Nat}
+use Rattle.turn_rows.specs.rights_model.declared.Holder.{Holder}
+use Rattle.turn_rows.specs.rights_model.declared.Holder.TheVariants.{Payment}
+use Rattle.turn_rows.specs.rights_model.declared.Movement.{Movement}
 use Rattle.turn_rows.specs.Turns.{Event, moved, Move}
 use Rattle.fair_rows.specs.Values.{content_of}
 

@@ -3,10 +3,10 @@
 use Rattle.std.specs.Prelude.{◌≡◌, ℕ, List, [], ◌∷◌, ◌++◌, Option, Some, None, is_some, ◌⊎◌, codes, false, length, map, if◌then◌else◌, ◌&&◌, Bool, true, unwrap_or, option_map}
 use Rattle.std.specs.List.{AllByRecursion, slice_get}
 use Rattle.std.specs.Str.{bytes_eq}
-use Rattle.amount_math.specs.Content.{Content, one_of}
-use Rattle.rights_model.specs.Table.{CanMove, Table, holds}
-use Rattle.rights_model.specs.declared.Holder.TheVariants.{Outside, Payment, Slot}
-use Rattle.rights_model.specs.declared.Movement.{Movement}
+use Rattle.turn_rows.specs.amount_math.Content.{Content, one_of}
+use Rattle.turn_rows.specs.rights_model.Table.{CanMove, Table, holds}
+use Rattle.turn_rows.specs.rights_model.declared.Holder.TheVariants.{Outside, Payment, Slot}
+use Rattle.turn_rows.specs.rights_model.declared.Movement.{Movement}
 use Rattle.serde_json.specs.Data.{Items}
 use Rattle.turn_rows.specs.Kinds as kinds
 use Rattle.turn_rows.specs.Kinds.{Kind}

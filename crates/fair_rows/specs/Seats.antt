@@ -2,10 +2,10 @@
 use Rattle.std.specs.Prelude.{◌≡◌, ℕ, ◌==◌, List, [], ◌∷◌, ◌++◌, Option, Some, None, is_some, ◌⊎◌, if◌then◌else◌, map}
 use Rattle.std.specs.List.{AllByRecursion, slice_get}
 use Rattle.std.specs.Str.{bytes_eq}
-use Rattle.amount_math.specs.Content.{Contains, Content}
-use Rattle.rights_model.specs.Table.{Table, holds}
-use Rattle.rights_model.specs.declared.Holder.{Holder}
-use Rattle.rights_model.specs.declared.Holder.TheVariants.{Slot}
+use Rattle.turn_rows.specs.amount_math.Content.{Contains, Content}
+use Rattle.turn_rows.specs.rights_model.Table.{Table, holds}
+use Rattle.turn_rows.specs.rights_model.declared.Holder.{Holder}
+use Rattle.turn_rows.specs.rights_model.declared.Holder.TheVariants.{Slot}
 use Rattle.turn_rows.specs.Turns.{KeywordAmount, Move, Opening}
 use Rattle.fair_rows.specs.Values.{content_of}
 

@@ -1,11 +1,11 @@
 -- What rows tell together, made of them alone, row by row: all that a reader has to keep.
 use Rattle.std.specs.Prelude.{ℕ, ◌+◌, List, [], ◌∷◌, ◌++◌, map}
-use Rattle.amount_math.specs.Counted.{counted as size}
-use Rattle.rights_model.specs.Supply.{burned, minted}
-use Rattle.rights_model.specs.Table.{Table, moved as table_moved, no_holdings}
-use Rattle.rights_model.specs.Totals.{held_over, is_payment, is_purse, is_slot}
-use Rattle.rights_model.specs.declared.Movement.{Movement}
-use Rattle.rights_model.specs.declared.Sum.{Sum}
+use Rattle.turn_rows.specs.amount_math.Counted.{counted as size}
+use Rattle.turn_rows.specs.rights_model.Supply.{burned, minted}
+use Rattle.turn_rows.specs.rights_model.Table.{Table, moved as table_moved, no_holdings}
+use Rattle.turn_rows.specs.rights_model.Totals.{held_over, is_payment, is_purse, is_slot}
+use Rattle.turn_rows.specs.rights_model.declared.Movement.{Movement}
+use Rattle.turn_rows.specs.rights_model.declared.Sum.{Sum}
 use Rattle.turn_rows.specs.Turns.{called, Event, exited, KeywordAmount, moved, opened, settled, Turn}
 use Rattle.fair_rows.specs.ExitCauses.{Owners, facets_made, instance_of}
 use Rattle.fair_rows.specs.Movements.{movement_of}

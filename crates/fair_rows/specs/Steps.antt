@@ -1,16 +1,16 @@
 -- What a host's step shows of its own world, and the law that its turns stay fair: no turn before it is spoken of.
 use Rattle.std.specs.Prelude.{◌≡◌, ◌<◌, ◌≤◌, ℕ, ◌+◌, Bool, true, false, List, [], ◌∷◌, ◌++◌, None, map}
 use Rattle.std.specs.List.{AllByRecursion, flat_map}
-use Rattle.amount_math.specs.Content.{Content, nothing, sum}
-use Rattle.amount_math.specs.Counted.{counted as size}
-use Rattle.amount_math.specs.Worth.{Fits}
-use Rattle.amount_math.specs.declared.Kind.{Kind}
-use Rattle.rights_model.specs.Supply.{burned, minted}
-use Rattle.rights_model.specs.Table.{CanMoveAll, Table, holds, no_holdings, table_after}
-use Rattle.rights_model.specs.Totals.{brands_of, held_over, is_payment, is_purse, is_slot}
-use Rattle.rights_model.specs.declared.Holder.TheVariants.{Hand, Payment}
-use Rattle.rights_model.specs.declared.Movement.{Movement}
-use Rattle.rights_model.specs.declared.Sum.{Sum}
+use Rattle.turn_rows.specs.amount_math.Content.{Content, nothing, sum}
+use Rattle.turn_rows.specs.amount_math.Counted.{counted as size}
+use Rattle.turn_rows.specs.amount_math.Worth.{Fits}
+use Rattle.turn_rows.specs.amount_math.declared.Kind.{Kind}
+use Rattle.turn_rows.specs.rights_model.Supply.{burned, minted}
+use Rattle.turn_rows.specs.rights_model.Table.{CanMoveAll, Table, holds, no_holdings, table_after}
+use Rattle.turn_rows.specs.rights_model.Totals.{brands_of, held_over, is_payment, is_purse, is_slot}
+use Rattle.turn_rows.specs.rights_model.declared.Holder.TheVariants.{Hand, Payment}
+use Rattle.turn_rows.specs.rights_model.declared.Movement.{Movement}
+use Rattle.turn_rows.specs.rights_model.declared.Sum.{Sum}
 use Rattle.serde_json.specs.Data.{Items}
 use Rattle.turn_rows.specs.Turns.{Event, refused, Turn}
 use Rattle.fair_rows.specs.Amounts.{IsReadByTurn}

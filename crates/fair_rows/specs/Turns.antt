@@ -1,13 +1,13 @@
 -- When a turn is fair after the turns before it, and a list of turns.
 use Rattle.std.specs.Prelude.{◌≡◌, ℕ, ◌+◌, true, List, [], ◌∷◌, None, Some, map}
 use Rattle.std.specs.List.{AllByRecursion, slice_get}
-use Rattle.amount_math.specs.Content.{nothing}
-use Rattle.amount_math.specs.declared.Kind.{Kind}
-use Rattle.rights_model.specs.Supply.{Balanced, supply}
-use Rattle.rights_model.specs.Table.{holds}
-use Rattle.rights_model.specs.Totals.{brands_of}
-use Rattle.rights_model.specs.declared.Holder.TheVariants.{Payment}
-use Rattle.rights_model.specs.declared.Sum.{Sum}
+use Rattle.turn_rows.specs.amount_math.Content.{nothing}
+use Rattle.turn_rows.specs.amount_math.declared.Kind.{Kind}
+use Rattle.turn_rows.specs.rights_model.Supply.{Balanced, supply}
+use Rattle.turn_rows.specs.rights_model.Table.{holds}
+use Rattle.turn_rows.specs.rights_model.Totals.{brands_of}
+use Rattle.turn_rows.specs.rights_model.declared.Holder.TheVariants.{Payment}
+use Rattle.turn_rows.specs.rights_model.declared.Sum.{Sum}
 use Rattle.turn_rows.specs.Form.{AreInForm}
 use Rattle.turn_rows.specs.Texts.{journal_text}
 use Rattle.turn_rows.specs.Turns.{Event, exited, SeatExit, Turn}

@@ -1,10 +1,10 @@
 -- Values as they are printed, and what they hold.
 use Rattle.std.specs.Prelude.{◌≡◌, ℕ, List, map}
 use Rattle.std.specs.List.{AllByRecursion}
-use Rattle.amount_math.specs.Content.{Content, count, entries, of_entries, of_nat, unit}
-use Rattle.amount_math.specs.Worth.{IsValue}
-use Rattle.amount_math.specs.declared.Kind.{Kind}
-use Rattle.amount_math.specs.declared.Kind.TheVariants.{Nat, Set, Bag}
+use Rattle.turn_rows.specs.amount_math.Content.{Content, count, entries, of_entries, of_nat, unit}
+use Rattle.turn_rows.specs.amount_math.Worth.{IsValue}
+use Rattle.turn_rows.specs.amount_math.declared.Kind.{Kind}
+use Rattle.turn_rows.specs.amount_math.declared.Kind.TheVariants.{Nat, Set, Bag}
 use Rattle.turn_rows.specs.Turns.{Element, key, counted, Value, number, elements}
 
 abbrev pub entry_of : Element → List ℕ × ℕ

@@ -1,9 +1,9 @@
 //! Laws of fair turns. The bodies are empty: what they state is proved of the definitions.
 
 ghost use Rattle.std.specs.Prelude.{◌≡◌, List, []};
-ghost use Rattle.amount_math.specs.Content.{Content};
-ghost use Rattle.amount_math.specs.Worth.{IsValue};
-ghost use Rattle.amount_math.specs.declared.Kind.{Kind};
+ghost use Rattle.turn_rows.specs.amount_math.Content.{Content};
+ghost use Rattle.turn_rows.specs.amount_math.Worth.{IsValue};
+ghost use Rattle.turn_rows.specs.amount_math.declared.Kind.{Kind};
 ghost use Rattle.turn_rows.specs.Turns.{Event, Turn};
 ghost use Rattle.fair_rows.specs.Acts.{ActsShowRows, ExitIsAct, OfferIsAct, Place, SinglesAreActs};
 ghost use Rattle.fair_rows.specs.ExitCauses.{Owners};

@@ -5,13 +5,13 @@ use Rattle.std.proofs.lemmas.Fmt.{decimal_digit}
 use Rattle.std.specs.Prelude.{MatchBool}
 use Rattle.std.specs.Cmp.Lexicographic.{bytes_decides}
 use Rattle.std.specs.Fmt.{decimal, digit_glyph, digits, digits_onto}
-use Rattle.amount_math.specs.Worth.{IsValue}
-use Rattle.amount_math.specs.declared.Kind.{Kind}
-use Rattle.rights_model.specs.Supply.{is_outside}
-use Rattle.rights_model.specs.Table.{Table, holds}
-use Rattle.rights_model.specs.declared.Holder.{Holder}
-use Rattle.rights_model.specs.declared.Sum.{Sum}
-use Rattle.turn_rows.specs.Turns.{Call, Event, Move, Turn, Value, called, exited, moved, opened, settled, Opening, SeatExit, Settlement}
+use Rattle.fair_rows.specs.amount_math.Worth.{IsValue}
+use Rattle.fair_rows.specs.amount_math.declared.Kind.{Kind}
+use Rattle.fair_rows.specs.rights_model.Supply.{is_outside}
+use Rattle.fair_rows.specs.rights_model.Table.{Table, holds}
+use Rattle.fair_rows.specs.rights_model.declared.Holder.{Holder}
+use Rattle.fair_rows.specs.rights_model.declared.Sum.{Sum}
+use Rattle.fair_rows.specs.turn_rows.Turns.{Call, Event, Move, Turn, Value, called, exited, moved, opened, settled, Opening, SeatExit, Settlement}
 use Rattle.fair_rows.specs.Amounts.{IsPrinted}
 use Rattle.fair_rows.specs.ExitCauses.{calls, is_call, is_ok, name, serves}
 use Rattle.fair_rows.specs.Rows.{InTurn, after_event}

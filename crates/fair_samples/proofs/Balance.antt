@@ -1,12 +1,12 @@
 -- Where movements are defined and the hand is empty after each turn, the stores add up.
 use Rattle.std.proofs.Common.{◌≡◌, ℕ, List, [], ◌∷◌, refl, sym, ap, subst, ◌∙◌}
-use Rattle.amount_math.specs.Content.{nothing}
-use Rattle.rights_model.specs.Supply.{is_store, total_of}
-use Rattle.rights_model.specs.Table.{CanMove, CanMoveAll, holds, moved as table_moved, no_holdings, table_after}
-use Rattle.rights_model.specs.declared.Holder.TheVariants.{Hand}
-use Rattle.rights_model.proofs.SupplyLaws.{adds_up_after}
-use Rattle.rights_model.proofs.TableLaws.{CanMoveAll-push, table_after-push}
-use Rattle.turn_rows.specs.Turns.{Event, Turn, called, exited, moved, opened, settled}
+use Rattle.fair_rows.specs.amount_math.Content.{nothing}
+use Rattle.fair_rows.specs.rights_model.Supply.{is_store, total_of}
+use Rattle.fair_rows.specs.rights_model.Table.{CanMove, CanMoveAll, holds, moved as table_moved, no_holdings, table_after}
+use Rattle.fair_rows.specs.rights_model.declared.Holder.TheVariants.{Hand}
+use Rattle.fair_rows.proofs.rights_model.SupplyLaws.{adds_up_after}
+use Rattle.fair_rows.proofs.rights_model.TableLaws.{CanMoveAll-push, table_after-push}
+use Rattle.fair_rows.specs.turn_rows.Turns.{Event, Turn, called, exited, moved, opened, settled}
 use Rattle.fair_rows.specs.Movements.{movement_of}
 use Rattle.fair_rows.specs.Rows.{InTurn, after_event}
 use Rattle.fair_rows.specs.SoFar.{SoFar, nothing_so_far, with_turn}

@@ -1,22 +1,22 @@
 -- Each list breaks its own sentence.
-use Rattle.amount_math.specs.Worth.{bound}
+use Rattle.fair_rows.specs.amount_math.Worth.{bound}
 use Rattle.std.proofs.Common.{◌≡◌, ◌≢◌, ◌≤◌, ◌⊎◌, ◌+◌, ℕ, Bool, true, false, cond, List, [], ◌∷◌, ◌++◌, map, length, is_some, codes, Option, Some, None, refl, sym, ap, subst, ◌∙◌, inl, inr, arith}
 use Rattle.std.proofs.lemmas.Bool.{cases_Bool, cases_eq, true≢false}
 use Rattle.std.specs.Fmt.{digits}
-use Rattle.amount_math.specs.Content.{Contains, Content, count, count-difference, count-nothing, count-of_nat_unit, entries, nothing, of_nat, unit}
-use Rattle.amount_math.specs.declared.Kind.{Kind}
-use Rattle.amount_math.specs.declared.Kind.TheVariants.{Bag, Nat, Set}
-use Rattle.rights_model.specs.Supply.{burned, minted, supply}
-use Rattle.rights_model.specs.Table.{Table, holds}
-use Rattle.rights_model.specs.Totals.{brands_of}
-use Rattle.rights_model.specs.declared.Holder.{Holder}
-use Rattle.rights_model.specs.declared.Holder.TheVariants.{Hand, Outside, Payment, Purse, Slot}
-use Rattle.rights_model.specs.declared.Movement.{Movement}
+use Rattle.fair_rows.specs.amount_math.Content.{Contains, Content, count, count-difference, count-nothing, count-of_nat_unit, entries, nothing, of_nat, unit}
+use Rattle.fair_rows.specs.amount_math.declared.Kind.{Kind}
+use Rattle.fair_rows.specs.amount_math.declared.Kind.TheVariants.{Bag, Nat, Set}
+use Rattle.fair_rows.specs.rights_model.Supply.{burned, minted, supply}
+use Rattle.fair_rows.specs.rights_model.Table.{Table, holds}
+use Rattle.fair_rows.specs.rights_model.Totals.{brands_of}
+use Rattle.fair_rows.specs.rights_model.declared.Holder.{Holder}
+use Rattle.fair_rows.specs.rights_model.declared.Holder.TheVariants.{Hand, Outside, Payment, Purse, Slot}
+use Rattle.fair_rows.specs.rights_model.declared.Movement.{Movement}
 use Rattle.serde_json.specs.Data as json
-use Rattle.turn_rows.specs.Causes as causes
-use Rattle.turn_rows.specs.Causes.{Cause}
-use Rattle.turn_rows.specs.Rows.{amount_json, amounts_json}
-use Rattle.turn_rows.specs.Turns.{Answer, Call, Event, KeywordAmount, Move, Value, called, counted, elements, key, number, ok, threw}
+use Rattle.fair_rows.specs.turn_rows.Causes as causes
+use Rattle.fair_rows.specs.turn_rows.Causes.{Cause}
+use Rattle.fair_rows.specs.turn_rows.Rows.{amount_json, amounts_json}
+use Rattle.fair_rows.specs.turn_rows.Turns.{Answer, Call, Event, KeywordAmount, Move, Value, called, counted, elements, key, number, ok, threw}
 use Rattle.fair_rows.specs.Amounts.{IsAllocation, IsAmountOf}
 use Rattle.fair_rows.specs.Seats.{Seat, SlotName}
 use Rattle.fair_rows.specs.Values.{IsValueOf, value_of, HaveKinds}

@@ -2,8 +2,8 @@
 use Rattle.std.proofs.Common.{◌≡◌, Bool, true, ◌||◌, List, refl}
 use Rattle.std.specs.Fmt.{digits}
 use Rattle.std.specs.List.{list_all}
-use Rattle.rights_model.specs.Totals.{brands_of}
-use Rattle.turn_rows.specs.Turns.{Turn}
+use Rattle.fair_rows.specs.rights_model.Totals.{brands_of}
+use Rattle.fair_rows.specs.turn_rows.Turns.{Turn}
 use Rattle.fair_samples.specs.Further.{further}
 use Rattle.fair_samples.specs.Samples.{sample}
 use Rattle.fair_samples.specs.Sentences.{Sentence, movements_are_defined}

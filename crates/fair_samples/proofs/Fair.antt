@@ -2,16 +2,16 @@
 use Rattle.std.proofs.Common.{◌≡◌, ◌≢◌, ℕ, Bool, true, false, not, ◌||◌, ◌==◌, List, [], ◌∷◌, codes, drop, refl, sym, ap, subst, ◌∙◌, inl, inr, eqb-true, eq-eqb, ne_eqb}
 use Rattle.std.proofs.lemmas.Bool.{true≢false}
 use Rattle.std.specs.Fmt.{digits}
-use Rattle.amount_math.specs.Content.{count-nothing, nothing, same_content}
-use Rattle.amount_math.specs.declared.Kind.TheVariants.{Nat, Set}
-use Rattle.rights_model.specs.Table.{holds}
-use Rattle.rights_model.specs.Totals.{brands_of}
-use Rattle.rights_model.specs.declared.Holder.{Holder}
-use Rattle.rights_model.specs.declared.Holder.TheVariants.{Hand, Outside, Payment, Purse, Slot}
-use Rattle.turn_rows.specs.Rows.{amount_json, amounts_json}
-use Rattle.turn_rows.specs.Kinds as kinds
+use Rattle.fair_rows.specs.amount_math.Content.{count-nothing, nothing, same_content}
+use Rattle.fair_rows.specs.amount_math.declared.Kind.TheVariants.{Nat, Set}
+use Rattle.fair_rows.specs.rights_model.Table.{holds}
+use Rattle.fair_rows.specs.rights_model.Totals.{brands_of}
+use Rattle.fair_rows.specs.rights_model.declared.Holder.{Holder}
+use Rattle.fair_rows.specs.rights_model.declared.Holder.TheVariants.{Hand, Outside, Payment, Purse, Slot}
+use Rattle.fair_rows.specs.turn_rows.Rows.{amount_json, amounts_json}
+use Rattle.fair_rows.specs.turn_rows.Kinds as kinds
 use Rattle.serde_json.specs.Data as json
-use Rattle.turn_rows.specs.Turns.{Answer, Call, Event, KeywordAmount, Move, Turn, moved, number, ok}
+use Rattle.fair_rows.specs.turn_rows.Turns.{Answer, Call, Event, KeywordAmount, Move, Turn, moved, number, ok}
 use Rattle.fair_rows.specs.Amounts.{IsCurrentAllocation, IsFinalAllocation, IsPaymentAmount, IsPurseAmount, IsSlotRead}
 use Rattle.fair_rows.specs.ExitCauses.{calls, name}
 use Rattle.fair_rows.specs.SoFar.{SoFar, nothing_so_far}
@@ -24,7 +24,7 @@ use Rattle.fair_samples.specs.Sentences.{Meets}
 use Rattle.fair_samples.proofs.Together.{fair_is_each}
 use Rattle.fair_samples.proofs.Held.{all_held, everywhere, held, held_is, table_of}
 use Rattle.fair_samples.proofs.InForm.{are_in_form, in_form}
-use Rattle.turn_rows.specs.Texts.{journal_text}
+use Rattle.fair_rows.specs.turn_rows.Texts.{journal_text}
 use Rattle.fair_samples.proofs.AmountRows.{called_on, currents_met, finals_met, one_digit, payments_met, printed, purses_met, served_on, slots_met}
 use Rattle.fair_samples.proofs.All.{all_but, tested}
 

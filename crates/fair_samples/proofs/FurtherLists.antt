@@ -3,17 +3,17 @@ use Rattle.std.proofs.Common.{◌≡◌, ◌≤◌, ◌^◌, ◌-◌, ℕ, Bool,
 use Rattle.std.proofs.lemmas.Bool.{and_parts, true≢false}
 use Rattle.std.specs.Fmt.{digits}
 use Rattle.std.specs.List.{AllByRecursion, list_all}
-use Rattle.amount_math.specs.Content.{count, count-difference, count-of_nat_unit, unit}
-use Rattle.amount_math.specs.Worth.{bound}
-use Rattle.amount_math.specs.declared.Kind.{Kind}
-use Rattle.amount_math.specs.declared.Kind.TheVariants.{Bag, Nat, Set}
-use Rattle.rights_model.specs.Supply.{burned, is_outside, minted, supply}
-use Rattle.rights_model.specs.Totals.{brands_of}
-use Rattle.rights_model.specs.declared.Holder.TheVariants.{Outside, Payment, Slot}
-use Rattle.rights_model.specs.declared.Movement.{Movement}
-use Rattle.rights_model.specs.declared.Sum.{Sum}
+use Rattle.fair_rows.specs.amount_math.Content.{count, count-difference, count-of_nat_unit, unit}
+use Rattle.fair_rows.specs.amount_math.Worth.{bound}
+use Rattle.fair_rows.specs.amount_math.declared.Kind.{Kind}
+use Rattle.fair_rows.specs.amount_math.declared.Kind.TheVariants.{Bag, Nat, Set}
+use Rattle.fair_rows.specs.rights_model.Supply.{burned, is_outside, minted, supply}
+use Rattle.fair_rows.specs.rights_model.Totals.{brands_of}
+use Rattle.fair_rows.specs.rights_model.declared.Holder.TheVariants.{Outside, Payment, Slot}
+use Rattle.fair_rows.specs.rights_model.declared.Movement.{Movement}
+use Rattle.fair_rows.specs.rights_model.declared.Sum.{Sum}
 use Rattle.serde_json.specs.Data as json
-use Rattle.turn_rows.specs.Turns.{Move, Turn, Value, elements, number}
+use Rattle.fair_rows.specs.turn_rows.Turns.{Move, Turn, Value, elements, number}
 use Rattle.fair_rows.specs.Values.{HaveKinds, IsValueOf}
 use Rattle.fair_samples.specs.Claims.{BreaksAlone}
 use Rattle.fair_samples.specs.Further.{asked_to_exit, exit_called, fail_called, handler_threw, was_shut_down, was_shut_down_with_failure, start_threw, meter_spent, facet_spent, wanted_brand, two_brands, opened_twice, too_much, burned_elsewhere, gave_less, paid_less, paid_out_of_order, paid_together, refused_opening, refused_exit, told_twice, off_by_one, further}

@@ -6,18 +6,18 @@ use Rattle.std.proofs.lemmas.List.Folds.{list_any-append}
 use Rattle.std.specs.FinMap.{find}
 use Rattle.std.specs.List.{list_all, list_any}
 use Rattle.std.specs.Ordering.{eq_by_cmp}
-use Rattle.amount_math.specs.Content.{Contains, Content, count, count-difference, count-nothing, count-of_entries, count-of_nat, count-sum, difference, key_cmp, listed, same_content, sum, unit}
-use Rattle.amount_math.specs.Sparse.{at, at-empty, at-put, put, same_key, tied}
-use Rattle.amount_math.proofs.Listed.{same_key as same_bytes}
-use Rattle.rights_model.specs.Place.{Place, place, place_cmp}
-use Rattle.rights_model.specs.Supply.{is_outside}
-use Rattle.rights_model.specs.Table.{CanMove, CanMoveAll, Table, given, holdings, holds, moved as table_moved, no_holdings, table_after, taken}
-use Rattle.rights_model.specs.declared.Holder.{Holder}
-use Rattle.rights_model.specs.declared.Holder.TheVariants.{Hand, Outside, Payment, Purse, Slot}
-use Rattle.rights_model.specs.declared.Movement.{Movement}
-use Rattle.rights_model.proofs.TableLaws.{CanMoveAll-push, table_after-push}
-use Rattle.turn_rows.specs.Form.{key_of}
-use Rattle.turn_rows.specs.Turns.{counted, Element, elements, key, Move, number, Value}
+use Rattle.fair_rows.specs.amount_math.Content.{Contains, Content, count, count-difference, count-nothing, count-of_entries, count-of_nat, count-sum, difference, key_cmp, listed, same_content, sum, unit}
+use Rattle.fair_rows.specs.amount_math.Sparse.{at, at-empty, at-put, put, same_key, tied}
+use Rattle.fair_rows.proofs.amount_math.Listed.{same_key as same_bytes}
+use Rattle.fair_rows.specs.rights_model.Place.{Place, place, place_cmp}
+use Rattle.fair_rows.specs.rights_model.Supply.{is_outside}
+use Rattle.fair_rows.specs.rights_model.Table.{CanMove, CanMoveAll, Table, given, holdings, holds, moved as table_moved, no_holdings, table_after, taken}
+use Rattle.fair_rows.specs.rights_model.declared.Holder.{Holder}
+use Rattle.fair_rows.specs.rights_model.declared.Holder.TheVariants.{Hand, Outside, Payment, Purse, Slot}
+use Rattle.fair_rows.specs.rights_model.declared.Movement.{Movement}
+use Rattle.fair_rows.proofs.rights_model.TableLaws.{CanMoveAll-push, table_after-push}
+use Rattle.fair_rows.specs.turn_rows.Form.{key_of}
+use Rattle.fair_rows.specs.turn_rows.Turns.{counted, Element, elements, key, Move, number, Value}
 use Rattle.fair_rows.specs.Movements.{movement_of}
 use Rattle.fair_rows.specs.Values.{content_of, entry_of}
 

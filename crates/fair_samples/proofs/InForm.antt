@@ -10,18 +10,18 @@ use Rattle.std.specs.Str.{IsUtf8}
 use Rattle.serde_json.specs.Data as json
 use Rattle.serde_json.specs.Data.{depth}
 use Rattle.serde_json.specs.Read.{max_depth}
-use Rattle.host_text.specs.Words.{is_field_name, is_keyword, is_label}
-use Rattle.amount_math.specs.Content.{key_cmp}
-use Rattle.amount_math.specs.Totals.{less}
-use Rattle.amount_math.specs.Worth.{bag_bound, most_keys, nat_bound}
-use Rattle.rights_model.specs.declared.Holder.{Holder}
-use Rattle.rights_model.specs.declared.Holder.TheVariants.{Hand, Outside, Payment, Purse, Slot}
-use Rattle.rights_model.specs.declared.Sum.{Sum}
-use Rattle.turn_rows.specs.Form.{AreAmounts, AreData, AreElements, AreFields, AreInForm, HasAmountForm, HasAnswerForm, HasCallForm, HasElementForm, HasEventForm, HasExitForm, HasExitRuleForm, HasHolderForm, HasOpeningForm, HasSumForm, HasValueForm, IsAnswerOf, IsCalled, IsCallAnswer, IsCaller, IsData, IsDelivered, IsInForm, IsKey, IsMark, IsNumbered, IsNumberedBy, IsObjectName, IsOneItem, MayStand, brand_words, brands_end, is_key, key_of, most_keywords, names_of, object_words, objects_end, refusal_codes, runs_function, single_names, times_end, totals_end, AreTwoItems, IsAnyData, IsNotice, IsRefusal, IsSmallNumber, IsTickAnswer, IsTime}
-use Rattle.turn_rows.specs.Kinds as kinds
-use Rattle.turn_rows.specs.Kinds.{How, Kind}
-use Rattle.turn_rows.specs.Rows.{rows_of}
-use Rattle.turn_rows.specs.Turns.{Answer, Call, Element, Event, ExitRule, KeywordAmount, Opening, SeatExit, Turn, Value, after_deadline, broken, called, counted, elements, exited, fulfilled, key, moved, number, ok, on_demand, opened, refused, settled, spent, threw, waived, Payout}
+use Rattle.fair_rows.specs.host_text.Words.{is_field_name, is_keyword, is_label}
+use Rattle.fair_rows.specs.amount_math.Content.{key_cmp}
+use Rattle.fair_rows.specs.amount_math.Totals.{less}
+use Rattle.fair_rows.specs.amount_math.Worth.{bag_bound, most_keys, nat_bound}
+use Rattle.fair_rows.specs.rights_model.declared.Holder.{Holder}
+use Rattle.fair_rows.specs.rights_model.declared.Holder.TheVariants.{Hand, Outside, Payment, Purse, Slot}
+use Rattle.fair_rows.specs.rights_model.declared.Sum.{Sum}
+use Rattle.fair_rows.specs.turn_rows.Form.{AreAmounts, AreData, AreElements, AreFields, AreInForm, HasAmountForm, HasAnswerForm, HasCallForm, HasElementForm, HasEventForm, HasExitForm, HasExitRuleForm, HasHolderForm, HasOpeningForm, HasSumForm, HasValueForm, IsAnswerOf, IsCalled, IsCallAnswer, IsCaller, IsData, IsDelivered, IsInForm, IsKey, IsMark, IsNumbered, IsNumberedBy, IsObjectName, IsOneItem, MayStand, brand_words, brands_end, is_key, key_of, most_keywords, names_of, object_words, objects_end, refusal_codes, runs_function, single_names, times_end, totals_end, AreTwoItems, IsAnyData, IsNotice, IsRefusal, IsSmallNumber, IsTickAnswer, IsTime}
+use Rattle.fair_rows.specs.turn_rows.Kinds as kinds
+use Rattle.fair_rows.specs.turn_rows.Kinds.{How, Kind}
+use Rattle.fair_rows.specs.turn_rows.Rows.{rows_of}
+use Rattle.fair_rows.specs.turn_rows.Turns.{Answer, Call, Element, Event, ExitRule, KeywordAmount, Opening, SeatExit, Turn, Value, after_deadline, broken, called, counted, elements, exited, fulfilled, key, moved, number, ok, on_demand, opened, refused, settled, spent, threw, waived, Payout}
 use Rattle.fair_samples.proofs.Printed.{each_so, every}
 
 -- ---- texts

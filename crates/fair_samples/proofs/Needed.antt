@@ -2,16 +2,16 @@
 use Rattle.std.proofs.Common.{◌≡◌, ◌≢◌, ◌-◌, ℕ, Bool, true, false, cond, ◌||◌, List, [], ◌∷◌, refl, sym, ap, subst, ◌∙◌, ⊎_elim, arith, eqb-true}
 use Rattle.std.proofs.lemmas.Bool.{cases_Bool, or_from}
 use Rattle.std.specs.Fmt.{digits}
-use Rattle.amount_math.specs.Content.{count, count-difference, same_content}
-use Rattle.amount_math.specs.Totals.{total-empty}
-use Rattle.rights_model.specs.Supply.{burned, is_store, minted, share_of, supply, total_of}
-use Rattle.rights_model.specs.Table.{holdings, no_holdings}
-use Rattle.rights_model.specs.Totals.{brands_of, held_over, is_payment, is_purse, is_slot, weight_of}
-use Rattle.rights_model.specs.declared.Holder.{Holder}
-use Rattle.rights_model.specs.declared.Holder.TheVariants.{Outside, Payment}
-use Rattle.rights_model.specs.declared.Movement.{Movement}
-use Rattle.rights_model.proofs.TableLaws.{same_table}
-use Rattle.turn_rows.specs.Turns.{Move, Turn, number}
+use Rattle.fair_rows.specs.amount_math.Content.{count, count-difference, same_content}
+use Rattle.fair_rows.specs.amount_math.Totals.{total-empty}
+use Rattle.fair_rows.specs.rights_model.Supply.{burned, is_store, minted, share_of, supply, total_of}
+use Rattle.fair_rows.specs.rights_model.Table.{holdings, no_holdings}
+use Rattle.fair_rows.specs.rights_model.Totals.{brands_of, held_over, is_payment, is_purse, is_slot, weight_of}
+use Rattle.fair_rows.specs.rights_model.declared.Holder.{Holder}
+use Rattle.fair_rows.specs.rights_model.declared.Holder.TheVariants.{Outside, Payment}
+use Rattle.fair_rows.specs.rights_model.declared.Movement.{Movement}
+use Rattle.fair_rows.proofs.rights_model.TableLaws.{same_table}
+use Rattle.fair_rows.specs.turn_rows.Turns.{Move, Turn, number}
 use Rattle.fair_samples.specs.Claims.{BreaksAlone}
 use Rattle.fair_samples.specs.Samples.{sample}
 use Rattle.fair_samples.specs.Sentences.{Sentence, movements_are_defined, tables_balance, sums_are_told}

@@ -7,14 +7,14 @@ use lib.Dec.{T}
 use Rattle.std.specs.FinMap as fin
 use Rattle.std.specs.FinMap.{is_sorted}
 use Rattle.std.specs.List.{AllByRecursion, list_all}
-use Rattle.amount_math.specs.Content.{count-of_entries, count-of_nat, count-of_nat_unit, key_cmp, listed, of_entries, of_nat, unit}
-use Rattle.amount_math.specs.Entries.{AreEntries, Entries, IsEntry, most_of_key}
-use Rattle.amount_math.specs.Worth.{Fits, IsKeyed, IsValue, most_keys, nat_bound}
-use Rattle.amount_math.specs.declared.Kind.{Kind}
-use Rattle.amount_math.specs.declared.Kind.TheVariants.{Bag, Nat, Set}
-use Rattle.amount_math.proofs.Listed.{count_bounded, entries-of_entries, found, keys_have_form}
-use Rattle.turn_rows.specs.Form.{is_key}
-use Rattle.turn_rows.specs.Turns.{counted, Element, elements, key, number, Value}
+use Rattle.fair_rows.specs.amount_math.Content.{count-of_entries, count-of_nat, count-of_nat_unit, key_cmp, listed, of_entries, of_nat, unit}
+use Rattle.fair_rows.specs.amount_math.Entries.{AreEntries, Entries, IsEntry, most_of_key}
+use Rattle.fair_rows.specs.amount_math.Worth.{Fits, IsKeyed, IsValue, most_keys, nat_bound}
+use Rattle.fair_rows.specs.amount_math.declared.Kind.{Kind}
+use Rattle.fair_rows.specs.amount_math.declared.Kind.TheVariants.{Bag, Nat, Set}
+use Rattle.fair_rows.proofs.amount_math.Listed.{count_bounded, entries-of_entries, found, keys_have_form}
+use Rattle.fair_rows.specs.turn_rows.Form.{is_key}
+use Rattle.fair_rows.specs.turn_rows.Turns.{counted, Element, elements, key, number, Value}
 use Rattle.fair_rows.specs.Values.{AreOfKinds, IsValueOf, Named, content_of, entry_of, value_of}
 
 pub every : {A : Type 0} (test : A → Bool) (xs : List A) → list_all test xs ≡ true → AllByRecursion (λ x. test x ≡ true) xs

@@ -2,23 +2,23 @@
 use Rattle.std.proofs.Common.{◌≡◌, ◌≤◌, ◌≢◌, ◌+◌, ◌-◌, ℕ, Bool, true, false, cond, not, ◌&&◌, ◌||◌, ◌==◌, nat_le, List, [], ◌∷◌, ◌++◌, map, refl, sym, ap, subst, ◌∙◌, inl, inr, arith, leb-true, eqb-true, eq-eqb, ne_eqb}
 use Rattle.std.proofs.lemmas.Bool.{and_parts, cases_eq, false_from_ne_true}
 use Rattle.std.specs.List.{list_all}
-use Rattle.amount_math.specs.Content.{Contains, Content, count, count-difference, count-nothing, count-sum, difference, entries, nothing, nothing-sum, of_entries, same_content, sum, sum-assoc}
-use Rattle.amount_math.specs.Counted.{counted as size, counted-difference, counted-nothing, counted-of_nat, counted-sum}
-use Rattle.amount_math.specs.Entries.{Entries}
-use Rattle.amount_math.specs.Totals.{total, total-empty, total-put, weighed}
-use Rattle.amount_math.specs.Worth.{Fits, bound}
-use Rattle.amount_math.specs.declared.Kind.{Kind}
-use Rattle.amount_math.proofs.Listed.{entries-of_entries}
-use Rattle.rights_model.specs.Place.{Place, place}
-use Rattle.rights_model.specs.Supply.{burned, is_hand, is_outside, is_store, minted, moved_where, supply, total_of}
-use Rattle.rights_model.specs.Table.{Table, given, holdings, holds, no_holdings, table_after, taken}
-use Rattle.rights_model.specs.Totals.{held_over, is_payment, is_purse, is_slot, weight_of}
-use Rattle.rights_model.specs.declared.Holder.{Holder}
-use Rattle.rights_model.specs.declared.Holder.TheVariants.{Hand, Outside, Payment, Purse, Slot}
-use Rattle.rights_model.specs.declared.Movement.{Movement}
-use Rattle.rights_model.specs.declared.Sum.{Sum}
-use Rattle.rights_model.proofs.SupplyLaws.{adds_up_after}
-use Rattle.turn_rows.specs.Turns.{elements, Move, number, Value}
+use Rattle.fair_rows.specs.amount_math.Content.{Contains, Content, count, count-difference, count-nothing, count-sum, difference, entries, nothing, nothing-sum, of_entries, same_content, sum, sum-assoc}
+use Rattle.fair_rows.specs.amount_math.Counted.{counted as size, counted-difference, counted-nothing, counted-of_nat, counted-sum}
+use Rattle.fair_rows.specs.amount_math.Entries.{Entries}
+use Rattle.fair_rows.specs.amount_math.Totals.{total, total-empty, total-put, weighed}
+use Rattle.fair_rows.specs.amount_math.Worth.{Fits, bound}
+use Rattle.fair_rows.specs.amount_math.declared.Kind.{Kind}
+use Rattle.fair_rows.proofs.amount_math.Listed.{entries-of_entries}
+use Rattle.fair_rows.specs.rights_model.Place.{Place, place}
+use Rattle.fair_rows.specs.rights_model.Supply.{burned, is_hand, is_outside, is_store, minted, moved_where, supply, total_of}
+use Rattle.fair_rows.specs.rights_model.Table.{Table, given, holdings, holds, no_holdings, table_after, taken}
+use Rattle.fair_rows.specs.rights_model.Totals.{held_over, is_payment, is_purse, is_slot, weight_of}
+use Rattle.fair_rows.specs.rights_model.declared.Holder.{Holder}
+use Rattle.fair_rows.specs.rights_model.declared.Holder.TheVariants.{Hand, Outside, Payment, Purse, Slot}
+use Rattle.fair_rows.specs.rights_model.declared.Movement.{Movement}
+use Rattle.fair_rows.specs.rights_model.declared.Sum.{Sum}
+use Rattle.fair_rows.proofs.rights_model.SupplyLaws.{adds_up_after}
+use Rattle.fair_rows.specs.turn_rows.Turns.{elements, Move, number, Value}
 use Rattle.fair_rows.specs.Movements.{movement_of}
 use Rattle.fair_rows.specs.SoFar.{SoFar, sum_so_far}
 use Rattle.fair_rows.specs.Values.{content_of, entry_of}

@@ -1,25 +1,25 @@
 -- Where the test of a sentence passes, the list of turns meets the sentence.
-use Rattle.amount_math.specs.Worth.{Fits}
-use Rattle.rights_model.specs.declared.Movement.{Movement}
+use Rattle.fair_rows.specs.amount_math.Worth.{Fits}
+use Rattle.fair_rows.specs.rights_model.declared.Movement.{Movement}
 use Rattle.std.proofs.Common.{◌≡◌, ◌⊎◌, ◌+◌, ℕ, zero, suc, Bool, true, false, not, ◌&&◌, ◌||◌, ◌==◌, List, [], ◌∷◌, ◌++◌, map, length, is_some, codes, bytes_eq, Option, Some, None, refl, sym, ap, subst, ◌∙◌, inl, inr, ⊎_elim, eqb-true, arith, cond}
 use Rattle.std.proofs.lemmas.Bool.{and_parts, cases_Bool, true≢false, and_from, false_from_ne_true, or_from}
 use Rattle.std.specs.Cmp.Lexicographic.{bytes_decides}
 use Rattle.std.specs.List.{AllByRecursion, list_all, slice_get}
-use Rattle.amount_math.specs.Content.{Content, count-nothing, nothing, of_entries-one, same_content, one_of}
-use Rattle.amount_math.specs.declared.Kind.{Kind}
-use Rattle.amount_math.specs.declared.Kind.TheVariants.{Bag, Nat, Set}
-use Rattle.rights_model.specs.Supply.{is_outside, supply}
-use Rattle.rights_model.specs.Table.{moved as table_moved, CanMove, Table, holds}
-use Rattle.rights_model.specs.Totals.{brands_of, is_payment}
-use Rattle.rights_model.specs.declared.Holder.{Holder}
-use Rattle.rights_model.specs.declared.Holder.TheVariants.{Hand, Outside, Payment, Purse, Slot}
-use Rattle.rights_model.specs.declared.Sum.{Sum}
+use Rattle.fair_rows.specs.amount_math.Content.{Content, count-nothing, nothing, of_entries-one, same_content, one_of}
+use Rattle.fair_rows.specs.amount_math.declared.Kind.{Kind}
+use Rattle.fair_rows.specs.amount_math.declared.Kind.TheVariants.{Bag, Nat, Set}
+use Rattle.fair_rows.specs.rights_model.Supply.{is_outside, supply}
+use Rattle.fair_rows.specs.rights_model.Table.{moved as table_moved, CanMove, Table, holds}
+use Rattle.fair_rows.specs.rights_model.Totals.{brands_of, is_payment}
+use Rattle.fair_rows.specs.rights_model.declared.Holder.{Holder}
+use Rattle.fair_rows.specs.rights_model.declared.Holder.TheVariants.{Hand, Outside, Payment, Purse, Slot}
+use Rattle.fair_rows.specs.rights_model.declared.Sum.{Sum}
 use Rattle.serde_json.specs.Data.{Items}
-use Rattle.turn_rows.specs.Causes.{Cause}
-use Rattle.turn_rows.specs.Causes as causes
-use Rattle.turn_rows.specs.Kinds as kinds
-use Rattle.turn_rows.specs.Kinds.{How}
-use Rattle.turn_rows.specs.Turns.{Answer, Call, Element, Event, KeywordAmount, Move, Opening, SeatExit, Turn, Value, called, counted, elements, exited, key, moved, number, ok, opened, refused, settled, spent, threw}
+use Rattle.fair_rows.specs.turn_rows.Causes.{Cause}
+use Rattle.fair_rows.specs.turn_rows.Causes as causes
+use Rattle.fair_rows.specs.turn_rows.Kinds as kinds
+use Rattle.fair_rows.specs.turn_rows.Kinds.{How}
+use Rattle.fair_rows.specs.turn_rows.Turns.{Answer, Call, Element, Event, KeywordAmount, Move, Opening, SeatExit, Turn, Value, called, counted, elements, exited, key, moved, number, ok, opened, refused, settled, spent, threw}
 use Rattle.fair_rows.specs.ExitCauses.{calls, first_cause, is_call, is_ok, name, serves}
 use Rattle.fair_rows.specs.Movements.{is_payment_at, movement_of, movements_in, names, takes_from}
 use Rattle.fair_rows.specs.Rows.{ChangesNothing, Due, InTurn, IsBurn, IsEscrow, after_event, burn, escrow, is_offer, is_service, payment_under, payout, payouts_due, slots_at, still_due}

@@ -1,14 +1,14 @@
 -- A test of each sentence that computes: of a list of turns that is written out, it tells that the list meets the sentence.
 use Rattle.std.proofs.Common.{◌+◌, ℕ, suc, Bool, true, false, not, ◌&&◌, ◌||◌, ◌==◌, List, [], ◌∷◌, ◌++◌, map, length, is_some, codes, bytes_eq, Option, Some, None}
 use Rattle.std.specs.List.{list_all, slice_get}
-use Rattle.rights_model.specs.Supply.{is_outside}
-use Rattle.rights_model.specs.Totals.{brands_of, is_payment}
-use Rattle.rights_model.specs.declared.Holder.{Holder}
-use Rattle.rights_model.specs.declared.Holder.TheVariants.{Payment, Slot}
-use Rattle.rights_model.specs.declared.Sum.{Sum}
-use Rattle.turn_rows.specs.Causes.{Cause}
-use Rattle.turn_rows.specs.Causes as causes
-use Rattle.turn_rows.specs.Turns.{Answer, Call, Element, Event, KeywordAmount, Move, Opening, SeatExit, Turn, Value, called, counted, elements, exited, key, moved, number, opened, refused, settled}
+use Rattle.fair_rows.specs.rights_model.Supply.{is_outside}
+use Rattle.fair_rows.specs.rights_model.Totals.{brands_of, is_payment}
+use Rattle.fair_rows.specs.rights_model.declared.Holder.{Holder}
+use Rattle.fair_rows.specs.rights_model.declared.Holder.TheVariants.{Payment, Slot}
+use Rattle.fair_rows.specs.rights_model.declared.Sum.{Sum}
+use Rattle.fair_rows.specs.turn_rows.Causes.{Cause}
+use Rattle.fair_rows.specs.turn_rows.Causes as causes
+use Rattle.fair_rows.specs.turn_rows.Turns.{Answer, Call, Element, Event, KeywordAmount, Move, Opening, SeatExit, Turn, Value, called, counted, elements, exited, key, moved, number, opened, refused, settled}
 use Rattle.fair_rows.specs.ExitCauses.{calls, first_cause, is_call, is_ok, name}
 use Rattle.fair_rows.specs.Movements.{movements_in, names, takes_from}
 use Rattle.fair_rows.specs.Rows.{Due, InTurn, after_event, burn, escrow, is_offer, is_service, payment_under, payout}

@@ -1,5 +1,5 @@
 -- A list of turns is fair exactly where it meets each sentence.
-use Rattle.amount_math.specs.declared.Kind.TheVariants.{Nat}
+use Rattle.fair_rows.specs.amount_math.declared.Kind.TheVariants.{Nat}
 use Rattle.fair_rows.specs.Amounts.{IsReadByCall}
 use Rattle.std.specs.Prelude.{is_some, length}
 use Rattle.fair_rows.specs.ExitCauses.{first_cause}
@@ -7,9 +7,9 @@ use Rattle.fair_rows.specs.Movements.{names}
 use Rattle.std.proofs.Common.{◌≡◌, ◌⊎◌, ◌↔◌, ℕ, true, false, List, [], ◌∷◌, Some, None, unwrap_or, refl, sym, ap, subst, ◌∙◌, inl, inr, ⊎_elim}
 use Rattle.std.proofs.lemmas.Bool.{cases_Bool, true≢false}
 use Rattle.std.specs.List.{AllByRecursion, slice_get}
-use Rattle.rights_model.specs.declared.Holder.TheVariants.{Payment}
-use Rattle.rights_model.specs.declared.Sum.{Sum}
-use Rattle.turn_rows.specs.Turns.{Event, called, exited, moved, Move, opened, Opening, SeatExit, settled, Turn, Call, Settlement}
+use Rattle.fair_rows.specs.rights_model.declared.Holder.TheVariants.{Payment}
+use Rattle.fair_rows.specs.rights_model.declared.Sum.{Sum}
+use Rattle.fair_rows.specs.turn_rows.Turns.{Event, called, exited, moved, Move, opened, Opening, SeatExit, settled, Turn, Call, Settlement}
 use Rattle.fair_rows.specs.Rows.{AreFairMoves, Due, InTurn, IsFairExit, IsFairOpening, IsFairRow, IsInPlace, IsOpenSlot, NamesOpenSlots, after_event, burn, escrow, is_offer, payout, IsEmptySeat, payment_under}
 use Rattle.fair_rows.specs.Seats.{IsSafe, Seat, brand_under, SlotName}
 use Rattle.fair_rows.specs.SoFar.{SoFar, nothing_so_far, with_turn}

@@ -1,9 +1,9 @@
 -- What is shown of the sentences of fairness.
 use Rattle.std.specs.Prelude.{◌≡◌, ◌≢◌, ℕ, List, [], ◌∷◌}
-use Rattle.amount_math.specs.Content.{nothing}
-use Rattle.rights_model.specs.Table.{holds}
-use Rattle.rights_model.specs.declared.Holder.TheVariants.{Hand}
-use Rattle.turn_rows.specs.Turns.{Turn}
+use Rattle.fair_rows.specs.amount_math.Content.{nothing}
+use Rattle.fair_rows.specs.rights_model.Table.{holds}
+use Rattle.fair_rows.specs.rights_model.declared.Holder.TheVariants.{Hand}
+use Rattle.fair_rows.specs.turn_rows.Turns.{Turn}
 use Rattle.fair_rows.specs.SoFar.{SoFar, nothing_so_far, with_turn}
 use Rattle.fair_rows.specs.Turns.{AreFair}
 use Rattle.fair_samples.specs.Sentences.{Meets, Sentence, movements_are_defined, tables_balance}

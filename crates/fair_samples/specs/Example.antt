@@ -1,14 +1,14 @@
 -- A list of turns with every kind of row: turns of every kind, all that may be answered, calls of every kind, both
 -- kinds of openings, movements from and to each holder, an exit for each cause, settlements, and values of each kind.
 use Rattle.std.specs.Prelude.{ℕ, true, List, [], ◌∷◌, codes}
-use Rattle.rights_model.specs.declared.Holder.TheVariants.{Hand, Outside, Payment, Purse, Slot}
+use Rattle.fair_rows.specs.rights_model.declared.Holder.TheVariants.{Hand, Outside, Payment, Purse, Slot}
 use Rattle.serde_json.specs.Data as json
-use Rattle.turn_rows.specs.Causes.{Cause}
-use Rattle.turn_rows.specs.Causes as causes
-use Rattle.turn_rows.specs.Kinds as kinds
-use Rattle.turn_rows.specs.Kinds.{How, Kind}
-use Rattle.turn_rows.specs.Rows.{amount_json, amounts_json, only, whole}
-use Rattle.turn_rows.specs.Turns.{Answer, Event, ExitRule, Payout, Turn, Value, after_deadline, broken, called, counted, elements, exited, fulfilled, key, number, ok, on_demand, opened, refused, settled, spent, threw, waived}
+use Rattle.fair_rows.specs.turn_rows.Causes.{Cause}
+use Rattle.fair_rows.specs.turn_rows.Causes as causes
+use Rattle.fair_rows.specs.turn_rows.Kinds as kinds
+use Rattle.fair_rows.specs.turn_rows.Kinds.{How, Kind}
+use Rattle.fair_rows.specs.turn_rows.Rows.{amount_json, amounts_json, only, whole}
+use Rattle.fair_rows.specs.turn_rows.Turns.{Answer, Event, ExitRule, Payout, Turn, Value, after_deadline, broken, called, counted, elements, exited, fulfilled, key, number, ok, on_demand, opened, refused, settled, spent, threw, waived}
 use Rattle.fair_samples.specs.Samples.{amount, call, invitation, move, none, object, one, payout, service, total}
 
 -- ---- parts

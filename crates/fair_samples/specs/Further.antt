@@ -1,10 +1,10 @@
 -- More lists that break a sentence alone: other parts of sentences, and each way in which a turn shows a cause.
 use Rattle.std.specs.Prelude.{◌^◌, ◌-◌, List, [], ◌∷◌, codes}
-use Rattle.rights_model.specs.declared.Holder.TheVariants.{Outside, Payment, Purse, Slot}
+use Rattle.fair_rows.specs.rights_model.declared.Holder.TheVariants.{Outside, Payment, Purse, Slot}
 use Rattle.serde_json.specs.Data as json
-use Rattle.turn_rows.specs.Causes as causes
-use Rattle.turn_rows.specs.Kinds as kinds
-use Rattle.turn_rows.specs.Turns.{Turn, called, number, ok, refused, spent, threw}
+use Rattle.fair_rows.specs.turn_rows.Causes as causes
+use Rattle.fair_rows.specs.turn_rows.Kinds as kinds
+use Rattle.fair_rows.specs.turn_rows.Turns.{Turn, called, number, ok, refused, spent, threw}
 use Rattle.fair_samples.specs.Samples.{amount, exit_turn, burned_total, burn_move, call, exit, exit_call, handler_turn, invitation, invitation_turn, kit, kit_turn, mint_turn, move, none, object, offer_turn, one, open_row, payout, service, start_turn, then_turns, total, trade}
 use Rattle.fair_samples.specs.Sentences.{Sentence, causes_are_followed, offers_burn, offers_escrow, payouts_are_new, payouts_follow, refusals_change_nothing, seats_are_in_order, slots_are_of_one_brand, sums_are_told, supplies_are_bounded}
 

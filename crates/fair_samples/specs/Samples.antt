@@ -1,14 +1,14 @@
 -- For each sentence of fairness a short list of turns that breaks it and meets all others.
 use Rattle.std.specs.Prelude.{ℕ, List, [], ◌∷◌, codes}
-use Rattle.rights_model.specs.declared.Holder.{Holder}
-use Rattle.rights_model.specs.declared.Holder.TheVariants.{Hand, Outside, Payment, Purse, Slot}
-use Rattle.rights_model.specs.declared.Sum.{Sum}
+use Rattle.fair_rows.specs.rights_model.declared.Holder.{Holder}
+use Rattle.fair_rows.specs.rights_model.declared.Holder.TheVariants.{Hand, Outside, Payment, Purse, Slot}
+use Rattle.fair_rows.specs.rights_model.declared.Sum.{Sum}
 use Rattle.serde_json.specs.Data as json
-use Rattle.turn_rows.specs.Causes.{Cause}
-use Rattle.turn_rows.specs.Causes as causes
-use Rattle.turn_rows.specs.Kinds as kinds
-use Rattle.turn_rows.specs.Rows.{amount_json, amounts_json, only, whole}
-use Rattle.turn_rows.specs.Turns.{Answer, Event, KeywordAmount, Payout, Turn, Value, called, elements, exited, key, moved, number, ok, on_demand, opened, refused, threw}
+use Rattle.fair_rows.specs.turn_rows.Causes.{Cause}
+use Rattle.fair_rows.specs.turn_rows.Causes as causes
+use Rattle.fair_rows.specs.turn_rows.Kinds as kinds
+use Rattle.fair_rows.specs.turn_rows.Rows.{amount_json, amounts_json, only, whole}
+use Rattle.fair_rows.specs.turn_rows.Turns.{Answer, Event, KeywordAmount, Payout, Turn, Value, called, elements, exited, key, moved, number, ok, on_demand, opened, refused, threw}
 use Rattle.fair_samples.specs.Sentences.{Sentence, turns_are_numbered, purse_amounts, payment_amounts, final_amounts, movements_are_defined, payments_stay_spent, values_are_of_one_kind, slots_are_of_one_brand, seats_are_in_order, offers_burn, offers_escrow, kits_are_empty, openings_are_called_for, exits_are_of_open_seats, exits_follow_their_cause, causes_are_the_first, causes_are_followed, payouts_follow, payouts_are_named, payouts_are_new, exits_are_covered, seats_stay_covered, refusals_change_nothing, slots_are_of_opened_seats, slots_are_of_no_exited_seat, payments_are_emptied, tables_balance, supplies_are_bounded, sums_are_told, current_amounts, slot_amounts}
 
 -- ---- parts of turns

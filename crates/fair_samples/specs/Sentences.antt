@@ -2,16 +2,16 @@
 -- and what it asks there. A list of turns is fair where it meets each of them.
 use Rattle.std.specs.Prelude.{◌≡◌, ◌⊎◌, ℕ, ◌+◌, true, false, List, [], ◌∷◌, ◌++◌, Some, None, is_some, length, codes}
 use Rattle.std.specs.List.{AllByRecursion, slice_get}
-use Rattle.amount_math.specs.Content.{Content, count, nothing}
-use Rattle.amount_math.specs.Worth.{Fits}
-use Rattle.amount_math.specs.declared.Kind.{Kind}
-use Rattle.rights_model.specs.Supply.{is_store, supply, total_of}
-use Rattle.rights_model.specs.Table.{CanMove, holds}
-use Rattle.rights_model.specs.declared.Holder.TheVariants.{Hand, Payment, Slot}
-use Rattle.rights_model.specs.declared.Sum.{Sum}
+use Rattle.fair_rows.specs.amount_math.Content.{Content, count, nothing}
+use Rattle.fair_rows.specs.amount_math.Worth.{Fits}
+use Rattle.fair_rows.specs.amount_math.declared.Kind.{Kind}
+use Rattle.fair_rows.specs.rights_model.Supply.{is_store, supply, total_of}
+use Rattle.fair_rows.specs.rights_model.Table.{CanMove, holds}
+use Rattle.fair_rows.specs.rights_model.declared.Holder.TheVariants.{Hand, Payment, Slot}
+use Rattle.fair_rows.specs.rights_model.declared.Sum.{Sum}
 use Rattle.serde_json.specs.Data.{Items}
-use Rattle.turn_rows.specs.Kinds as kinds
-use Rattle.turn_rows.specs.Turns.{Call, Event, called, exited, KeywordAmount, Move, moved, opened, Opening, refused, SeatExit, Turn}
+use Rattle.fair_rows.specs.turn_rows.Kinds as kinds
+use Rattle.fair_rows.specs.turn_rows.Turns.{Call, Event, called, exited, KeywordAmount, Move, moved, opened, Opening, refused, SeatExit, Turn}
 use Rattle.fair_rows.specs.Amounts.{IsCurrentAllocation, IsFinalAllocation, IsPaymentAmount, IsPurseAmount, IsSlotRead}
 use Rattle.fair_rows.specs.ExitCauses.{calls, first_cause, name, serves}
 use Rattle.fair_rows.specs.Movements.{movement_of, movements_in, names, takes_from}

@@ -2,8 +2,8 @@
 
 ghost use Rattle.std.specs.Prelude.{◌↔◌, List};
 ghost use Rattle.std.specs.List.{AllByRecursion};
-ghost use Rattle.turn_rows.specs.Turns.{Turn};
-ghost use Rattle.turn_rows.specs.Texts.{journal_text};
+ghost use Rattle.fair_rows.specs.turn_rows.Turns.{Turn};
+ghost use Rattle.fair_rows.specs.turn_rows.Texts.{journal_text};
 ghost use Rattle.fair_rows.specs.Turns.{AreFair, IsFairJournal};
 ghost use Rattle.fair_samples.specs.Claims.{BreaksAlone, StoresAddUp};
 ghost use Rattle.fair_samples.specs.Example.{example};

@@ -2,30 +2,30 @@
 use Rattle.std.specs.Prelude.{IfOk}
 use Rattle.std.specs.List.{AllByRecursion}
 use Rattle.std.proofs.Common.{◌≡◌, ℕ, ◌-◌, ◌<◌, List, [], ◌∷◌, ◌++◌, None, Result, Ok, Err, length, refl, sym, ◌∙◌, ap, subst}
-use Rattle.call_plans.specs.Plans.{Plans}
-use Rattle.call_plans.specs.Lists.{IsEachShaped, effects_view}
-use Rattle.call_plans.specs.declared.plans.Plan.{Plan}
-use Rattle.call_row_laws.proofs.Forms.{null_formed}
-use Rattle.call_rows.specs.Rows.{Outcome}
-use Rattle.call_words.specs.Handed.{AreHanded}
-use Rattle.carried_effects.specs.Carried.{AreCarried, IsInTurn}
-use Rattle.delivery_laws.proofs.Ends.{halts_good}
-use Rattle.delivery_laws.proofs.Runs.{after_both}
-use Rattle.delivery_turns.specs.HostCalls.{effects_of}
-use Rattle.delivery_turns.specs.Tasks.{halt_with}
-use Rattle.front_laws.proofs.Fronts.{effects_pass}
-use Rattle.host_world.specs.Worlds.{IsUndoable, vault_state, world_at_start, world_now, world_of}
-use Rattle.host_world.specs.declared.World.{World}
-use Rattle.jessie_tree.specs.Tree.{Tree, null}
+use Rattle.world_reads.specs.call_plans.Plans.{Plans}
+use Rattle.world_reads.specs.call_plans.Lists.{IsEachShaped, effects_view}
+use Rattle.world_reads.specs.call_plans.declared.plans.Plan.{Plan}
+use Rattle.fair_laws.proofs.row_laws.Forms.{null_formed}
+use Rattle.contract_texts.specs.rules.Rows.{Outcome}
+use Rattle.world_reads.specs.Handed.{AreHanded}
+use Rattle.world_effects.specs.Carried.{AreCarried, IsInTurn}
+use Rattle.fair_laws.proofs.delivery_laws.Ends.{halts_good}
+use Rattle.fair_laws.proofs.delivery_laws.Runs.{after_both}
+use Rattle.delivery_tasks.specs.delivery_turns.HostCalls.{effects_of}
+use Rattle.delivery_tasks.specs.delivery_turns.Tasks.{halt_with}
+use Rattle.world_effects.proofs.world_laws.FrontDeliveries.{effects_pass}
+use Rattle.world_reads.specs.host_world.Worlds.{IsUndoable, vault_state, world_at_start, world_now, world_of}
+use Rattle.world_reads.specs.host_world.declared.World.{World}
+use Rattle.delivery_tasks.specs.host_data.Tree.{Tree, null}
 use Rattle.plain_stores.specs.Plain.{front_of}
-use Rattle.refusals.specs.declared.stops.Stop.{Stop}
-use Rattle.turn_rows.specs.Causes as causes
-use Rattle.vault_rights.specs.Drafts.{HandGoes, IsClean}
-use Rattle.world_laws.proofs.Fronts.{good_behind}
-use Rattle.world_laws.proofs.Lists.{all_read_or}
-use Rattle.world_state.specs.Good.{AreGood, IsGoodWorld}
-use Rattle.world_state.specs.Known.{IsHanded}
-use Rattle.world_state.specs.Worlds.{Effect, State, after_all, behind, end_staging, in_front}
+use Rattle.world_reads.specs.refusals.declared.stops.Stop.{Stop}
+use Rattle.plain_stores.specs.turn_rows.Causes as causes
+use Rattle.world_reads.specs.vault.Drafts.{HandGoes, IsClean}
+use Rattle.world_effects.proofs.world_laws.Fronts.{good_behind}
+use Rattle.world_effects.proofs.world_laws.Lists.{all_read_or}
+use Rattle.plain_stores.specs.world_state.Good.{AreGood, IsGoodWorld}
+use Rattle.plain_stores.specs.world_state.Known.{IsHanded}
+use Rattle.plain_stores.specs.world_state.Worlds.{Effect, State, after_all, behind, end_staging, in_front}
 use Rattle.front_turns.specs.Turning.{front}
 use Rattle.front_turns.proofs.Parts.{first_good, fronted}
 

@@ -2,27 +2,27 @@
 use Rattle.std.specs.Prelude.{IfOk, OnOk}
 use Rattle.std.specs.declared.alloc.AllocError.{AllocError}
 use Rattle.std.proofs.Common.{◌≡◌, ℕ, List, Result, Ok, Err, refl, sym, ◌∙◌, ap, subst}
-use Rattle.carried_effects.specs.Carried.{AreCarried, IsInTurn}
+use Rattle.world_effects.specs.Carried.{AreCarried, IsInTurn}
 use Rattle.contract_texts.specs.Reader.{reader}
-use Rattle.delivery_turns.specs.Functions.{FunctionCall, Run, function_run, ran_out}
-use Rattle.delivery_turns.specs.HostCalls.{effects_of}
-use Rattle.delivery_turns.specs.Tasks.{Task, do_all, halt_with, refuse, row_work, run, run_work, task_work}
-use Rattle.delivery_turns.specs.Tasks.{serve as serve_task}
-use Rattle.host_world.specs.Worlds.{world_of}
-use Rattle.host_world.specs.declared.World.{World}
-use Rattle.jessie_tree.specs.Tree.{Tree}
-use Rattle.jessie_tree.specs.declared.data.Data.TheVariants.{Null}
-use Rattle.jessie_tree.specs.declared.data.Obj.{Obj}
-use Rattle.jessie_tree.proofs.Views.{tree-Null}
-use Rattle.refusals.specs.declared.codes.Refusal.{Refusal}
-use Rattle.turn_events.specs.Views.{answer_view}
-use Rattle.turn_events.specs.declared.events.Answer.{Answer}
-use Rattle.turn_events.specs.declared.events.Answer.TheVariants as answers
-use Rattle.turn_records.specs.Events.{given}
-use Rattle.turn_rows.specs.Causes as causes
-use Rattle.world_state.specs.Good.{AreGood}
-use Rattle.world_state.specs.Worlds.{Effect}
-use Rattle.zoe_rows.specs.Host.{serve}
+use Rattle.delivery_tasks.specs.delivery_turns.Functions.{FunctionCall, Run, function_run, ran_out}
+use Rattle.delivery_tasks.specs.delivery_turns.HostCalls.{effects_of}
+use Rattle.delivery_tasks.specs.delivery_turns.Tasks.{Task, do_all, halt_with, refuse, row_work, run, run_work, task_work}
+use Rattle.delivery_tasks.specs.delivery_turns.Tasks.{serve as serve_task}
+use Rattle.world_reads.specs.host_world.Worlds.{world_of}
+use Rattle.world_reads.specs.host_world.declared.World.{World}
+use Rattle.delivery_tasks.specs.host_data.Tree.{Tree}
+use Rattle.delivery_tasks.specs.host_data.declared.data.Data.TheVariants.{Null}
+use Rattle.delivery_tasks.specs.host_data.declared.data.Obj.{Obj}
+use Rattle.delivery_tasks.proofs.host_data.Views.{tree-Null}
+use Rattle.world_reads.specs.refusals.declared.codes.Refusal.{Refusal}
+use Rattle.plain_stores.specs.turn_records.Views.{answer_view}
+use Rattle.plain_stores.specs.turn_records.declared.events.Answer.{Answer}
+use Rattle.plain_stores.specs.turn_records.declared.events.Answer.TheVariants as answers
+use Rattle.plain_stores.specs.turn_records.Events.{given}
+use Rattle.plain_stores.specs.turn_rows.Causes as causes
+use Rattle.plain_stores.specs.world_state.Good.{AreGood}
+use Rattle.plain_stores.specs.world_state.Worlds.{Effect}
+use Rattle.contract_texts.specs.rules.Host.{serve}
 use Rattle.front_turns.specs.Ran.{HasRun}
 use Rattle.front_turns.specs.Turning.{IsDone, work_of}
 use Rattle.front_turns.specs.declared.works.Ran.{Ran}

@@ -4,3 +4,5 @@ pub mod Stored
 pub mod Carrying
 pub mod Done
 pub mod Whole
+pub mod Going
+pub mod Ending

@@ -3,10 +3,10 @@ use Rattle.std.specs.Prelude.{drop}
 use Rattle.std.specs.List.{AllByRecursion}
 use Rattle.std.proofs.Common.{◌≡◌, ◌<◌, List, [], ◌∷◌, ◌++◌, length, refl, arith}
 use Rattle.plain_stores.specs.Plain.{front_of}
-use Rattle.turn_records.specs.Deliveries.{Delivery}
-use Rattle.world_laws.proofs.Fronts.{begins}
-use Rattle.world_state.specs.Good.{AreGood}
-use Rattle.world_state.specs.Worlds.{Effect, State, after, after_all, behind, in_front}
+use Rattle.plain_stores.specs.turn_records.Deliveries.{Delivery}
+use Rattle.world_effects.proofs.world_laws.Fronts.{begins}
+use Rattle.plain_stores.specs.world_state.Good.{AreGood}
+use Rattle.plain_stores.specs.world_state.Worlds.{Effect, State, after, after_all, behind, in_front}
 
 pub all_both : {A : Type 0} (P : A → Type 0) (xs ys : List A) → AllByRecursion P xs → AllByRecursion P ys → AllByRecursion P (xs ++ ys)
 all_both P [] ys one two = two

@@ -2,51 +2,51 @@
 use Rattle.std.specs.Prelude.{IfOk, not}
 use Rattle.std.specs.List.{AllByRecursion}
 use Rattle.std.proofs.Common.{◌≡◌, ℕ, ◌+◌, ◌*◌, ◌^◌, ◌-◌, ◌≤◌, ◌<◌, ◌||◌, List, [], ◌∷◌, ◌++◌, Option, Some, None, Ok, Err, length, refl, subst, arith}
-use Rattle.call_row_laws.proofs.Forms.{null_formed}
-use Rattle.call_row_laws.proofs.Next.{after_next_of}
-use Rattle.call_rows.specs.Licence.{IsStored}
-use Rattle.call_rows.specs.Obligations.{IsRow}
-use Rattle.call_rows.specs.Rows.{Outcome}
-use Rattle.call_rows.specs.Traces.{all_open, movements_in}
-use Rattle.contract_row_laws.proofs.Calls.{calls_are}
+use Rattle.fair_laws.proofs.row_laws.Forms.{null_formed}
+use Rattle.fair_laws.proofs.row_laws.Next.{after_next_of}
+use Rattle.contract_texts.specs.rules.Licence.{IsStored}
+use Rattle.contract_texts.specs.rules.Obligations.{IsRow}
+use Rattle.contract_texts.specs.rules.Rows.{Outcome}
+use Rattle.contract_texts.specs.rules.Traces.{all_open, movements_in}
+use Rattle.fair_laws.proofs.row_laws.Calls.{calls_are}
 use Rattle.contract_texts.specs.Reader.{reader}
 use Rattle.contract_texts.proofs.Modules.{reads_modules}
-use Rattle.ertp_mint.specs.Stocks.{most_made}
-use Rattle.fair_effects.specs.Accounts.{AreStoredEffects, IsStoredEffect}
-use Rattle.instance_store.specs.Tables.{instance_at}
-use Rattle.jessie_semantics.specs.Keeping.{AllHave, CallHas, Fits, NextHas, RepliesHave}
-use Rattle.jessie_semantics.specs.Play.{Asks, Call, Ends, Play, Reply, Spends, after, call, cost, far, reply_size, send, when}
-use Rattle.jessie_semantics.proofs.Licence.{room_fits}
-use Rattle.jessie_syntax.specs.Syntax.{routines, variable_names}
-use Rattle.jessie_tree.specs.Tree.{Tree, null, some_local, stays}
-use Rattle.jessie_tree.specs.View.{items_of}
-use Rattle.jessie_tree.specs.declared.data.Obj.{Obj}
-use Rattle.rights_model.specs.declared.Movement.{Movement}
-use Rattle.refusals.proofs.Steps.{after_need}
-use Rattle.service_row_laws.proofs.Services.{services_are}
-use Rattle.trade_rows.specs.Trades.{serve}
-use Rattle.turn_rows.specs.Causes as causes
-use Rattle.turn_records.specs.Deliveries.{Delivery}
-use Rattle.world_laws.proofs.Forms.{formed_grows}
-use Rattle.world_laws.proofs.Kept.{good-after_all}
-use Rattle.world_laws.proofs.Lists.{all_read_or}
-use Rattle.world_laws.proofs.Roomy.{roomy-after_all}
-use Rattle.world_state.specs.Good.{IsGoodWorld}
-use Rattle.world_state.specs.Known.{Grows, IsKnownTo, module_of}
-use Rattle.world_state.specs.Rights.{IsRoomy, most_issued}
-use Rattle.world_state.specs.Worlds as worlds
-use Rattle.world_state.specs.Worlds.{Effect, State, after_all, halt, in_front, invite, issued_by, issued_by_all, keep_state, moves, note_call, offer, promises_made}
-use Rattle.zoe_rows.specs.Host.{serve as serve_call}
-use Rattle.delivery_turns.specs.Functions.{FunctionCall, Run, ended, function_run, module_play, ran_out, run, run_after}
-use Rattle.delivery_turns.specs.HostCalls.{call_effects, call_reply, call_row, effects_of, far_row, send_row, when_row}
-use Rattle.delivery_turns.specs.Tasks as tasks
-use Rattle.delivery_turns.specs.Tasks.{Task, halt_with, run_work, task_work}
-use Rattle.delivery_laws.specs.Works.{Evaluates, most_meter}
-use Rattle.delivery_laws.proofs.Asking.{all_have, evaluates, have_all, replies_so}
-use Rattle.delivery_laws.proofs.Hosts.{IsQuiet, quiet_both, quiet_exits}
-use Rattle.delivery_laws.proofs.Replies.{call_is}
-use Rattle.delivery_laws.proofs.Runs.{after_more, all_grow, grows_itself, grows_on, have_end, scaled}
-use Rattle.delivery_laws.proofs.Works.{at_most, service_row}
+use Rattle.plain_stores.specs.ertp_mint.Stocks.{most_made}
+use Rattle.fair_laws.specs.Accounts.{AreStoredEffects, IsStoredEffect}
+use Rattle.plain_stores.specs.actors.Tables.{instance_at}
+use Rattle.jessie_interpreter.specs.jessie_semantics.Keeping.{AllHave, CallHas, Fits, NextHas, RepliesHave}
+use Rattle.jessie_interpreter.specs.jessie_semantics.Play.{Asks, Call, Ends, Play, Reply, Spends, after, call, cost, far, reply_size, send, when}
+use Rattle.jessie_interpreter.proofs.jessie_semantics.Licence.{room_fits}
+use Rattle.jessie_interpreter.specs.jessie_grammar.Syntax.{routines, variable_names}
+use Rattle.delivery_tasks.specs.host_data.Tree.{Tree, null, some_local, stays}
+use Rattle.delivery_tasks.specs.host_data.View.{items_of}
+use Rattle.delivery_tasks.specs.host_data.declared.data.Obj.{Obj}
+use Rattle.plain_stores.specs.rights_model.declared.Movement.{Movement}
+use Rattle.world_reads.proofs.refusals.Steps.{after_need}
+use Rattle.fair_laws.proofs.row_laws.Services.{services_are}
+use Rattle.contract_texts.specs.rules.Trades.{serve}
+use Rattle.plain_stores.specs.turn_rows.Causes as causes
+use Rattle.plain_stores.specs.turn_records.Deliveries.{Delivery}
+use Rattle.world_effects.proofs.world_laws.Forms.{formed_grows}
+use Rattle.world_effects.proofs.world_laws.Kept.{good-after_all}
+use Rattle.world_effects.proofs.world_laws.Lists.{all_read_or}
+use Rattle.world_effects.proofs.world_laws.Roomy.{roomy-after_all}
+use Rattle.plain_stores.specs.world_state.Good.{IsGoodWorld}
+use Rattle.plain_stores.specs.world_state.Known.{Grows, IsKnownTo, module_of}
+use Rattle.plain_stores.specs.world_state.Rights.{IsRoomy, most_issued}
+use Rattle.plain_stores.specs.world_state.Worlds as worlds
+use Rattle.plain_stores.specs.world_state.Worlds.{Effect, State, after_all, halt, in_front, invite, issued_by, issued_by_all, keep_state, moves, note_call, offer, promises_made}
+use Rattle.contract_texts.specs.rules.Host.{serve as serve_call}
+use Rattle.delivery_tasks.specs.delivery_turns.Functions.{FunctionCall, Run, ended, function_run, module_play, ran_out, run, run_after}
+use Rattle.delivery_tasks.specs.delivery_turns.HostCalls.{call_effects, call_reply, call_row, effects_of, far_row, send_row, when_row}
+use Rattle.delivery_tasks.specs.delivery_turns.Tasks as tasks
+use Rattle.delivery_tasks.specs.delivery_turns.Tasks.{Task, halt_with, run_work, task_work}
+use Rattle.fair_laws.specs.delivery_laws.Works.{Evaluates, most_meter}
+use Rattle.fair_laws.proofs.delivery_laws.Asking.{all_have, evaluates, have_all, replies_so}
+use Rattle.fair_laws.proofs.delivery_laws.Hosts.{IsQuiet, quiet_both, quiet_exits}
+use Rattle.fair_laws.proofs.delivery_laws.Replies.{call_is}
+use Rattle.fair_laws.proofs.delivery_laws.Runs.{after_more, all_grow, grows_itself, grows_on, have_end, scaled}
+use Rattle.fair_laws.proofs.delivery_laws.Works.{at_most, service_row}
 use Rattle.front_turns.specs.There.{IsThere}
 use Rattle.front_turns.proofs.Parts.{all_both}
 

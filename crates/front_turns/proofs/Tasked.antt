@@ -2,41 +2,41 @@
 use Rattle.std.specs.Prelude.{IfOk, cond, is_none, nat_lt}
 use Rattle.std.specs.List.{AllByRecursion}
 use Rattle.std.proofs.Common.{◌≡◌, ℕ, ◌≤◌, ◌<◌, Bool, true, false, List, [], ◌∷◌, Option, Some, None, Result, Ok, Err, length, refl, subst}
-use Rattle.call_data.specs.Values.{number_tree}
-use Rattle.call_row_laws.proofs.Forms.{object_formed}
-use Rattle.call_row_laws.proofs.Shown.{handed_held}
-use Rattle.call_rows.specs.Words.{has_halted, standing_of}
-use Rattle.contract_row_laws.proofs.Calls.{calls_are}
+use Rattle.delivery_tasks.specs.host_data.Values.{number_tree}
+use Rattle.fair_laws.proofs.row_laws.Forms.{object_formed}
+use Rattle.fair_laws.proofs.row_laws.Shown.{handed_held}
+use Rattle.contract_texts.specs.rules.Words.{has_halted, standing_of}
+use Rattle.fair_laws.proofs.row_laws.Calls.{calls_are}
 use Rattle.contract_texts.specs.Reader.{reader}
 use Rattle.contract_texts.proofs.Modules.{reads_modules}
-use Rattle.instance_store.specs.Facets.{FacetView, facet_at, no_facet}
-use Rattle.jessie_semantics.specs.Keeping.{AllHave}
-use Rattle.jessie_tree.specs.Tree.{Tree, object}
-use Rattle.jessie_tree.specs.declared.data.Obj.{Obj}
-use Rattle.jessie_tree.specs.declared.data.ObjKind.{ObjKind}
-use Rattle.jessie_tree.specs.declared.data.ObjKind.TheVariants as kinds
-use Rattle.refusals.specs.Codes.{closed}
-use Rattle.refusals.specs.declared.codes.Refusal.{Refusal}
-use Rattle.refusals.specs.declared.codes.Refusal.TheVariants.{Backwards}
-use Rattle.service_row_laws.proofs.Services.{services_are}
-use Rattle.turn_records.specs.Deliveries as deliveries
-use Rattle.turn_records.specs.Deliveries.{Delivery}
-use Rattle.turn_records.specs.Messages.{LineGift}
-use Rattle.turn_records.specs.Printed.{notice_tree}
-use Rattle.turn_rows.specs.Causes as causes
-use Rattle.world_laws.proofs.Fronts.{due_behind, good_behind}
-use Rattle.world_laws.proofs.Lists.{all_read}
-use Rattle.world_state.specs.Good.{IsFacet, IsGoodWorld, IsSettling}
-use Rattle.world_state.specs.Known.{IsHanded, IsKnownTo, made_as}
-use Rattle.world_state.specs.Rights.{IsRoomy, most_issued}
-use Rattle.world_state.specs.Worlds.{State, exit, in_front, seat_at, set_time}
-use Rattle.delivery_turns.specs.Functions.{FunctionCall}
-use Rattle.delivery_turns.specs.Messages.{Addressed, addressed, gift_of, sent_to}
-use Rattle.delivery_turns.specs.Tasks.{Task, beginning, call_beginning, do_all, exit_if_open, facet_task, function_behind, gift_beginning, handler_call, method_task, notice_call, refuse, run_task, settlement_of, start_call, task_on, task_work, tick_task, wakeup_call}
-use Rattle.delivery_turns.specs.Tasks as tasks
-use Rattle.delivery_laws.specs.Works.{IsTurnWork, most_meter}
-use Rattle.delivery_laws.proofs.Reading.{IsAddressed, IsCalled, addressed_there, sent_there, weaker_ok}
-use Rattle.delivery_laws.proofs.Works.{notice_handed, settlement_handed, work_is}
+use Rattle.plain_stores.specs.actors.Facets.{FacetView, facet_at, no_facet}
+use Rattle.jessie_interpreter.specs.jessie_semantics.Keeping.{AllHave}
+use Rattle.delivery_tasks.specs.host_data.Tree.{Tree, object}
+use Rattle.delivery_tasks.specs.host_data.declared.data.Obj.{Obj}
+use Rattle.delivery_tasks.specs.host_data.declared.data.ObjKind.{ObjKind}
+use Rattle.delivery_tasks.specs.host_data.declared.data.ObjKind.TheVariants as kinds
+use Rattle.world_reads.specs.refusals.Codes.{closed}
+use Rattle.world_reads.specs.refusals.declared.codes.Refusal.{Refusal}
+use Rattle.world_reads.specs.refusals.declared.codes.Refusal.TheVariants.{Backwards}
+use Rattle.fair_laws.proofs.row_laws.Services.{services_are}
+use Rattle.plain_stores.specs.turn_records.Deliveries as deliveries
+use Rattle.plain_stores.specs.turn_records.Deliveries.{Delivery}
+use Rattle.plain_stores.specs.turn_records.Messages.{LineGift}
+use Rattle.plain_stores.specs.turn_records.Printed.{notice_tree}
+use Rattle.plain_stores.specs.turn_rows.Causes as causes
+use Rattle.world_effects.proofs.world_laws.Fronts.{due_behind, good_behind}
+use Rattle.world_effects.proofs.world_laws.Lists.{all_read}
+use Rattle.plain_stores.specs.world_state.Good.{IsFacet, IsGoodWorld, IsSettling}
+use Rattle.plain_stores.specs.world_state.Known.{IsHanded, IsKnownTo, made_as}
+use Rattle.plain_stores.specs.world_state.Rights.{IsRoomy, most_issued}
+use Rattle.plain_stores.specs.world_state.Worlds.{State, exit, in_front, seat_at, set_time}
+use Rattle.delivery_tasks.specs.delivery_turns.Functions.{FunctionCall}
+use Rattle.delivery_tasks.specs.delivery_turns.Messages.{Addressed, addressed, gift_of, sent_to}
+use Rattle.delivery_tasks.specs.delivery_turns.Tasks.{Task, beginning, call_beginning, do_all, exit_if_open, facet_task, function_behind, gift_beginning, handler_call, method_task, notice_call, refuse, run_task, settlement_of, start_call, task_on, task_work, tick_task, wakeup_call}
+use Rattle.delivery_tasks.specs.delivery_turns.Tasks as tasks
+use Rattle.fair_laws.specs.delivery_laws.Works.{IsTurnWork, most_meter}
+use Rattle.fair_laws.proofs.delivery_laws.Reading.{IsAddressed, IsCalled, addressed_there, sent_there, weaker_ok}
+use Rattle.fair_laws.proofs.delivery_laws.Works.{notice_handed, settlement_handed, work_is}
 use Rattle.front_turns.specs.There.{IsThere}
 
 module _ (meter : ℕ) (few : meter ≤ most_meter) (w : State) (d : Delivery) (good : IsGoodWorld (in_front d w)) (room : IsRoomy w.rights.out most_issued) where

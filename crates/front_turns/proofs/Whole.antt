@@ -2,21 +2,21 @@
 use Rattle.std.specs.Prelude.{IfOk}
 use Rattle.std.specs.declared.alloc.AllocError.{AllocError}
 use Rattle.std.proofs.Common.{◌≡◌, ℕ, Result, Ok, sym, ◌∙◌, ap, subst}
-use Rattle.carried_effects.specs.Carried.{AreCarried}
-use Rattle.delivery_laws.specs.Works.{IsOut, IsTurnWork, LabelIsFree}
-use Rattle.delivery_laws.proofs.Hosts.{quiet_end}
-use Rattle.delivery_turns.specs.Endings.{ending}
-use Rattle.delivery_turns.specs.Tasks.{Beginning, Task, Work, beginning}
-use Rattle.delivery_turns.specs.Turns.{delivery_turn}
-use Rattle.fair_effects.specs.Accounts.{AreStoredEffects, IsStoredEffect}
-use Rattle.host_world.specs.Worlds.{world_now, world_of}
-use Rattle.host_world.specs.declared.World.{World}
-use Rattle.turn_events.specs.Views.{answer_view, reading_view}
-use Rattle.turn_events.specs.declared.events.Answer.{Answer}
-use Rattle.turn_records.specs.Deliveries.{Delivery}
-use Rattle.turn_records.specs.Events as told
-use Rattle.world_state.specs.Good.{IsGoodWorld}
-use Rattle.world_state.specs.Worlds.{State, after_all, in_front}
+use Rattle.world_effects.specs.Carried.{AreCarried}
+use Rattle.fair_laws.specs.delivery_laws.Works.{IsOut, IsTurnWork, LabelIsFree}
+use Rattle.fair_laws.proofs.delivery_laws.Hosts.{quiet_end}
+use Rattle.delivery_tasks.specs.delivery_turns.Endings.{ending}
+use Rattle.delivery_tasks.specs.delivery_turns.Tasks.{Beginning, Task, Work, beginning}
+use Rattle.delivery_tasks.specs.delivery_turns.Turns.{delivery_turn}
+use Rattle.fair_laws.specs.Accounts.{AreStoredEffects, IsStoredEffect}
+use Rattle.world_reads.specs.host_world.Worlds.{world_now, world_of}
+use Rattle.world_reads.specs.host_world.declared.World.{World}
+use Rattle.plain_stores.specs.turn_records.Views.{answer_view, reading_view}
+use Rattle.plain_stores.specs.turn_records.declared.events.Answer.{Answer}
+use Rattle.plain_stores.specs.turn_records.Deliveries.{Delivery}
+use Rattle.plain_stores.specs.turn_records.Events as told
+use Rattle.plain_stores.specs.world_state.Good.{IsGoodWorld}
+use Rattle.plain_stores.specs.world_state.Worlds.{State, after_all, in_front}
 use Rattle.front_turns.specs.There.{IsThere}
 use Rattle.front_turns.specs.Turning.{IsBegun, IsDelivered, IsDone, front, turn_in, work_of}
 use Rattle.front_turns.specs.declared.turns.Delivered.{Delivered}

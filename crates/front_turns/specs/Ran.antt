@@ -1,9 +1,9 @@
 -- What running a function of an instance over the world of a turn came to.
 use Rattle.std.specs.Prelude.{◌≡◌, ℕ}
-use Rattle.delivery_turns.specs.Functions.{FunctionCall, function_run, ran_out}
-use Rattle.delivery_turns.specs.Tasks.{run_work}
-use Rattle.host_world.specs.Worlds.{world_of}
-use Rattle.host_world.specs.declared.World.{World}
+use Rattle.delivery_tasks.specs.delivery_turns.Functions.{FunctionCall, function_run, ran_out}
+use Rattle.delivery_tasks.specs.delivery_turns.Tasks.{run_work}
+use Rattle.world_reads.specs.host_world.Worlds.{world_of}
+use Rattle.world_reads.specs.host_world.declared.World.{World}
 use Rattle.front_turns.specs.Turning.{IsDone}
 use Rattle.front_turns.specs.declared.works.Ran.{Ran}
 use Rattle.front_turns.specs.declared.works.Ran.TheVariants.{Ended, Spent}

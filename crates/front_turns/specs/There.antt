@@ -1,15 +1,15 @@
 -- What is known of a delivery's task.
 use Rattle.std.specs.Prelude.{◌<◌, length}
 use Rattle.std.specs.List.{AllByRecursion}
-use Rattle.delivery_turns.specs.Functions.{FunctionCall}
-use Rattle.delivery_turns.specs.Tasks.{Task, do_all, refuse, run, serve}
-use Rattle.fair_effects.specs.Accounts.{AreStoredEffects}
-use Rattle.jessie_semantics.specs.Keeping.{AllHave}
-use Rattle.jessie_tree.specs.Tree.{Tree, object}
-use Rattle.jessie_tree.specs.declared.data.Obj.{Obj}
+use Rattle.delivery_tasks.specs.delivery_turns.Functions.{FunctionCall}
+use Rattle.delivery_tasks.specs.delivery_turns.Tasks.{Task, do_all, refuse, run, serve}
+use Rattle.fair_laws.specs.Accounts.{AreStoredEffects}
+use Rattle.jessie_interpreter.specs.jessie_semantics.Keeping.{AllHave}
+use Rattle.delivery_tasks.specs.host_data.Tree.{Tree, object}
+use Rattle.delivery_tasks.specs.host_data.declared.data.Obj.{Obj}
 use Rattle.std.specs.Prelude.{List}
-use Rattle.world_state.specs.Known.{IsHanded, IsKnownTo}
-use Rattle.world_state.specs.Worlds.{State}
+use Rattle.plain_stores.specs.world_state.Known.{IsHanded, IsKnownTo}
+use Rattle.plain_stores.specs.world_state.Worlds.{State}
 
 -- the target of a call and its arguments can be handed out
 pub record IsServed (w : State) (o : Obj) (args : List Tree) : Type 0 where

@@ -1,19 +1,19 @@
 -- The turn of the delivery in front: begun, its task's work done, and ended.
 use Rattle.std.specs.Prelude.{◌≡◌, ℕ, ◌≤◌}
-use Rattle.carried_effects.specs.Carried.{AreCarried, IsInTurn}
+use Rattle.world_effects.specs.Carried.{AreCarried, IsInTurn}
 use Rattle.contract_texts.specs.Reader.{reader}
-use Rattle.delivery_laws.specs.Works.{most_meter}
-use Rattle.delivery_turns.specs.Tasks.{Task, Work, task_work}
-use Rattle.delivery_turns.specs.Turns.{DeliveryTurn, delivery_turn}
-use Rattle.fair_effects.specs.Accounts.{AreStoredEffects}
-use Rattle.host_world.specs.Worlds.{world_at_start, world_now, world_of}
-use Rattle.host_world.specs.declared.World.{World}
+use Rattle.fair_laws.specs.delivery_laws.Works.{most_meter}
+use Rattle.delivery_tasks.specs.delivery_turns.Tasks.{Task, Work, task_work}
+use Rattle.delivery_tasks.specs.delivery_turns.Turns.{DeliveryTurn, delivery_turn}
+use Rattle.fair_laws.specs.Accounts.{AreStoredEffects}
+use Rattle.world_reads.specs.host_world.Worlds.{world_at_start, world_now, world_of}
+use Rattle.world_reads.specs.host_world.declared.World.{World}
 use Rattle.plain_stores.specs.Plain.{front_of}
-use Rattle.turn_events.specs.Views.{answer_view, reading_view}
-use Rattle.turn_events.specs.declared.events.Answer.{Answer}
-use Rattle.turn_records.specs.Deliveries.{Delivery}
-use Rattle.world_state.specs.Good.{IsGoodWorld}
-use Rattle.world_state.specs.Rights.{IsRoomy, most_issued}
+use Rattle.plain_stores.specs.turn_records.Views.{answer_view, reading_view}
+use Rattle.plain_stores.specs.turn_records.declared.events.Answer.{Answer}
+use Rattle.plain_stores.specs.turn_records.Deliveries.{Delivery}
+use Rattle.plain_stores.specs.world_state.Good.{IsGoodWorld}
+use Rattle.plain_stores.specs.world_state.Rights.{IsRoomy, most_issued}
 use Rattle.front_turns.specs.declared.turns.Delivered.{Delivered}
 
 -- the delivery that a turn is about

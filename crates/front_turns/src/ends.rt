@@ -1,21 +1,21 @@
 //! What ends a turn, carried out.
 
 ghost use Rattle.std.specs.Prelude.{◌≡◌, ◌<◌, OnOk, length};
-ghost use Rattle.carried_effects.specs.Carried.{AreCarried, IsInTurn};
-ghost use Rattle.delivery_laws.specs.Works.{IsOut, LabelIsFree};
-ghost use Rattle.delivery_turns.specs.Endings.{ending};
-ghost use Rattle.host_world.specs.Worlds.{IsUndoable, world_now, world_of};
-ghost use Rattle.turn_events.specs.Views.{answer_view, delivery_view};
-ghost use Rattle.world_state.specs.Good.{IsGoodWorld};
-ghost use Rattle.world_state.specs.Worlds.{in_front};
+ghost use Rattle.world_effects.specs.Carried.{AreCarried, IsInTurn};
+ghost use Rattle.fair_laws.specs.delivery_laws.Works.{IsOut, LabelIsFree};
+ghost use Rattle.delivery_tasks.specs.delivery_turns.Endings.{ending};
+ghost use Rattle.world_reads.specs.host_world.Worlds.{IsUndoable, world_now, world_of};
+ghost use Rattle.plain_stores.specs.turn_records.Views.{answer_view, delivery_view};
+ghost use Rattle.plain_stores.specs.world_state.Good.{IsGoodWorld};
+ghost use Rattle.plain_stores.specs.world_state.Worlds.{in_front};
 ghost use Rattle.front_turns.specs.Turning.{front};
 
-use host_world::World;
+use delivery_tasks::endings::ending;
+use plain_stores::turn_records_lib::deliveries::Delivery;
+use plain_stores::turn_records_lib::events::Answer;
 use std::alloc::{AllocError, Global};
-use turn_endings::endings::ending;
-use turn_events::deliveries::Delivery;
-use turn_events::events::Answer;
 use world_effects::carry_out;
+use world_reads::host_world_lib::World;
 
 /// The delivery that the turn is about.
 #[tactic(auto, using(plain_stores::proofs::Front::front_view))]

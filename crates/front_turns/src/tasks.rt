@@ -1,35 +1,35 @@
 //! The work on a delivery's task: effects are carried out, a call is served, a function is run.
 
 ghost use Rattle.std.specs.Prelude.{◌≡◌, ◌<◌, IfOk, OnOk, length};
-ghost use Rattle.call_plans.specs.Lists.{IsEachShaped, effects_view};
-ghost use Rattle.call_plans.specs.Plans.{Plans};
-ghost use Rattle.call_rows.specs.Rows.{Outcome};
-ghost use Rattle.carried_effects.specs.Carried.{AreCarried, IsInTurn};
+ghost use Rattle.world_reads.specs.call_plans.Lists.{IsEachShaped, effects_view};
+ghost use Rattle.world_reads.specs.call_plans.Plans.{Plans};
+ghost use Rattle.contract_texts.specs.rules.Rows.{Outcome};
+ghost use Rattle.world_effects.specs.Carried.{AreCarried, IsInTurn};
 ghost use Rattle.contract_texts.specs.Reader.{reader};
 ghost use Rattle.delivery_tasks.specs.Views.{IsTaskShaped, function_call_view, task_view};
-ghost use Rattle.delivery_turns.specs.HostCalls.{effects_of};
-ghost use Rattle.delivery_turns.specs.Tasks.{halt_with, row_work, run};
-ghost use Rattle.host_world.specs.Worlds.{IsUndoable, world_at_start, world_now, world_of};
-ghost use Rattle.jessie_tree.specs.View.{trees};
-ghost use Rattle.turn_rows.specs.Causes as causes;
-ghost use Rattle.vault_rights.specs.Drafts.{HandGoes, IsClean};
-ghost use Rattle.world_state.specs.Good.{AreGood, IsGoodWorld};
-ghost use Rattle.zoe_rows.specs.Host.{serve};
+ghost use Rattle.delivery_tasks.specs.delivery_turns.HostCalls.{effects_of};
+ghost use Rattle.delivery_tasks.specs.delivery_turns.Tasks.{halt_with, row_work, run};
+ghost use Rattle.world_reads.specs.host_world.Worlds.{IsUndoable, world_at_start, world_now, world_of};
+ghost use Rattle.delivery_tasks.specs.host_data.View.{trees};
+ghost use Rattle.plain_stores.specs.turn_rows.Causes as causes;
+ghost use Rattle.world_reads.specs.vault.Drafts.{HandGoes, IsClean};
+ghost use Rattle.plain_stores.specs.world_state.Good.{AreGood, IsGoodWorld};
+ghost use Rattle.contract_texts.specs.rules.Host.{serve};
 ghost use Rattle.front_turns.specs.There.{IsCallable, IsServed, IsThere};
 ghost use Rattle.front_turns.specs.Turning.{IsBegun, IsDone, work_of};
 
 use crate::works::{Ran, Works};
-use call_plans::lists::Effects;
-use call_plans::plans::Plan;
+use delivery_tasks::host_data_lib::data::{Data, Obj};
+use delivery_tasks::open_seats::halt_with;
 use delivery_tasks::tasks::{FunctionCall, Task};
-use host_text::text::Text;
-use host_world::World;
-use jessie_tree::data::{Data, Obj};
-use open_seats::halt_with;
-use refusals::stops::Stop;
+use jessie_interpreter::host_text_lib::text::Text;
+use plain_stores::turn_records_lib::events::{Answer, Cause};
 use std::alloc::{AllocError, Global};
-use turn_events::events::{Answer, Cause};
 use world_effects::carry_out;
+use world_reads::call_plans_lib::lists::Effects;
+use world_reads::call_plans_lib::plans::Plan;
+use world_reads::host_world_lib::World;
+use world_reads::refusals_lib::stops::Stop;
 
 /// Effects are carried out, and then it is answered.
 fn carried(

@@ -2,9 +2,9 @@
 
 ghost use Rattle.std.specs.Prelude.{◌≡◌, ◌<◌, IfOk, IfSome, length};
 ghost use Rattle.delivery_tasks.specs.Views.{IsTaskShaped, beginning_view};
-ghost use Rattle.delivery_turns.specs.Tasks.{beginning};
-ghost use Rattle.host_world.specs.Worlds.{IsUndoable, world_now, world_of};
-ghost use Rattle.world_state.specs.Good.{IsGoodWorld};
+ghost use Rattle.delivery_tasks.specs.delivery_turns.Tasks.{beginning};
+ghost use Rattle.world_reads.specs.host_world.Worlds.{IsUndoable, world_now, world_of};
+ghost use Rattle.plain_stores.specs.world_state.Good.{IsGoodWorld};
 ghost use Rattle.front_turns.specs.Turning.{IsBegun, IsDelivered, front};
 
 use crate::ends::{carry_end, front};
@@ -12,10 +12,10 @@ use crate::tasks::worked;
 use crate::works::Works;
 use delivery_tasks::beginnings::delivery_beginning;
 use delivery_tasks::tasks::Beginning;
-use host_world::World;
+use plain_stores::turn_records_lib::deliveries::Reading;
+use plain_stores::turn_records_lib::events::Answer;
 use std::alloc::{AllocError, Global};
-use turn_events::deliveries::Reading;
-use turn_events::events::Answer;
+use world_reads::host_world_lib::World;
 
 /// What was read for a delivery, and what it is answered.
 #[derive(Drop)]

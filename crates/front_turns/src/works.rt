@@ -1,29 +1,29 @@
 //! What the work on a delivery asks of the rows of the host's own objects and of the evaluator.
 
 ghost use Rattle.std.specs.Prelude.{◌<◌, ◌≤◌, ◌*◌, ◌^◌, IfOk, length};
-ghost use Rattle.call_plans.specs.Plans.{Plans};
-ghost use Rattle.call_words.specs.Handed.{AreHanded};
-ghost use Rattle.carried_effects.specs.Carried.{IsInTurn};
+ghost use Rattle.world_reads.specs.call_plans.Plans.{Plans};
+ghost use Rattle.world_reads.specs.Handed.{AreHanded};
+ghost use Rattle.world_effects.specs.Carried.{IsInTurn};
 ghost use Rattle.contract_texts.specs.Reader.{reader};
-ghost use Rattle.delivery_laws.specs.Works.{most_meter};
+ghost use Rattle.fair_laws.specs.delivery_laws.Works.{most_meter};
 ghost use Rattle.delivery_tasks.specs.Views.{function_call_view};
-ghost use Rattle.host_world.specs.Worlds.{IsUndoable, world_of};
-ghost use Rattle.jessie_semantics.specs.Keeping.{AllHave};
-ghost use Rattle.jessie_tree.specs.View.{trees};
-ghost use Rattle.vault_rights.specs.Drafts.{IsClean};
-ghost use Rattle.world_state.specs.Good.{IsGoodWorld};
-ghost use Rattle.world_state.specs.Known.{IsKnownTo, IsMade};
-ghost use Rattle.world_state.specs.Rights.{IsRoomy};
-ghost use Rattle.zoe_rows.specs.Host.{serve};
+ghost use Rattle.world_reads.specs.host_world.Worlds.{IsUndoable, world_of};
+ghost use Rattle.jessie_interpreter.specs.jessie_semantics.Keeping.{AllHave};
+ghost use Rattle.delivery_tasks.specs.host_data.View.{trees};
+ghost use Rattle.world_reads.specs.vault.Drafts.{IsClean};
+ghost use Rattle.plain_stores.specs.world_state.Good.{IsGoodWorld};
+ghost use Rattle.plain_stores.specs.world_state.Known.{IsKnownTo, IsMade};
+ghost use Rattle.plain_stores.specs.world_state.Rights.{IsRoomy};
+ghost use Rattle.contract_texts.specs.rules.Host.{serve};
 ghost use Rattle.front_turns.specs.Ran.{HasRun};
 
-use call_plans::plans::Plan;
+use delivery_tasks::host_data_lib::data::{Data, Obj};
 use delivery_tasks::tasks::FunctionCall;
-use host_world::World;
-use jessie_tree::data::{Data, Obj};
-use refusals::stops::Stop;
+use plain_stores::turn_records_lib::events::Answer;
 use std::alloc::{AllocError, Global};
-use turn_events::events::Answer;
+use world_reads::call_plans_lib::plans::Plan;
+use world_reads::host_world_lib::World;
+use world_reads::refusals_lib::stops::Stop;
 
 /// What running a function came to.
 #[derive(Drop)]

@@ -1,6 +1,5 @@
-//! Bytes that come in and go out. A source and a sink count their faults, and tell their bytes where these
-//! are known. It stands on nothing but std. Its one contract: what is read and written is told exactly, and
-//! an answer that something failed comes only where a count rose.
+//! Bytes that come in and go out: what is read and written is told exactly, and an answer that
+//! something failed comes only where a count of faults rose.
 #![tactic(auto)]
 
 ghost use Rattle.std.specs.Prelude.{◌≡◌, ℕ, ◌^◌, ◌<◌, ◌≤◌, List, length, IfOk, OnOk, OnErr, IfSome, IsErrOf};

@@ -1,7 +1,5 @@
-//! Texts of the host: owned text, keywords, labels, names of fields, and numbers in decimal.
-//!
-//! It stands on std and itoa. Its one contract: a text is read exactly where it has the form, and what
-//! was read is seen as its bytes or its number.
+//! Texts of the host (owned text, keywords, labels, names of fields, numbers in decimal): a text is
+//! read exactly where it has the form, and what was read is seen as its bytes or its number.
 #![tactic(auto)]
 
 pub mod keyword;

@@ -1,39 +1,39 @@
 -- The end of a turn: what is kept of it is the host after its step; what is undone leaves the host as it was.
 use Rattle.std.specs.Prelude.{IfSome}
 use Rattle.std.proofs.Common.{◌≡◌, ℕ, ◌+◌, ◌<◌, List, [], ◌∷◌, ◌++◌, Option, Some, None, length, map, refl, sym, ap, subst, ◌∙◌, append_assoc}
-use Rattle.carried_effects.specs.Carried.{AreCarried}
-use Rattle.contract_row_laws.proofs.Calls.{calls_are}
-use Rattle.contract_texts.specs.Reader.{reader}
-use Rattle.contract_texts.proofs.Modules.{reads_modules}
-use Rattle.delivery_laws.specs.Hosts.{IsGoodHost}
-use Rattle.delivery_laws.proofs.Hosts.{steps_good}
-use Rattle.delivery_laws.proofs.Runs.{after_both}
-use Rattle.delivery_turns.specs.Endings.{binds, departs, ending, publishes, settles}
-use Rattle.delivery_turns.specs.Hosts.{Step, step_after, step_from, step_of, sums_of, untold}
-use Rattle.delivery_turns.specs.Tasks.{beginning, task_work}
-use Rattle.delivery_turns.specs.Turns.{DeliveryTurn, delivery_turn}
-use Rattle.fair_deliveries.specs.Turns.{IsTurnStep}
-use Rattle.fair_deliveries.proofs.Whole.{steps_are}
-use Rattle.fair_steps.specs.Views.{IsSteady}
-use Rattle.front_laws.proofs.Fronts.{effects_pass}
-use Rattle.host_world.specs.Turns.{IsBetween, ended}
-use Rattle.host_world.specs.Worlds.{kept_state, vault_state, world_at_start, world_now, world_of}
-use Rattle.host_world.specs.declared.KeptWorld.{KeptWorld}
-use Rattle.host_world.specs.declared.World.{World}
-use Rattle.plain_stores.specs.Plain.{front_of, turn_ended}
-use Rattle.plain_stores.specs.Stores.{plain_at_start, plain_now}
-use Rattle.proposals.specs.declared.allocations.Row.{Row}
-use Rattle.rights_model.specs.declared.Sum.{Sum}
-use Rattle.service_row_laws.proofs.Services.{services_are}
-use Rattle.shown_reads.proofs.Held.{calls_read, services_read}
-use Rattle.turn_answers.specs.Settlements.{settled_after}
-use Rattle.turn_events.specs.Views.{turn_view}
-use Rattle.turn_events.specs.declared.turns.TurnRecord.{TurnRecord}
-use Rattle.turn_records.specs.Deliveries.{Delivery, Reading, promise_of}
-use Rattle.turn_records.specs.Events.{Answer, moves_in}
-use Rattle.turn_sums.specs.Telling.{TellsWorld}
-use Rattle.world_state.specs.Rights.{most_turns}
-use Rattle.world_state.specs.Worlds.{Effect, State, after, after_all, behind, end_staging, in_front, no_rows}
+use Rattle.world_effects.specs.Carried.{AreCarried}
+use Rattle.top_call.proofs.row_laws.Calls.{calls_are}
+use Rattle.top_call.specs.contract_texts.Reader.{reader}
+use Rattle.top_call.proofs.contract_texts.Modules.{reads_modules}
+use Rattle.top_call.specs.delivery_laws.Hosts.{IsGoodHost}
+use Rattle.top_call.proofs.delivery_laws.Hosts.{steps_good}
+use Rattle.top_call.proofs.delivery_laws.Runs.{after_both}
+use Rattle.top_call.specs.delivery_turns.Endings.{binds, departs, ending, publishes, settles}
+use Rattle.top_call.specs.delivery_turns.Hosts.{Step, step_after, step_from, step_of, sums_of, untold}
+use Rattle.top_call.specs.delivery_turns.Tasks.{beginning, task_work}
+use Rattle.top_call.specs.delivery_turns.Turns.{DeliveryTurn, delivery_turn}
+use Rattle.top_call.specs.fair_laws.Turns.{IsTurnStep}
+use Rattle.top_call.proofs.fair_laws.Whole.{steps_are}
+use Rattle.top_call.specs.fair_laws.Views.{IsSteady}
+use Rattle.world_effects.proofs.world_laws.FrontDeliveries.{effects_pass}
+use Rattle.world_effects.specs.host_world.Turns.{IsBetween, ended}
+use Rattle.world_effects.specs.host_world.Worlds.{kept_state, vault_state, world_at_start, world_now, world_of}
+use Rattle.world_effects.specs.host_world.declared.KeptWorld.{KeptWorld}
+use Rattle.world_effects.specs.host_world.declared.World.{World}
+use Rattle.world_effects.specs.plain_stores.Plain.{front_of, turn_ended}
+use Rattle.world_effects.specs.plain_stores.Stores.{plain_at_start, plain_now}
+use Rattle.world_effects.specs.proposals.declared.allocations.Row.{Row}
+use Rattle.world_effects.specs.rights_model.declared.Sum.{Sum}
+use Rattle.top_call.proofs.row_laws.Services.{services_are}
+use Rattle.top_call.proofs.fair_laws.HeldReads.{calls_read, services_read}
+use Rattle.world_effects.specs.turn_records.Settlements.{settled_after}
+use Rattle.world_effects.specs.turn_records.Views.{turn_view}
+use Rattle.world_effects.specs.turn_records.declared.turns.TurnRecord.{TurnRecord}
+use Rattle.world_effects.specs.turn_records.Deliveries.{Delivery, Reading, promise_of}
+use Rattle.world_effects.specs.turn_records.Events.{Answer, moves_in}
+use Rattle.host_turns.specs.Telling.{TellsWorld}
+use Rattle.world_effects.specs.world_state.Rights.{most_turns}
+use Rattle.world_effects.specs.world_state.Worlds.{Effect, State, after, after_all, behind, end_staging, in_front, no_rows}
 use Rattle.host_turns.specs.Delivered.{turn_in}
 use Rattle.host_turns.specs.Kept.{IsKept, host_of}
 use Rattle.host_turns.specs.Made.{IsAsBefore, IsMade, parts}

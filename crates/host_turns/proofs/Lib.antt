@@ -1,3 +1,6 @@
+pub mod Steps
+pub mod SummedTurns
+pub mod Seated
 pub mod Stored
 pub mod Underway
 pub mod Ended

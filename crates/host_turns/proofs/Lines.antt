@@ -2,26 +2,26 @@
 use Rattle.std.specs.Prelude.{IsSomeAnd, OnErr, OnOk, Result, Ok, Err}
 use Rattle.std.proofs.Common.{◌≡◌, ℕ, ◌≤◌, List, Option, Some, refl, sym, ap, subst, ◌∙◌}
 use Rattle.std.specs.declared.alloc.AllocError.{AllocError}
-use Rattle.delivery_laws.specs.Hosts.{IsGoodHost}
-use Rattle.delivery_laws.specs.Works.{most_meter}
-use Rattle.fair_deliveries.proofs.Fair.{steady_first}
-use Rattle.fair_steps.specs.Views.{IsSteady}
-use Rattle.host_world.specs.Turns.{IsBetween, arrived}
-use Rattle.host_world.specs.Worlds.{kept_state}
-use Rattle.host_world.specs.declared.KeptWorld.{KeptWorld}
-use Rattle.input_runs.specs.Steps.{IsSubmitted, Waits}
-use Rattle.input_runs.specs.declared.hosts.Submitted.{Submitted}
-use Rattle.input_runs.specs.declared.hosts.Submitted.TheVariants as submitted
-use Rattle.line_laws.proofs.FormedLines.{line_is_line}
-use Rattle.message_lines.specs.Meanings.{Meaning, blank, delivered, meaning_of, run}
-use Rattle.turn_records.specs.Deliveries.{Delivery}
-use Rattle.turn_sums.specs.Telling.{TellsWorld}
-use Rattle.turn_sums.proofs.Seated.{first_told}
-use Rattle.escrow.specs.Told.{nothing_told}
-use Rattle.world_laws.specs.First.{first_world}
-use Rattle.world_laws.proofs.First.{first_is_good, first_is_roomy}
-use Rattle.world_laws.proofs.Kept.{good-after}
-use Rattle.world_state.specs.Worlds.{State, arrive}
+use Rattle.top_call.specs.delivery_laws.Hosts.{IsGoodHost}
+use Rattle.top_call.specs.delivery_laws.Works.{most_meter}
+use Rattle.top_call.proofs.fair_laws.Fair.{steady_first}
+use Rattle.top_call.specs.fair_laws.Views.{IsSteady}
+use Rattle.world_effects.specs.host_world.Turns.{IsBetween, arrived}
+use Rattle.world_effects.specs.host_world.Worlds.{kept_state}
+use Rattle.world_effects.specs.host_world.declared.KeptWorld.{KeptWorld}
+use Rattle.top_call.specs.Steps.{IsSubmitted, Waits}
+use Rattle.top_call.specs.declared.hosts.Submitted.{Submitted}
+use Rattle.top_call.specs.declared.hosts.Submitted.TheVariants as submitted
+use Rattle.top_call.proofs.run_laws.FormedLines.{line_is_line}
+use Rattle.top_call.specs.message_lines.Meanings.{Meaning, blank, delivered, meaning_of, run}
+use Rattle.world_effects.specs.turn_records.Deliveries.{Delivery}
+use Rattle.host_turns.specs.Telling.{TellsWorld}
+use Rattle.host_turns.proofs.Seated.{first_told}
+use Rattle.world_effects.specs.escrow.Told.{nothing_told}
+use Rattle.world_effects.specs.world_laws.First.{first_world}
+use Rattle.world_effects.proofs.world_laws.First.{first_is_good, first_is_roomy}
+use Rattle.world_effects.proofs.world_laws.Kept.{good-after}
+use Rattle.world_effects.specs.world_state.Worlds.{State, arrive}
 use Rattle.host_turns.specs.Kept.{HostParts, IsArrived, IsKept, IsRested, host_of, world_kept}
 use Rattle.host_turns.specs.Made.{parts}
 use Rattle.host_turns.specs.Taken.{IsTaken}

@@ -1,27 +1,27 @@
 -- What a step of a host is, and that turns stay fair with it.
 use Rattle.std.specs.Prelude.{IfSome}
 use Rattle.std.proofs.Common.{◌≡◌, ◌+◌, ◌<◌, List, [], ◌∷◌, length, Option, Some, None, refl, sym, subst, arith}
-use Rattle.contract_row_laws.proofs.Calls.{calls_are}
-use Rattle.contract_texts.specs.Reader.{reader}
-use Rattle.contract_texts.proofs.Modules.{reads_modules}
-use Rattle.delivery_turns.specs.Hosts.{HostState, Step, step_from, step_of}
-use Rattle.fair_deliveries.specs.Turns.{StaysFair}
-use Rattle.fair_deliveries.proofs.Fair.{stay_fair}
-use Rattle.fair_deliveries.proofs.Whole.{steps_are}
-use Rattle.fair_rows.specs.SoFar.{nothing_so_far}
-use Rattle.fair_rows.specs.Steps.{Leaves, so_far_after}
-use Rattle.fair_rows.specs.Turns.{AreFair}
-use Rattle.fair_steps.specs.Views.{world_of}
-use Rattle.host_world.specs.declared.KeptWorld.{KeptWorld}
-use Rattle.service_row_laws.proofs.Services.{services_are}
-use Rattle.shown_reads.proofs.Held.{calls_read, services_read}
-use Rattle.supply_laws.specs.Steps.{IsCalledFor}
-use Rattle.supply_laws.proofs.Hosts.{steps_mint}
-use Rattle.turn_events.specs.Views.{turn_view}
-use Rattle.turn_events.specs.declared.turns.TurnRecord.{TurnRecord}
-use Rattle.turn_records.specs.Deliveries.{Delivery}
-use Rattle.turn_rows.specs.Turns.{Turn}
-use Rattle.world_state.specs.Rights.{most_turns}
+use Rattle.top_call.proofs.row_laws.Calls.{calls_are}
+use Rattle.top_call.specs.contract_texts.Reader.{reader}
+use Rattle.top_call.proofs.contract_texts.Modules.{reads_modules}
+use Rattle.top_call.specs.delivery_turns.Hosts.{HostState, Step, step_from, step_of}
+use Rattle.top_call.specs.fair_laws.Turns.{StaysFair}
+use Rattle.top_call.proofs.fair_laws.Fair.{stay_fair}
+use Rattle.top_call.proofs.fair_laws.Whole.{steps_are}
+use Rattle.top_call.specs.fair_rows.SoFar.{nothing_so_far}
+use Rattle.top_call.specs.fair_rows.Steps.{Leaves, so_far_after}
+use Rattle.top_call.specs.fair_rows.Turns.{AreFair}
+use Rattle.top_call.specs.fair_laws.Views.{world_of}
+use Rattle.world_effects.specs.host_world.declared.KeptWorld.{KeptWorld}
+use Rattle.top_call.proofs.row_laws.Services.{services_are}
+use Rattle.top_call.proofs.fair_laws.HeldReads.{calls_read, services_read}
+use Rattle.top_call.specs.run_laws.Steps.{IsCalledFor}
+use Rattle.top_call.proofs.run_laws.Hosts.{steps_mint}
+use Rattle.world_effects.specs.turn_records.Views.{turn_view}
+use Rattle.world_effects.specs.turn_records.declared.turns.TurnRecord.{TurnRecord}
+use Rattle.world_effects.specs.turn_records.Deliveries.{Delivery}
+use Rattle.world_effects.specs.turn_rows.Turns.{Turn}
+use Rattle.world_effects.specs.world_state.Rights.{most_turns}
 use Rattle.host_turns.specs.Kept.{HostParts, IsKept, host_of}
 use Rattle.host_turns.specs.Made.{IsMade, IsTurned}
 

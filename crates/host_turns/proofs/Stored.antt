@@ -1,35 +1,35 @@
 -- What the turn of a delivery moves is to or from what is stored, so that it can be told to the running totals.
 use Rattle.std.specs.Prelude.{◌≡◌, ◌≤◌, ℕ, List, []}
 use Rattle.std.proofs.Common.{arith}
-use Rattle.contract_row_laws.proofs.Calls.{calls_are}
-use Rattle.contract_texts.specs.Reader.{reader}
-use Rattle.contract_texts.proofs.Modules.{reads_modules}
-use Rattle.delivery_laws.specs.Works.{IsTurnWork, most_meter}
-use Rattle.delivery_laws.proofs.Ends.{ending_good}
-use Rattle.delivery_laws.proofs.Hosts.{turn_issues}
-use Rattle.delivery_laws.proofs.Works.{turn_good, work_is}
-use Rattle.delivery_turns.specs.Endings.{ending}
-use Rattle.delivery_turns.specs.Tasks.{beginning, task_work}
-use Rattle.delivery_turns.specs.Turns.{delivery_turn}
-use Rattle.fair_deliveries.proofs.Ends.{ending_fit, turn_with}
-use Rattle.fair_deliveries.proofs.Works.{Turns, turns_of}
-use Rattle.fair_effects.specs.Accounts.{AreStoredEffects}
-use Rattle.fair_rows.specs.ExitCauses.{Owners, instance_of}
-use Rattle.fair_steps.specs.Views.{IsSteady, owners_told}
-use Rattle.fair_steps.proofs.Holding.{Shows, fit_all, row_of, stored_both}
-use Rattle.service_row_laws.proofs.Services.{services_are}
-use Rattle.shown_reads.proofs.Held.{calls_read, services_read}
-use Rattle.turn_records.specs.Deliveries.{Delivery, Reading}
-use Rattle.turn_records.specs.Events.{Answer}
-use Rattle.turn_rows.specs.Turns.{Turn}
-use Rattle.turn_sums.specs.Telling.{IsTurn, TellsWorld, instances_of}
-use Rattle.turn_sums.proofs.Seated.{log_told}
-use Rattle.escrow.specs.Told.{EscrowState}
-use Rattle.world_laws.proofs.Fronts.{good_behind}
-use Rattle.world_laws.proofs.Roomy.{roomy-after_all}
-use Rattle.world_state.specs.Good.{AreGood, IsGoodWorld}
-use Rattle.world_state.specs.Rights.{IsRoomy, most_issued}
-use Rattle.world_state.specs.Worlds.{Effect, State, after_all, in_front}
+use Rattle.top_call.proofs.row_laws.Calls.{calls_are}
+use Rattle.top_call.specs.contract_texts.Reader.{reader}
+use Rattle.top_call.proofs.contract_texts.Modules.{reads_modules}
+use Rattle.top_call.specs.delivery_laws.Works.{IsTurnWork, most_meter}
+use Rattle.top_call.proofs.delivery_laws.Ends.{ending_good}
+use Rattle.top_call.proofs.delivery_laws.Hosts.{turn_issues}
+use Rattle.top_call.proofs.delivery_laws.Works.{turn_good, work_is}
+use Rattle.top_call.specs.delivery_turns.Endings.{ending}
+use Rattle.top_call.specs.delivery_turns.Tasks.{beginning, task_work}
+use Rattle.top_call.specs.delivery_turns.Turns.{delivery_turn}
+use Rattle.top_call.proofs.fair_laws.Ends.{ending_fit, turn_with}
+use Rattle.top_call.proofs.fair_laws.Works.{Turns, turns_of}
+use Rattle.top_call.specs.fair_laws.Accounts.{AreStoredEffects}
+use Rattle.top_call.specs.fair_rows.ExitCauses.{Owners, instance_of}
+use Rattle.top_call.specs.fair_laws.Views.{IsSteady, owners_told}
+use Rattle.top_call.proofs.fair_laws.Holding.{Shows, fit_all, row_of, stored_both}
+use Rattle.top_call.proofs.row_laws.Services.{services_are}
+use Rattle.top_call.proofs.fair_laws.HeldReads.{calls_read, services_read}
+use Rattle.world_effects.specs.turn_records.Deliveries.{Delivery, Reading}
+use Rattle.world_effects.specs.turn_records.Events.{Answer}
+use Rattle.world_effects.specs.turn_rows.Turns.{Turn}
+use Rattle.host_turns.specs.Telling.{IsTurn, TellsWorld, instances_of}
+use Rattle.host_turns.proofs.Seated.{log_told}
+use Rattle.world_effects.specs.escrow.Told.{EscrowState}
+use Rattle.world_effects.proofs.world_laws.Fronts.{good_behind}
+use Rattle.world_effects.proofs.world_laws.Roomy.{roomy-after_all}
+use Rattle.world_effects.specs.world_state.Good.{AreGood, IsGoodWorld}
+use Rattle.world_effects.specs.world_state.Rights.{IsRoomy, most_issued}
+use Rattle.world_effects.specs.world_state.Worlds.{Effect, State, after_all, in_front}
 
 module _ (meter : ℕ) (few : meter ≤ most_meter) (w : State) (d : Delivery) (good : IsGoodWorld (in_front d w)) (room : IsRoomy w.rights.out most_issued) where
   abbrev effects : List Effect

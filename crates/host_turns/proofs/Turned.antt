@@ -1,19 +1,19 @@
 -- A turn from its beginning to its end: it is the step of the host, or all is as before.
 use Rattle.std.proofs.Common.{◌≡◌, ℕ, ◌+◌, ◌<◌, ◌++◌, List, Option, Some, None, length, refl, sym, ap, subst, ◌∙◌}
-use Rattle.delivery_turns.specs.Hosts.{sums_of}
-use Rattle.host_world.specs.Turns.{IsBetween, ended}
-use Rattle.host_world.specs.Worlds.{IsUndoable, kept_state, world_at_start, world_now, world_of}
-use Rattle.host_world.specs.declared.KeptWorld.{KeptWorld}
-use Rattle.host_world.specs.declared.World.{World}
-use Rattle.plain_stores.specs.Plain.{turn_ended}
-use Rattle.plain_stores.specs.Stores.{plain_now}
-use Rattle.rights_model.specs.declared.Sum.{Sum}
-use Rattle.turn_events.specs.Views.{answer_view, reading_view, turn_view}
-use Rattle.turn_events.specs.declared.turns.TurnRecord.{TurnRecord}
-use Rattle.turn_records.specs.Events.{Event, moves_in}
-use Rattle.turn_sums.specs.Telling.{IsTurn, Tells, instances_in, instances_of}
-use Rattle.escrow.specs.Told.{EscrowState}
-use Rattle.world_state.specs.Rights.{Rights, most_turns}
+use Rattle.top_call.specs.delivery_turns.Hosts.{sums_of}
+use Rattle.world_effects.specs.host_world.Turns.{IsBetween, ended}
+use Rattle.world_effects.specs.host_world.Worlds.{IsUndoable, kept_state, world_at_start, world_now, world_of}
+use Rattle.world_effects.specs.host_world.declared.KeptWorld.{KeptWorld}
+use Rattle.world_effects.specs.host_world.declared.World.{World}
+use Rattle.world_effects.specs.plain_stores.Plain.{turn_ended}
+use Rattle.world_effects.specs.plain_stores.Stores.{plain_now}
+use Rattle.world_effects.specs.rights_model.declared.Sum.{Sum}
+use Rattle.world_effects.specs.turn_records.Views.{answer_view, reading_view, turn_view}
+use Rattle.world_effects.specs.turn_records.declared.turns.TurnRecord.{TurnRecord}
+use Rattle.world_effects.specs.turn_records.Events.{Event, moves_in}
+use Rattle.host_turns.specs.Telling.{IsTurn, Tells, instances_in, instances_of}
+use Rattle.world_effects.specs.escrow.Told.{EscrowState}
+use Rattle.world_effects.specs.world_state.Rights.{Rights, most_turns}
 use Rattle.host_turns.specs.Delivered.{IsDelivered}
 use Rattle.host_turns.specs.Ending.{IsEnded, IsEnding}
 use Rattle.host_turns.specs.Kept.{IsKept}

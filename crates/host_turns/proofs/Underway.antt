@@ -1,23 +1,23 @@
 -- A turn begins in a world that is ready for it, and is told to the running totals at its end.
 use Rattle.std.specs.Prelude.{IfSome, Option, Some}
 use Rattle.std.proofs.Common.{◌≡◌, ℕ, ◌<◌, List, [], ◌∷◌, ◌++◌, length, drop, refl, sym, ap, subst, ◌∙◌, arith}
-use Rattle.delivery_laws.proofs.Hosts.{host_room}
-use Rattle.draft_views.proofs.Undoing.{clean_goes}
-use Rattle.fair_steps.specs.Views.{IsSteady}
-use Rattle.host_world.specs.Worlds.{IsUndoable, kept_state, world_at_start, world_now, world_of}
-use Rattle.host_world.specs.declared.KeptWorld.{KeptWorld}
-use Rattle.host_world.specs.declared.World.{World}
-use Rattle.plain_stores.specs.Plain.{front_of}
-use Rattle.turn_records.specs.Deliveries.{Delivery}
-use Rattle.turn_records.specs.Events.{Event}
-use Rattle.turn_sums.specs.Telling.{IsTurn, Tells, TellsWorld, TurnOf, instances_in, instances_of}
-use Rattle.turn_sums.proofs.Seated.{seats_told}
-use Rattle.escrow.specs.Told.{EscrowState}
-use Rattle.vault_rights.specs.Drafts.{IsClean, IsValid}
-use Rattle.world_laws.proofs.Fronts.{begins, good_behind}
-use Rattle.world_state.specs.Good.{IsGoodWorld}
-use Rattle.world_state.specs.Rights.{IsRoomy, most_issued, most_turns}
-use Rattle.world_state.specs.Worlds.{State, after_all, behind, in_front}
+use Rattle.top_call.proofs.delivery_laws.Hosts.{host_room}
+use Rattle.world_effects.proofs.draft_reads.Undoing.{clean_goes}
+use Rattle.top_call.specs.fair_laws.Views.{IsSteady}
+use Rattle.world_effects.specs.host_world.Worlds.{IsUndoable, kept_state, world_at_start, world_now, world_of}
+use Rattle.world_effects.specs.host_world.declared.KeptWorld.{KeptWorld}
+use Rattle.world_effects.specs.host_world.declared.World.{World}
+use Rattle.world_effects.specs.plain_stores.Plain.{front_of}
+use Rattle.world_effects.specs.turn_records.Deliveries.{Delivery}
+use Rattle.world_effects.specs.turn_records.Events.{Event}
+use Rattle.host_turns.specs.Telling.{IsTurn, Tells, TellsWorld, TurnOf, instances_in, instances_of}
+use Rattle.host_turns.proofs.Seated.{seats_told}
+use Rattle.world_effects.specs.escrow.Told.{EscrowState}
+use Rattle.world_effects.specs.vault.Drafts.{IsClean, IsValid}
+use Rattle.world_effects.proofs.world_laws.Fronts.{begins, good_behind}
+use Rattle.world_effects.specs.world_state.Good.{IsGoodWorld}
+use Rattle.world_effects.specs.world_state.Rights.{IsRoomy, most_issued, most_turns}
+use Rattle.world_effects.specs.world_state.Worlds.{State, after_all, behind, in_front}
 use Rattle.host_turns.specs.Begun.{HasBegun}
 use Rattle.host_turns.specs.Delivered.{IsDelivered, turn_in}
 use Rattle.host_turns.specs.Kept.{IsKept, host_of}

@@ -1,13 +1,13 @@
 -- What the turn of a delivery comes to on the world of a turn.
 use Rattle.std.specs.Prelude.{◌≡◌, ℕ}
-use Rattle.carried_effects.specs.Carried.{AreCarried}
-use Rattle.contract_texts.specs.Reader.{reader}
-use Rattle.delivery_turns.specs.Turns.{DeliveryTurn, delivery_turn}
+use Rattle.world_effects.specs.Carried.{AreCarried}
+use Rattle.top_call.specs.contract_texts.Reader.{reader}
+use Rattle.top_call.specs.delivery_turns.Turns.{DeliveryTurn, delivery_turn}
 use Rattle.host_turns.specs.declared.deliveries.Delivered.{Delivered}
-use Rattle.host_world.specs.Worlds.{world_now, world_of}
-use Rattle.host_world.specs.declared.World.{World}
-use Rattle.plain_stores.specs.Plain.{front_of}
-use Rattle.turn_events.specs.Views.{answer_view, reading_view}
+use Rattle.world_effects.specs.host_world.Worlds.{world_now, world_of}
+use Rattle.world_effects.specs.host_world.declared.World.{World}
+use Rattle.world_effects.specs.plain_stores.Plain.{front_of}
+use Rattle.world_effects.specs.turn_records.Views.{answer_view, reading_view}
 
 -- the turn of the delivery in front, from the world behind it
 abbrev pub turn_in : ℕ → World → DeliveryTurn

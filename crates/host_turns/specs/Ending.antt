@@ -1,18 +1,18 @@
 -- A turn that has ended: it was told to the running totals, and is kept, or it is undone.
 use Rattle.std.specs.Prelude.{◌≡◌, ℕ, ◌++◌, List, Option, None, Some}
-use Rattle.delivery_turns.specs.Hosts.{sums_of}
-use Rattle.host_world.specs.Turns.{IsBetween, ended}
-use Rattle.host_world.specs.Worlds.{kept_state, world_at_start, world_now}
-use Rattle.host_world.specs.declared.KeptWorld.{KeptWorld}
-use Rattle.host_world.specs.declared.World.{World}
+use Rattle.top_call.specs.delivery_turns.Hosts.{sums_of}
+use Rattle.world_effects.specs.host_world.Turns.{IsBetween, ended}
+use Rattle.world_effects.specs.host_world.Worlds.{kept_state, world_at_start, world_now}
+use Rattle.world_effects.specs.host_world.declared.KeptWorld.{KeptWorld}
+use Rattle.world_effects.specs.host_world.declared.World.{World}
 use Rattle.host_turns.specs.declared.deliveries.Delivered.{Delivered}
-use Rattle.plain_stores.specs.Plain.{turn_ended}
-use Rattle.plain_stores.specs.Stores.{plain_now}
-use Rattle.turn_events.specs.Views.{answer_view, reading_view, turn_view}
-use Rattle.turn_events.specs.declared.turns.TurnRecord.{TurnRecord}
-use Rattle.turn_records.specs.Events.{moves_in}
-use Rattle.turn_sums.specs.Telling.{IsTurn, Tells, instances_in}
-use Rattle.world_state.specs.Rights.{Rights}
+use Rattle.world_effects.specs.plain_stores.Plain.{turn_ended}
+use Rattle.world_effects.specs.plain_stores.Stores.{plain_now}
+use Rattle.world_effects.specs.turn_records.Views.{answer_view, reading_view, turn_view}
+use Rattle.world_effects.specs.turn_records.declared.turns.TurnRecord.{TurnRecord}
+use Rattle.world_effects.specs.turn_records.Events.{moves_in}
+use Rattle.host_turns.specs.Telling.{IsTurn, Tells, instances_in}
+use Rattle.world_effects.specs.world_state.Rights.{Rights}
 
 -- what the turn did is kept; whatever rights it leads to, its sums are of these, and the totals tell them
 pub record IsEnding (number : ℕ) (w : World) (d : Delivered) (k : KeptWorld) (t : TurnRecord) : Type 0 where

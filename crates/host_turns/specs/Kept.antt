@@ -1,17 +1,17 @@
 -- What a host keeps between its calls, the state that it stands for, and what holds of it.
 use Rattle.std.specs.Prelude.{◌≡◌, ℕ, IsSomeAnd, Option, None, Some, refl}
 use Rattle.std.specs.Coded.{Coded, code_by, coded×, coded_option, coded_ℕ}
-use Rattle.delivery_laws.specs.Hosts.{IsGoodHost}
-use Rattle.delivery_turns.specs.Hosts.{HostState}
-use Rattle.fair_steps.specs.Views.{IsSteady}
-use Rattle.host_world.specs.Turns.{IsBetween, arrived}
-use Rattle.host_world.specs.Worlds.{kept_state}
-use Rattle.host_world.specs.contracts.KeptWorld as a_world
-use Rattle.host_world.specs.declared.KeptWorld.{KeptWorld}
-use Rattle.turn_records.specs.Deliveries.{Delivery}
-use Rattle.turn_sums.specs.Telling.{TellsWorld}
-use Rattle.world_laws.specs.First.{first_world}
-use Rattle.world_state.specs.Worlds.{State}
+use Rattle.top_call.specs.delivery_laws.Hosts.{IsGoodHost}
+use Rattle.top_call.specs.delivery_turns.Hosts.{HostState}
+use Rattle.top_call.specs.fair_laws.Views.{IsSteady}
+use Rattle.world_effects.specs.host_world.Turns.{IsBetween, arrived}
+use Rattle.world_effects.specs.host_world.Worlds.{kept_state}
+use Rattle.world_effects.specs.host_world.contracts.KeptWorld as a_world
+use Rattle.world_effects.specs.host_world.declared.KeptWorld.{KeptWorld}
+use Rattle.world_effects.specs.turn_records.Deliveries.{Delivery}
+use Rattle.host_turns.specs.Telling.{TellsWorld}
+use Rattle.world_effects.specs.world_laws.First.{first_world}
+use Rattle.world_effects.specs.world_state.Worlds.{State}
 
 -- the most that a function may cost, what lies between turns, and how many turns were run
 pub record HostParts : Type 0 where

@@ -1,11 +1,11 @@
 -- A turn that was made, from what lies between turns to what lies there then.
 use Rattle.std.specs.Prelude.{◌≡◌, ℕ, ◌+◌, Option, Some, None}
-use Rattle.contract_texts.specs.Reader.{reader}
-use Rattle.delivery_turns.specs.Hosts.{step_of}
+use Rattle.top_call.specs.contract_texts.Reader.{reader}
+use Rattle.top_call.specs.delivery_turns.Hosts.{step_of}
 use Rattle.host_turns.specs.Kept.{HostParts, IsKept, host_of, world_kept}
-use Rattle.host_world.specs.declared.KeptWorld.{KeptWorld}
-use Rattle.turn_events.specs.Views.{turn_view}
-use Rattle.turn_events.specs.declared.turns.TurnRecord.{TurnRecord}
+use Rattle.world_effects.specs.host_world.declared.KeptWorld.{KeptWorld}
+use Rattle.world_effects.specs.turn_records.Views.{turn_view}
+use Rattle.world_effects.specs.turn_records.declared.turns.TurnRecord.{TurnRecord}
 
 abbrev pub parts : ℕ → Option KeptWorld → ℕ → HostParts
 parts meter k turns = record { meter = meter; world = k; turns = turns }

@@ -2,10 +2,10 @@
 use Rattle.std.specs.Prelude.{◌≡◌, Option, Result, Ok, Err}
 use Rattle.std.specs.declared.alloc.AllocError.{AllocError}
 use Rattle.host_turns.specs.Kept.{IsArrived, world_kept}
-use Rattle.host_world.specs.declared.KeptWorld.{KeptWorld}
-use Rattle.input_runs.specs.declared.hosts.Submitted.{Submitted}
-use Rattle.input_runs.specs.declared.hosts.Submitted.TheVariants as submitted
-use Rattle.message_lines.specs.Meanings.{Meaning, blank, delivered, run}
+use Rattle.world_effects.specs.host_world.declared.KeptWorld.{KeptWorld}
+use Rattle.top_call.specs.declared.hosts.Submitted.{Submitted}
+use Rattle.top_call.specs.declared.hosts.Submitted.TheVariants as submitted
+use Rattle.top_call.specs.message_lines.Meanings.{Meaning, blank, delivered, run}
 
 -- the meaning is nothing, or a run, and all is as before
 pub record IsNoDelivery (old new : Option KeptWorld) (m n : Meaning) : Type 0 where

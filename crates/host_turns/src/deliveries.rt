@@ -3,12 +3,12 @@
 ghost use Rattle.std.specs.Prelude.{IfSome};
 ghost use Rattle.host_turns.specs.Begun.{HasBegun};
 ghost use Rattle.host_turns.specs.Delivered.{IsDelivered};
-ghost use Rattle.host_world.specs.Worlds.{IsUndoable};
+ghost use Rattle.world_effects.specs.host_world.Worlds.{IsUndoable};
 
-use host_world::World;
 use std::alloc::Global;
-use turn_events::deliveries::Reading;
-use turn_events::events::Answer;
+use world_effects::host_world_lib::World;
+use world_effects::turn_records_lib::deliveries::Reading;
+use world_effects::turn_records_lib::events::Answer;
 
 /// What was read for a delivery, and what its turn came to.
 #[derive(Drop)]

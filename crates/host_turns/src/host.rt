@@ -1,30 +1,30 @@
 //! The host between its calls.
 
 ghost use Rattle.std.specs.Prelude.{◌≡◌, ◌≤◌, IfOk, IfSome, IsSomeAnd, List, OnErr, OnOk, length};
-ghost use Rattle.fair_deliveries.specs.Turns.{StaysFair};
-ghost use Rattle.fair_rows.specs.SoFar.{nothing_so_far};
-ghost use Rattle.fair_rows.specs.Steps.{Leaves, so_far_after};
-ghost use Rattle.fair_rows.specs.Turns.{AreFair};
-ghost use Rattle.fair_steps.specs.Views.{world_of};
-ghost use Rattle.host_runs.specs.Runs.{first_host, most_meter};
+ghost use Rattle.top_call.specs.fair_laws.Turns.{StaysFair};
+ghost use Rattle.top_call.specs.fair_rows.SoFar.{nothing_so_far};
+ghost use Rattle.top_call.specs.fair_rows.Steps.{Leaves, so_far_after};
+ghost use Rattle.top_call.specs.fair_rows.Turns.{AreFair};
+ghost use Rattle.top_call.specs.fair_laws.Views.{world_of};
+ghost use Rattle.top_call.specs.run_laws.Runs.{first_host, most_meter};
 ghost use Rattle.host_turns.specs.Kept.{IsArrived, IsRested, world_kept};
 ghost use Rattle.host_turns.specs.Taken.{IsTaken};
-ghost use Rattle.input_runs.specs.Steps.{IsStep};
-ghost use Rattle.message_lines.specs.FormTables.{line_view};
-ghost use Rattle.supply_laws.specs.Steps.{IsCalledFor};
-ghost use Rattle.turn_events.specs.Views.{delivery_view, turn_view};
-ghost use Rattle.turn_rows.specs.Turns.{Turn};
-ghost use Rattle.world_state.specs.Good.{IsLine};
+ghost use Rattle.top_call.specs.Steps.{IsStep};
+ghost use Rattle.top_call.specs.message_lines.FormTables.{line_view};
+ghost use Rattle.top_call.specs.run_laws.Steps.{IsCalledFor};
+ghost use Rattle.world_effects.specs.turn_records.Views.{delivery_view, turn_view};
+ghost use Rattle.world_effects.specs.turn_rows.Turns.{Turn};
+ghost use Rattle.world_effects.specs.world_state.Good.{IsLine};
 
 use crate::deliveries::Deliveries;
 use crate::turns::run_turn;
-use host_world::KeptWorld;
-use input_runs::hosts::{HostSteps, StepFault, Submitted};
-use message_lines::messages::{Line, read_line};
 use std::alloc::{AllocError, Global};
 use std::marker::{Model, PhantomData};
-use turn_events::deliveries::Delivery;
-use turn_events::turns::TurnRecord;
+use top_call::hosts::{HostSteps, StepFault, Submitted};
+use top_call::message_lines_lib::messages::{Line, read_line};
+use world_effects::host_world_lib::KeptWorld;
+use world_effects::turn_records_lib::deliveries::Delivery;
+use world_effects::turn_records_lib::turns::TurnRecord;
 
 /// The most turns that a host runs.
 const MOST_TURNS: u32 = 4_000_000_000;

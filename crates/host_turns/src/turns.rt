@@ -4,16 +4,16 @@ ghost use Rattle.std.specs.Prelude.{◌<◌, Some, length};
 ghost use Rattle.host_turns.specs.Ending.{IsEnded};
 ghost use Rattle.host_turns.specs.Kept.{IsKept, world_kept};
 ghost use Rattle.host_turns.specs.Made.{IsTurned};
-ghost use Rattle.host_world.specs.Worlds.{kept_state, world_now};
-ghost use Rattle.turn_sums.specs.Telling.{TurnOf};
-ghost use Rattle.vault_rights.specs.Drafts.{HandGoes, IsClean};
-ghost use Rattle.world_state.specs.Rights.{most_turns};
+ghost use Rattle.world_effects.specs.host_world.Worlds.{kept_state, world_now};
+ghost use Rattle.host_turns.specs.Telling.{TurnOf};
+ghost use Rattle.world_effects.specs.vault.Drafts.{HandGoes, IsClean};
+ghost use Rattle.world_effects.specs.world_state.Rights.{most_turns};
 
 use crate::deliveries::{Delivered, Deliveries};
-use host_world::{KeptWorld, World};
+use crate::turn_sums::tell_turn;
 use std::alloc::Global;
-use turn_events::turns::TurnRecord;
-use turn_sums::tell_turn;
+use world_effects::host_world_lib::{KeptWorld, World};
+use world_effects::turn_records_lib::turns::TurnRecord;
 
 /// A turn is told to the running totals and kept, with its record. For want of memory it is undone.
 fn end_turn(

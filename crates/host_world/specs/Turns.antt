@@ -1,10 +1,10 @@
 -- The ends of turns, and what comes between them.
 use Rattle.std.specs.Prelude.{◌≡◌, [], ◌∷◌, ◌++◌, drop, map}
-use Rattle.amount_math.specs.declared.Kind.TheVariants.{Set}
+use Rattle.escrow.specs.amount_math.declared.Kind.TheVariants.{Set}
 use Rattle.plain_stores.specs.Stores.{plain_at_start, plain_now}
-use Rattle.right_steps.specs.Lists.{Lists, no_lists, with_new_brand}
-use Rattle.turn_records.specs.Deliveries.{Delivery}
-use Rattle.world_state.specs.Worlds.{State, no_rows}
+use Rattle.plain_stores.specs.right_steps.Lists.{Lists, no_lists, with_new_brand}
+use Rattle.plain_stores.specs.turn_records.Deliveries.{Delivery}
+use Rattle.plain_stores.specs.world_state.Worlds.{State, no_rows}
 use Rattle.host_world.specs.declared.KeptWorld.{KeptWorld}
 
 -- no turn is under way: what is now is what the next turn starts with, and nothing has happened

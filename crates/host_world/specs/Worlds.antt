@@ -1,12 +1,12 @@
 -- What the stores of a turn are: a state of the world.
 use Rattle.std.specs.Prelude.{◌≡◌, []}
-use Rattle.draft_views.specs.Views.{CanGoBack, rights_in, seats_in, staged_from, staging_in}
+use Rattle.draft_reads.specs.Views.{CanGoBack, rights_in, seats_in, staged_from, staging_in}
 use Rattle.plain_stores.specs.Plain.{PlainState}
 use Rattle.plain_stores.specs.Stores.{plain_at_start, plain_now}
-use Rattle.right_steps.specs.Lists.{Lists}
-use Rattle.rights_views.specs.Views.{rights_of, seats_of}
-use Rattle.state_parts.specs.Parts.{state_of}
-use Rattle.world_state.specs.Worlds.{State, behind}
+use Rattle.plain_stores.specs.right_steps.Lists.{Lists}
+use Rattle.draft_reads.specs.world_laws.Views.{rights_of, seats_of}
+use Rattle.host_world.specs.Parts.{state_of}
+use Rattle.plain_stores.specs.world_state.Worlds.{State, behind}
 use Rattle.host_world.specs.declared.KeptWorld.{KeptWorld}
 use Rattle.host_world.specs.declared.World.{World}
 

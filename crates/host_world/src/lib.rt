@@ -1,7 +1,5 @@
-//! The world of a turn: a draft of the vault's rights, the stores that touch no rights, and the running
-//! totals. It stands on these. Its one contract: what the world has (`world_now`) is kept at the turn's end,
-//! less the turn's delivery and what happened in it, or is as it was at the turn's start; neither takes
-//! memory.
+//! The world of a turn: a draft of the vault's rights, the stores that touch no rights and the
+//! running totals, kept together at the turn's end or as they were at its start, without memory.
 #![tactic(auto)]
 
 ghost use Rattle.std.specs.Prelude.{◌≡◌, ◌<◌, length, IfOk, OnErr, OnOk};
@@ -10,20 +8,23 @@ ghost use Rattle.host_world.specs.Turns.{IsBetween, arrived, ended, first_lists}
 ghost use Rattle.host_world.specs.Worlds.{IsUndoable, kept_state, world_at_start, world_now};
 ghost use Rattle.plain_stores.specs.Plain.{turn_ended};
 ghost use Rattle.plain_stores.specs.Stores.{plain_now};
-ghost use Rattle.turn_events.specs.Views.{answer_view, delivery_view, reading_view, turn_view};
-ghost use Rattle.vault_rights.specs.Drafts.{HandGoes, IsClean};
-ghost use Rattle.world_laws.specs.First.{first_world};
+ghost use Rattle.plain_stores.specs.turn_records.Views.{answer_view, delivery_view, reading_view, turn_view};
+ghost use Rattle.draft_reads.specs.vault.Drafts.{HandGoes, IsClean};
+ghost use Rattle.draft_reads.specs.world_laws.First.{first_world};
 
-use amount_math::Kind;
+pub use draft_reads as draft_reads_lib;
+pub use draft_reads::vault_lib;
+use draft_reads::vault_lib::draft::{Draft, Vault};
+pub use escrow as escrow_lib;
 use escrow::Escrow;
+use escrow::amount_math_lib::Kind;
 use plain_stores::PlainStores;
-use promise_table::waiting::queue_delivery;
-use rights_model::Sum;
+use plain_stores::promise_table::waiting::queue_delivery;
+use plain_stores::rights_model_lib::Sum;
+use plain_stores::turn_records_lib::deliveries::{Delivery, Reading};
+use plain_stores::turn_records_lib::events::Answer;
+use plain_stores::turn_records_lib::turns::TurnRecord;
 use std::alloc::{AllocError, Global};
-use turn_events::deliveries::{Delivery, Reading};
-use turn_events::events::Answer;
-use turn_events::turns::TurnRecord;
-use vault_rights::draft::{Draft, Vault};
 
 /// The world between turns. To let go of it is one call.
 pub struct KeptWorld {

@@ -1,19 +1,19 @@
 -- A list by its first item and the items after it; what stands between two brackets, up to the closing one;
 -- and one step more, whatever stands before the steps.
 use Rattle.std.proofs.Common.{◌≡◌, ℕ, Bool, true, false, if◌then◌else◌, List, [], ◌∷◌, ◌++◌, Result, Ok, Err, refl, sym, ap, subst, ◌∙◌}
-use Rattle.jessie_lexer.specs.declared.token.Kind.{Kind}
-use Rattle.jessie_lexer.specs.declared.token.Kind.TheVariants as k
-use Rattle.jessie_lexer.specs.declared.token.Token.{Token}
-use Rattle.jessie_lexer.specs.Tokens.{kind, has}
-use Rattle.jessie_scopes.specs.declared.event.Event.{Event}
-use Rattle.jessie_syntax.specs.declared.syntax.Expr.{Expr}
-use Rattle.jessie_syntax.specs.declared.syntax.Step.{Step}
-use Rattle.jessie_language.specs.declared.fault.ParseError.{ParseError}
-use Rattle.jessie_language.specs.declared.fault.ParseError.TheVariants as errors
-use Rattle.jessie_language.specs.Words.{Found, Stepped, more, step_more, ongoing}
-use Rattle.jessie_language.specs.Parse.{Parser, Fault, Outcome, Fails, Gives, and_then, ◌>>=◌, ◌>>◌, pure, loop, symbol, opening, bracketed}
-use Rattle.jessie_language.specs.Levels.{more_items}
-use Rattle.jessie_language.specs.Rules as rules
+use Rattle.jessie_grammar.specs.declared.jessie_lexer.token.Kind.{Kind}
+use Rattle.jessie_grammar.specs.declared.jessie_lexer.token.Kind.TheVariants as k
+use Rattle.jessie_grammar.specs.declared.jessie_lexer.token.Token.{Token}
+use Rattle.jessie_grammar.specs.Tokens.{kind, has}
+use Rattle.jessie_grammar.specs.declared.jessie_scopes.event.Event.{Event}
+use Rattle.jessie_grammar.specs.declared.syntax.Expr.{Expr}
+use Rattle.jessie_grammar.specs.declared.syntax.Step.{Step}
+use Rattle.jessie_grammar.specs.declared.jessie_language.fault.ParseError.{ParseError}
+use Rattle.jessie_grammar.specs.declared.jessie_language.fault.ParseError.TheVariants as errors
+use Rattle.jessie_grammar.specs.Words.{Found, Stepped, more, step_more, ongoing}
+use Rattle.jessie_grammar.specs.Parse.{Parser, Fault, Outcome, Fails, Gives, and_then, ◌>>=◌, ◌>>◌, pure, loop, symbol, opening, bracketed}
+use Rattle.jessie_grammar.specs.Levels.{more_items}
+use Rattle.jessie_grammar.specs.Rules as rules
 
 not_chosen : {B : Type 0} (p q : Outcome B) (b : Bool) → b ≡ false → (if b then p else q) ≡ q
 not_chosen p q true h = absurd (cc)

@@ -1,23 +1,23 @@
 // Expressions. Each function answers what it read, and the tokens after it; what the text does with
 // names goes behind the events. Each reads by the grammar's rule of its contract.
 ghost use Rattle.std.specs.Prelude.{ℕ, Bool, List, [], ◌∷◌, ◌≡◌, ◌⊎◌, ◌<◌, ◌≤◌, ◌+◌, true, length, IfOk, OnOk};
-ghost use Rattle.jessie_language.specs.Parse.{Gives, and_then, bracketed, one, pure, symbol};
-ghost use Rattle.jessie_language.specs.Levels.{level_at, level_ops, level_rest, level_tails, operands, more_items};
-ghost use Rattle.jessie_language.specs.Rules as rules;
-ghost use Rattle.jessie_language.specs.Words as words;
+ghost use Rattle.jessie_grammar.specs.Parse.{Gives, and_then, bracketed, one, pure, symbol};
+ghost use Rattle.jessie_grammar.specs.Levels.{level_at, level_ops, level_rest, level_tails, operands, more_items};
+ghost use Rattle.jessie_grammar.specs.Rules as rules;
+ghost use Rattle.jessie_grammar.specs.Words as words;
 
-use host_text::text::Text;
-use jessie_builders::deeds::{calls, fills, shortens, uses};
-use jessie_builders::expressions::{
+use jessie_grammar::host_text_lib::text::Text;
+use jessie_grammar::jessie_language::fault::ParseError;
+use jessie_grammar::jessie_lexer::token::{Kind, Token, peek};
+use jessie_grammar::jessie_scopes::event::Event;
+use jessie_grammar::syntax::{Expr, Operator, Step, Unary};
+use jessie_terminals::deeds::{calls, fills, shortens, uses};
+use jessie_terminals::expressions::{
     add_expression, add_field, add_field_step, add_index_step, add_method_step, add_operand,
     amount_expression, array_expression, call_expression, choice_expression, literal_expression,
     name_expression, record_expression, send_expression, unary_expression, with_operands,
     with_steps,
 };
-use jessie_language::fault::ParseError;
-use jessie_lexer::token::{Kind, Token, peek};
-use jessie_scopes::event::Event;
-use jessie_syntax::syntax::{Expr, Operator, Step, Unary};
 use jessie_terminals::kinds::{
     begins_bare, begins_step, is, is_free_word, is_literal, is_operator, is_sign, repeats,
 };
@@ -29,7 +29,7 @@ use std::alloc::{AllocError, Global};
 
 /// One expression more of a list, behind which more may follow.
 #[cycle(expression)]
-#[tactic(auto, using(jessie_language::proofs::Reading::inner_is))]
+#[tactic(auto, using(jessie_grammar::proofs::Reading::inner_is))]
 fn next_item<'a>(
     alloc: Global,
     tokens: &'a [Token],
@@ -98,7 +98,7 @@ fn later_items<'a>(
 
 /// The expressions of a list up to its closing bracket.
 #[cycle(expression)]
-#[tactic(auto, using(jessie_language::proofs::Reading::inner_is))]
+#[tactic(auto, using(jessie_grammar::proofs::Reading::inner_is))]
 fn items<'a>(
     alloc: Global,
     tokens: &'a [Token],
@@ -123,7 +123,7 @@ fn items<'a>(
 
 /// The expressions of a list between two brackets.
 #[cycle(expression)]
-#[tactic(auto, unfolding(jessie_language::specs::Parse::bracketed))]
+#[tactic(auto, unfolding(jessie_grammar::specs::Parse::bracketed))]
 fn enclosed<'a>(
     alloc: Global,
     tokens: &'a [Token],
@@ -146,7 +146,7 @@ fn enclosed<'a>(
 
 /// The arguments of a call, in parentheses.
 #[cycle(expression)]
-#[tactic(auto, unfolding(jessie_language::specs::Rules::args))]
+#[tactic(auto, unfolding(jessie_grammar::specs::Rules::args))]
 fn arguments<'a>(
     alloc: Global,
     tokens: &'a [Token],
@@ -197,7 +197,7 @@ fn array<'a>(
 
 /// The value of a field behind its name.
 #[cycle(expression)]
-#[tactic(auto, using(jessie_language::proofs::Reading::inner_is))]
+#[tactic(auto, using(jessie_grammar::proofs::Reading::inner_is))]
 fn own_value<'a>(
     alloc: Global,
     tokens: &'a [Token],
@@ -230,7 +230,7 @@ fn shorthand(
 
 /// A field of a record: its name, and its value or what the name stands for.
 #[cycle(expression)]
-#[tactic(auto, unfolding(jessie_language::specs::Rules::field))]
+#[tactic(auto, unfolding(jessie_grammar::specs::Rules::field))]
 fn field<'a>(
     alloc: Global,
     tokens: &'a [Token],
@@ -363,7 +363,7 @@ fn opened_fields<'a>(
 
 /// The fields of a record between its braces.
 #[cycle(expression)]
-#[tactic(auto, unfolding(jessie_language::specs::Parse::bracketed))]
+#[tactic(auto, unfolding(jessie_grammar::specs::Parse::bracketed))]
 fn enclosed_fields<'a>(
     alloc: Global,
     tokens: &'a [Token],
@@ -420,7 +420,7 @@ fn closed<'a>(
 /// An expression between these two brackets, the first of which must be among the `room` that may be
 /// open; else the first refusal.
 #[cycle(expression)]
-#[tactic(auto, using(jessie_language::proofs::Reading::inner_is), unfolding(jessie_language::specs::Parse::bracketed))]
+#[tactic(auto, using(jessie_grammar::proofs::Reading::inner_is), unfolding(jessie_grammar::specs::Parse::bracketed))]
 pub fn grouped<'a>(
     alloc: Global,
     tokens: &'a [Token],
@@ -461,7 +461,7 @@ fn called<'a>(
 
 /// What begins with this name: a call, or the name alone.
 #[cycle(expression)]
-#[tactic(auto, unfolding(jessie_language::specs::Rules::call_tail))]
+#[tactic(auto, unfolding(jessie_grammar::specs::Rules::call_tail))]
 fn call_tail<'a>(
     alloc: Global,
     tokens: &'a [Token],
@@ -483,7 +483,7 @@ fn call_tail<'a>(
 }
 
 #[cycle(expression)]
-#[tactic(auto, unfolding(jessie_language::specs::Rules::named))]
+#[tactic(auto, unfolding(jessie_grammar::specs::Rules::named))]
 fn named<'a>(
     alloc: Global,
     tokens: &'a [Token],
@@ -499,7 +499,7 @@ fn named<'a>(
 
 /// A method's name behind a dot, and its arguments.
 #[cycle(expression)]
-#[tactic(auto, unfolding(jessie_language::specs::Rules::method_call))]
+#[tactic(auto, unfolding(jessie_grammar::specs::Rules::method_call))]
 fn method_call<'a>(
     alloc: Global,
     tokens: &'a [Token],
@@ -540,7 +540,7 @@ fn send<'a>(
 
 /// A send: `E(target).method(arguments)`.
 #[cycle(expression)]
-#[tactic(auto, unfolding(jessie_language::specs::Rules::eventually))]
+#[tactic(auto, unfolding(jessie_grammar::specs::Rules::eventually))]
 fn eventually<'a>(
     alloc: Global,
     tokens: &'a [Token],
@@ -577,7 +577,7 @@ fn amount_call<'a>(
 
 /// `AmountMath.method(arguments)`
 #[cycle(expression)]
-#[tactic(auto, unfolding(jessie_language::specs::Rules::amount))]
+#[tactic(auto, unfolding(jessie_grammar::specs::Rules::amount))]
 fn amount<'a>(
     alloc: Global,
     tokens: &'a [Token],
@@ -609,7 +609,7 @@ fn literal_alone<'a>(
 
 /// What stands before the steps, where it is neither a name nor a record.
 #[cycle(expression)]
-#[tactic(auto, unfolding(jessie_language::specs::Rules::bare))]
+#[tactic(auto, unfolding(jessie_grammar::specs::Rules::bare))]
 fn bare<'a>(
     alloc: Global,
     tokens: &'a [Token],
@@ -643,7 +643,7 @@ fn bare<'a>(
 
 /// What stands before the steps.
 #[cycle(expression)]
-#[tactic(auto, unfolding(jessie_language::specs::Rules::prim))]
+#[tactic(auto, unfolding(jessie_grammar::specs::Rules::prim))]
 fn prim<'a>(
     alloc: Global,
     tokens: &'a [Token],
@@ -709,7 +709,7 @@ fn dot_step<'a>(
 
 /// One step more.
 #[cycle(expression)]
-#[tactic(auto, unfolding(jessie_language::specs::Rules::post_step))]
+#[tactic(auto, unfolding(jessie_grammar::specs::Rules::post_step))]
 fn step<'a>(
     alloc: Global,
     tokens: &'a [Token],
@@ -758,7 +758,7 @@ fn steps<'a>(
 
 /// The expression with the steps behind it.
 #[cycle(expression)]
-#[tactic(auto, unfolding(jessie_language::specs::Rules::post_tail))]
+#[tactic(auto, unfolding(jessie_grammar::specs::Rules::post_tail))]
 fn post_tail<'a>(
     alloc: Global,
     tokens: &'a [Token],
@@ -816,7 +816,7 @@ fn signed<'a>(
 
 /// An operand of operators.
 #[cycle(expression)]
-#[tactic(auto, unfolding(jessie_language::specs::Rules::unary))]
+#[tactic(auto, unfolding(jessie_grammar::specs::Rules::unary))]
 fn unary<'a>(
     alloc: Global,
     tokens: &'a [Token],
@@ -837,7 +837,7 @@ fn unary<'a>(
 /// An operator of the level and the operand behind it, whatever stands before; and whether more may
 /// follow.
 #[cycle(expression)]
-#[tactic(auto, unfolding(jessie_language::specs::Rules::op_step))]
+#[tactic(auto, unfolding(jessie_grammar::specs::Rules::op_step))]
 fn operator_step<'a>(
     alloc: Global,
     tokens: &'a [Token],
@@ -908,7 +908,7 @@ fn chain<'a>(
 
 /// The operand with what stands behind it, from the level on.
 #[cycle(expression)]
-#[tactic(auto, using(jessie_language::proofs::Reading::tails_is, jessie_language::proofs::Reading::tails_end))]
+#[tactic(auto, using(jessie_grammar::proofs::Reading::tails_is, jessie_grammar::proofs::Reading::tails_end))]
 fn tails<'a>(
     alloc: Global,
     tokens: &'a [Token],
@@ -966,7 +966,7 @@ fn second_branch<'a>(
 
 /// The two branches of a choice.
 #[cycle(expression)]
-#[tactic(auto, unfolding(jessie_language::specs::Rules::branches))]
+#[tactic(auto, unfolding(jessie_grammar::specs::Rules::branches))]
 fn branches<'a>(
     alloc: Global,
     tokens: &'a [Token],
@@ -1018,7 +1018,7 @@ fn chosen<'a>(
 
 /// The condition with the choice behind it, if there is one.
 #[cycle(expression)]
-#[tactic(auto, unfolding(jessie_language::specs::Rules::choice))]
+#[tactic(auto, unfolding(jessie_grammar::specs::Rules::choice))]
 fn choice<'a>(
     alloc: Global,
     tokens: &'a [Token],
@@ -1037,7 +1037,7 @@ fn choice<'a>(
 
 /// The expression that begins with this operand.
 #[cycle(expression)]
-#[tactic(auto, unfolding(jessie_language::specs::Rules::after))]
+#[tactic(auto, unfolding(jessie_grammar::specs::Rules::after))]
 fn after<'a>(
     alloc: Global,
     tokens: &'a [Token],
@@ -1056,7 +1056,7 @@ fn after<'a>(
 /// text does with names goes behind the events. Else the first refusal, with the limit that its
 /// token breaks and the count of tokens from it on, or want of memory. The rules are our own.
 #[cycle(expression)]
-#[tactic(auto, using(jessie_language::proofs::Reading::expr_is), unfolding(jessie_language::specs::Rules::full))]
+#[tactic(auto, using(jessie_grammar::proofs::Reading::expr_is), unfolding(jessie_grammar::specs::Rules::full))]
 pub fn expression<'a>(
     alloc: Global,
     tokens: &'a [Token],
@@ -1090,7 +1090,7 @@ pub fn led_expression<'a>(
 }
 
 /// The first operand of an expression that begins with no name and is no record.
-#[tactic(auto, unfolding(jessie_language::specs::Rules::unary))]
+#[tactic(auto, unfolding(jessie_grammar::specs::Rules::unary))]
 fn bare_operand<'a>(
     alloc: Global,
     tokens: &'a [Token],

@@ -1,8 +1,8 @@
-//! Reading expressions from the tokens of a contract text. It stands on jessie_language,
-//! jessie_terminals and jessie_builders. Its one contract is `expression::expression`'s, a rule of
-//! the grammar (jessie_language's specs/Rules.antt): the expression that is read and what the text
-//! does with names up to its end, or the first refusal, with its place and the limit that is
-//! broken. The brackets that may be open bound how deep the calls go.
+//! Constants and expressions read from the tokens of a contract text: what the rule of the grammar
+//! reads, or the first refusal, with its place; the brackets that may be open bound the depth.
 #![tactic(auto)]
 
+pub mod constant;
 pub mod expression;
+
+pub use jessie_terminals as jessie_terminals_lib;

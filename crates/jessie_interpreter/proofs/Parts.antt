@@ -1,24 +1,24 @@
 -- The steps of the forms beside the rules'.
 use Rattle.std.proofs.Common.{◌≡◌, ℕ, suc, ◌+◌, ◌-◌, ◌<◌, ◌≤◌, List, [], ◌∷◌, ◌++◌, Bool, true, false, refl, sym, ap, ◌∙◌, length, get_or, drop, arith}
 use Rattle.std.proofs.lemmas.List.{drop_more, drop_all}
-use Rattle.jessie_tree.specs.Tree.{Tree}
-use Rattle.jessie_syntax.specs.Syntax.{Routine, call, built_in, amount_math, send, listing, composed, linked, unary, chain, choice, method, choose, repeat, each, attempt, term_view, terms_view, named_terms_view, operands_view, link_view, links_view, statement_view, block_view, branches_view}
-use Rattle.jessie_syntax.specs.declared.syntax.BuiltIn.{BuiltIn}
-use Rattle.jessie_syntax.specs.declared.syntax.Unary.{Unary}
-use Rattle.jessie_syntax.specs.declared.syntax.Operator.{Operator}
-use Rattle.jessie_syntax.specs.declared.syntax.Expr.{Expr}
-use Rattle.jessie_syntax.specs.declared.syntax.Expr as E
-use Rattle.jessie_syntax.specs.declared.syntax.Step.{Step}
-use Rattle.jessie_syntax.specs.declared.syntax.Step as P
-use Rattle.jessie_syntax.specs.declared.syntax.Stmt.{Stmt}
-use Rattle.jessie_syntax.specs.declared.syntax.Stmt as S
-use Rattle.jessie_syntax.specs.declared.syntax.Branch.{Branch}
-use Rattle.jessie_syntax.proofs.Views.{term-Call, term-BuiltIn, term-AmountMath, term-Send, term-Array, term-Record, term-Steps, term-Unary, term-Chain, term-Choice, link-Method, statement-If, statement-While, statement-ForOf, statement-Try, way-of}
-use Rattle.jessie_values.specs.declared.reasons.Reason.TheVariants.{TooDeep}
-use Rattle.jessie_values.specs.Reasons.{bad_step}
-use Rattle.jessie_values.specs.Dispatch.{operate}
-use Rattle.jessie_semantics.specs.Actions.{Action, pure, throw, spend, ◌>>=◌, scoped}
-use Rattle.jessie_semantics.specs.Rules.{Program, program, expr, exprs, named_exprs, links, one_link, operands, operator_rule, right_side, worked, End, next, either, test, one_round, rounds, stmt, branches, block, going_on, calls_of, enter, find_routine}
+use Rattle.jessie_machine.specs.host_data.Tree.{Tree}
+use Rattle.jessie_machine.specs.jessie_grammar.Syntax.{Routine, call, built_in, amount_math, send, listing, composed, linked, unary, chain, choice, method, choose, repeat, each, attempt, term_view, terms_view, named_terms_view, operands_view, link_view, links_view, statement_view, block_view, branches_view}
+use Rattle.jessie_machine.specs.jessie_grammar.declared.syntax.BuiltIn.{BuiltIn}
+use Rattle.jessie_machine.specs.jessie_grammar.declared.syntax.Unary.{Unary}
+use Rattle.jessie_machine.specs.jessie_grammar.declared.syntax.Operator.{Operator}
+use Rattle.jessie_machine.specs.jessie_grammar.declared.syntax.Expr.{Expr}
+use Rattle.jessie_machine.specs.jessie_grammar.declared.syntax.Expr as E
+use Rattle.jessie_machine.specs.jessie_grammar.declared.syntax.Step.{Step}
+use Rattle.jessie_machine.specs.jessie_grammar.declared.syntax.Step as P
+use Rattle.jessie_machine.specs.jessie_grammar.declared.syntax.Stmt.{Stmt}
+use Rattle.jessie_machine.specs.jessie_grammar.declared.syntax.Stmt as S
+use Rattle.jessie_machine.specs.jessie_grammar.declared.syntax.Branch.{Branch}
+use Rattle.jessie_machine.proofs.jessie_grammar.Views.{term-Call, term-BuiltIn, term-AmountMath, term-Send, term-Array, term-Record, term-Steps, term-Unary, term-Chain, term-Choice, link-Method, statement-If, statement-While, statement-ForOf, statement-Try, way-of}
+use Rattle.jessie_machine.specs.jessie_values.declared.reasons.Reason.TheVariants.{TooDeep}
+use Rattle.jessie_machine.specs.jessie_values.Reasons.{bad_step}
+use Rattle.jessie_machine.specs.jessie_values.Dispatch.{operate}
+use Rattle.jessie_machine.specs.jessie_semantics.Actions.{Action, pure, throw, spend, ◌>>=◌, scoped}
+use Rattle.jessie_machine.specs.jessie_semantics.Rules.{Program, program, expr, exprs, named_exprs, links, one_link, operands, operator_rule, right_side, worked, End, next, either, test, one_round, rounds, stmt, branches, block, going_on, calls_of, enter, find_routine}
 
 -- forms by their parts, as the code has them
 

@@ -2,14 +2,14 @@
 use Rattle.std.proofs.Common.{◌≡◌, ℕ, zero, suc, ◌+◌, ◌*◌, ◌<◌, List, [], ◌∷◌, Option, Some, None, Bool, true, false, cond, length, get_or, arith, subst, sym, ap}
 use Rattle.std.specs.Str.{bytes_eq}
 use Rattle.std.proofs.Math.Nat.{suc-mul}
-use Rattle.jessie_syntax.specs.Syntax.{Term, literal, name, call, built_in, amount_math, send, listing, composed, linked, unary, chain, choice, Terms, no_terms, term, NamedTerms, no_named, named_term, Operands, no_operands, operand, Link, at_field, method, at_index, Links, no_links, link, Statement, declare_const, declare_let, assign, choose, repeat, each, give, give_nothing, raise, attempt, run, Branches, no_branches, branch, Block, done, step, Routine, Way, term_view, terms_view, named_terms_view, operands_view, link_view, links_view, statement_view, block_view, way_view, branches_view}
-use Rattle.jessie_syntax.specs.declared.syntax.Operator.{Operator}
-use Rattle.jessie_syntax.specs.declared.syntax.Expr.{Expr}
-use Rattle.jessie_syntax.specs.declared.syntax.Step.{Step}
-use Rattle.jessie_syntax.specs.declared.syntax.Stmt.{Stmt}
-use Rattle.jessie_syntax.specs.declared.syntax.Branch.{Branch}
-use Rattle.jessie_syntax.proofs.Views.{way-of}
-use Rattle.jessie_semantics.specs.Rules.{find_routine}
+use Rattle.jessie_machine.specs.jessie_grammar.Syntax.{Term, literal, name, call, built_in, amount_math, send, listing, composed, linked, unary, chain, choice, Terms, no_terms, term, NamedTerms, no_named, named_term, Operands, no_operands, operand, Link, at_field, method, at_index, Links, no_links, link, Statement, declare_const, declare_let, assign, choose, repeat, each, give, give_nothing, raise, attempt, run, Branches, no_branches, branch, Block, done, step, Routine, Way, term_view, terms_view, named_terms_view, operands_view, link_view, links_view, statement_view, block_view, way_view, branches_view}
+use Rattle.jessie_machine.specs.jessie_grammar.declared.syntax.Operator.{Operator}
+use Rattle.jessie_machine.specs.jessie_grammar.declared.syntax.Expr.{Expr}
+use Rattle.jessie_machine.specs.jessie_grammar.declared.syntax.Step.{Step}
+use Rattle.jessie_machine.specs.jessie_grammar.declared.syntax.Stmt.{Stmt}
+use Rattle.jessie_machine.specs.jessie_grammar.declared.syntax.Branch.{Branch}
+use Rattle.jessie_machine.proofs.jessie_grammar.Views.{way-of}
+use Rattle.jessie_machine.specs.jessie_semantics.Rules.{find_routine}
 
 abbrev mutual
   pub weight : Term → ℕ

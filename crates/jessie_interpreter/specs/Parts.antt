@@ -1,14 +1,14 @@
 -- The module as it runs, where its evaluation stands, and the forms whose rules have no name of their own.
 use Rattle.std.specs.Prelude.{ℕ, List}
-use Rattle.jessie_tree.specs.Tree.{Tree}
-use Rattle.jessie_tree.specs.View.{trees}
-use Rattle.jessie_tree.specs.declared.data.Data.{Data}
-use Rattle.jessie_syntax.specs.Syntax.{routines, variable_names}
-use Rattle.jessie_syntax.specs.declared.syntax.Module.{Module}
-use Rattle.jessie_values.specs.Records.{made_array}
-use Rattle.amount_calls.specs.AmountMath.{amount_call}
-use Rattle.jessie_semantics.specs.Actions.{State, Action, ◌>>=◌}
-use Rattle.jessie_semantics.specs.Rules.{Program, program, primary_rule, worked, counted}
+use Rattle.jessie_machine.specs.host_data.Tree.{Tree}
+use Rattle.jessie_machine.specs.host_data.View.{trees}
+use Rattle.jessie_machine.specs.host_data.declared.data.Data.{Data}
+use Rattle.jessie_machine.specs.jessie_grammar.Syntax.{routines, variable_names}
+use Rattle.jessie_machine.specs.jessie_grammar.declared.syntax.Module.{Module}
+use Rattle.jessie_machine.specs.jessie_values.Records.{made_array}
+use Rattle.jessie_machine.specs.jessie_semantics.AmountMath.{amount_call}
+use Rattle.jessie_machine.specs.jessie_semantics.Actions.{State, Action, ◌>>=◌}
+use Rattle.jessie_machine.specs.jessie_semantics.Rules.{Program, program, primary_rule, worked, counted}
 use Rattle.jessie_machine.specs.Machine.{state}
 use Rattle.jessie_machine.specs.declared.machine.Machine.{Machine}
 

@@ -1,11 +1,11 @@
 // Conditions.
-ghost use Rattle.jessie_semantics.specs.Actions.{State};
-ghost use Rattle.jessie_semantics.specs.Rules.{worked};
-ghost use Rattle.jessie_semantics.specs.Runs.{Computes};
+ghost use Rattle.jessie_machine.specs.jessie_semantics.Actions.{State};
+ghost use Rattle.jessie_machine.specs.jessie_semantics.Rules.{worked};
+ghost use Rattle.jessie_machine.specs.jessie_semantics.Runs.{Computes};
 ghost use Rattle.jessie_machine.specs.Stops.{come};
 
+use jessie_machine::jessie_values_lib::reasons::Reason;
 use jessie_machine::stop::{Stop, bad};
-use jessie_values::reasons::Reason;
 
 /// A truth value, or a bad step.
 #[inline(never)]

@@ -1,19 +1,26 @@
 // A function for each form, down the tree as it was read.
 ghost use Rattle.std.specs.Prelude.{[], ◌≤◌, false};
-ghost use Rattle.jessie_tree.specs.View.{tree, trees};
-ghost use Rattle.jessie_syntax.specs.Syntax.{routines, term_view, terms_view, named_terms_view, operands_view, link_view, links_view, return_view, statement_view, branches_view, block_view};
-ghost use Rattle.jessie_values.specs.Dispatch.{unary};
-ghost use Rattle.jessie_semantics.specs.Actions.{scoped};
-ghost use Rattle.jessie_semantics.specs.Rules.{expr, exprs, named_exprs, links, one_link, operands, apply_built_in, primary_rule, send_rule, record_rule, method_rule, index_rule, unary_rule, operator_rule, right_side, choice_rule, test, stmt, form, branches, block, declare_rule, assign_rule, repeat_rule, for_rule, raise_rule, try_rule, run_rule, with_name, calls_of};
-ghost use Rattle.jessie_semantics.specs.Runs.{Runs};
+ghost use Rattle.jessie_machine.specs.host_data.View.{tree, trees};
+ghost use Rattle.jessie_machine.specs.jessie_grammar.Syntax.{routines, term_view, terms_view, named_terms_view, operands_view, link_view, links_view, return_view, statement_view, branches_view, block_view};
+ghost use Rattle.jessie_machine.specs.jessie_values.Dispatch.{unary};
+ghost use Rattle.jessie_machine.specs.jessie_semantics.Actions.{scoped};
+ghost use Rattle.jessie_machine.specs.jessie_semantics.Rules.{expr, exprs, named_exprs, links, one_link, operands, apply_built_in, primary_rule, send_rule, record_rule, method_rule, index_rule, unary_rule, operator_rule, right_side, choice_rule, test, stmt, form, branches, block, declare_rule, assign_rule, repeat_rule, for_rule, raise_rule, try_rule, run_rule, with_name, calls_of};
+ghost use Rattle.jessie_machine.specs.jessie_semantics.Runs.{Runs};
 ghost use Rattle.jessie_machine.specs.Stops.{come};
 ghost use Rattle.jessie_machine.specs.Machine.{end_of, all_seen, fields_seen};
 ghost use Rattle.jessie_interpreter.specs.Parts.{running, here, behind, array_rule, amounts_rule};
 
 use crate::conditions::condition_value;
-use host_text::text::Text;
-use jessie_calls::built_ins::call_built_in;
+use jessie_machine::built_ins::call_built_in;
 use jessie_machine::host::Powers;
+use jessie_machine::host_data_lib::data::Data;
+use jessie_machine::host_text_lib::text::Text;
+use jessie_machine::jessie_grammar_lib::syntax::{
+    Branch, BuiltIn, Expr, Operator, Step, Stmt, Unary,
+};
+use jessie_machine::jessie_index_lib::jessie_module_index::IndexedModule;
+use jessie_machine::jessie_values_lib::operators::truth;
+use jessie_machine::jessie_values_lib::reasons::Reason;
 use jessie_machine::machine::{End, Machine, begin_statement, read_literal, take};
 use jessie_machine::names::{assign_name, bind_all, bind_name, read_name};
 use jessie_machine::numbers::{assign_at_hand, chain_at_hand, test_at_hand};
@@ -23,11 +30,6 @@ use jessie_machine::operations::{
 };
 use jessie_machine::requests::{call_method, send_method};
 use jessie_machine::stop::{Stop, bad, throw_data};
-use jessie_module_index::IndexedModule;
-use jessie_operators::operators::truth;
-use jessie_syntax::syntax::{Branch, BuiltIn, Expr, Operator, Step, Stmt, Unary};
-use jessie_tree::data::Data;
-use jessie_values::reasons::Reason;
 use std::alloc::Global;
 use std::mem;
 

@@ -3,20 +3,20 @@ use Rattle.std.proofs.Common.{◌≡◌, ℕ, ℤ, ◌+◌, ◌-◌, ◌<◌, �
 use Rattle.std.specs.Prelude.{Ok, Err, IfSome}
 use Rattle.std.proofs.lemmas.Bool.{le-leb}
 use Rattle.std.proofs.lemmas.List.{drop_more, drop_all}
-use Rattle.jessie_tree.specs.Tree.{Tree, boolean, number}
-use Rattle.jessie_tree.specs.View.{tree, named_trees}
-use Rattle.jessie_tree.specs.declared.data.Data.{Data}
-use Rattle.jessie_syntax.specs.Syntax.{Term, chain, operand, no_operands, operands_view, term_view}
-use Rattle.jessie_syntax.specs.declared.syntax.Expr.{Expr}
-use Rattle.jessie_syntax.specs.declared.syntax.Expr as E
-use Rattle.jessie_syntax.specs.declared.syntax.Operator.{Operator}
-use Rattle.jessie_syntax.specs.declared.syntax.Operator.TheVariants.{Or, And, Equal, Unequal, Less, AtMost, Greater, AtLeast, Add, Subtract, Multiply, Divide, Remainder}
-use Rattle.jessie_syntax.proofs.Views.{term-Chain}
-use Rattle.jessie_values.specs.declared.reasons.Reason.{Reason}
-use Rattle.jessie_values.specs.declared.reasons.Reason.TheVariants.{WrongKind}
-use Rattle.jessie_values.specs.Dispatch.{operate, skips}
-use Rattle.jessie_values.specs.Operators.{truth}
-use Rattle.jessie_values.specs.Reasons.{bad_step}
+use Rattle.jessie_semantics.specs.host_data.Tree.{Tree, boolean, number}
+use Rattle.jessie_semantics.specs.host_data.View.{tree, named_trees}
+use Rattle.jessie_semantics.specs.host_data.declared.data.Data.{Data}
+use Rattle.jessie_index.specs.jessie_grammar.Syntax.{Term, chain, operand, no_operands, operands_view, term_view}
+use Rattle.jessie_index.specs.jessie_grammar.declared.syntax.Expr.{Expr}
+use Rattle.jessie_index.specs.jessie_grammar.declared.syntax.Expr as E
+use Rattle.jessie_index.specs.jessie_grammar.declared.syntax.Operator.{Operator}
+use Rattle.jessie_index.specs.jessie_grammar.declared.syntax.Operator.TheVariants.{Or, And, Equal, Unequal, Less, AtMost, Greater, AtLeast, Add, Subtract, Multiply, Divide, Remainder}
+use Rattle.jessie_index.proofs.jessie_grammar.Views.{term-Chain}
+use Rattle.jessie_index.specs.jessie_values.declared.reasons.Reason.{Reason}
+use Rattle.jessie_index.specs.jessie_values.declared.reasons.Reason.TheVariants.{WrongKind}
+use Rattle.jessie_index.specs.jessie_values.Dispatch.{operate, skips}
+use Rattle.jessie_index.specs.jessie_values.Operators.{truth}
+use Rattle.jessie_index.specs.jessie_values.Reasons.{bad_step}
 use Rattle.jessie_semantics.specs.Play.{Spends}
 use Rattle.jessie_semantics.specs.Actions.{Bindings, State, went, Then, Action, pure, onward, ◌>>=◌, charge, first_of, look, paid}
 use Rattle.jessie_semantics.specs.Rules.{Program, expr, operands, operator_rule, literal_rule, name_rule, worked, test, find_routine, function_named}

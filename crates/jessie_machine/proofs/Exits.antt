@@ -1,14 +1,14 @@
 -- Where a part didn't come to a value.
 use Rattle.std.proofs.Common.{◌≡◌, sym, ap, subst}
 use Rattle.std.specs.Prelude.{Result, Ok, Err, IsErrAnd}
-use Rattle.jessie_tree.specs.Tree.{Tree}
-use Rattle.jessie_values.specs.declared.reasons.Reason.{Reason}
-use Rattle.jessie_values.specs.Reasons.{bad_step}
-use Rattle.jessie_values.specs.Outcomes.{Fails}
-use Rattle.jessie_values.specs.declared.reasons.ValueFault.{ValueFault}
-use Rattle.jessie_values.specs.declared.reasons.ValueFault.TheVariants as fault
-use Rattle.amount_calls.specs.declared.refusals.AmountRefusal.{AmountRefusal}
-use Rattle.amount_calls.specs.Refusals.{amount_refusal_tree}
+use Rattle.jessie_semantics.specs.host_data.Tree.{Tree}
+use Rattle.jessie_index.specs.jessie_values.declared.reasons.Reason.{Reason}
+use Rattle.jessie_index.specs.jessie_values.Reasons.{bad_step}
+use Rattle.jessie_index.specs.jessie_values.Outcomes.{Fails}
+use Rattle.jessie_index.specs.jessie_values.declared.reasons.ValueFault.{ValueFault}
+use Rattle.jessie_index.specs.jessie_values.declared.reasons.ValueFault.TheVariants as fault
+use Rattle.jessie_semantics.specs.declared.refusals.AmountRefusal.{AmountRefusal}
+use Rattle.jessie_semantics.specs.Refusals.{amount_refusal_tree}
 use Rattle.jessie_semantics.specs.Play.{Exchange}
 use Rattle.jessie_semantics.specs.Actions.{State, Action, ◌>>=◌, pure, throw}
 use Rattle.jessie_semantics.specs.Rules.{worked, counted}

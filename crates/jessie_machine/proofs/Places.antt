@@ -6,16 +6,16 @@ use Rattle.std.proofs.lemmas.List.{take_more, take_all, length-take}
 use Rattle.std.specs.Borrow.{Bor}
 use Rattle.std.specs.Option.{option_copied}
 use Rattle.std.specs.Str.{bytes_eq}
-use Rattle.jessie_tree.specs.Tree.{Tree, null}
-use Rattle.jessie_tree.specs.View.{tree, trees, named_trees}
-use Rattle.jessie_tree.specs.declared.data.Data.{Data}
-use Rattle.jessie_values.specs.declared.reasons.Reason.{Reason}
-use Rattle.jessie_values.specs.Reasons.{bad_step}
+use Rattle.jessie_semantics.specs.host_data.Tree.{Tree, null}
+use Rattle.jessie_semantics.specs.host_data.View.{tree, trees, named_trees}
+use Rattle.jessie_semantics.specs.host_data.declared.data.Data.{Data}
+use Rattle.jessie_index.specs.jessie_values.declared.reasons.Reason.{Reason}
+use Rattle.jessie_index.specs.jessie_values.Reasons.{bad_step}
 use Rattle.jessie_semantics.specs.Actions.{Bindings, State, went, fails, first_of, look, is_bound, rebind, put}
 use Rattle.jessie_semantics.specs.Runs.{throws, came, halted, Computes}
 use Rattle.jessie_machine.specs.Stops.{halt}
 use Rattle.jessie_machine.specs.declared.stop.Stop.{Stop}
-use Rattle.jessie_locals.specs.Places as locals
+use Rattle.jessie_index.specs.Places as locals
 use Rattle.jessie_machine.specs.Machine.{place, current, changes, changed_at, value_at, local_at, set_value, head_or, tail_of, or_else}
 
 -- lists of data and of names with data

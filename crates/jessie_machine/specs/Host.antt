@@ -1,5 +1,5 @@
 -- What the host is asked, and what it answers.
-use Rattle.jessie_tree.specs.View.{tree}
+use Rattle.jessie_semantics.specs.host_data.View.{tree}
 use Rattle.jessie_semantics.specs.Play.{Call, Reply, given, refused, Exchange}
 use Rattle.jessie_machine.specs.declared.host.Answer.{Answer}
 use Rattle.jessie_machine.specs.declared.host.Answer.TheVariants.{Value, Refused}

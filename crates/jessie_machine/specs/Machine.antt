@@ -2,10 +2,10 @@
 use Rattle.std.specs.Prelude.{ℕ, ℤ, Bool, zero, suc, List, [], ◌∷◌, map, Option, Some, None, option_map, Vec, if◌then◌else◌}
 use Rattle.std.specs.Str.{bytes_eq}
 use Rattle.std.specs.declared.alloc.Global.{Global}
-use Rattle.jessie_tree.specs.Tree.{Tree, null, boolean, number}
-use Rattle.jessie_tree.specs.View.{tree, trees, named_trees}
-use Rattle.jessie_tree.specs.declared.data.Data.{Data}
-use Rattle.jessie_syntax.specs.declared.syntax.Operator.{Operator}
+use Rattle.jessie_semantics.specs.host_data.Tree.{Tree, null, boolean, number}
+use Rattle.jessie_semantics.specs.host_data.View.{tree, trees, named_trees}
+use Rattle.jessie_semantics.specs.host_data.declared.data.Data.{Data}
+use Rattle.jessie_index.specs.jessie_grammar.declared.syntax.Operator.{Operator}
 use Rattle.jessie_semantics.specs.Actions.{Bindings, State, Action, ◌>>=◌, first_of}
 use Rattle.jessie_semantics.specs.Rules.{End, next, leaves, operator_rule}
 use Rattle.jessie_semantics.specs.Runs.{Computes, came}

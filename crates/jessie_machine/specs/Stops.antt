@@ -1,10 +1,10 @@
 -- What the code's results stand for.
 use Rattle.std.specs.Prelude.{◌≡◌, Result, Ok, Err}
-use Rattle.jessie_tree.specs.Tree.{Tree}
-use Rattle.jessie_tree.specs.View.{tree}
-use Rattle.jessie_values.specs.Reasons.{bad_step}
-use Rattle.jessie_values.specs.declared.reasons.ValueFault.{ValueFault}
-use Rattle.jessie_values.specs.declared.reasons.ValueFault.TheVariants as fault
+use Rattle.jessie_semantics.specs.host_data.Tree.{Tree}
+use Rattle.jessie_semantics.specs.host_data.View.{tree}
+use Rattle.jessie_index.specs.jessie_values.Reasons.{bad_step}
+use Rattle.jessie_index.specs.jessie_values.declared.reasons.ValueFault.{ValueFault}
+use Rattle.jessie_index.specs.jessie_values.declared.reasons.ValueFault.TheVariants as fault
 use Rattle.jessie_semantics.specs.Runs.{Halt, throws, spends, unfinished, Come, came, halted}
 use Rattle.jessie_machine.specs.declared.stop.Thrown.{Thrown}
 use Rattle.jessie_machine.specs.declared.stop.Thrown.TheVariants as thrown

@@ -1,13 +1,13 @@
 // The host, as an evaluation sees it.
 ghost use Rattle.std.specs.Prelude.{IfOk, MatchResult, ℕ, ◌+◌, ◌≤◌};
-ghost use Rattle.jessie_tree.specs.View.{tree, trees};
+ghost use Rattle.jessie_semantics.specs.host_data.View.{tree, trees};
 ghost use Rattle.jessie_semantics.specs.Play.{Exchange, call, send, when, far, cost, reply_size};
 ghost use Rattle.jessie_semantics.specs.Keeping.{Reference};
 ghost use Rattle.jessie_semantics.specs.Hosts.{Keeps};
 ghost use Rattle.jessie_machine.specs.Host.{answered_with, reply_of};
 
-use host_text::text::Text;
-use jessie_tree::data::{Data, Obj};
+use jessie_semantics::host_data_lib::data::{Data, Obj};
+use jessie_semantics::host_text_lib::text::Text;
 use std::alloc::AllocError;
 
 /// Want of memory.

@@ -1,8 +1,8 @@
 // Where an evaluation stands, and what is taken off the meter.
 ghost use Rattle.std.specs.Prelude.{◌≡◌, ◌≤◌, ◌+◌, ◌-◌, List, ℕ, length, IsOk};
-ghost use Rattle.jessie_tree.specs.Tree.{Tree, size, items_size};
-ghost use Rattle.jessie_tree.specs.View.{tree, trees, items_of};
-ghost use Rattle.jessie_values.specs.Literals.{literal_tree};
+ghost use Rattle.jessie_semantics.specs.host_data.Tree.{Tree, size, items_size};
+ghost use Rattle.jessie_semantics.specs.host_data.View.{tree, trees, items_of};
+ghost use Rattle.jessie_index.specs.jessie_values.Literals.{literal_tree};
 ghost use Rattle.jessie_semantics.specs.Play.{reply_size};
 ghost use Rattle.jessie_semantics.specs.Actions.{charge};
 ghost use Rattle.jessie_semantics.specs.Rules.{heard, literal_rule, given_back};
@@ -13,11 +13,11 @@ ghost use Rattle.jessie_machine.specs.Machine.{state, end_of};
 
 use crate::host::Answer;
 use crate::stop::{Stop, throw_data};
-use host_text::text::Text;
-use jessie_locals::locals::Locals;
-use jessie_syntax::syntax::Literal;
-use jessie_tree::data::{Data, pay, pay_bytes, pay_items};
-use jessie_values::literals::literal_data;
+use jessie_index::jessie_grammar_lib::syntax::Literal;
+use jessie_index::jessie_values_lib::literals::literal_data;
+use jessie_index::locals::Locals;
+use jessie_semantics::host_data_lib::data::{Data, pay, pay_bytes, pay_items};
+use jessie_semantics::host_text_lib::text::Text;
 use std::alloc::Global;
 
 /// The function's own names from the outermost, the state variables that were given a value, by their

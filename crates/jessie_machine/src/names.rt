@@ -1,10 +1,10 @@
 // Names and what they stand for.
 ghost use Rattle.std.specs.Prelude.{◌≡◌, ◌≤◌, ◌<◌, ◌++◌, ◌∷◌, [], ℕ, List, Some, length, map, option_map, slice_get, IfOk, IfSome, OnOk};
-ghost use Rattle.jessie_tree.specs.Tree.{Tree, number as number_tree};
-ghost use Rattle.jessie_tree.specs.View.{tree, trees, named_trees};
-ghost use Rattle.jessie_syntax.specs.Syntax.{routine, routines, variable_names};
-ghost use Rattle.jessie_values.specs.Reasons.{bad_step};
-ghost use Rattle.jessie_values.specs.declared.reasons.Reason.TheVariants.{WrongKind};
+ghost use Rattle.jessie_semantics.specs.host_data.Tree.{Tree, number as number_tree};
+ghost use Rattle.jessie_semantics.specs.host_data.View.{tree, trees, named_trees};
+ghost use Rattle.jessie_index.specs.jessie_grammar.Syntax.{routine, routines, variable_names};
+ghost use Rattle.jessie_index.specs.jessie_values.Reasons.{bad_step};
+ghost use Rattle.jessie_index.specs.jessie_values.declared.reasons.Reason.TheVariants.{WrongKind};
 ghost use Rattle.jessie_semantics.specs.Actions.{Bindings, put as put_name, paid, rebind};
 ghost use Rattle.jessie_semantics.specs.Rules.{program, function_named, name_rule, pairs};
 ghost use Rattle.jessie_semantics.specs.Runs.{Computes};
@@ -13,13 +13,13 @@ ghost use Rattle.jessie_machine.specs.Machine.{state, place, current, changes, c
 
 use crate::machine::{Machine, take};
 use crate::stop::{Stop, bad};
-use host_text::text::Text;
-use jessie_locals::locals::Locals;
-use jessie_locals::names::is_name;
-use jessie_module_index::IndexedModule;
-use jessie_syntax::syntax::{Function, Variable};
-use jessie_tree::data::{Data, pay};
-use jessie_values::reasons::Reason;
+use jessie_index::jessie_grammar_lib::syntax::{Function, Variable};
+use jessie_index::jessie_module_index::IndexedModule;
+use jessie_index::jessie_values_lib::reasons::Reason;
+use jessie_index::locals::Locals;
+use jessie_index::names::is_name;
+use jessie_semantics::host_data_lib::data::{Data, pay};
+use jessie_semantics::host_text_lib::text::Text;
 use std::alloc::{AllocError, Global};
 
 /// The place of the last state variable of the name.

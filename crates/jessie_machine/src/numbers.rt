@@ -2,11 +2,11 @@
 // such, worked at once. Where something else comes, or a charge is missing, nothing is worked.
 ghost use Rattle.std.specs.Int.{w128};
 ghost use Rattle.std.specs.Prelude.{FitsSigned, ◌≡◌, ◌≤◌, ◌+◌, ℕ, List, Ok, IfSome, Some, true, false};
-ghost use Rattle.jessie_tree.specs.Tree.{Tree, boolean as boolean_tree, number as number_tree};
-ghost use Rattle.jessie_tree.specs.View.{named_trees, tree};
-ghost use Rattle.jessie_syntax.specs.Syntax.{chain, operands_view, term_view};
-ghost use Rattle.jessie_values.specs.Dispatch.{operate};
-ghost use Rattle.jessie_values.specs.Literals.{literal_tree};
+ghost use Rattle.jessie_semantics.specs.host_data.Tree.{Tree, boolean as boolean_tree, number as number_tree};
+ghost use Rattle.jessie_semantics.specs.host_data.View.{named_trees, tree};
+ghost use Rattle.jessie_index.specs.jessie_grammar.Syntax.{chain, operands_view, term_view};
+ghost use Rattle.jessie_index.specs.jessie_values.Dispatch.{operate};
+ghost use Rattle.jessie_index.specs.jessie_values.Literals.{literal_tree};
 ghost use Rattle.jessie_semantics.specs.Actions.{Bindings};
 ghost use Rattle.jessie_semantics.specs.Rules.{Program, assign_rule, expr, literal_rule, name_rule, next, operator_rule, test};
 ghost use Rattle.jessie_semantics.specs.Runs.{Computes, came};
@@ -14,10 +14,10 @@ ghost use Rattle.jessie_machine.specs.Machine.{Makes, Decides, state, worked_tre
 
 use crate::machine::Machine;
 use crate::names::set_local;
-use host_text::text::Text;
-use jessie_locals::locals::Locals;
-use jessie_syntax::syntax::{Expr, Literal, Operator};
-use jessie_tree::data::Data;
+use jessie_index::jessie_grammar_lib::syntax::{Expr, Literal, Operator};
+use jessie_index::locals::Locals;
+use jessie_semantics::host_data_lib::data::Data;
+use jessie_semantics::host_text_lib::text::Text;
 
 /// How deep arithmetic nests at most that is worked at once.
 const DEEPEST: u32 = 4;

@@ -1,14 +1,14 @@
 // What operators, steps and the language's own functions make of values, as steps of an evaluation.
 ghost use Rattle.std.specs.Prelude.{◌≤◌, ℕ, List, Result};
-ghost use Rattle.jessie_tree.specs.Tree.{Tree};
-ghost use Rattle.jessie_tree.specs.View.{tree, trees, named_trees};
-ghost use Rattle.jessie_values.specs.Operators.{truth};
-ghost use Rattle.jessie_values.specs.Dispatch.{operate, skips, unary};
-ghost use Rattle.jessie_values.specs.Steps.{field_at, index_at, list_items};
-ghost use Rattle.jessie_values.specs.Records.{made_array, made_record};
-ghost use Rattle.amount_calls.specs.AmountMath.{amount_call};
-ghost use Rattle.amount_calls.specs.Refusals.{Fails};
-ghost use Rattle.amount_calls.specs.declared.refusals.AmountRefusal.{AmountRefusal};
+ghost use Rattle.jessie_semantics.specs.host_data.Tree.{Tree};
+ghost use Rattle.jessie_semantics.specs.host_data.View.{tree, trees, named_trees};
+ghost use Rattle.jessie_index.specs.jessie_values.Operators.{truth};
+ghost use Rattle.jessie_index.specs.jessie_values.Dispatch.{operate, skips, unary};
+ghost use Rattle.jessie_index.specs.jessie_values.Steps.{field_at, index_at, list_items};
+ghost use Rattle.jessie_index.specs.jessie_values.Records.{made_array, made_record};
+ghost use Rattle.jessie_semantics.specs.AmountMath.{amount_call};
+ghost use Rattle.jessie_semantics.specs.Refusals.{Fails};
+ghost use Rattle.jessie_semantics.specs.declared.refusals.AmountRefusal.{AmountRefusal};
 ghost use Rattle.jessie_semantics.specs.Actions.{State};
 ghost use Rattle.jessie_semantics.specs.Rules.{worked, counted, field_rule};
 ghost use Rattle.jessie_semantics.specs.Runs.{Computes, halted};
@@ -17,15 +17,15 @@ ghost use Rattle.jessie_machine.specs.Machine.{all_seen, state};
 
 use crate::machine::{Machine, take};
 use crate::stop::{Stop, bad, fault_stop, throw_data};
-use amount_calls::functions::call_amount_math;
-use amount_calls::refusals::AmountFault;
-use host_text::text::Text;
-use jessie_operators::dispatch::{operate, skips, unary};
-use jessie_operators::operators::truth;
-use jessie_syntax::syntax::{Operator, Unary};
-use jessie_tree::data::Data;
-use jessie_values::records::{made_array, made_record};
-use jessie_values::steps::{field_at, index_at, list_items};
+use jessie_index::jessie_grammar_lib::syntax::{Operator, Unary};
+use jessie_index::jessie_values_lib::dispatch::{operate, skips, unary};
+use jessie_index::jessie_values_lib::operators::truth;
+use jessie_index::jessie_values_lib::records::{made_array, made_record};
+use jessie_index::jessie_values_lib::steps::{field_at, index_at, list_items};
+use jessie_semantics::functions::call_amount_math;
+use jessie_semantics::host_data_lib::data::Data;
+use jessie_semantics::host_text_lib::text::Text;
+use jessie_semantics::refusals::AmountFault;
 use std::alloc::Global;
 
 /// The truth value that it is.

@@ -1,7 +1,7 @@
 // Calls of the host.
 ghost use Rattle.std.specs.Prelude.{ℕ, List, ◌≤◌};
-ghost use Rattle.jessie_tree.specs.Tree.{Tree};
-ghost use Rattle.jessie_tree.specs.View.{tree, trees};
+ghost use Rattle.jessie_semantics.specs.host_data.Tree.{Tree};
+ghost use Rattle.jessie_semantics.specs.host_data.View.{tree, trees};
 ghost use Rattle.jessie_semantics.specs.Rules.{host_call, host_send};
 ghost use Rattle.jessie_semantics.specs.Runs.{Runs};
 ghost use Rattle.jessie_machine.specs.Stops.{come};
@@ -10,9 +10,9 @@ ghost use Rattle.jessie_machine.specs.Machine.{state};
 use crate::host::Powers;
 use crate::machine::{Machine, settle, take_call};
 use crate::stop::{Stop, bad};
-use host_text::text::Text;
-use jessie_tree::data::Data;
-use jessie_values::reasons::Reason;
+use jessie_index::jessie_values_lib::reasons::Reason;
+use jessie_semantics::host_data_lib::data::Data;
+use jessie_semantics::host_text_lib::text::Text;
 use std::alloc::Global;
 
 /// Calls a method of an object of the host.

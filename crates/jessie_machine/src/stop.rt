@@ -1,13 +1,13 @@
 // What keeps an evaluation from coming to a value.
 ghost use Rattle.std.specs.Prelude.{◌≡◌, IfOk};
-ghost use Rattle.jessie_tree.specs.View.{tree};
-ghost use Rattle.jessie_values.specs.Reasons.{bad_step};
+ghost use Rattle.jessie_semantics.specs.host_data.View.{tree};
+ghost use Rattle.jessie_index.specs.jessie_values.Reasons.{bad_step};
 ghost use Rattle.jessie_semantics.specs.Runs.{throws};
 ghost use Rattle.jessie_machine.specs.Stops.{IsThrown, fault_halt, halt, thrown_tree};
 ghost use Rattle.jessie_machine.specs.declared.stop.Stop.TheVariants.{NoMemory};
 
-use jessie_tree::data::Data;
-use jessie_values::reasons::{Reason, ValueFault};
+use jessie_index::jessie_values_lib::reasons::{Reason, ValueFault};
+use jessie_semantics::host_data_lib::data::Data;
 use sqlite_items::Boxed;
 use std::alloc::{AllocError, AllocFailed, Global};
 

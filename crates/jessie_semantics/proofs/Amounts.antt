@@ -2,31 +2,31 @@
 use Rattle.std.proofs.Common.{◌≡◌, ℕ, ℤ, zero, suc, ◌+◌, ◌≤◌, max, List, [], ◌∷◌, Bool, true, false, cond, Option, Some, None, refl, sym, subst, map, arith}
 use Rattle.std.specs.Prelude.{Result, Ok, Err, option_map, option_and_then, pos, negsuc, ◌==◌, codes}
 use Rattle.std.proofs.lemmas.Bool.Decides.{nat_tests}
-use Rattle.amount_math.specs.Content.{Content, entries}
-use Rattle.amount_math.specs.Worth.{Worth, with_content}
-use Rattle.amount_math.specs.declared.Kind.{Kind}
-use Rattle.amount_math.specs.declared.Kind.TheVariants.{Nat, Set, Bag}
-use Rattle.jessie_tree.specs.Tree.{Tree, null, boolean, number, text, array, fields, object, function, no_items, item, Fields, no_fields, field, get, field_of, object_of, number_of, nesting, items_nesting, fields_nesting, Ordered, OrderedItems, OrderedFields}
-use Rattle.jessie_tree.specs.View.{items_of}
-use Rattle.jessie_tree.specs.declared.data.ObjKind.{ObjKind}
-use Rattle.jessie_tree.specs.declared.data.ObjKind.TheVariants.{Ertp, Zoe, Timer, Brand, Issuer, Mint, Purse, Deposit, Payment, Installation, Instance, Zcf, Seat, Zseat, Zmint, Facet, Promise}
-use Rattle.call_data.specs.Outcomes as cd
-use Rattle.call_data.specs.Amounts.{amount_fields, kind_of_brand, value_in, nat_from, nat_value, set_in, bag_in, keyed_value}
-use Rattle.call_data.specs.Values.{brand_tree, value_tree, amount_tree, content_tree, key_tree, counted_tree}
-use Rattle.call_data.specs.Refusals.{refusal_tree, shown_by}
-use Rattle.call_data.specs.declared.refusals.Refusal.{Refusal}
-use Rattle.call_data.specs.declared.refusals.Refusal.TheVariants as q
-use Rattle.amount_calls.specs.Refusals.{amount_refusal_tree, bind, wanted, need, read}
-use Rattle.amount_calls.specs.Given.{brand_in, worth_in, amount_made, amount_given, amount_of_brand, two_amounts, two_values}
-use Rattle.amount_calls.specs.Worths.{checked, in_bounds, first_past, has, sum_in, difference_in, least_in, greatest_in}
-use Rattle.amount_math.specs.Worth.{bound}
-use Rattle.amount_calls.specs.AmountMath.{shown, worked, answer, answer_of, argument, function_named, amount_call}
-use Rattle.amount_calls.specs.declared.refusals.AmountRefusal.{AmountRefusal}
-use Rattle.amount_calls.specs.declared.refusals.AmountRefusal.TheVariants.{Refused, Overlap}
-use Rattle.amount_calls.specs.declared.given.OneAmount.{OneAmount}
-use Rattle.amount_calls.specs.declared.given.TwoAmounts.{TwoAmounts}
-use Rattle.amount_calls.specs.declared.functions.AmountFunction.{AmountFunction}
-use Rattle.amount_calls.specs.declared.functions.AmountFunction.TheVariants as f
+use Rattle.host_data.specs.amount_math.Content.{Content, entries}
+use Rattle.host_data.specs.amount_math.Worth.{Worth, with_content}
+use Rattle.host_data.specs.amount_math.declared.Kind.{Kind}
+use Rattle.host_data.specs.amount_math.declared.Kind.TheVariants.{Nat, Set, Bag}
+use Rattle.host_data.specs.Tree.{Tree, null, boolean, number, text, array, fields, object, function, no_items, item, Fields, no_fields, field, get, field_of, object_of, number_of, nesting, items_nesting, fields_nesting, Ordered, OrderedItems, OrderedFields}
+use Rattle.host_data.specs.View.{items_of}
+use Rattle.host_data.specs.declared.data.ObjKind.{ObjKind}
+use Rattle.host_data.specs.declared.data.ObjKind.TheVariants.{Ertp, Zoe, Timer, Brand, Issuer, Mint, Purse, Deposit, Payment, Installation, Instance, Zcf, Seat, Zseat, Zmint, Facet, Promise}
+use Rattle.host_data.specs.Outcomes as cd
+use Rattle.host_data.specs.Amounts.{amount_fields, kind_of_brand, value_in, nat_from, nat_value, set_in, bag_in, keyed_value}
+use Rattle.host_data.specs.Values.{brand_tree, value_tree, amount_tree, content_tree, key_tree, counted_tree}
+use Rattle.host_data.specs.Refusals.{refusal_tree, shown_by}
+use Rattle.host_data.specs.declared.refusals.Refusal.{Refusal}
+use Rattle.host_data.specs.declared.refusals.Refusal.TheVariants as q
+use Rattle.jessie_semantics.specs.Refusals.{amount_refusal_tree, bind, wanted, need, read}
+use Rattle.jessie_semantics.specs.Given.{brand_in, worth_in, amount_made, amount_given, amount_of_brand, two_amounts, two_values}
+use Rattle.jessie_semantics.specs.Worths.{checked, in_bounds, first_past, has, sum_in, difference_in, least_in, greatest_in}
+use Rattle.host_data.specs.amount_math.Worth.{bound}
+use Rattle.jessie_semantics.specs.AmountMath.{shown, worked, answer, answer_of, argument, function_named, amount_call}
+use Rattle.jessie_semantics.specs.declared.refusals.AmountRefusal.{AmountRefusal}
+use Rattle.jessie_semantics.specs.declared.refusals.AmountRefusal.TheVariants.{Refused, Overlap}
+use Rattle.jessie_semantics.specs.declared.given.OneAmount.{OneAmount}
+use Rattle.jessie_semantics.specs.declared.given.TwoAmounts.{TwoAmounts}
+use Rattle.jessie_semantics.specs.declared.functions.AmountFunction.{AmountFunction}
+use Rattle.jessie_semantics.specs.declared.functions.AmountFunction.TheVariants as f
 use Rattle.jessie_semantics.specs.Keeping.{Known, Within, ItemsWithin, AllHave}
 use Rattle.jessie_semantics.specs.Form.{InForm}
 use Rattle.jessie_semantics.specs.Naming.{FieldNamesAre, HasFieldNames, IsFieldName, ItemNamesAre, NamesAre}

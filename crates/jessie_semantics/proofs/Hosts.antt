@@ -1,7 +1,7 @@
 -- A host that keeps to its side is asked for nothing that it doesn't know or that is beyond its room.
 use Rattle.std.proofs.Common.{◌≡◌, ℕ, ◌+◌, ◌-◌, ◌≤◌, List, [], ◌∷◌, ◌++◌, refl, ap, subst, ◌∙◌, length, arith}
-use Rattle.jessie_tree.specs.Tree.{Tree, null, boolean, number, text, array, fields, object, function, Items, no_items, item, Fields, no_fields, field}
-use Rattle.jessie_syntax.specs.Syntax.{Routine}
+use Rattle.host_data.specs.Tree.{Tree, null, boolean, number, text, array, fields, object, function, Items, no_items, item, Fields, no_fields, field}
+use Rattle.jessie_values.specs.jessie_grammar.Syntax.{Routine}
 use Rattle.jessie_semantics.specs.Play.{Call, cost, reply_size, Exchange, Reply, given, refused, Play, Ends, Spends, Asks, Answered, after}
 use Rattle.jessie_semantics.specs.Rules.{play}
 use Rattle.jessie_semantics.specs.Keeping.{Known, Reference, to_object, to_function, Within, ItemsWithin, FieldsWithin, FunctionsKnown, AllHave, CallHas, RepliesHave, ReplyHas, NextHas, Fits}

@@ -4,17 +4,17 @@ use Rattle.std.specs.Prelude.{Result, Ok, Err, slice_get, slice_set, option_map,
 use Rattle.std.specs.Prelude.{nat_le}
 use Rattle.std.specs.Ordering.{int_eq}
 use Rattle.std.specs.Str.{bytes_eq}
-use Rattle.host_text.specs.Numbers.{fits}
-use Rattle.jessie_tree.specs.Tree.{Tree, null, boolean, number, text, array, fields, function, object, Items, Fields, no_fields, field, listed, paired, get, number_of, text_of, function_of, list_of, pairs_of, size, items_size, fields_size, nesting}
-use Rattle.jessie_tree.specs.View.{items_of}
-use Rattle.jessie_tree.specs.declared.data.Obj.{Obj}
-use Rattle.jessie_syntax.specs.declared.syntax.Literal.{Literal}
-use Rattle.jessie_syntax.specs.declared.syntax.Literal.TheVariants as l
-use Rattle.jessie_syntax.specs.declared.syntax.Operator.{Operator}
-use Rattle.jessie_syntax.specs.declared.syntax.Operator.TheVariants as o
-use Rattle.jessie_syntax.specs.declared.syntax.Unary.{Unary}
-use Rattle.jessie_syntax.specs.declared.syntax.Unary.TheVariants as u
-use Rattle.jessie_syntax.specs.Syntax.{Routine}
+use Rattle.host_data.specs.host_text.Numbers.{fits}
+use Rattle.host_data.specs.Tree.{Tree, null, boolean, number, text, array, fields, function, object, Items, Fields, no_fields, field, listed, paired, get, number_of, text_of, function_of, list_of, pairs_of, size, items_size, fields_size, nesting}
+use Rattle.host_data.specs.View.{items_of}
+use Rattle.host_data.specs.declared.data.Obj.{Obj}
+use Rattle.jessie_values.specs.jessie_grammar.declared.syntax.Literal.{Literal}
+use Rattle.jessie_values.specs.jessie_grammar.declared.syntax.Literal.TheVariants as l
+use Rattle.jessie_values.specs.jessie_grammar.declared.syntax.Operator.{Operator}
+use Rattle.jessie_values.specs.jessie_grammar.declared.syntax.Operator.TheVariants as o
+use Rattle.jessie_values.specs.jessie_grammar.declared.syntax.Unary.{Unary}
+use Rattle.jessie_values.specs.jessie_grammar.declared.syntax.Unary.TheVariants as u
+use Rattle.jessie_values.specs.jessie_grammar.Syntax.{Routine}
 use Rattle.jessie_values.specs.declared.reasons.Reason.{Reason}
 use Rattle.jessie_values.specs.declared.reasons.Reason.TheVariants.{DivisionByZero, TooLarge}
 use Rattle.jessie_values.specs.Reasons.{bad_step}
@@ -25,7 +25,7 @@ use Rattle.jessie_values.specs.Steps.{field_at, index_at, list_items, place_in}
 use Rattle.jessie_values.specs.Records.{deepest, made, made_array, made_record}
 use Rattle.jessie_values.specs.BuiltIns.{first, second, third, keys_in, length_in, pushed, changed, replaced}
 use Rattle.jessie_values.specs.Requests.{is_promise, promise_of, facet_name, functions_in, methods_of, when_call, far_call}
-use Rattle.amount_calls.specs.AmountMath.{amount_call}
+use Rattle.jessie_semantics.specs.AmountMath.{amount_call}
 use Rattle.jessie_values.specs.Literals.{literal_tree}
 use Rattle.jessie_semantics.specs.Play.{cost, held_size, methods_size}
 use Rattle.jessie_semantics.specs.Actions.{Bindings}

@@ -1,3 +1,5 @@
+pub mod Tests
+pub mod Sums
 pub mod Plays
 pub mod Runs
 pub mod Safe
@@ -9,3 +11,5 @@ pub mod FormKept
 pub mod NamesKept
 pub mod Licence
 pub mod Hosts
+pub use Rattle.host_data.proofs as host_data
+pub use Rattle.jessie_values.proofs.jessie_grammar

@@ -1,9 +1,9 @@
 -- What the rules make by themselves refers to nothing but the module's functions, and what they make of
 -- values to nothing that the values don't refer to: so each object that an evaluation shows was handed to it.
 use Rattle.std.proofs.Common.{ℕ, ◌+◌, ◌-◌, ◌≤◌, List, [], ◌∷◌, ◌++◌, map, inl, inr, refl, subst, length, arith}
-use Rattle.jessie_tree.specs.Tree.{Tree, null, boolean, number, text, array, fields, object, function, Items, no_items, item, Fields, no_fields, field}
-use Rattle.jessie_tree.specs.declared.data.Obj.{Obj}
-use Rattle.jessie_syntax.specs.Syntax.{Routine}
+use Rattle.host_data.specs.Tree.{Tree, null, boolean, number, text, array, fields, object, function, Items, no_items, item, Fields, no_fields, field}
+use Rattle.host_data.specs.declared.data.Obj.{Obj}
+use Rattle.jessie_values.specs.jessie_grammar.Syntax.{Routine}
 use Rattle.jessie_semantics.specs.Play.{cost, reply_size, Reply, given, refused, Exchange, Play, Ends, Spends, Asks, after, Follows, replies}
 use Rattle.jessie_semantics.specs.Rules.{play}
 use Rattle.jessie_semantics.specs.Keeping.{Known, to_object, to_function, Within, ItemsWithin, FieldsWithin, AllHave, ReplyHas, RepliesHave, NextHas, FunctionsKnown, Occurs, OccursItems, OccursFields, OccursAny, Handed, reply_tree, handed, Licensed, Fits}

@@ -1,12 +1,12 @@
 -- Actions carried out, and put together.
 use Rattle.std.proofs.Common.{◌≡◌, ℕ, ◌+◌, List, [], ◌∷◌, ◌++◌, refl, sym, ap, subst, ◌∙◌, length, take, Option}
 use Rattle.std.specs.Prelude.{Ok, Err}
-use Rattle.jessie_tree.specs.Tree.{Tree, items_size}
-use Rattle.jessie_tree.specs.View.{items_of}
+use Rattle.host_data.specs.Tree.{Tree, items_size}
+use Rattle.host_data.specs.View.{items_of}
 use Rattle.jessie_values.specs.declared.reasons.Reason.{Reason}
 use Rattle.jessie_values.specs.Reasons.{bad_step}
-use Rattle.amount_calls.specs.declared.refusals.AmountRefusal.{AmountRefusal}
-use Rattle.amount_calls.specs.Refusals.{amount_refusal_tree}
+use Rattle.jessie_semantics.specs.declared.refusals.AmountRefusal.{AmountRefusal}
+use Rattle.jessie_semantics.specs.Refusals.{amount_refusal_tree}
 use Rattle.jessie_semantics.specs.Play.{Call, Exchange}
 use Rattle.jessie_semantics.specs.Actions.{Bindings, State, went, Then, Action, pure, throw, spend, onward, ◌>>=◌, ◌>>◌, otherwise, caught, charge, ask, metered, first_of, look, bind, named, scoped, within}
 use Rattle.jessie_semantics.specs.Rules.{worked, counted, host, heard}

@@ -5,14 +5,14 @@ use Rattle.std.proofs.Common.{◌≡◌, ℕ, zero, suc, ◌+◌, ◌-◌, ◌�
 use Rattle.std.specs.Prelude.{nat_le, Result, Ok, Err}
 use Rattle.std.specs.Str.{bytes_eq}
 use Rattle.std.proofs.lemmas.Bool.Decides.{nat_tests}
-use Rattle.jessie_tree.specs.Tree.{Tree, null, boolean, number, text, array, fields, function, object, object_of, size, items_size}
-use Rattle.jessie_tree.specs.View.{items_of}
-use Rattle.jessie_syntax.specs.declared.syntax.Literal.{Literal}
-use Rattle.jessie_syntax.specs.declared.syntax.Operator.{Operator}
-use Rattle.jessie_syntax.specs.declared.syntax.Unary.{Unary}
-use Rattle.jessie_syntax.specs.declared.syntax.BuiltIn.{BuiltIn}
-use Rattle.jessie_syntax.specs.declared.syntax.BuiltIn.TheVariants as b
-use Rattle.jessie_syntax.specs.Syntax.{Term, literal, name, call, built_in, amount_math, send, listing, composed, linked, unary, chain, choice, Terms, no_terms, term, NamedTerms, no_named, named_term, Operands, no_operands, operand, Link, at_field, method, at_index, Links, no_links, link, Statement, declare_const, declare_let, assign, choose, repeat, each, give, give_nothing, raise, attempt, run, Branches, no_branches, branch, Block, done, step, Routine}
+use Rattle.host_data.specs.Tree.{Tree, null, boolean, number, text, array, fields, function, object, object_of, size, items_size}
+use Rattle.host_data.specs.View.{items_of}
+use Rattle.jessie_values.specs.jessie_grammar.declared.syntax.Literal.{Literal}
+use Rattle.jessie_values.specs.jessie_grammar.declared.syntax.Operator.{Operator}
+use Rattle.jessie_values.specs.jessie_grammar.declared.syntax.Unary.{Unary}
+use Rattle.jessie_values.specs.jessie_grammar.declared.syntax.BuiltIn.{BuiltIn}
+use Rattle.jessie_values.specs.jessie_grammar.declared.syntax.BuiltIn.TheVariants as b
+use Rattle.jessie_values.specs.jessie_grammar.Syntax.{Term, literal, name, call, built_in, amount_math, send, listing, composed, linked, unary, chain, choice, Terms, no_terms, term, NamedTerms, no_named, named_term, Operands, no_operands, operand, Link, at_field, method, at_index, Links, no_links, link, Statement, declare_const, declare_let, assign, choose, repeat, each, give, give_nothing, raise, attempt, run, Branches, no_branches, branch, Block, done, step, Routine}
 use Rattle.jessie_values.specs.declared.reasons.Reason.{Reason}
 use Rattle.jessie_values.specs.declared.reasons.Reason.TheVariants.{WrongKind, TooDeep}
 use Rattle.jessie_values.specs.Reasons.{bad_step}
@@ -25,9 +25,9 @@ use Rattle.jessie_values.specs.Records.{made_array, made_record}
 use Rattle.jessie_values.specs.BuiltIns.{harden, keys, len, push}
 use Rattle.jessie_values.specs.BuiltIns.{put as put_part}
 use Rattle.jessie_values.specs.Requests.{when_call, far_call}
-use Rattle.amount_calls.specs.AmountMath.{amount_call}
-use Rattle.amount_calls.specs.Refusals.{amount_refusal_tree}
-use Rattle.amount_calls.specs.declared.refusals.AmountRefusal.{AmountRefusal}
+use Rattle.jessie_semantics.specs.AmountMath.{amount_call}
+use Rattle.jessie_semantics.specs.Refusals.{amount_refusal_tree}
+use Rattle.jessie_semantics.specs.declared.refusals.AmountRefusal.{AmountRefusal}
 use Rattle.jessie_values.specs.Literals.{literal_tree}
 use Rattle.jessie_semantics.specs.Play.{Call, cost, Reply, given, refused, reply_size, Play, Ends, Spends, Asks, after}
 use Rattle.jessie_semantics.specs.Actions.{Bindings, State, Flow, went, fails, Then, Action, pure, throw, spend, onward, ◌>>=◌, otherwise, caught, charge, ask, metered, first_of, look, is_bound, rebind, bind, paid, named, put, scoped, within}

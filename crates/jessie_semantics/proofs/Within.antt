@@ -5,9 +5,9 @@ use Rattle.std.specs.Cmp.Lexicographic.{slice_cmp}
 use Rattle.std.specs.Ordering.{nat_cmp}
 use Rattle.std.specs.declared.cmp.Ordering.{Ordering}
 use Rattle.std.specs.declared.cmp.Ordering.TheVariants.{Less, Equal, Greater}
-use Rattle.jessie_tree.specs.Tree.{Tree, text, array, fields, Items, no_items, item, Fields, no_fields, field, listed, paired}
-use Rattle.jessie_tree.specs.View.{items_of}
-use Rattle.jessie_syntax.specs.Syntax.{Routine}
+use Rattle.host_data.specs.Tree.{Tree, text, array, fields, Items, no_items, item, Fields, no_fields, field, listed, paired}
+use Rattle.host_data.specs.View.{items_of}
+use Rattle.jessie_values.specs.jessie_grammar.Syntax.{Routine}
 use Rattle.jessie_values.specs.Records.{placed, with_field, with_fields, record_of}
 use Rattle.jessie_values.specs.BuiltIns.{changed}
 use Rattle.jessie_semantics.specs.Actions.{Bindings}

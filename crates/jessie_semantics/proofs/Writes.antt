@@ -1,6 +1,6 @@
 -- Any text writes names of some kind.
 use Rattle.std.proofs.Common.{ℕ, List, [], ◌∷◌}
-use Rattle.jessie_syntax.specs.Syntax.{Term, literal, name, call, built_in, amount_math, send, listing, composed, linked, unary, chain, choice, Terms, no_terms, term, NamedTerms, no_named, named_term, Operands, no_operands, operand, Link, at_field, method, at_index, Links, no_links, link, Statement, declare_const, declare_let, assign, choose, repeat, each, give, give_nothing, raise, attempt, run, Branches, no_branches, branch, Block, done, step, Routine}
+use Rattle.jessie_values.specs.jessie_grammar.Syntax.{Term, literal, name, call, built_in, amount_math, send, listing, composed, linked, unary, chain, choice, Terms, no_terms, term, NamedTerms, no_named, named_term, Operands, no_operands, operand, Link, at_field, method, at_index, Links, no_links, link, Statement, declare_const, declare_let, assign, choose, repeat, each, give, give_nothing, raise, attempt, run, Branches, no_branches, branch, Block, done, step, Routine}
 use Rattle.jessie_semantics.specs.Naming.{BlockWrites, BranchesWrite, LinksWrite, LinkWrites, NamedTermsWrite, OperandsWrite, RoutinesWrite, StatementWrites, TermsWrite, TermWrites}
 
 abbrev pub AnyName : List ℕ → Type 0

@@ -2,7 +2,7 @@
 -- and may ask the host on the way. Rules are put together by `>>=`: what is thrown goes past the rest.
 use Rattle.std.specs.Prelude.{ℕ, ◌-◌, List, [], ◌∷◌, ◌++◌, Bool, false, ◌||◌, Option, Some, None, length, take, nat_le, if◌then◌else◌}
 use Rattle.std.specs.Str.{bytes_eq}
-use Rattle.jessie_tree.specs.Tree.{Tree, size}
+use Rattle.host_data.specs.Tree.{Tree, size}
 use Rattle.jessie_semantics.specs.Play.{Call, Reply, Play, Spends, Asks}
 
 -- names with their values, the innermost last

@@ -1,9 +1,9 @@
 -- What holds of each value that an evaluation works with: a fact W about trees, said of all that a
 -- call, an answer, a state or an outcome holds.
 use Rattle.std.specs.Prelude.{◌≡◌, ℕ, true, ◌≤◌, ◌+◌, ◌-◌, List, [], ◌∷◌, ◌++◌, ◌⊎◌, map, length}
-use Rattle.jessie_tree.specs.Tree.{Tree, null, boolean, number, text, array, fields, object, function, Items, no_items, item, Fields, no_fields, field}
-use Rattle.jessie_tree.specs.declared.data.Obj.{Obj}
-use Rattle.jessie_syntax.specs.Syntax.{Routine}
+use Rattle.host_data.specs.Tree.{Tree, null, boolean, number, text, array, fields, object, function, Items, no_items, item, Fields, no_fields, field}
+use Rattle.host_data.specs.declared.data.Obj.{Obj}
+use Rattle.jessie_values.specs.jessie_grammar.Syntax.{Routine}
 use Rattle.jessie_values.specs.Requests.{is_promise}
 use Rattle.jessie_semantics.specs.Play.{Call, call, send, when, far, cost, reply_size, Reply, given, refused, Exchange, Answered, Ending, returned, threw, Play, Ends, Spends, Asks, replies}
 

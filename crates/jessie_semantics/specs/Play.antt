@@ -1,9 +1,9 @@
 -- What an evaluation comes to, whatever the host answers: it ends, its meter is spent, or it asks the
 -- host and goes on by the answer.
 use Rattle.std.specs.Prelude.{◌≡◌, ℕ, ◌+◌, List, [], ◌∷◌, ◌++◌, length, map}
-use Rattle.jessie_tree.specs.Tree.{Tree, null, size, items_size}
-use Rattle.jessie_tree.specs.View.{items_of}
-use Rattle.jessie_tree.specs.declared.data.Obj.{Obj}
+use Rattle.host_data.specs.Tree.{Tree, null, size, items_size}
+use Rattle.host_data.specs.View.{items_of}
+use Rattle.host_data.specs.declared.data.Obj.{Obj}
 
 -- what the host is asked
 pub data Call : Type 0 where

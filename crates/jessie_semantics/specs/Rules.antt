@@ -3,12 +3,12 @@
 -- or a name is read, and what a call of the host costs. Parts are worked from left to right.
 use Rattle.std.specs.Prelude.{ℕ, zero, suc, ◌+◌, List, [], ◌∷◌, ◌++◌, Bool, Option, Some, None, Result, Ok, Err, if◌then◌else◌, map, take}
 use Rattle.std.specs.Str.{bytes_eq}
-use Rattle.jessie_tree.specs.Tree.{Tree, null, function, object_of, size, items_size}
-use Rattle.jessie_tree.specs.View.{items_of}
-use Rattle.jessie_syntax.specs.Syntax.{Term, literal, name, call, built_in, amount_math, send, listing, composed, linked, unary, chain, choice, Terms, no_terms, term, NamedTerms, no_named, named_term, Operands, no_operands, operand, Link, at_field, method, at_index, Links, no_links, link, Statement, declare_const, declare_let, assign, choose, repeat, each, give, give_nothing, raise, attempt, run, Branches, no_branches, branch, Block, done, step, Routine}
-use Rattle.jessie_syntax.specs.declared.syntax.BuiltIn.{BuiltIn}
-use Rattle.jessie_syntax.specs.declared.syntax.BuiltIn.TheVariants.{When, Far, Harden, Keys, Len, Push, Put}
-use Rattle.jessie_syntax.specs.declared.syntax.Operator.{Operator}
+use Rattle.host_data.specs.Tree.{Tree, null, function, object_of, size, items_size}
+use Rattle.host_data.specs.View.{items_of}
+use Rattle.jessie_values.specs.jessie_grammar.Syntax.{Term, literal, name, call, built_in, amount_math, send, listing, composed, linked, unary, chain, choice, Terms, no_terms, term, NamedTerms, no_named, named_term, Operands, no_operands, operand, Link, at_field, method, at_index, Links, no_links, link, Statement, declare_const, declare_let, assign, choose, repeat, each, give, give_nothing, raise, attempt, run, Branches, no_branches, branch, Block, done, step, Routine}
+use Rattle.jessie_values.specs.jessie_grammar.declared.syntax.BuiltIn.{BuiltIn}
+use Rattle.jessie_values.specs.jessie_grammar.declared.syntax.BuiltIn.TheVariants.{When, Far, Harden, Keys, Len, Push, Put}
+use Rattle.jessie_values.specs.jessie_grammar.declared.syntax.Operator.{Operator}
 use Rattle.jessie_values.specs.declared.reasons.Reason.{Reason}
 use Rattle.jessie_values.specs.declared.reasons.Reason.TheVariants.{WrongKind, TooDeep}
 use Rattle.jessie_values.specs.Reasons.{bad_step}
@@ -22,9 +22,9 @@ use Rattle.jessie_values.specs.Records.{made_array, made_record}
 use Rattle.jessie_values.specs.BuiltIns.{harden, keys, len, push}
 use Rattle.jessie_values.specs.BuiltIns.{put as put_part}
 use Rattle.jessie_values.specs.Requests.{WhenCall, FarCall, when_call, far_call}
-use Rattle.amount_calls.specs.AmountMath.{amount_call}
-use Rattle.amount_calls.specs.Refusals.{amount_refusal_tree}
-use Rattle.amount_calls.specs.declared.refusals.AmountRefusal.{AmountRefusal}
+use Rattle.jessie_semantics.specs.AmountMath.{amount_call}
+use Rattle.jessie_semantics.specs.Refusals.{amount_refusal_tree}
+use Rattle.jessie_semantics.specs.declared.refusals.AmountRefusal.{AmountRefusal}
 use Rattle.jessie_semantics.specs.Play.{Call, Reply, given, refused, Play, Ends, returned, threw}
 use Rattle.jessie_semantics.specs.Play.{call as asks_call, send as asks_send, when as asks_when, far as asks_far}
 use Rattle.jessie_semantics.specs.Actions.{Bindings, went, fails, Then, Action, pure, throw, spend, ◌>>=◌, ◌>>◌, caught, charge, ask, metered, bind, paid, named, put, scoped, within}

@@ -1,6 +1,6 @@
 -- What the evaluator's parts promise: how far the play has been carried out, and what is left of it.
 use Rattle.std.specs.Prelude.{◌≡◌, List, [], ◌∷◌}
-use Rattle.jessie_tree.specs.Tree.{Tree}
+use Rattle.host_data.specs.Tree.{Tree}
 use Rattle.jessie_semantics.specs.Play.{Exchange, Play, Ends, Spends, Asks, Answered}
 use Rattle.jessie_semantics.specs.Actions.{State, went, fails, Then, Action}
 

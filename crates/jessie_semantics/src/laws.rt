@@ -1,8 +1,8 @@
 // What the rules mean: each law holds of every module, function, list of arguments, list of state
 // values, meter and list of answers. The functions do nothing; their contracts are the laws.
 ghost use Rattle.std.specs.Prelude.{ℕ, List, length, ◌≤◌};
-ghost use Rattle.jessie_tree.specs.Tree.{Tree};
-ghost use Rattle.jessie_syntax.specs.Syntax.{Routine};
+ghost use Rattle.host_data.specs.Tree.{Tree};
+ghost use Rattle.jessie_values.specs.jessie_grammar.Syntax.{Routine};
 ghost use Rattle.jessie_semantics.specs.Play.{Reply, after};
 ghost use Rattle.jessie_semantics.specs.Rules.{play};
 ghost use Rattle.jessie_semantics.specs.Keeping.{AllHave, RepliesHave, NextHas, Within, Fits, Handed, handed};

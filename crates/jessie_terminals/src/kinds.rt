@@ -1,11 +1,11 @@
 // Which kinds of tokens begin what.
 ghost use Rattle.std.specs.Prelude.{[], ◌∷◌, ◌≡◌, ◌<◌};
-ghost use Rattle.jessie_lexer.specs.Tokens.{kind as first_kind, has};
-ghost use Rattle.jessie_language.specs.Words as words;
-ghost use Rattle.jessie_language.specs.Levels.{level_at};
-ghost use Rattle.jessie_language.specs.StatementList.{names_after};
+ghost use Rattle.jessie_grammar.specs.Tokens.{kind as first_kind, has};
+ghost use Rattle.jessie_grammar.specs.Words as words;
+ghost use Rattle.jessie_grammar.specs.Levels.{level_at};
+ghost use Rattle.jessie_grammar.specs.StatementList.{names_after};
 
-use jessie_lexer::token::{Kind, Token, number_of, peek};
+use jessie_grammar::jessie_lexer::token::{Kind, Token, number_of, peek};
 
 /// Whether the first token is of that kind.
 pub fn is(tokens: &[Token], kind: Kind) -> bool

@@ -1,14 +1,14 @@
 // Names: each is lent as the token that it is.
 ghost use Rattle.std.specs.Prelude.{[], ◌∷◌, ◌≡◌, length, None, Some};
-ghost use Rattle.jessie_language.specs.Parse.{Gives, one};
-ghost use Rattle.jessie_language.specs.StatementList.{names_after};
-ghost use Rattle.jessie_language.specs.Rules as rules;
-ghost use Rattle.jessie_language.specs.Words as words;
+ghost use Rattle.jessie_grammar.specs.Parse.{Gives, one};
+ghost use Rattle.jessie_grammar.specs.StatementList.{names_after};
+ghost use Rattle.jessie_grammar.specs.Rules as rules;
+ghost use Rattle.jessie_grammar.specs.Words as words;
 
 use crate::kinds::{is_free_word, is_leading_word, is_word};
 use crate::symbols::{beyond, refused};
-use jessie_language::fault::{Limit, ParseError};
-use jessie_lexer::token::Token;
+use jessie_grammar::jessie_language::fault::{Limit, ParseError};
+use jessie_grammar::jessie_lexer::token::Token;
 
 /// How many bytes a name may have.
 const LONGEST_NAME: usize = 64;
@@ -35,7 +35,7 @@ fn declaring(token: &Token, more: bool) -> Option<Limit>
 }
 
 /// A name where only a name may stand.
-#[tactic(auto, unfolding(jessie_language::specs::Rules::name))]
+#[tactic(auto, unfolding(jessie_grammar::specs::Rules::name))]
 pub fn name(tokens: &[Token]) -> Result<(&Token, &[Token]), ParseError>
     ensures { Gives (λ x. (words.spotted x.0.now, x.1.now)) result (rules.name tokens.now) }
 {

@@ -1,15 +1,15 @@
 // Quoted words and marks.
 ghost use Rattle.std.specs.Prelude.{[], ◌∷◌, ◌≡◌, ◌<◌, length, IfOk, None, Some};
-ghost use Rattle.jessie_lexer.specs.Tokens.{has};
-ghost use Rattle.jessie_language.specs.Parse.{Gives, symbol, opening, one, free};
-ghost use Rattle.jessie_language.specs.Levels.{level_at};
-ghost use Rattle.jessie_language.specs.Words as words;
+ghost use Rattle.jessie_grammar.specs.Tokens.{has};
+ghost use Rattle.jessie_grammar.specs.Parse.{Gives, symbol, opening, one, free};
+ghost use Rattle.jessie_grammar.specs.Levels.{level_at};
+ghost use Rattle.jessie_grammar.specs.Words as words;
 
 use crate::kinds::{is_operator, is_sign};
-use jessie_language::fault::{Limit, ParseError};
-use jessie_lexer::token::{Kind, Token, number_of};
-use jessie_scopes::event::Binding;
-use jessie_syntax::syntax::{Operator, Unary};
+use jessie_grammar::jessie_language::fault::{Limit, ParseError};
+use jessie_grammar::jessie_lexer::token::{Kind, Token, number_of};
+use jessie_grammar::jessie_scopes::event::Binding;
+use jessie_grammar::syntax::{Operator, Unary};
 
 /// The refusal of the first token, or of the end, as one that no rule goes on with.
 pub fn refused(tokens: &[Token]) -> ParseError
@@ -26,7 +26,7 @@ pub fn beyond(tokens: &[Token], limit: Limit) -> ParseError
 }
 
 /// What follows that very token.
-#[tactic(auto, unfolding(jessie_language::specs::Parse::symbol))]
+#[tactic(auto, unfolding(jessie_grammar::specs::Parse::symbol))]
 pub fn expect(tokens: &[Token], kind: Kind) -> Result<&[Token], ParseError>
     ensures { Gives (λ rest. (tt, rest.now)) result (symbol kind tokens.now) }
 {
@@ -37,7 +37,7 @@ pub fn expect(tokens: &[Token], kind: Kind) -> Result<&[Token], ParseError>
 }
 
 /// What follows an open bracket, where `room` more may be open.
-#[tactic(auto, unfolding(jessie_language::specs::Parse::opening))]
+#[tactic(auto, unfolding(jessie_grammar::specs::Parse::opening))]
 pub fn open(tokens: &[Token], room: u32, kind: Kind) -> Result<&[Token], ParseError>
     ensures reads { Gives (λ rest. (tt, rest.now)) result (opening room kind tokens.now) }
     ensures room { IfOk result (λ _. 0 < room) }

@@ -1,15 +1,15 @@
 // Literals.
 ghost use Rattle.std.specs.Prelude.{[], ◌∷◌, ◌≡◌, ◌≤◌, length, IfOk, None, Some};
-ghost use Rattle.jessie_lexer.specs.Tokens.{has};
-ghost use Rattle.jessie_lexer.specs.Lex.{limit};
-ghost use Rattle.jessie_language.specs.Parse.{Gives, one};
-ghost use Rattle.jessie_language.specs.Words as words;
+ghost use Rattle.jessie_grammar.specs.Tokens.{has};
+ghost use Rattle.jessie_grammar.specs.Lex.{limit};
+ghost use Rattle.jessie_grammar.specs.Parse.{Gives, one};
+ghost use Rattle.jessie_grammar.specs.Words as words;
 
 use crate::kinds::is_literal;
 use crate::symbols::{beyond, refused};
-use jessie_language::fault::{Limit, ParseError};
-use jessie_lexer::token::{Kind, Token, number_of};
-use jessie_syntax::syntax::Literal;
+use jessie_grammar::jessie_language::fault::{Limit, ParseError};
+use jessie_grammar::jessie_lexer::token::{Kind, Token, number_of};
+use jessie_grammar::syntax::Literal;
 use std::alloc::{AllocError, Global};
 
 /// The largest number that a text may have: 2^127 - 1.

@@ -1,12 +1,12 @@
 -- What each form of a constant stands for, by its parts.
 use Rattle.std.proofs.Common.{◌≡◌, ℕ, List, [], ◌∷◌, map, refl, ap, ◌∙◌}
-use Rattle.jessie_syntax.proofs.Views.{fixed-Array, fixed-Literal, fixed-Record}
-use Rattle.jessie_syntax.specs.Syntax.{fixeds_view, named_fixeds_view}
-use Rattle.jessie_syntax.specs.declared.syntax.Constant as C
-use Rattle.jessie_syntax.specs.declared.syntax.Constant.{Constant}
-use Rattle.jessie_syntax.specs.declared.syntax.Literal.{Literal}
-use Rattle.jessie_tree.specs.Tree.{Tree, array, fields, item}
-use Rattle.jessie_tree.specs.View.{items_of}
+use Rattle.jessie_grammar.proofs.Views.{fixed-Array, fixed-Literal, fixed-Record}
+use Rattle.jessie_grammar.specs.Syntax.{fixeds_view, named_fixeds_view}
+use Rattle.jessie_grammar.specs.declared.syntax.Constant as C
+use Rattle.jessie_grammar.specs.declared.syntax.Constant.{Constant}
+use Rattle.jessie_grammar.specs.declared.syntax.Literal.{Literal}
+use Rattle.host_data.specs.Tree.{Tree, array, fields, item}
+use Rattle.host_data.specs.View.{items_of}
 use Rattle.jessie_values.specs.Literals.{constant_tree, fixed_items, fixed_pairs, fixed_tree, literal_tree}
 use Rattle.jessie_values.specs.Records.{record_of}
 

@@ -1,9 +1,9 @@
 -- What stands at the first place of a name.
 use Rattle.std.proofs.Common.{◌≡◌, ℕ, zero, suc, List, [], ◌∷◌, false, cond, Some, None, length, get_or, set, refl, ap, ◌∙◌, arith}
 use Rattle.std.specs.Str.{bytes_eq}
-use Rattle.jessie_tree.specs.Tree.{Tree, Fields, field, get, listed}
-use Rattle.jessie_tree.specs.View.{tree, trees, items_of, named_trees, fields_of}
-use Rattle.jessie_tree.specs.declared.data.Data.{Data}
+use Rattle.host_data.specs.Tree.{Tree, Fields, field, get, listed}
+use Rattle.host_data.specs.View.{tree, trees, items_of, named_trees, fields_of}
+use Rattle.host_data.specs.declared.data.Data.{Data}
 use Rattle.jessie_values.specs.BuiltIns.{changed}
 use Rattle.jessie_values.specs.Named.{IsFirstNamed, Named, NotBefore}
 

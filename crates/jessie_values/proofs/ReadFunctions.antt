@@ -2,8 +2,8 @@
 use Rattle.std.proofs.Common.{◌≡◌, ℕ, ◌+◌, ◌<◌, ◌≤◌, Option, Some, None, List, [], ◌∷◌, ◌++◌, length, drop, get_or, refl, sym, ap, ◌∙◌}
 use Rattle.std.proofs.lemmas.List.{append-nil, append_assoc, drop_all, drop_more}
 use Rattle.std.specs.Option.{option_and_then, option_map}
-use Rattle.jessie_tree.specs.Tree.{function_of}
-use Rattle.jessie_tree.specs.View.{named_trees, tree}
+use Rattle.host_data.specs.Tree.{function_of}
+use Rattle.host_data.specs.View.{named_trees, tree}
 use Rattle.jessie_values.specs.Named.{Named}
 use Rattle.jessie_values.specs.Requests.{functions_in}
 use Rattle.jessie_values.proofs.NamedFields.{Entry}

@@ -1,8 +1,8 @@
 -- Worked rows: what operators, steps and built-in functions make of small values.
 use Rattle.std.proofs.Common.{◌≡◌, ◌-◌, ◌^◌, List, [], ◌∷◌, true, false, Ok, Err, pos, negsuc, refl}
 use Rattle.std.specs.Prelude.{codes}
-use Rattle.jessie_tree.specs.Tree.{Tree, null, boolean, number, text, array, fields, Fields, field, no_fields}
-use Rattle.jessie_tree.specs.View.{items_of}
+use Rattle.host_data.specs.Tree.{Tree, null, boolean, number, text, array, fields, Fields, field, no_fields}
+use Rattle.host_data.specs.View.{items_of}
 use Rattle.jessie_values.specs.declared.reasons.Reason.TheVariants.{WrongKind, OutOfRange, DivisionByZero, NoField}
 use Rattle.jessie_values.specs.BuiltIns.{keys, len, push, put}
 use Rattle.jessie_values.specs.Operators.{difference_of, equality, less, opposite, product_of, quotient_of, rest_of, sum_of}

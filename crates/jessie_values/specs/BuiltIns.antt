@@ -1,8 +1,8 @@
 -- The built-in functions that ask nothing of the host: harden, keys, len, push and put. Of the arguments a missing one is null, and a surplus one is dropped.
 use Rattle.std.specs.Prelude.{ℕ, ℤ, pos, List, [], ◌∷◌, ◌++◌, length, map, slice_set, Result, Ok, Err, if◌then◌else◌}
 use Rattle.std.specs.Str.{bytes_eq}
-use Rattle.jessie_tree.specs.Tree.{Tree, null, number, text, array, fields, Fields, no_fields, field, listed, list_of, pairs_of, count, get, number_of, text_of}
-use Rattle.jessie_tree.specs.View.{items_of}
+use Rattle.host_data.specs.Tree.{Tree, null, number, text, array, fields, Fields, no_fields, field, listed, list_of, pairs_of, count, get, number_of, text_of}
+use Rattle.host_data.specs.View.{items_of}
 use Rattle.jessie_values.specs.declared.reasons.Reason.{Reason}
 use Rattle.jessie_values.specs.declared.reasons.Reason.TheVariants.{WrongKind}
 use Rattle.jessie_values.specs.Outcomes.{◌>>=◌, of_kind, there}

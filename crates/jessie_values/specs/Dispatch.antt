@@ -1,10 +1,10 @@
 -- Operators as the syntax names them.
 use Rattle.std.specs.Prelude.{Bool, false, not, Result, Ok}
-use Rattle.jessie_tree.specs.Tree.{Tree, boolean}
-use Rattle.jessie_syntax.specs.declared.syntax.Operator.{Operator}
-use Rattle.jessie_syntax.specs.declared.syntax.Operator.TheVariants.{Or, And, Equal, Unequal, Less, AtMost, Greater, AtLeast, Add, Subtract, Multiply, Divide, Remainder}
-use Rattle.jessie_syntax.specs.declared.syntax.Unary.{Unary}
-use Rattle.jessie_syntax.specs.declared.syntax.Unary.TheVariants.{Not, Negate}
+use Rattle.host_data.specs.Tree.{Tree, boolean}
+use Rattle.jessie_grammar.specs.declared.syntax.Operator.{Operator}
+use Rattle.jessie_grammar.specs.declared.syntax.Operator.TheVariants.{Or, And, Equal, Unequal, Less, AtMost, Greater, AtLeast, Add, Subtract, Multiply, Divide, Remainder}
+use Rattle.jessie_grammar.specs.declared.syntax.Unary.{Unary}
+use Rattle.jessie_grammar.specs.declared.syntax.Unary.TheVariants.{Not, Negate}
 use Rattle.jessie_values.specs.declared.reasons.Reason.{Reason}
 use Rattle.jessie_values.specs.Operators.{at_least, at_most, difference_of, equality, greater, inequality, less, logical_not, opposite, product_of, quotient_of, rest_of, sum_of, truth}
 use Rattle.jessie_values.specs.Outcomes.{◌>>=◌}

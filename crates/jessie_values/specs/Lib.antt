@@ -10,3 +10,4 @@ pub mod Requests
 pub mod Dispatch
 pub mod RequestViews
 pub mod SortedFields
+pub use Rattle.jessie_grammar.specs as jessie_grammar

@@ -1,12 +1,12 @@
 -- The data that a text writes: a literal, and what a state variable holds at first.
 use Rattle.std.specs.Prelude.{ℕ, List, [], ◌∷◌}
-use Rattle.jessie_tree.specs.Tree.{Tree, null, boolean, number, text, array, fields}
-use Rattle.jessie_tree.specs.Tree.{Items, no_items, item}
-use Rattle.jessie_syntax.specs.Syntax.{Fixed, plain, row, fixed_record, Fixeds, no_fixeds, fixed}
-use Rattle.jessie_syntax.specs.Syntax.{NamedFixeds, no_named_fixeds, named_fixed, fixed_view}
-use Rattle.jessie_syntax.specs.declared.syntax.Constant.{Constant}
-use Rattle.jessie_syntax.specs.declared.syntax.Literal.{Literal}
-use Rattle.jessie_syntax.specs.declared.syntax.Literal.TheVariants as l
+use Rattle.host_data.specs.Tree.{Tree, null, boolean, number, text, array, fields}
+use Rattle.host_data.specs.Tree.{Items, no_items, item}
+use Rattle.jessie_grammar.specs.Syntax.{Fixed, plain, row, fixed_record, Fixeds, no_fixeds, fixed}
+use Rattle.jessie_grammar.specs.Syntax.{NamedFixeds, no_named_fixeds, named_fixed, fixed_view}
+use Rattle.jessie_grammar.specs.declared.syntax.Constant.{Constant}
+use Rattle.jessie_grammar.specs.declared.syntax.Literal.{Literal}
+use Rattle.jessie_grammar.specs.declared.syntax.Literal.TheVariants as l
 use Rattle.jessie_values.specs.Records.{record_of}
 
 abbrev pub literal_tree : Literal → Tree

@@ -1,7 +1,7 @@
 -- The place of a name in a list of fields.
 use Rattle.std.specs.Prelude.{◌≡◌, ℕ, ◌<◌, List, length, true, false, slice_index_or}
 use Rattle.std.specs.Str.{bytes_eq}
-use Rattle.jessie_tree.specs.declared.data.Data.{Data}
+use Rattle.host_data.specs.declared.data.Data.{Data}
 
 abbrev pub Named : Type 0
 Named = List (List ℕ × Data)

@@ -5,12 +5,12 @@ use Rattle.std.specs.Option.{option_map_or}
 use Rattle.std.specs.Ordering.{int_cmp, int_eq, nat_cmp, is_lt, is_le, is_gt, is_ge}
 use Rattle.std.specs.Str.{bytes_eq}
 use Rattle.std.specs.declared.cmp.Ordering.{Ordering}
-use Rattle.host_text.specs.Numbers.{fits}
-use Rattle.jessie_tree.specs.Tree.{Tree, null, boolean, number, text, array, fields, object, function, boolean_of, number_of, text_of, object_of, function_of, is_null}
-use Rattle.amount_math.specs.declared.Kind.TheVariants.{Nat, Set, Bag}
-use Rattle.jessie_tree.specs.declared.data.Obj.{Obj}
-use Rattle.jessie_tree.specs.declared.data.ObjKind.{ObjKind}
-use Rattle.jessie_tree.specs.declared.data.ObjKind.TheVariants.{Ertp, Zoe, Timer, Brand, Issuer, Mint, Purse, Deposit, Payment, Installation, Instance, Zcf, Seat, Zseat, Zmint, Facet, Promise}
+use Rattle.host_data.specs.host_text.Numbers.{fits}
+use Rattle.host_data.specs.Tree.{Tree, null, boolean, number, text, array, fields, object, function, boolean_of, number_of, text_of, object_of, function_of, is_null}
+use Rattle.host_data.specs.amount_math.declared.Kind.TheVariants.{Nat, Set, Bag}
+use Rattle.host_data.specs.declared.data.Obj.{Obj}
+use Rattle.host_data.specs.declared.data.ObjKind.{ObjKind}
+use Rattle.host_data.specs.declared.data.ObjKind.TheVariants.{Ertp, Zoe, Timer, Brand, Issuer, Mint, Purse, Deposit, Payment, Installation, Instance, Zcf, Seat, Zseat, Zmint, Facet, Promise}
 use Rattle.jessie_values.specs.declared.reasons.Reason.{Reason}
 use Rattle.jessie_values.specs.declared.reasons.Reason.TheVariants.{WrongKind, OutOfRange, DivisionByZero, TooLarge}
 use Rattle.jessie_values.specs.Outcomes.{◌>>=◌, of_kind}

@@ -1,6 +1,6 @@
 -- Bad steps as the data that is thrown: a code, and the word of the reason that it shows.
 use Rattle.std.specs.Prelude.{ℕ, List, codes}
-use Rattle.jessie_tree.specs.Tree.{Tree, text, array, fields, item, no_items, field, no_fields}
+use Rattle.host_data.specs.Tree.{Tree, text, array, fields, item, no_items, field, no_fields}
 use Rattle.jessie_values.specs.declared.reasons.Reason.{Reason}
 use Rattle.jessie_values.specs.declared.reasons.Reason.TheVariants.{WrongKind, OutOfRange, DivisionByZero, NoField, TooDeep, TooLarge}
 

@@ -4,8 +4,8 @@ use Rattle.std.specs.Cmp.Lexicographic.{slice_cmp}
 use Rattle.std.specs.Ordering.{nat_cmp}
 use Rattle.std.specs.declared.cmp.Ordering.{Ordering}
 use Rattle.std.specs.declared.cmp.Ordering.TheVariants.{Less, Equal, Greater}
-use Rattle.jessie_tree.specs.Tree.{Tree, array, fields, Fields, no_fields, field, nesting}
-use Rattle.jessie_tree.specs.View.{items_of}
+use Rattle.host_data.specs.Tree.{Tree, array, fields, Fields, no_fields, field, nesting}
+use Rattle.host_data.specs.View.{items_of}
 use Rattle.jessie_values.specs.declared.reasons.Reason.{Reason}
 use Rattle.jessie_values.specs.declared.reasons.Reason.TheVariants.{TooLarge}
 

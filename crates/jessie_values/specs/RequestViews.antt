@@ -1,5 +1,5 @@
 -- What the arguments of `when` and `Far` stand for.
-use Rattle.jessie_tree.specs.View.{tree}
+use Rattle.host_data.specs.View.{tree}
 use Rattle.jessie_values.specs.declared.requests.WhenArguments.{WhenArguments}
 use Rattle.jessie_values.specs.declared.requests.FarArguments.{FarArguments}
 use Rattle.jessie_values.specs.Requests.{FarCall, WhenCall}

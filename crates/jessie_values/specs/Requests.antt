@@ -1,9 +1,9 @@
 -- What `when` and `Far` ask of their arguments, before the host is asked.
 use Rattle.std.specs.Prelude.{ℕ, List, [], ◌∷◌, length, nat_le, Bool, true, false, ◌&&◌, Option, Some, None, option_map, option_and_then, Result, Ok, if◌then◌else◌}
-use Rattle.jessie_tree.specs.Tree.{Tree, object_of, text_of, function_of, pairs_of}
-use Rattle.jessie_tree.specs.declared.data.Obj.{Obj}
-use Rattle.jessie_tree.specs.declared.data.ObjKind.{ObjKind}
-use Rattle.jessie_tree.specs.declared.data.ObjKind.TheVariants.{Promise}
+use Rattle.host_data.specs.Tree.{Tree, object_of, text_of, function_of, pairs_of}
+use Rattle.host_data.specs.declared.data.Obj.{Obj}
+use Rattle.host_data.specs.declared.data.ObjKind.{ObjKind}
+use Rattle.host_data.specs.declared.data.ObjKind.TheVariants.{Promise}
 use Rattle.jessie_values.specs.declared.reasons.Reason.{Reason}
 use Rattle.jessie_values.specs.BuiltIns.{first, second, third}
 use Rattle.jessie_values.specs.Outcomes.{◌>>=◌, of_kind}

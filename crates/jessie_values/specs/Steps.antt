@@ -1,6 +1,6 @@
 -- The steps behind a value that ask nothing of the host, and the parts of an array.
 use Rattle.std.specs.Prelude.{ℕ, ℤ, pos, negsuc, List, length, nat_lt, slice_get, Option, Some, None, option_and_then, Result, Err, if◌then◌else◌}
-use Rattle.jessie_tree.specs.Tree.{Tree, array, fields, Fields, listed, list_of, number_of, text_of, get}
+use Rattle.host_data.specs.Tree.{Tree, array, fields, Fields, listed, list_of, number_of, text_of, get}
 use Rattle.jessie_values.specs.declared.reasons.Reason.{Reason}
 use Rattle.jessie_values.specs.declared.reasons.Reason.TheVariants.{WrongKind}
 use Rattle.jessie_values.specs.Outcomes.{◌>>=◌, of_kind, there}

@@ -3,16 +3,16 @@
 
 ghost use Rattle.std.specs.Prelude.{◌≡◌, IfOk, Ok, map, pos};
 ghost use Rattle.std.specs.Vec.Iter.{into_iter_items};
-ghost use Rattle.jessie_tree.specs.Tree.{number, text};
-ghost use Rattle.jessie_tree.specs.View.{fields_of, named_trees, tree, trees};
+ghost use Rattle.host_data.specs.Tree.{number, text};
+ghost use Rattle.host_data.specs.View.{fields_of, named_trees, tree, trees};
 ghost use Rattle.jessie_values.specs.BuiltIns.{after_first, changed_field, changed_item, first, harden, keys, keys_in, len, length_in, push, pushed, put, replaced, replaced_field, replaced_item};
 ghost use Rattle.jessie_values.specs.Outcomes.{Gives, seen};
 
 use crate::parts::{into_items, place_in, place_of, set_item, set_second};
 use crate::reasons::{Reason, ValueFault};
 use crate::records::{made, made_array};
-use host_text::text::Text;
-use jessie_tree::data::Data;
+use host_data::data::Data;
+use host_data::host_text_lib::text::Text;
 use std::alloc::{AllocError, Global};
 use std::vec::IntoIter;
 

@@ -1,14 +1,15 @@
-//! The pure functions of the contract language over data: the steps behind a value, the built-in functions,
-//! arrays and records as they are made, what a text writes as data, and what `when` and `Far` ask of their
-//! arguments; and the definitions of all of these and of the operators. It stands on the data of the
-//! contract language. Its one contract: each function gives what its definition says of the trees, a value
-//! or why the step is bad. It takes nothing of a meter: the evaluator above charges.
+//! The pure functions of the contract language over data (operators, steps behind a value, built-in
+//! functions): each gives what its definition says of the trees, or why the step is bad.
 #![tactic(auto)]
 
 pub mod built_ins;
+pub mod dispatch;
 pub mod literals;
+pub mod operators;
 mod parts;
 pub mod reasons;
 pub mod records;
 pub mod requests;
 pub mod steps;
+
+pub use jessie_grammar as jessie_grammar_lib;

@@ -1,13 +1,13 @@
 //! The data that a text writes: a literal, and what a state variable holds at first.
 
 ghost use Rattle.std.specs.Prelude.{◌≡◌, IfOk, map};
-ghost use Rattle.jessie_tree.specs.View.{named_trees, tree, trees};
+ghost use Rattle.host_data.specs.View.{named_trees, tree, trees};
 ghost use Rattle.jessie_values.specs.Literals.{constant_tree, literal_tree};
 
 use crate::records::in_order;
-use host_text::text::Text;
-use jessie_syntax::syntax::{Constant, Literal};
-use jessie_tree::data::Data;
+use host_data::data::Data;
+use host_data::host_text_lib::text::Text;
+use jessie_grammar::syntax::{Constant, Literal};
 use std::alloc::{AllocError, Global};
 
 /// The data that a literal stands for.

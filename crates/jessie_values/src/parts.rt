@@ -1,13 +1,13 @@
 //! Data taken apart without a copy.
 
 ghost use Rattle.std.specs.Prelude.{◌≡◌, ◌<◌, IfSome, IsNone, length, option_map, slice_index_or, slice_set, vec_len};
-ghost use Rattle.jessie_tree.specs.Tree.{list_of, text_of};
-ghost use Rattle.jessie_tree.specs.View.{tree, trees};
+ghost use Rattle.host_data.specs.Tree.{list_of, text_of};
+ghost use Rattle.host_data.specs.View.{tree, trees};
 ghost use Rattle.jessie_values.specs.Named.{IsFirstNamed, NotBefore};
 ghost use Rattle.jessie_values.specs.Steps.{place_in};
 
-use host_text::text::Text;
-use jessie_tree::data::Data;
+use host_data::data::Data;
+use host_data::host_text_lib::text::Text;
 
 /// The parts of an array.
 pub(crate) fn into_items(value: Data) -> Option<Vec<Data>>

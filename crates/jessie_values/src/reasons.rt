@@ -1,13 +1,13 @@
 //! Why a step of an evaluation is bad, and the data that shows it.
 
 ghost use Rattle.std.specs.Prelude.{◌≡◌, ◌++◌, ◌∷◌, [], IfOk, OnOk};
-ghost use Rattle.jessie_tree.specs.Tree.{array, item, no_items, text};
-ghost use Rattle.jessie_tree.specs.View.{named_trees, tree};
+ghost use Rattle.host_data.specs.Tree.{array, item, no_items, text};
+ghost use Rattle.host_data.specs.View.{named_trees, tree};
 ghost use Rattle.jessie_values.specs.Reasons.{bad_step, reason_text};
 ghost use Rattle.jessie_values.specs.declared.reasons.ValueFault.TheVariants.{BadStep, NoMemory};
 
-use host_text::text::Text;
-use jessie_tree::data::Data;
+use host_data::data::Data;
+use host_data::host_text_lib::text::Text;
 use std::alloc::{AllocError, AllocFailed, Global};
 
 /// Why a step of an evaluation is bad.

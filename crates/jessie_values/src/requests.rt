@@ -1,8 +1,8 @@
 //! What `when` and `Far` ask of their arguments, before the host is asked.
 
 ghost use Rattle.std.specs.Prelude.{◌≡◌, IfOk, option_map};
-ghost use Rattle.jessie_tree.specs.Tree.{function_of};
-ghost use Rattle.jessie_tree.specs.View.{named_trees, tree, trees};
+ghost use Rattle.host_data.specs.Tree.{function_of};
+ghost use Rattle.host_data.specs.View.{named_trees, tree, trees};
 ghost use Rattle.jessie_values.specs.Outcomes.{Gives, seen};
 ghost use Rattle.jessie_values.specs.Requests.{facet_name, far_call, far_of, functions_in, methods_of, named_far, promise_of, when_call};
 ghost use Rattle.jessie_values.specs.RequestViews.{far_view, when_view};
@@ -10,8 +10,8 @@ ghost use Rattle.jessie_values.specs.RequestViews.{far_view, when_view};
 use crate::built_ins::next_argument;
 use crate::parts::into_text;
 use crate::reasons::{Reason, ValueFault};
-use host_text::text::Text;
-use jessie_tree::data::{Data, Obj, ObjKind};
+use host_data::data::{Data, Obj, ObjKind};
+use host_data::host_text_lib::text::Text;
 use std::alloc::{AllocError, Global};
 
 /// The most bytes of a facet's name.

@@ -1,15 +1,15 @@
 //! The steps behind a value that ask nothing of the host. What they give is moved out of the value.
 
 ghost use Rattle.std.specs.Prelude.{◌≡◌};
-ghost use Rattle.jessie_tree.specs.Tree.{get};
-ghost use Rattle.jessie_tree.specs.View.{fields_of, named_trees, tree, trees};
+ghost use Rattle.host_data.specs.Tree.{get};
+ghost use Rattle.host_data.specs.View.{fields_of, named_trees, tree, trees};
 ghost use Rattle.jessie_values.specs.Outcomes.{seen, there};
 ghost use Rattle.jessie_values.specs.Steps.{field_at, field_under, index_at, item_under, list_items};
 
 use crate::parts::{into_items, place_in, place_of};
 use crate::reasons::Reason;
-use host_text::text::Text;
-use jessie_tree::data::Data;
+use host_data::data::Data;
+use host_data::host_text_lib::text::Text;
 
 /// The field under a name.
 fn take_field(mut fields: Vec<(Text, Data)>, name: &str) -> Result<Data, Reason>

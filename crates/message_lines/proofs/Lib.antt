@@ -4,3 +4,4 @@ pub mod JsonLines
 pub mod OnlyMembers
 pub mod Paths
 pub mod ReadParts
+pub use Rattle.turn_records.proofs.refusals

@@ -3,7 +3,7 @@ use Rattle.std.proofs.Common.{◌≡◌, ◌+◌, ◌≤◌, ℕ, suc, List, [],
 use Rattle.std.specs.Prelude.{◌==◌, ◌&&◌}
 use Rattle.std.specs.List.{slice_split, position, position_or_len, prefix_len}
 use Rattle.std.proofs.lemmas.List.Splits.{slice_split_first}
-use Rattle.host_text.specs.Words.{is_label}
+use Rattle.turn_records.specs.host_text.Words.{is_label}
 use Rattle.message_lines.specs.Arguments.{is_path, are_steps, steps_of}
 use borrow.Author.Tests.{ltb-true, ltb-false}
 

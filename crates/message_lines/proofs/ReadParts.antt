@@ -3,12 +3,12 @@ use Rattle.std.proofs.Common.{◌≡◌, ℕ, ℤ, ◌<◌, zero, suc, List, [],
 use Rattle.serde_json.specs.Data.{Data}
 use Rattle.serde_json.specs.View.{view, items_view, members_view}
 use Rattle.serde_json.specs.declared.value.Value.{Value}
-use Rattle.host_text.specs.Words.{is_field_name}
+use Rattle.turn_records.specs.host_text.Words.{is_field_name}
 use Rattle.message_lines.specs.Arguments.{part_in, parts_in, fields_in}
 use Rattle.message_lines.specs.NamedParts.{named_views}
-use Rattle.turn_events.specs.Views.{part_view, parts_of, field_parts_of, part_views}
-use Rattle.turn_events.specs.declared.messages.Part.{Part}
-use Rattle.turn_events.specs.declared.messages.Part as P
+use Rattle.turn_records.specs.Views.{part_view, parts_of, field_parts_of, part_views}
+use Rattle.turn_records.specs.declared.messages.Part.{Part}
+use Rattle.turn_records.specs.declared.messages.Part as P
 use Rattle.turn_records.specs.Messages as told
 use Rattle.turn_records.specs.Messages.{null, boolean, number, text, array, fields, path, part, field}
 

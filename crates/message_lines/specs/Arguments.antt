@@ -7,8 +7,8 @@ use Rattle.std.specs.List.{list_all, slice_split}
 use Rattle.std.specs.Str.{bytes_eq}
 use Rattle.serde_json.specs.Data as json
 use Rattle.serde_json.specs.Find.{as_array, as_integer, as_str}
-use Rattle.host_text.specs.Numbers.{number_in}
-use Rattle.host_text.specs.Words.{is_label, is_field_name}
+use Rattle.turn_records.specs.host_text.Numbers.{number_in}
+use Rattle.turn_records.specs.host_text.Words.{is_label, is_field_name}
 use Rattle.turn_records.specs.Messages.{Part, null, boolean, number, text, array, fields, path}
 use Rattle.turn_records.specs.Messages.{Parts, no_parts, part, FieldParts, no_fields, field}
 

@@ -1,7 +1,7 @@
 -- What the code's tables of fields, and its lines, mean.
 use Rattle.std.specs.Prelude.{List, map, Option, Bool}
 use Rattle.serde_json.specs.Data.{Data}
-use Rattle.turn_events.specs.Views.{delivery_view}
+use Rattle.turn_records.specs.Views.{delivery_view}
 use Rattle.message_lines.specs.Meanings.{Form, FormField, has_count, has_path, has_time, is_string}
 use Rattle.message_lines.specs.Meanings.{needed, optional, Meaning, blank, delivered, run}
 use Rattle.message_lines.specs.declared.messages.FieldType.{FieldType}

@@ -10,8 +10,8 @@ use Rattle.std.specs.Str.{bytes_eq, is_utf8}
 use Rattle.serde_json.specs.Data.{Data, Members, no_members, member}
 use Rattle.serde_json.specs.Find.{get_member, as_number, as_object, as_str, as_u64}
 use Rattle.serde_json.specs.Read.{read}
-use Rattle.host_text.specs.Words.{is_label}
-use Rattle.refusals.specs.Codes as codes_of
+use Rattle.turn_records.specs.host_text.Words.{is_label}
+use Rattle.turn_records.specs.refusals.Codes as codes_of
 use Rattle.turn_records.specs.Deliveries.{Delivery, bad, call, give, tick}
 use Rattle.turn_records.specs.Messages.{LineCall, LineGift, Parts, no_parts}
 use Rattle.message_lines.specs.Arguments.{arguments_in, is_path}

@@ -1,7 +1,7 @@
 -- What named parts of the code stand for.
 use Rattle.std.specs.Prelude.{ℕ, List, map}
-use Rattle.turn_events.specs.Views.{part_view}
-use Rattle.turn_events.specs.declared.messages.Part as code
+use Rattle.turn_records.specs.Views.{part_view}
+use Rattle.turn_records.specs.declared.messages.Part as code
 use Rattle.turn_records.specs.Messages.{Part}
 
 abbrev pub named_views : List (List ℕ × code.Part) → List (List ℕ × Part)

@@ -3,21 +3,21 @@
 //! arguments are read exactly where they are data of a bounded depth.
 
 ghost use Rattle.std.specs.Prelude.{◌≡◌, ◌==◌, IfOk, nat_le, option_map, position};
-ghost use Rattle.host_text.specs.Numbers.{number_in};
+ghost use Rattle.turn_records.specs.host_text.Numbers.{number_in};
 ghost use Rattle.serde_json.specs.Find.{get_member};
 ghost use Rattle.serde_json.specs.View.{items_view, members_view, view};
 ghost use Rattle.message_lines.specs.Arguments as spec;
 ghost use Rattle.message_lines.specs.NamedParts.{named_views};
-ghost use Rattle.turn_events.specs.Views.{field_parts_of, part_view, part_views, parts_of};
+ghost use Rattle.turn_records.specs.Views.{field_parts_of, part_view, part_views, parts_of};
 ghost use Rattle.turn_records.specs.Messages.{number};
 
-use host_text::label::Label;
-use host_text::number::read_number;
-use host_text::text::Text;
-use host_text::word::is_field_name;
 use serde_json::{Map, Value};
 use std::alloc::{AllocError, Global};
-use turn_events::messages::Part;
+use turn_records::host_text_lib::label::Label;
+use turn_records::host_text_lib::number::read_number;
+use turn_records::host_text_lib::text::Text;
+use turn_records::host_text_lib::word::is_field_name;
+use turn_records::messages::Part;
 
 /// The most bytes of a text in data.
 const MOST_BYTES: usize = 65_536;

@@ -9,12 +9,12 @@
 
 ghost use Rattle.std.specs.Prelude.{◌≡◌, IfOk, codes, option_map, true, Some};
 ghost use Rattle.std.specs.Option.{option_map_or};
-ghost use Rattle.host_text.specs.Words.{is_label};
+ghost use Rattle.turn_records.specs.host_text.Words.{is_label};
 ghost use Rattle.serde_json.specs.Data.{Members};
 ghost use Rattle.serde_json.specs.Find.{get_member};
 ghost use Rattle.serde_json.specs.View.{members_view, view};
-ghost use Rattle.turn_events.specs.Views.{delivery_view, line_call_view};
-ghost use Rattle.turn_events.specs.Views.{part_views, parts_of};
+ghost use Rattle.turn_records.specs.Views.{delivery_view, line_call_view};
+ghost use Rattle.turn_records.specs.Views.{part_views, parts_of};
 ghost use Rattle.turn_records.specs.Deliveries as deliveries;
 ghost use Rattle.turn_records.specs.Deliveries.{tick};
 ghost use Rattle.turn_records.specs.Messages.{no_parts};
@@ -24,14 +24,14 @@ ghost use Rattle.message_lines.specs.Meanings as spec;
 
 use crate::arguments::{is_path, member, read_arguments};
 use crate::lines::is_blank;
-use host_text::label::{Label, LabelFault};
-use host_text::text::Text;
-use refusals::codes::{BareCode, Refusal, TextCode};
 use serde_json::{Map, Value};
 use std::alloc::{AllocError, Global};
 use std::cmp::Ordering;
-use turn_events::deliveries::Delivery;
-use turn_events::messages::{LineCall, LineGift, Part};
+use turn_records::deliveries::Delivery;
+use turn_records::host_text_lib::label::{Label, LabelFault};
+use turn_records::host_text_lib::text::Text;
+use turn_records::messages::{LineCall, LineGift, Part};
+use turn_records::refusals_lib::codes::{BareCode, Refusal, TextCode};
 
 /// What a line means.
 #[derive(Drop)]

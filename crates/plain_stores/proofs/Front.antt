@@ -1,10 +1,10 @@
 -- The delivery in front, and what waits behind it, as the world sees them.
 use Rattle.std.proofs.Common.{◌≡◌, List, [], ◌∷◌, Option, Some, None, drop, ◌∙◌, refl, ap}
 use Rattle.std.specs.Prelude.{slice_get}
-use Rattle.promise_table.specs.Stores.{waiting_of}
-use Rattle.turn_events.specs.Views.{delivery_view}
-use Rattle.turn_events.specs.declared.deliveries.Delivery.{Delivery}
-use Rattle.turn_records.specs.Deliveries as deliveries
+use Rattle.plain_stores.specs.PromiseTables.{waiting_of}
+use Rattle.world_state.specs.turn_records.Views.{delivery_view}
+use Rattle.world_state.specs.turn_records.declared.deliveries.Delivery.{Delivery}
+use Rattle.world_state.specs.turn_records.Deliveries as deliveries
 use Rattle.plain_stores.specs.Plain.{front_of, no_delivery}
 
 front_seen : Option Delivery → deliveries.Delivery

@@ -1,1 +1,10 @@
+pub mod Lists
+pub mod Fresh
+pub mod Traces
+pub mod Folds
+pub mod Resolved
+pub mod Kept
+pub mod Steps
+pub mod Tellings
+pub mod Due
 pub mod Front

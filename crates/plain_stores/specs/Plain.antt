@@ -1,17 +1,17 @@
 -- The parts of the world that touch no rights.
 use Rattle.std.specs.Prelude.{◌≡◌, ℕ, List, [], ◌∷◌, drop}
-use Rattle.actors.specs.Labels.{Bound}
-use Rattle.brands.specs.Brands as brands
-use Rattle.brands.specs.declared.Brand.{Brand}
-use Rattle.instance_store.specs.Facets.{FacetView}
-use Rattle.instance_store.specs.Tables.{Tables}
-use Rattle.instance_store.specs.declared.seat_promises.SeatPair.{SeatPair}
-use Rattle.invitations.specs.Details.{DetailsView}
-use Rattle.rights_model.specs.declared.Sum.{Sum}
-use Rattle.timer.specs.Schedules.{Schedule}
-use Rattle.turn_records.specs.Deliveries.{Delivery, Reading, tick}
-use Rattle.turn_records.specs.Events.{Answer, Event}
-use Rattle.turn_records.specs.Turns.{Turn}
+use Rattle.world_state.specs.actors.Labels.{Bound}
+use Rattle.world_state.specs.brands.Brands as brands
+use Rattle.world_state.specs.brands.declared.Brand.{Brand}
+use Rattle.world_state.specs.actors.Facets.{FacetView}
+use Rattle.world_state.specs.actors.Tables.{Tables}
+use Rattle.world_state.specs.actors.declared.instance_store.seat_promises.SeatPair.{SeatPair}
+use Rattle.world_state.specs.turn_stores.Details.{DetailsView}
+use Rattle.world_state.specs.rights_model.declared.Sum.{Sum}
+use Rattle.world_state.specs.turn_stores.Schedules.{Schedule}
+use Rattle.world_state.specs.turn_records.Deliveries.{Delivery, Reading, tick}
+use Rattle.world_state.specs.turn_records.Events.{Answer, Event}
+use Rattle.world_state.specs.turn_records.Turns.{Turn}
 use Rattle.world_state.specs.Promises.{PromiseBook}
 use Rattle.world_state.specs.Worlds.{Maker, State, in_front, of_host}
 

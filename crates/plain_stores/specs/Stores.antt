@@ -1,15 +1,15 @@
 -- What the plain stores are to the world, now and at the turn's start.
 use Rattle.std.specs.Prelude.{[]}
-use Rattle.actors.specs.Turns.{parties_of}
-use Rattle.brand_makers.specs.Makers.{makers_of}
-use Rattle.instance_store.specs.Facets.{facets_of}
-use Rattle.instance_store.specs.SeatPromises.{seat_promises_of}
-use Rattle.instance_store.specs.Turns.{instances_of}
-use Rattle.invitations.specs.Turns.{invitations_of}
-use Rattle.promise_table.specs.Stores.{waiting_of}
-use Rattle.promise_table.specs.Tables.{book, book_at_start}
-use Rattle.time_effects.specs.Timed.{schedule_of}
-use Rattle.turn_events.specs.Logs.{log_of}
+use Rattle.world_state.specs.actors.Turns.{parties_of}
+use Rattle.plain_stores.specs.Makers.{makers_of}
+use Rattle.world_state.specs.actors.Facets.{facets_of}
+use Rattle.world_state.specs.actors.SeatPromises.{seat_promises_of}
+use Rattle.world_state.specs.actors.InstanceTurns.{instances_of}
+use Rattle.world_state.specs.turn_stores.InvitationTurns.{invitations_of}
+use Rattle.plain_stores.specs.PromiseTables.{waiting_of}
+use Rattle.plain_stores.specs.Tables.{book, book_at_start}
+use Rattle.plain_stores.specs.Timed.{schedule_of}
+use Rattle.world_state.specs.turn_records.Logs.{log_of}
 use Rattle.plain_stores.specs.Plain.{PlainState}
 use Rattle.plain_stores.specs.declared.PlainStores.{PlainStores}
 

@@ -1,33 +1,35 @@
-//! The stores of the world that touch no rights, together: brands and who made them, invitations, the timer,
-//! promises, instances, facets, the promises of seats, labels, what waits, and the turn's log. It stands on
-//! these stores, and on what makes the record of a turn (turn_answers). Its one contract: a turn that goes back
-//! leaves all of them as they were at its start, and a turn that is kept makes what they are now, less its
-//! delivery and what happened in it, the next turn's start; neither takes memory.
+//! The stores of the world that touch no rights, together: a turn that goes back leaves all as they
+//! were at its start, and one that is kept makes what they are the next turn's start.
 #![tactic(auto)]
 
+pub mod brand_makers;
+pub mod promise_table;
+pub mod time_effects;
+
 ghost use Rattle.std.specs.Prelude.{◌≡◌, ◌<◌, [], IfOk, drop, length};
-ghost use Rattle.promise_table.specs.Stores.{waiting_of};
-ghost use Rattle.turn_events.specs.Views.{answer_view, delivery_view, reading_view, turn_view};
+ghost use Rattle.plain_stores.specs.PromiseTables.{waiting_of};
+ghost use Rattle.world_state.specs.turn_records.Views.{answer_view, delivery_view, reading_view, turn_view};
 ghost use Rattle.plain_stores.specs.Plain.{after_turn, front_of, new_plain, turn_ended};
 
-use actors::Parties;
-use brand_makers::BrandMakers;
-use brands::Brands;
-use instance_store::Instances;
-use instance_store::facets::Facets;
-use instance_store::seat_promises::SeatPromises;
-use invitations::Invitations;
-use promise_table::PromiseTable;
-use rights_model::Sum;
+use crate::brand_makers::BrandMakers;
+use crate::promise_table::PromiseTable;
+use crate::time_effects::Timed;
 use std::alloc::{AllocError, Global};
-use time_effects::Timed;
-use timer::Timer;
-use turn_answers::records::{Delivered, turn_of};
-use turn_events::deliveries::{Delivery, Reading};
-use turn_events::events::Answer;
-use turn_events::log::Log;
-use turn_events::turns::TurnRecord;
-use turn_queue::TurnQueue;
+use world_state::actors_lib::Parties;
+use world_state::actors_lib::instance_store::Instances;
+use world_state::actors_lib::instance_store::facets::Facets;
+use world_state::actors_lib::instance_store::seat_promises::SeatPromises;
+use world_state::brands_lib::Brands;
+use world_state::rights_model_lib::Sum;
+use world_state::turn_records_lib::deliveries::{Delivery, Reading};
+use world_state::turn_records_lib::events::Answer;
+use world_state::turn_records_lib::log::Log;
+use world_state::turn_records_lib::turn_answers::records::{Delivered, turn_of};
+use world_state::turn_records_lib::turns::TurnRecord;
+use world_state::turn_stores_lib::invitations::Invitations;
+use world_state::turn_stores_lib::timer::Timer;
+use world_state::turn_stores_lib::turn_queue::TurnQueue;
+pub use world_state::{rights_model_lib, turn_records_lib};
 
 /// The stores. Each call of one of them says what it makes of its part of the world's state (`plain_now`). To let go
 /// of them is one call.

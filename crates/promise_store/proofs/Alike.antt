@@ -10,7 +10,7 @@ use Rattle.promise_store.specs.Linked.{AreAlike, IsForest, LeadsTo, Linked, Link
 use Rattle.promise_store.specs.States.{SettlementView, broken, settled, settlement_at, settlement_view, state_of}
 use Rattle.promise_store.specs.Turns.{AreSettledWith}
 use Rattle.promise_store.specs.Whole.{are_numbered}
-use Rattle.jessie_tree.specs.Tree.{null}
+use Rattle.host_data.specs.Tree.{null}
 use Rattle.promise_store.proofs.Forest.{leads_through}
 use Rattle.promise_store.proofs.Changes.{each_at, followers_here, followers_other, leader_here, leader_other, settled_head}
 use Rattle.promise_store.proofs.Cascade.{led_followers}

@@ -8,3 +8,4 @@ pub mod States
 pub mod Turns
 pub mod Whole
 pub mod Views
+pub use Rattle.host_data.specs as host_data

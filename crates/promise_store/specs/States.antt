@@ -1,9 +1,9 @@
 -- What a promise is settled with, and what it is.
 use Rattle.std.specs.Prelude.{ℕ, Bool, true, false, not, List, Option, None, Some, slice_index_or}
-use Rattle.jessie_tree.specs.Tree.{Tree, object, null}
-use Rattle.jessie_tree.specs.View.{tree}
-use Rattle.jessie_tree.specs.declared.data.ObjKind.{ObjKind}
-use Rattle.jessie_tree.specs.declared.data.ObjKind.TheVariants.{Promise}
+use Rattle.host_data.specs.Tree.{Tree, object, null}
+use Rattle.host_data.specs.View.{tree}
+use Rattle.host_data.specs.declared.data.ObjKind.{ObjKind}
+use Rattle.host_data.specs.declared.data.ObjKind.TheVariants.{Promise}
 use Rattle.promise_store.specs.declared.settlement.Settlement.{Settlement}
 use Rattle.promise_store.specs.declared.settlement.Settlement.TheVariants.{Ok, Broken}
 

@@ -3,7 +3,7 @@
 ghost use Rattle.std.specs.Prelude.{◌≡◌};
 ghost use Rattle.promise_store.specs.States.{is_final, settlement_view};
 
-use jessie_tree::data::{Data, ObjKind};
+use host_data::data::{Data, ObjKind};
 
 /// What a promise is settled with (eventual send: it is fulfilled, or it is broken and the data is
 /// the reason).

@@ -1,6 +1,6 @@
 -- What covers a row.
 use Rattle.std.proofs.Common.{◌≡◌, ◌↔◌, List, Bool, IsTrue, None, arith}
-use Rattle.amount_math.specs.Content.{Content, Contains, Contains-antisym, Contains-refl, count-nothing, nothing}
+use Rattle.host_data.specs.amount_math.Content.{Content, Contains, Contains-antisym, Contains-refl, count-nothing, nothing}
 use Rattle.proposals.specs.declared.allocations.Row.{Row}
 use Rattle.proposals.specs.Rows.{amount_under}
 use Rattle.proposals.specs.OfferSafety.{IsCovered}

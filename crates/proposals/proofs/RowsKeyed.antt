@@ -7,7 +7,7 @@ use Rattle.std.specs.Str.{bytes_eq}
 use Rattle.std.specs.String.{string_eq}
 use Rattle.indexmap.specs.IndexMap.{insert_entry, values}
 use Rattle.indexmap.proofs.CallerLemmas.{insert_entry-new}
-use Rattle.amount_math.specs.declared.Amount.{Amount}
+use Rattle.host_data.specs.amount_math.declared.Amount.{Amount}
 use Rattle.proposals.specs.declared.allocations.Row.{Row}
 use Rattle.proposals.specs.Rows.{AreApart, AreKeyed, AreRows, amount_under, most_rows}
 use Rattle.proposals.proofs.RowLists.{AreRows-push, bytes_eq-turned, none_under-cons, not_first, not_later}

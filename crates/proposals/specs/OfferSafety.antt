@@ -1,8 +1,8 @@
 -- Offer safety (Zoe): an allocation has all that is wanted, or all that was given.
 use Rattle.std.specs.Prelude.{List, All, ◌⊎◌}
 use Rattle.std.specs.Option.{ForSome}
-use Rattle.amount_math.specs.Amount.{Meet}
-use Rattle.amount_math.specs.Content.{Contains}
+use Rattle.host_data.specs.amount_math.Amount.{Meet}
+use Rattle.host_data.specs.amount_math.Content.{Contains}
 use Rattle.proposals.specs.declared.allocations.Row.{Row}
 use Rattle.proposals.specs.declared.offers.Proposal.{Proposal}
 use Rattle.proposals.specs.Rows.{amount_under, content_under}

@@ -5,9 +5,9 @@ use Rattle.std.specs.Map.{values_of}
 use Rattle.std.specs.Option.{option_map_or}
 use Rattle.std.specs.Str.{bytes_eq}
 use Rattle.std.specs.declared.alloc.Global.{Global}
-use Rattle.amount_math.specs.Amount.{coded_amount}
-use Rattle.amount_math.specs.Content.{Content, nothing}
-use Rattle.amount_math.specs.declared.Amount.{Amount}
+use Rattle.host_data.specs.amount_math.Amount.{coded_amount}
+use Rattle.host_data.specs.amount_math.Content.{Content, nothing}
+use Rattle.host_data.specs.amount_math.declared.Amount.{Amount}
 use Rattle.proposals.specs.declared.allocations.Row.{Row}
 
 -- the numbers that stand for a row, which a model needs

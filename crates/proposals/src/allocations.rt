@@ -5,8 +5,8 @@ ghost use Rattle.std.specs.Option.{option_copied};
 ghost use Rattle.indexmap.specs.IndexMap.{values};
 ghost use Rattle.proposals.specs.Rows.{AreKeyed, AreRows, amount_under, most_rows, row_of};
 
-use amount_math::Amount;
-use host_text::keyword::Keyword;
+use host_data::amount_math_lib::Amount;
+use host_data::host_text_lib::keyword::Keyword;
 use indexmap::IndexMap;
 use std::alloc::{AllocError, Global};
 use std::marker::Model;

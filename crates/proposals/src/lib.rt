@@ -1,11 +1,13 @@
-//! Proposals and allocations: what an offer gives and wants, and what a seat's slots have (Zoe). Beside
-//! them the plan of a change of allocations.
-//!
-//! It stands on amounts and keywords. Its one contract: an allocation is seen as its rows, each of a keyword
-//! of its own, and a proposal's slots are its rows by keyword. Offer safety is said of them in
-//! specs/OfferSafety.antt, for the layers above.
+//! Proposals, allocations and offer safety (Zoe), and what a record of amounts makes of a seat's
+//! slots: the new slots, or the record's first share that can't be added or taken.
 #![tactic(auto)]
 
 pub mod allocations;
+pub mod gains;
+pub mod losses;
 pub mod offers;
 pub mod plans;
+pub mod slots;
+
+pub use host_data as host_data_lib;
+pub use host_data::host_text_lib;

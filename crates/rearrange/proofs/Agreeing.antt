@@ -3,15 +3,15 @@ use Rattle.std.proofs.Common.{◌≡◌, ℕ, List, [], ◌∷◌, ◌++◌, get
 use Rattle.std.specs.Option.{is_none, option_map_or}
 use Rattle.std.specs.List.{find}
 use Rattle.std.proofs.lemmas.List.Elements.{All-append, All-cons, All-filter, All-head, All-map, All-nil, All-tail, All-weaker}
-use Rattle.amount_math.specs.Amount.{Meet}
+use Rattle.refusals.specs.amount_math.Amount.{Meet}
 use Rattle.proposals.specs.OfferSafety.{MeetSlots}
 use Rattle.proposals.specs.Rows.{AreApart, amount_under}
 use Rattle.proposals.specs.Slots.{in_byte_order, is_upto, placed}
 use Rattle.proposals.specs.declared.allocations.Row.{Row}
 use Rattle.proposals.specs.declared.plans.SeatState.{SeatState}
 use Rattle.proposals.proofs.SlotLists.{AreApart-append, AreApart-in_byte_order}
-use Rattle.allocation_changes.specs.Rows.{further}
-use Rattle.allocation_changes.proofs.Apart.{AreApart-filter, AreApart-map, All-free_turned, Free, free_further, none_under-map, row_under}
+use Rattle.proposals.specs.ChangedRows.{further}
+use Rattle.proposals.proofs.Apart.{AreApart-filter, AreApart-map, All-free_turned, Free, free_further, none_under-map, row_under}
 use Rattle.rearrange.specs.Safety.{MeetProposal}
 use Rattle.rearrange.specs.Seats.{allocation_of, state_of}
 use Rattle.rearrange.specs.Settled.{filled, has_some, opened, settled}

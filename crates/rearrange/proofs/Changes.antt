@@ -2,9 +2,9 @@
 use Rattle.std.proofs.Common.{◌≡◌, ℕ, ◌+◌, ◌<◌, ◌≤◌, ◌==◌, Bool, true, false, cond, List, [], ◌∷◌, ◌++◌, length, get_or, map, take, drop, refl, sym, ◌∙◌, ap, arith}
 use Rattle.std.proofs.lemmas.List.{map-append, take-append-drop, take_all, take_more}
 use Rattle.std.proofs.lemmas.List.Sums.{sum_by-append, sum_by-cons}
-use Rattle.amount_math.specs.Content.{entries}
-use Rattle.amount_math.specs.Entries.{Entries, tally}
-use Rattle.amount_math.proofs.Listed.{tally-append}
+use Rattle.refusals.specs.amount_math.Content.{entries}
+use Rattle.refusals.specs.amount_math.Entries.{Entries, tally}
+use Rattle.refusals.proofs.amount_math.Listed.{tally-append}
 use Rattle.proposals.specs.declared.allocations.Row.{Row}
 use Rattle.proposals.specs.declared.plans.SeatState.{SeatState}
 use Rattle.proposals.specs.declared.plans.Touched.{Touched}

@@ -9,7 +9,7 @@ use Rattle.std.specs.List.Sorted.{IsPermutation}
 use Rattle.std.specs.Ordering.{MatchOrdering, is_lt, nat_cmp, ordering_then}
 use Rattle.std.specs.declared.cmp.Ordering.{Ordering}
 use Rattle.std.specs.declared.cmp.Ordering.TheVariants.{Less, Equal, Greater}
-use Rattle.amount_math.specs.Content.{key_cmp}
+use Rattle.refusals.specs.amount_math.Content.{key_cmp}
 use Rattle.proposals.specs.declared.plans.SeatState.{SeatState}
 use Rattle.proposals.specs.declared.plans.Touched.{Touched}
 use Rattle.rearrange.specs.Parts.{AreEven, HaveAll, HaveMore, HaveSeat, HaveTouched, IsFirstUneven, is_at, parts_after, parts_before}

@@ -10,3 +10,17 @@ pub mod StagedRefusals
 pub mod Copies
 pub mod Worked
 pub mod Counts
+pub mod Taken
+pub mod RefusedCounts
+pub mod Slots
+pub mod TestedConservation
+pub mod Leasts
+pub mod Unkept
+pub mod Gains
+pub mod TestedSeats
+pub mod Kept
+pub mod TestedWorking
+pub mod TestedChanges
+pub mod Shown
+pub use Rattle.value_tests.proofs.lemmas
+pub use Rattle.value_tests.proofs as value_tests

@@ -6,14 +6,14 @@ use Rattle.std.proofs.lemmas.List.{take-append-drop, take_all, take_more}
 use Rattle.std.proofs.lemmas.List.Elements.{All-append, All-cons, All-head, All-map, All-nil, All-tail, All-take}
 use Rattle.std.specs.List.{list_any}
 use Rattle.std.specs.Option.{option_map_or}
-use Rattle.amount_math.specs.Amount.{Meet}
+use Rattle.refusals.specs.amount_math.Amount.{Meet}
 use Rattle.proposals.specs.OfferSafety.{MeetSlots}
 use Rattle.proposals.specs.declared.allocations.Row.{Row}
 use Rattle.proposals.specs.declared.plans.SeatState.{SeatState}
 use Rattle.proposals.specs.declared.plans.Transfer.{Transfer}
-use Rattle.allocation_changes.specs.Gains.{raised, with_gains}
-use Rattle.allocation_changes.specs.Losses.{lowered, without}
-use Rattle.allocation_changes.specs.Rows.{further}
+use Rattle.proposals.specs.Gains.{raised, with_gains}
+use Rattle.proposals.specs.Losses.{lowered, without}
+use Rattle.proposals.specs.ChangedRows.{further}
 use Rattle.rearrange.specs.Plans.{IsPlanRefusal}
 use Rattle.rearrange.specs.Safety.{MeetProposal}
 use Rattle.rearrange.specs.Seats.{allocation_of, seats_named, seats_of, state_of, transfers_refusal}

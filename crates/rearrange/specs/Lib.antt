@@ -7,3 +7,14 @@ pub mod Plans
 pub mod Staged
 pub mod Transfers
 pub mod Working
+pub mod Covered
+pub mod Bounds
+pub mod Told
+pub mod Slots
+pub mod TestedPlans
+pub mod Moves
+pub mod Values
+pub mod Seated
+pub use Rattle.value_tests.specs.ertp_mint
+pub use Rattle.rights_model.specs as rights_model
+pub use Rattle.value_tests.specs as value_tests

@@ -1,10 +1,10 @@
 -- What a seat's slots have once rows become its allocation (Zoe; the order of the slots, and that an empty row opens none, are our own).
 use Rattle.std.specs.Prelude.{Bool, List, ◌++◌, map, filter, nat_lt}
-use Rattle.amount_math.specs.Amount.{holding}
-use Rattle.amount_math.specs.Counted.{counted}
+use Rattle.refusals.specs.amount_math.Amount.{holding}
+use Rattle.refusals.specs.amount_math.Counted.{counted}
 use Rattle.proposals.specs.Rows.{content_under, row_of}
 use Rattle.proposals.specs.declared.allocations.Row.{Row}
-use Rattle.allocation_changes.specs.Rows.{further}
+use Rattle.proposals.specs.ChangedRows.{further}
 
 -- a slot with what rows have under its keyword
 abbrev pub filled : List Row → Row → Row

@@ -1,6 +1,6 @@
 -- What listed seats take over: their staging, or where they have none what they have (Zoe's reallocate; that a seat may be listed without staging is our own).
 use Rattle.std.specs.Prelude.{◌≡◌, ℕ, List, [], ◌++◌, All, map, None, Some, unwrap_or, option_and_then}
-use Rattle.amount_math.specs.Amount.{Meet}
+use Rattle.refusals.specs.amount_math.Amount.{Meet}
 use Rattle.proposals.specs.declared.allocations.Row.{Row}
 use Rattle.proposals.specs.declared.plans.SeatState.{SeatState}
 use Rattle.proposals.specs.declared.plans.Touched.{Touched}

@@ -1,7 +1,7 @@
 -- What seats have together before a change and after it, of each brand and element (Zoe's conservation of rights, element by element).
 use Rattle.std.specs.Prelude.{◌≡◌, ◌≢◌, ℕ, ◌≤◌, ◌==◌, List, map, sum_by, if◌then◌else◌}
 use Rattle.std.specs.declared.cmp.Ordering.TheVariants.{Less}
-use Rattle.amount_math.specs.Content.{count, key_cmp}
+use Rattle.refusals.specs.amount_math.Content.{count, key_cmp}
 use Rattle.proposals.specs.declared.allocations.Row.{Row}
 use Rattle.proposals.specs.declared.plans.Touched.{Touched}
 use Rattle.proposals.specs.declared.plans.SeatState.{SeatState}

@@ -2,15 +2,15 @@
 use Rattle.std.specs.Prelude.{◌≡◌, ℕ, ◌==◌, ◌⊎◌, All, List, [], ◌∷◌, ◌++◌, fold, flat_map, map, Option, None, Some, IfSome, IsSomeAnd, unwrap_or, if◌then◌else◌}
 use Rattle.std.specs.List.{list_any}
 use Rattle.std.specs.Option.{option_map_or}
-use Rattle.amount_math.specs.declared.PutFault.TheVariants as puts
+use Rattle.refusals.specs.amount_math.declared.PutFault.TheVariants as puts
 use Rattle.proposals.specs.OfferSafety.{AreCovered}
 use Rattle.proposals.specs.declared.allocations.Row.{Row}
 use Rattle.proposals.specs.declared.plans.SeatState.{SeatState}
 use Rattle.proposals.specs.declared.plans.Touched.{Touched}
 use Rattle.proposals.specs.declared.plans.Transfer.{Transfer}
-use Rattle.allocation_changes.specs.Gains.{CanGain, IsGainsRefusal, with_gains}
-use Rattle.allocation_changes.specs.Losses.{IsLossesRefusal, without}
-use Rattle.amount_math.specs.declared.shortfall.LossFault.TheVariants as takes
+use Rattle.proposals.specs.Gains.{CanGain, IsGainsRefusal, with_gains}
+use Rattle.proposals.specs.Losses.{IsLossesRefusal, without}
+use Rattle.refusals.specs.amount_math.declared.shortfall.LossFault.TheVariants as takes
 use Rattle.rearrange.specs.Plans.{IsPlanRefusal}
 use Rattle.rearrange.specs.Seats.{allocation_of, seats_named, state_of, transfers_refusal}
 use Rattle.rearrange.specs.Staged.{Agree, rows_of, touched_with}

@@ -2,14 +2,14 @@
 use Rattle.std.specs.Prelude.{ℕ, ◌==◌, List, [], ◌∷◌, Option, find, IfSome, IsSomeAnd, if◌then◌else◌}
 use Rattle.std.specs.Global.{Vec}
 use Rattle.std.specs.Option.{option_map_or}
-use Rattle.amount_math.specs.declared.PutFault.TheVariants as puts
+use Rattle.refusals.specs.amount_math.declared.PutFault.TheVariants as puts
 use Rattle.proposals.specs.OfferSafety.{MeetSlots}
 use Rattle.proposals.specs.declared.allocations.Row.{Row}
 use Rattle.proposals.specs.declared.plans.SeatState.{SeatState}
 use Rattle.proposals.specs.declared.plans.Transfer.{Transfer}
-use Rattle.allocation_changes.specs.Gains.{IsGainsRefusal, with_gains}
-use Rattle.allocation_changes.specs.Losses.{IsLossesRefusal}
-use Rattle.amount_math.specs.declared.shortfall.LossFault.TheVariants as takes
+use Rattle.proposals.specs.Gains.{IsGainsRefusal, with_gains}
+use Rattle.proposals.specs.Losses.{IsLossesRefusal}
+use Rattle.refusals.specs.amount_math.declared.shortfall.LossFault.TheVariants as takes
 use Rattle.rearrange.specs.Safety.{MeetProposal}
 use Rattle.rearrange.specs.Seats.{allocation_of, state_of}
 use Rattle.rearrange.specs.Settled.{settled}

@@ -3,8 +3,8 @@ ghost use Rattle.std.specs.Prelude.{◌≡◌, ◌≤◌, ◌∷◌, ◌↔◌, 
 ghost use Rattle.rearrange.specs.Parts.{HaveEntries, HaveRow, HaveRows};
 
 use crate::parts::{Part, Side, add_entries, add_entry, add_row, add_rows};
-use amount_math::Entry;
 use proposals::allocations::Row;
+use refusals::amount_math_lib::Entry;
 use std::alloc::{AllocError, Global};
 
 /// Whether two entries have one key and one count.

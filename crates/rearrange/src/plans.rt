@@ -11,10 +11,10 @@ ghost use Rattle.rearrange.specs.Sums as sums;
 use crate::safety::least_unsafe;
 use crate::seats::{SeatsFault, allocation_copy};
 use crate::sums::{SeatRows, Unkept, first_unkept};
-use allocation_changes::slots::{SlotsFault, allocation_of};
-use amount_math::shortfall::Shortfall;
-use amount_math::{Key, TooMuch};
 use proposals::plans::{Plan, SeatState, Touched};
+use proposals::slots::{SlotsFault, allocation_of};
+use refusals::amount_math_lib::shortfall::Shortfall;
+use refusals::amount_math_lib::{Key, TooMuch};
 use std::alloc::Global;
 
 /// Why a change of allocations is refused (Zoe; the codes and their order are our own).

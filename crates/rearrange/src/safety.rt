@@ -7,8 +7,8 @@ ghost use Rattle.rearrange.specs.Sums.{all_touched, touched_of};
 
 use crate::seats::{lesser, state_of};
 use crate::sums::SeatRows;
-use allocation_changes::slots::is_offer_safe;
 use proposals::plans::SeatState;
+use proposals::slots::is_offer_safe;
 
 /// Whether what a seat has is safe for its proposal.
 fn is_safe(states: &[SeatState], seat: &SeatRows) -> bool

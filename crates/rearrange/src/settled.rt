@@ -3,9 +3,9 @@ ghost use Rattle.std.specs.Prelude.{◌≡◌, ◌++◌, All, IfOk, OnErr, OnOk,
 ghost use Rattle.proposals.specs.OfferSafety.{MeetSlots, MeetsSlot};
 ghost use Rattle.rearrange.specs.Settled as lists;
 
-use allocation_changes::slots::{amount_of, further};
-use amount_math::{Amount, Value};
 use proposals::allocations::Row;
+use proposals::slots::{amount_of, further};
+use refusals::amount_math_lib::{Amount, Value};
 use std::alloc::{AllocError, Global};
 
 /// What rows have under a slot's keyword. Keys take memory.

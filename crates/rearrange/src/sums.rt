@@ -8,9 +8,9 @@ ghost use Rattle.rearrange.specs.Seats as given;
 use crate::differences::add_unlike_rows;
 use crate::parts::{Part, Side, add_rows, first_uneven, sort};
 use crate::seats::allocation_of;
-use amount_math::Key;
 use proposals::allocations::Row;
 use proposals::plans::SeatState;
+use refusals::amount_math_lib::Key;
 use std::alloc::{AllocError, Global};
 
 /// What a seat has while a change is worked. A list that passes the limit of slots is refused last.

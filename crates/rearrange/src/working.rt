@@ -3,8 +3,8 @@ ghost use Rattle.std.specs.Prelude.{◌≡◌, ◌<◌, ◌++◌, ◌∷◌, [],
 ghost use Rattle.std.specs.Global.{Vec};
 ghost use Rattle.proposals.specs.declared.allocations.Row.{Row};
 ghost use Rattle.rearrange.specs.declared.sums.SeatRows.{SeatRows};
-ghost use Rattle.allocation_changes.specs.Gains.{CanGain, with_gains};
-ghost use Rattle.allocation_changes.specs.Losses.{without};
+ghost use Rattle.proposals.specs.Gains.{CanGain, with_gains};
+ghost use Rattle.proposals.specs.Losses.{without};
 ghost use Rattle.proposals.specs.OfferSafety.{AreCovered, MeetSlots};
 ghost use Rattle.proposals.specs.Rows.{AreApart};
 ghost use Rattle.rearrange.specs.Seats as given;
@@ -14,12 +14,12 @@ ghost use Rattle.rearrange.specs.Working as copies;
 use crate::plans::PlanFault;
 use crate::seats::allocation_of;
 use crate::sums::SeatRows;
-use allocation_changes::gains::with_gains;
-use allocation_changes::losses::without;
-use amount_math::PutFault;
-use amount_math::shortfall::LossFault;
 use proposals::allocations::{Allocation, Row};
+use proposals::gains::with_gains;
+use proposals::losses::without;
 use proposals::plans::{SeatState, Transfer};
+use refusals::amount_math_lib::PutFault;
+use refusals::amount_math_lib::shortfall::LossFault;
 use std::alloc::Global;
 
 /// What was put down of a seat.

@@ -1,14 +1,14 @@
 -- The data of what may be shown is plain, in order and shallow: once for all codes.
 use Rattle.std.proofs.Common.{◌≡◌, ◌≤◌, ◌<◌, ◌+◌, ℕ, false, List, [], ◌∷◌, map, refl, arith}
-use Rattle.amount_math.specs.Content.{entries}
-use Rattle.amount_math.specs.Worth.{Worth}
-use Rattle.amount_math.specs.declared.Kind.{Kind}
-use Rattle.amount_math.specs.declared.Kind.TheVariants.{Nat, Set, Bag}
-use Rattle.jessie_tree.specs.Tree.{Tree, null, boolean, number, text, array, fields, object, function, Ordered, is_local, nesting}
-use Rattle.jessie_tree.specs.View.{items_of}
-use Rattle.data_nodes.specs.Nodes.{EachNode, EachItem, Implies, HasFieldsInOrder, IsFree, IsShallow}
-use Rattle.data_nodes.proofs.Nodes.{weaker, nested, in_order_throughout, not_local}
-use Rattle.call_data.specs.Values.{content_tree, counted_tree, key_tree, value_tree}
+use Rattle.host_data.specs.amount_math.Content.{entries}
+use Rattle.host_data.specs.amount_math.Worth.{Worth}
+use Rattle.host_data.specs.amount_math.declared.Kind.{Kind}
+use Rattle.host_data.specs.amount_math.declared.Kind.TheVariants.{Nat, Set, Bag}
+use Rattle.host_data.specs.Tree.{Tree, null, boolean, number, text, array, fields, object, function, Ordered, is_local, nesting}
+use Rattle.host_data.specs.View.{items_of}
+use Rattle.host_data.specs.Nodes.{EachNode, EachItem, Implies, HasFieldsInOrder, IsFree, IsShallow}
+use Rattle.host_data.proofs.Nodes.{weaker, nested, in_order_throughout, not_local}
+use Rattle.host_data.specs.Values.{content_tree, counted_tree, key_tree, value_tree}
 use Rattle.refusals.specs.Codes.{Shown, shown_by, shown_tree, shown_trees, code_of, refusal_tree, told}
 use Rattle.refusals.specs.Codes as codes
 use Rattle.refusals.specs.Plain.{IsPlain}

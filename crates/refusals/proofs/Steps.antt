@@ -1,6 +1,6 @@
 -- Facts of what chains of steps give: one lemma a word, which the walk of a row uses.
 use Rattle.std.proofs.Common.{◌≡◌, List, [], Bool, true, false, Option, Some, None, Result, Ok, Err, IfOk, if◌then◌else◌, refl}
-use Rattle.jessie_tree.specs.Tree.{Tree}
+use Rattle.host_data.specs.Tree.{Tree}
 use Rattle.refusals.specs.declared.codes.Refusal.{Refusal}
 use Rattle.refusals.specs.Outcomes.{Answers, bind, ◌>>=◌, ◌>>◌, need, none_such, reading, wanted}
 

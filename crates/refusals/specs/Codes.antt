@@ -1,10 +1,10 @@
 -- The codes of refusals, each with what it shows: numbers, texts and values, never objects. And a refusal as data.
 use Rattle.std.specs.Prelude.{ℕ, ℤ, pos, List, [], ◌∷◌, map, codes}
-use Rattle.amount_math.specs.Worth.{Worth}
-use Rattle.jessie_tree.specs.Tree.{Tree, array, fields, field, no_fields}
-use Rattle.jessie_tree.specs.Tree as trees
-use Rattle.jessie_tree.specs.View.{items_of}
-use Rattle.call_data.specs.Values.{value_tree}
+use Rattle.host_data.specs.amount_math.Worth.{Worth}
+use Rattle.host_data.specs.Tree.{Tree, array, fields, field, no_fields}
+use Rattle.host_data.specs.Tree as trees
+use Rattle.host_data.specs.View.{items_of}
+use Rattle.host_data.specs.Values.{value_tree}
 use Rattle.refusals.specs.declared.codes.BareCode.{BareCode}
 use Rattle.refusals.specs.declared.codes.BareCode.TheVariants.{BadLine, Pending, LocalOnly, BadValue, BadExit, OneSeat}
 use Rattle.refusals.specs.declared.codes.NumberCode.{NumberCode}

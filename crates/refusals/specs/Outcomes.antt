@@ -1,6 +1,6 @@
 -- What a step of the work on a call gives: what it is after, or the first refusal. And what a call comes to, whatever its kind plans.
 use Rattle.std.specs.Prelude.{◌≡◌, List, [], Bool, true, false, Result, Ok, Err, Option, Some, None, IfOk}
-use Rattle.jessie_tree.specs.Tree.{Tree}
+use Rattle.host_data.specs.Tree.{Tree}
 use Rattle.refusals.specs.declared.codes.Refusal.{Refusal}
 use Rattle.refusals.specs.declared.stops.Stop.{Stop}
 use Rattle.refusals.specs.declared.stops.Stop.TheVariants.{NoMemory, Refused}

@@ -1,6 +1,6 @@
 -- What the data of refusals is at each node: no object and no function.
-use Rattle.jessie_tree.specs.Tree.{object, function}
-use Rattle.data_nodes.specs.Nodes.{NodeFact}
+use Rattle.host_data.specs.Tree.{object, function}
+use Rattle.host_data.specs.Nodes.{NodeFact}
 
 -- neither an object nor a function
 abbrev pub IsPlain : NodeFact

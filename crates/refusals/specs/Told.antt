@@ -1,7 +1,7 @@
 -- Faults of sums and parts as the refusals that they are told by.
 use Rattle.std.specs.Prelude.{ℕ, ◌^◌, ◌<◌}
-use Rattle.amount_math.specs.declared.PutFault.{PutFault}
-use Rattle.amount_math.specs.declared.PutFault.TheVariants as put_fault
+use Rattle.host_data.specs.amount_math.declared.PutFault.{PutFault}
+use Rattle.host_data.specs.amount_math.declared.PutFault.TheVariants as put_fault
 use Rattle.refusals.specs.Codes.{too_much}
 use Rattle.refusals.specs.declared.codes.Refusal.TheVariants.{Overlap}
 use Rattle.refusals.specs.declared.stops.Stop.{Stop}

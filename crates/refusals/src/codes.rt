@@ -4,9 +4,9 @@
 ghost use Rattle.std.specs.Prelude.{◌≡◌};
 ghost use Rattle.refusals.specs.Codes.{bare_name, code_of, number_name, text_name};
 
-use amount_math::shortfall::Shortfall;
-use amount_math::{Key, Value};
-use host_text::text::Text;
+use host_data::amount_math_lib::shortfall::Shortfall;
+use host_data::amount_math_lib::{Key, Value};
+use host_data::host_text_lib::text::Text;
 
 /// The codes of refusals that show nothing.
 #[derive(Clone, Copy)]

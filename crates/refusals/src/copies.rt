@@ -3,9 +3,9 @@
 ghost use Rattle.std.specs.Prelude.{◌≡◌, IfOk};
 
 use crate::codes::{Mismatch, Refusal, TextCode, Unkept};
-use amount_math::Key;
-use amount_math::shortfall::Shortfall;
-use host_text::text::Text;
+use host_data::amount_math_lib::Key;
+use host_data::amount_math_lib::shortfall::Shortfall;
+use host_data::host_text_lib::text::Text;
 use std::alloc::{AllocError, Global};
 
 impl Refusal {

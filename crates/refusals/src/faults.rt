@@ -6,7 +6,7 @@ ghost use Rattle.refusals.specs.Told.{CanShow, PutCanShow, put_told};
 
 use crate::codes::Refusal;
 use crate::stops::Stop;
-use amount_math::{PutFault, TooMuch};
+use host_data::amount_math_lib::{PutFault, TooMuch};
 
 /// A sum passes its bound.
 pub fn too_much(over: TooMuch) -> Refusal

@@ -1,8 +1,8 @@
 //! Laws of the data of refusals. The body is empty: what it states is proved of the definitions.
 
 ghost use Rattle.std.specs.Prelude.{◌≡◌, ◌≤◌, ◌+◌, ℕ, false};
-ghost use Rattle.jessie_tree.specs.Tree.{Ordered, is_local, nesting};
-ghost use Rattle.data_nodes.specs.Nodes.{EachNode, HasFieldsInOrder, IsFree, IsShallow};
+ghost use Rattle.host_data.specs.Tree.{Ordered, is_local, nesting};
+ghost use Rattle.host_data.specs.Nodes.{EachNode, HasFieldsInOrder, IsFree, IsShallow};
 ghost use Rattle.refusals.specs.Codes.{refusal_tree};
 ghost use Rattle.refusals.specs.Plain.{IsPlain};
 ghost use Rattle.refusals.specs.declared.codes.Refusal.{Refusal};

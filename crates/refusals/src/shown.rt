@@ -1,17 +1,17 @@
 //! Refusals as data.
 
 ghost use Rattle.std.specs.Prelude.{◌≡◌, ◌≤◌, ◌++◌, ◌∷◌, [], pos, IfOk, OnOk, codes};
-ghost use Rattle.jessie_tree.specs.Tree.{Ordered, nesting, text};
-ghost use Rattle.jessie_tree.specs.View.{named_trees, tree, trees};
-ghost use Rattle.data_nodes.specs.Nodes.{EachNode};
+ghost use Rattle.host_data.specs.Tree.{Ordered, nesting, text};
+ghost use Rattle.host_data.specs.View.{named_trees, tree, trees};
+ghost use Rattle.host_data.specs.Nodes.{EachNode};
 ghost use Rattle.refusals.specs.Codes.{number, refusal_tree, shown_by, shown_trees, words, worth};
 ghost use Rattle.refusals.specs.Plain.{IsPlain};
 
 use crate::codes::{Refusal, Unkept};
-use amount_math::Value;
-use call_data::values::value_data;
-use host_text::text::Text;
-use jessie_tree::data::Data;
+use host_data::amount_math_lib::Value;
+use host_data::data::Data;
+use host_data::host_text_lib::text::Text;
+use host_data::values::value_data;
 use std::alloc::{AllocError, Global};
 
 impl Refusal {

@@ -6,9 +6,9 @@ ghost use Rattle.refusals.specs.Outcomes.{Gives, Refuses, need};
 ghost use Rattle.refusals.specs.declared.stops.Stop.TheVariants.{NoMemory};
 
 use crate::codes::{BareCode, Mismatch, NumberCode, Refusal, TextCode};
-use amount_math::Value;
-use amount_math::shortfall::Shortfall;
-use host_text::text::Text;
+use host_data::amount_math_lib::Value;
+use host_data::amount_math_lib::shortfall::Shortfall;
+use host_data::host_text_lib::text::Text;
 use std::alloc::{AllocError, AllocFailed, Global};
 
 /// Why the work on a call ends before its answer.

@@ -4,12 +4,12 @@ use Rattle.std.specs.Str.{bytes_eq}
 use Rattle.std.proofs.lemmas.Slice.Eq.{bytes_eq-Decides}
 use Rattle.std.proofs.Common.{inl, inr, sym, ◌∙◌, ap, subst, arith}
 use Rattle.std.proofs.lemmas.Bool.{cases_eq, eq-eqb, ne_eqb}
-use Rattle.amount_math.specs.Content.{Content, Contains, Contains-refl, nothing, sum, difference, count-difference, count-nothing, nothing-sum, same_content}
-use Rattle.amount_math.specs.Worth.{Worth}
-use Rattle.amount_math.specs.declared.Amount.{Amount}
-use Rattle.amount_math.specs.declared.Kind.{Kind}
-use Rattle.ertp_mint.specs.Stocks.{empty_amount, no_amount}
-use Rattle.payments.specs.Papers.{Paper, live_paper, paper_at, spent_paper}
+use Rattle.rights_model.specs.amount_math.Content.{Content, Contains, Contains-refl, nothing, sum, difference, count-difference, count-nothing, nothing-sum, same_content}
+use Rattle.rights_model.specs.amount_math.Worth.{Worth}
+use Rattle.rights_model.specs.amount_math.declared.Amount.{Amount}
+use Rattle.rights_model.specs.amount_math.declared.Kind.{Kind}
+use Rattle.holders.specs.ertp_mint.Stocks.{empty_amount, no_amount}
+use Rattle.holders.specs.Papers.{Paper, live_paper, paper_at, spent_paper}
 use Rattle.rights_model.specs.declared.Holder.{Holder}
 use Rattle.rights_model.specs.declared.Holder.TheVariants.{Purse, Payment, Slot, Hand, Outside}
 use Rattle.rights_model.specs.Place.{Place, place}
@@ -25,7 +25,7 @@ use Rattle.proposals.specs.Slots.{emptied, slots_of}
 use Rattle.proposals.specs.declared.allocations.Row.{Row}
 use Rattle.proposals.specs.declared.offers.Proposal.{Proposal}
 use Rattle.right_steps.specs.Tables.{Agrees, Right, content_in, hand_minus, hand_plus, in_brand, no_hand, numbered, right_in, right_on, seats_from, slots_from, table_of}
-use Rattle.list_edits.proofs.ListEdits.{keeps, read_before, read_map, read_other, read_past, read_pushed, read_set}
+use Rattle.lemmas.proofs.ListEdits.{keeps, read_before, read_map, read_other, read_past, read_pushed, read_set}
 
 of_brand : (r : Right) (b : ℕ) → r.brand ≡ b → in_brand r b ≡ r.content
 of_brand r b e = ap (λ x. cond x r.content nothing) (eq-eqb r.brand b e)

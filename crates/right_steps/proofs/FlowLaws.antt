@@ -2,10 +2,10 @@
 use Rattle.std.specs.Prelude.{◌≡◌, ◌≢◌, ℕ, ◌+◌, Bool, true, false, cond, List, [], ◌∷◌, ◌++◌, refl}
 use Rattle.std.proofs.Common.{inl, inr, sym, ◌∙◌, ap, subst, arith}
 use Rattle.std.specs.Ordering.{eq_by_cmp}
-use Rattle.amount_math.specs.Content.{Content, nothing, sum, difference, count, Contains, count-sum, count-difference, count-nothing, same_content}
-use Rattle.amount_math.specs.Sparse.{at-put, same_key, tied}
-use Rattle.amount_math.specs.Worth.{Worth}
-use Rattle.amount_math.specs.declared.Kind.{Kind}
+use Rattle.rights_model.specs.amount_math.Content.{Content, nothing, sum, difference, count, Contains, count-sum, count-difference, count-nothing, same_content}
+use Rattle.rights_model.specs.amount_math.Sparse.{at-put, same_key, tied}
+use Rattle.rights_model.specs.amount_math.Worth.{Worth}
+use Rattle.rights_model.specs.amount_math.declared.Kind.{Kind}
 use Rattle.rights_model.specs.declared.Holder.{Holder}
 use Rattle.rights_model.specs.declared.Holder.TheVariants.{Purse, Payment, Slot, Hand, Outside}
 use Rattle.rights_model.specs.declared.Movement.{Movement}

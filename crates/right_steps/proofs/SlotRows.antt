@@ -4,10 +4,10 @@ use Rattle.std.specs.Prelude.{IsNone, IsSome, is_some, slice_set, unwrap_or}
 use Rattle.std.specs.Str.{bytes_eq}
 use Rattle.std.proofs.lemmas.Slice.Eq.{bytes_eq-Decides}
 use Rattle.std.proofs.lemmas.Bool.{cases_eq}
-use Rattle.amount_math.specs.Content.{nothing}
-use Rattle.amount_math.specs.declared.Amount.{Amount}
-use Rattle.ertp_mint.specs.Stocks.{no_amount}
-use Rattle.list_edits.proofs.ListEdits.{length_set, read_other, read_set, set_same, written_back}
+use Rattle.rights_model.specs.amount_math.Content.{nothing}
+use Rattle.rights_model.specs.amount_math.declared.Amount.{Amount}
+use Rattle.holders.specs.ertp_mint.Stocks.{no_amount}
+use Rattle.lemmas.proofs.ListEdits.{length_set, read_other, read_set, set_same, written_back}
 use Rattle.proposals.specs.Rows.{amount_under, row_of}
 use Rattle.proposals.specs.Slots.{emptied}
 use Rattle.proposals.specs.declared.allocations.Row.{Row}

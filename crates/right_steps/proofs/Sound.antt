@@ -3,14 +3,14 @@ use Rattle.std.proofs.Common.{◌≡◌, ◌≢◌, ◌+◌, ◌<◌, ◌≤◌,
 use Rattle.std.specs.Prelude.{IsNone, IsSome, is_none, slice_index_or, slice_set, unwrap_or}
 use Rattle.std.specs.Str.{bytes_eq}
 use Rattle.std.proofs.lemmas.Bool.{cases_eq, eq-eqb, ne_eqb}
-use Rattle.amount_math.specs.Content.{Content, Contains, nothing, sum, difference, count, count-sum, count-difference, count-nothing, same_content}
-use Rattle.amount_math.specs.Worth.{Worth}
-use Rattle.amount_math.specs.declared.Amount.{Amount}
-use Rattle.amount_math.specs.declared.Kind.{Kind}
-use Rattle.amount_math.specs.declared.Kind.TheVariants.{Nat}
-use Rattle.ertp_mint.specs.BrandSupply.{BrandSupply, issued, new_supply, retired, supply_at}
-use Rattle.ertp_mint.specs.Stocks.{empty_amount, no_amount}
-use Rattle.payments.specs.Papers.{Paper, live_paper, paper_at, spent_paper}
+use Rattle.rights_model.specs.amount_math.Content.{Content, Contains, nothing, sum, difference, count, count-sum, count-difference, count-nothing, same_content}
+use Rattle.rights_model.specs.amount_math.Worth.{Worth}
+use Rattle.rights_model.specs.amount_math.declared.Amount.{Amount}
+use Rattle.rights_model.specs.amount_math.declared.Kind.{Kind}
+use Rattle.rights_model.specs.amount_math.declared.Kind.TheVariants.{Nat}
+use Rattle.holders.specs.ertp_mint.BrandSupply.{BrandSupply, issued, new_supply, retired, supply_at}
+use Rattle.holders.specs.ertp_mint.Stocks.{empty_amount, no_amount}
+use Rattle.holders.specs.Papers.{Paper, live_paper, paper_at, spent_paper}
 use Rattle.rights_model.specs.declared.Holder.{Holder}
 use Rattle.rights_model.specs.declared.Holder.TheVariants.{Purse, Payment, Slot, Hand, Outside}
 use Rattle.right_steps.specs.Lists.{Lists, CanGive, CanTake, amount_of, given, less, more, purse_at, slot_of, taken, with_closed_seat, with_new_brand, with_new_purse, with_new_seat, with_new_slot}
@@ -21,7 +21,7 @@ use Rattle.proposals.specs.Slots.{emptied, slots_of}
 use Rattle.proposals.specs.declared.allocations.Row.{Row}
 use Rattle.proposals.specs.declared.offers.Proposal.{Proposal}
 use Rattle.right_steps.specs.Tables.{IsSound, Right, all_in, all_in_seats, hand_minus, hand_plus, in_brand, right_in, right_of_row, right_on}
-use Rattle.list_edits.proofs.ListEdits.{length_map, length_push, map_push, map_set, read_before, read_map, read_other, read_past, read_pushed, read_set}
+use Rattle.lemmas.proofs.ListEdits.{length_map, length_push, map_push, map_set, read_before, read_map, read_other, read_past, read_pushed, read_set}
 
 -- how many of a brand's element a content of another is
 abbrev pub part : ℕ → Content → ℕ → List ℕ → ℕ

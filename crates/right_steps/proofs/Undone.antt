@@ -1,17 +1,17 @@
 -- A step worked backwards gives the lists as they were.
 use Rattle.std.proofs.Common.{◌≡◌, ℕ, ◌+◌, ◌-◌, ◌<◌, ◌≤◌, List, [], ◌∷◌, ◌++◌, Option, None, Some, length, take, refl, sym, ◌∙◌, ap, arith}
 use Rattle.std.specs.Prelude.{IsNone, slice_set}
-use Rattle.amount_math.specs.Amount.{holding}
-use Rattle.amount_math.specs.Content.{Content, Contains, difference-sum, sum-difference}
-use Rattle.amount_math.specs.Held.{more_room}
-use Rattle.amount_math.specs.Worth.{Worth}
-use Rattle.amount_math.specs.declared.Amount.{Amount}
-use Rattle.amount_math.specs.declared.Kind.{Kind}
-use Rattle.amount_math.specs.declared.Kind.TheVariants.{Nat}
-use Rattle.ertp_mint.specs.BrandSupply.{new_supply, supply_at}
-use Rattle.ertp_mint.specs.Circulating.{issued_back, retired_back, unissued, unretired}
-use Rattle.ertp_mint.specs.Stocks.{empty_amount, no_amount}
-use Rattle.payments.specs.Papers.{spent_paper}
+use Rattle.rights_model.specs.amount_math.Amount.{holding}
+use Rattle.rights_model.specs.amount_math.Content.{Content, Contains, difference-sum, sum-difference}
+use Rattle.rights_model.specs.amount_math.Held.{more_room}
+use Rattle.rights_model.specs.amount_math.Worth.{Worth}
+use Rattle.rights_model.specs.amount_math.declared.Amount.{Amount}
+use Rattle.rights_model.specs.amount_math.declared.Kind.{Kind}
+use Rattle.rights_model.specs.amount_math.declared.Kind.TheVariants.{Nat}
+use Rattle.holders.specs.ertp_mint.BrandSupply.{new_supply, supply_at}
+use Rattle.holders.specs.ertp_mint.Circulating.{issued_back, retired_back, unissued, unretired}
+use Rattle.holders.specs.ertp_mint.Stocks.{empty_amount, no_amount}
+use Rattle.holders.specs.Papers.{spent_paper}
 use Rattle.rights_model.specs.declared.Holder.{Holder}
 use Rattle.rights_model.specs.declared.Holder.TheVariants.{Purse, Payment, Slot, Hand, Outside}
 use Rattle.rights_model.specs.declared.Movement.{Movement}
@@ -25,7 +25,7 @@ use Rattle.proposals.specs.Rows.{row_of}
 use Rattle.proposals.specs.Slots.{emptied, slots_of}
 use Rattle.proposals.specs.declared.allocations.Row.{Row}
 use Rattle.proposals.specs.declared.offers.Proposal.{Proposal}
-use Rattle.list_edits.proofs.ListEdits.{length_map, length_push, read_pushed, read_set, set_same, set_set, take_all_but, without_pushed, written_back}
+use Rattle.lemmas.proofs.ListEdits.{length_map, length_push, read_pushed, read_set, set_same, set_set, take_all_but, without_pushed, written_back}
 
 more_less : (a : Amount) (c : Content) → Contains a.value.content c → more (less a c) c ≡ a
 more_less a c has = ap (holding a) (sum-difference a.value.content c has)

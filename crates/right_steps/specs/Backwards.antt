@@ -1,19 +1,19 @@
 -- Steps worked backwards, the last first: what they give, and when they can be.
 use Rattle.std.specs.Prelude.{◌≡◌, ◌<◌, ◌≤◌, ◌+◌, ◌-◌, ◌==◌, if◌then◌else◌, ℕ, List, [], ◌∷◌, IsSome, count_by, length}
-use Rattle.amount_math.specs.Content.{Content, Contains, nothing, sum, difference}
-use Rattle.amount_math.specs.Held.{HasRoom}
-use Rattle.amount_math.specs.Worth.{Fits, Worth, keys_of}
-use Rattle.amount_math.specs.declared.Amount.{Amount}
-use Rattle.ertp_mint.specs.Balances.{StoredAmount, GoesIn}
-use Rattle.ertp_mint.specs.BrandSupply.{supply_at}
-use Rattle.payments.specs.Papers.{is_live, live_paper, paper_at, spent_paper}
+use Rattle.rights_model.specs.amount_math.Content.{Content, Contains, nothing, sum, difference}
+use Rattle.rights_model.specs.amount_math.Held.{HasRoom}
+use Rattle.rights_model.specs.amount_math.Worth.{Fits, Worth, keys_of}
+use Rattle.rights_model.specs.amount_math.declared.Amount.{Amount}
+use Rattle.holders.specs.ertp_mint.Balances.{StoredAmount, GoesIn}
+use Rattle.holders.specs.ertp_mint.BrandSupply.{supply_at}
+use Rattle.holders.specs.Papers.{is_live, live_paper, paper_at, spent_paper}
 use Rattle.rights_model.specs.declared.Holder.{Holder}
 use Rattle.rights_model.specs.declared.Holder.TheVariants.{Purse, Payment, Slot, Hand, Outside}
 use Rattle.rights_model.specs.declared.Movement.{Movement}
 use Rattle.right_steps.specs.declared.Step.{Step}
 use Rattle.right_steps.specs.declared.Step.TheVariants.{Moves, OpensPurse, AddsBrand, OpensSeat, OpensSlot, ClosesSeat}
 use Rattle.right_steps.specs.Seats.{HasEmptyRow, HasSlotOf, kept_seat_at, new_kept_seat}
-use Rattle.ertp_mint.specs.Stocks.{most_made}
+use Rattle.holders.specs.ertp_mint.Stocks.{most_made}
 use Rattle.proposals.specs.declared.offers.Proposal.{Proposal}
 use Rattle.right_steps.specs.Lists.{Lists, GivesUp, amount_of, back, kind_of, purse_at, slot_of, SlotGivesUp, ungiven, with_reopened_seat, without_last_brand, without_last_purse, without_last_seat, without_last_slot_of}
 

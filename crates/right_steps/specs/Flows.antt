@@ -1,9 +1,9 @@
 -- What movements bring to each place and take from it, and lists of movements that are made together: as they are written, and as they are done by way of the hand.
 use Rattle.std.specs.Prelude.{◌≡◌, ◌≢◌, ℕ, ◌+◌, cond, List, [], ◌∷◌, ◌++◌}
 use Rattle.std.specs.Ordering.{eq_by_cmp}
-use Rattle.amount_math.specs.Content.{Content, nothing, sum, count}
-use Rattle.amount_math.specs.Worth.{Worth}
-use Rattle.amount_math.specs.declared.Kind.{Kind}
+use Rattle.rights_model.specs.amount_math.Content.{Content, nothing, sum, count}
+use Rattle.rights_model.specs.amount_math.Worth.{Worth}
+use Rattle.rights_model.specs.amount_math.declared.Kind.{Kind}
 use Rattle.rights_model.specs.declared.Holder.{Holder}
 use Rattle.rights_model.specs.declared.Holder.TheVariants.{Purse, Payment, Slot, Hand, Outside}
 use Rattle.rights_model.specs.declared.Movement.{Movement}

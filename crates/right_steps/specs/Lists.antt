@@ -1,15 +1,15 @@
 -- What a vault has, as lists, and what the halves of a movement make of them.
 use Rattle.std.specs.Prelude.{◌≡◌, ℕ, ◌+◌, ◌-◌, ◌<◌, List, [], ◌∷◌, ◌++◌, None, Some, length, slice_index_or, slice_set, take, refl}
 use Rattle.std.specs.Coded.{Coded, code_by, coded×, coded_list, coded_ℕ}
-use Rattle.amount_math.specs.Amount.{Meet, coded_amount, holding}
-use Rattle.amount_math.specs.Content.{Content, Contains, sum, difference}
-use Rattle.amount_math.specs.Worth.{Worth, Fits, IsValue}
-use Rattle.amount_math.specs.declared.Amount.{Amount}
-use Rattle.amount_math.specs.declared.Kind.{Kind}
-use Rattle.ertp_mint.specs.BrandSupply.{BrandSupply, coded_supply, issued, new_supply, retired, supply_at}
-use Rattle.ertp_mint.specs.Circulating.{unissued, unretired}
-use Rattle.ertp_mint.specs.Stocks.{empty_amount, no_amount}
-use Rattle.payments.specs.Papers.{Paper, coded_paper, live_paper, paper_at, spent_paper}
+use Rattle.rights_model.specs.amount_math.Amount.{Meet, coded_amount, holding}
+use Rattle.rights_model.specs.amount_math.Content.{Content, Contains, sum, difference}
+use Rattle.rights_model.specs.amount_math.Worth.{Worth, Fits, IsValue}
+use Rattle.rights_model.specs.amount_math.declared.Amount.{Amount}
+use Rattle.rights_model.specs.amount_math.declared.Kind.{Kind}
+use Rattle.holders.specs.ertp_mint.BrandSupply.{BrandSupply, coded_supply, issued, new_supply, retired, supply_at}
+use Rattle.holders.specs.ertp_mint.Circulating.{unissued, unretired}
+use Rattle.holders.specs.ertp_mint.Stocks.{empty_amount, no_amount}
+use Rattle.holders.specs.Papers.{Paper, coded_paper, live_paper, paper_at, spent_paper}
 use Rattle.rights_model.specs.declared.Holder.{Holder}
 use Rattle.rights_model.specs.declared.Holder.TheVariants.{Purse, Payment, Slot, Hand, Outside}
 use Rattle.rights_model.specs.declared.Movement.{Movement}

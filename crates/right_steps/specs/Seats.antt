@@ -2,9 +2,9 @@
 use Rattle.std.specs.Prelude.{ℕ, ◌≡◌, ◌+◌, ◌-◌, ◌<◌, List, [], ◌∷◌, Option, None, IsNone, IsSome, if◌then◌else◌, is_none, length, map, slice_index_or, slice_set, unwrap_or, refl}
 use Rattle.std.specs.Coded.{Coded, code_by, coded×, coded_list, coded_option, coded_ℕ}
 use Rattle.std.specs.Str.{bytes_eq}
-use Rattle.amount_math.specs.Content.{nothing}
-use Rattle.amount_math.specs.declared.Amount.{Amount}
-use Rattle.ertp_mint.specs.Stocks.{no_amount}
+use Rattle.rights_model.specs.amount_math.Content.{nothing}
+use Rattle.rights_model.specs.amount_math.declared.Amount.{Amount}
+use Rattle.holders.specs.ertp_mint.Stocks.{no_amount}
 use Rattle.proposals.specs.Proposals.{coded_proposal}
 use Rattle.proposals.specs.Rows.{amount_under, coded_row, row_of}
 use Rattle.proposals.specs.Slots.{emptied, slots_of}

@@ -1,10 +1,10 @@
 -- The table of who holds what, made of a vault's lists; when lists and a hand agree with a table; and when all that is held is what is out.
 use Rattle.std.specs.Prelude.{◌≡◌, ◌+◌, ◌==◌, if◌then◌else◌, ℕ, suc, List, [], ◌∷◌, ◌++◌, map, Option, Some, None}
-use Rattle.amount_math.specs.Content.{Content, nothing, sum, difference, count}
-use Rattle.amount_math.specs.Worth.{Worth}
-use Rattle.amount_math.specs.declared.Amount.{Amount}
-use Rattle.ertp_mint.specs.BrandSupply.{supply_at}
-use Rattle.payments.specs.Papers.{Paper, paper_at}
+use Rattle.rights_model.specs.amount_math.Content.{Content, nothing, sum, difference, count}
+use Rattle.rights_model.specs.amount_math.Worth.{Worth}
+use Rattle.rights_model.specs.amount_math.declared.Amount.{Amount}
+use Rattle.holders.specs.ertp_mint.BrandSupply.{supply_at}
+use Rattle.holders.specs.Papers.{Paper, paper_at}
 use Rattle.rights_model.specs.declared.Holder.{Holder}
 use Rattle.rights_model.specs.declared.Holder.TheVariants.{Purse, Payment, Slot, Hand, Outside}
 use Rattle.rights_model.specs.Place.{Place}

@@ -2,8 +2,8 @@
 //! the definitions.
 
 ghost use Rattle.std.specs.Prelude.{◌≡◌, ◌<◌, ℕ, List, length};
-ghost use Rattle.amount_math.specs.Content.{Contains};
-ghost use Rattle.amount_math.specs.declared.Kind.{Kind as AmountKind};
+ghost use Rattle.rights_model.specs.amount_math.Content.{Contains};
+ghost use Rattle.rights_model.specs.amount_math.declared.Kind.{Kind as AmountKind};
 ghost use Rattle.rights_model.specs.Table as table;
 ghost use Rattle.rights_model.specs.Table.{CanMoveAll, Table, holds, table_after};
 ghost use Rattle.right_steps.specs.Flows.{AreInside, IsApart, Part, SameFlows, combined, content_of, gathered, split_up, spread};

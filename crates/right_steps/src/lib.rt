@@ -1,9 +1,14 @@
-//! What steps make of the lists of a vault, forwards and back, and what movements make together. It stands
-//! on the definitions of rights and of the stores. Its one contract: the definitions of specs/, and the laws
-//! that the functions of `laws` state of them.
+//! What steps make of the lists of a vault, forwards and back, and what movements make together.
 #![tactic(auto)]
 
 pub mod laws;
+
+pub use holders as holders_lib;
+pub use holders::ertp_mint_lib;
+pub use proposals as proposals_lib;
+pub use proposals::host_data_lib;
+pub use rights_model as rights_model_lib;
+pub use rights_model::{amount_math_lib, host_text_lib};
 
 /// What is kept of a step of a turn, beside its movement, for working it backwards.
 #[derive(Clone, Copy)]

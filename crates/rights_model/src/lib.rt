@@ -1,15 +1,14 @@
-//! Who holds which right: holders, movements of rights between them, and the table that movements make.
-//!
-//! It stands on amount_math and host_text. Its one contract: the definitions of specs/ (a table, a
-//! movement applied to it, supply, balance), of which a reader needs no code, and the laws that the
-//! functions below state.
+//! Who holds which right: holders, movements of rights between them, and the table that movements
+//! make, with its supply and its balances.
 #![tactic(auto)]
 
 ghost use Rattle.std.specs.Prelude.{◌≡◌, ◌↔◌, IfOk, IsTrue};
 
 pub mod laws;
 
+pub use amount_math as amount_math_lib;
 use amount_math::Value;
+pub use host_text as host_text_lib;
 use host_text::keyword::Keyword;
 use std::alloc::{AllocError, Global};
 

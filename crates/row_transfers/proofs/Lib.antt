@@ -1,3 +1,6 @@
+pub mod Valued
+pub mod Wrong
+pub mod FineRows
 pub mod Raising
 pub mod Worked
 pub mod Planned

@@ -5,14 +5,14 @@ use Rattle.std.proofs.Common.{◌≡◌, ℕ, ◌+◌, ◌<◌, ◌≤◌, ◌^�
 use Rattle.std.proofs.lemmas.List.{take_more}
 use Rattle.std.proofs.lemmas.List.Elements.{All-append, All-cons, All-nil, recursion_from_All}
 use Rattle.std.proofs.lemmas.List.Sums.{sum_by-cons}
-use Rattle.plan_checks.specs.Plans.{can_work, transfer_changes}
-use Rattle.plan_refusals.proofs.Counts.{can_show}
-use Rattle.plan_refusals.specs.Bounds.{AreBounded, HasValue}
-use Rattle.plan_refusals.specs.Told.{PlanCanShow}
-use Rattle.proposals.specs.declared.allocations.Row.{Row}
-use Rattle.proposals.specs.declared.plans.SeatState.{SeatState}
-use Rattle.proposals.specs.declared.plans.Touched.{Touched}
-use Rattle.proposals.specs.declared.plans.Transfer.{Transfer}
+use Rattle.rearrange.specs.TestedPlans.{can_work, transfer_changes}
+use Rattle.rearrange.proofs.RefusedCounts.{can_show}
+use Rattle.rearrange.specs.Bounds.{AreBounded, HasValue}
+use Rattle.rearrange.specs.Told.{PlanCanShow}
+use Rattle.call_arguments.specs.proposals.declared.allocations.Row.{Row}
+use Rattle.call_arguments.specs.proposals.declared.plans.SeatState.{SeatState}
+use Rattle.call_arguments.specs.proposals.declared.plans.Touched.{Touched}
+use Rattle.call_arguments.specs.proposals.declared.plans.Transfer.{Transfer}
 use Rattle.rearrange.proofs.Worked.{can_settle}
 use Rattle.rearrange.specs.Plans.{IsPlanRefusal}
 use Rattle.rearrange.specs.Seats.{allocation_of, seats_named}

@@ -3,20 +3,20 @@ use Rattle.std.specs.List.{All}
 use Rattle.std.proofs.Common.{◌≡◌, List, [], ◌∷◌, Option, Some, None, Result, Ok, Err, refl, sym, subst}
 use Rattle.std.specs.Option.{option_map_or}
 use Rattle.std.proofs.lemmas.List.Elements.{All-cons, All-head, All-nil, All-tail}
-use Rattle.allocation_changes.proofs.Apart.{row_under}
-use Rattle.allocation_changes.specs.Gains.{CanGain}
-use Rattle.amount_math.specs.Content.{Content, nothing, nothing-sum, sum}
-use Rattle.amount_math.specs.KindLaws.{value_of_sum}
-use Rattle.amount_math.specs.Worth.{Fits, HasFew, IsValue}
-use Rattle.amount_math.specs.declared.Amount.{Amount}
-use Rattle.plan_checks.specs.Slots.{can_give, each_passes, fits_slot, is_apart}
-use Rattle.plan_refusals.specs.Bounds.{HasValue}
-use Rattle.proposals.specs.OfferSafety.{MeetSlots, MeetsSlot}
-use Rattle.proposals.specs.Rows.{amount_under, content_under}
-use Rattle.proposals.specs.declared.allocations.Row.{Row}
+use Rattle.call_arguments.proofs.proposals.Apart.{row_under}
+use Rattle.call_arguments.specs.proposals.Gains.{CanGain}
+use Rattle.refusals.specs.amount_math.Content.{Content, nothing, nothing-sum, sum}
+use Rattle.refusals.specs.amount_math.KindLaws.{value_of_sum}
+use Rattle.refusals.specs.amount_math.Worth.{Fits, HasFew, IsValue}
+use Rattle.refusals.specs.amount_math.declared.Amount.{Amount}
+use Rattle.rearrange.specs.Slots.{can_give, each_passes, fits_slot, is_apart}
+use Rattle.rearrange.specs.Bounds.{HasValue}
+use Rattle.call_arguments.specs.proposals.OfferSafety.{MeetSlots, MeetsSlot}
+use Rattle.call_arguments.specs.proposals.Rows.{amount_under, content_under}
+use Rattle.call_arguments.specs.proposals.declared.allocations.Row.{Row}
 use Rattle.refusals.specs.Outcomes.{bind, ◌>>◌}
 use Rattle.refusals.specs.declared.codes.Refusal.{Refusal}
-use Rattle.value_checks.proofs.Exact.{value_passed}
+use Rattle.rearrange.proofs.value_tests.Exact.{value_passed}
 
 passed : (r next : Result (Unit {0}) Refusal) → r >> next ≡ Ok tt → (r ≡ Ok tt) × (next ≡ Ok tt)
 unfolding bind

@@ -3,11 +3,11 @@ use Rattle.std.specs.List.{All}
 use Rattle.std.proofs.Common.{◌≡◌, ℕ, ◌+◌, ◌<◌, ◌≤◌, List, [], ◌∷◌, ◌++◌, drop, get_or, length, take, Option, Some, None, Result, Ok, Err, refl, sym, ap, subst, ◌∙◌, arith, length-append}
 use Rattle.std.proofs.Math.Seq.{get_or-append_seam}
 use Rattle.std.proofs.lemmas.List.{drop_all, drop_more, map-append, take-append-drop, take_all, take_at, take_more}
-use Rattle.plan_checks.specs.Plans.{can_gain, can_lose, can_work, passes_at}
-use Rattle.plan_checks.specs.Slots.{can_give, can_take}
-use Rattle.proposals.specs.declared.allocations.Row.{Row}
-use Rattle.proposals.specs.declared.plans.SeatState.{SeatState}
-use Rattle.proposals.specs.declared.plans.Transfer.{Transfer}
+use Rattle.rearrange.specs.TestedPlans.{can_gain, can_lose, can_work, passes_at}
+use Rattle.rearrange.specs.Slots.{can_give, can_take}
+use Rattle.call_arguments.specs.proposals.declared.allocations.Row.{Row}
+use Rattle.call_arguments.specs.proposals.declared.plans.SeatState.{SeatState}
+use Rattle.call_arguments.specs.proposals.declared.plans.Transfer.{Transfer}
 use Rattle.rearrange.proofs.Worked.{can_meet, worked-push}
 use Rattle.rearrange.specs.Seats.{allocation_of, seats_named}
 use Rattle.rearrange.specs.Transfers.{HasOneBrand, losses_of, worked, worked_by}
@@ -17,8 +17,8 @@ use Rattle.refusals.specs.declared.codes.Refusal.{Refusal}
 use Rattle.refusals.specs.declared.stops.Stop.{Stop}
 use Rattle.refusals.specs.declared.stops.Stop.TheVariants.{NoMemory, Refused}
 use Rattle.row_transfers.specs.Tests.{can_move}
-use Rattle.transfer_arguments.specs.Views.{transfer_view, transfer_views}
-use Rattle.transfer_arguments.specs.declared.values.RowTransfer.{RowTransfer}
+use Rattle.row_transfers.specs.Views.{transfer_view, transfer_views}
+use Rattle.row_transfers.specs.declared.values.RowTransfer.{RowTransfer}
 
 -- ---- one seat
 

@@ -1,1 +1,5 @@
+pub mod Views
+pub mod Brands
+pub mod Fine
+pub mod Reading
 pub mod Tests

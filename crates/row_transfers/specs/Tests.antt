@@ -1,10 +1,10 @@
 -- What one transfer is tested for, and what a plan is.
 use Rattle.std.specs.Prelude.{ℕ, List, Ok, Result}
-use Rattle.plan_checks.specs.Plans.{can_gain, can_lose, keeps}
-use Rattle.proposals.specs.declared.allocations.Row.{Row}
-use Rattle.proposals.specs.declared.plans.SeatState.{SeatState}
-use Rattle.proposals.specs.declared.plans.Touched.{Touched}
-use Rattle.proposals.specs.declared.plans.Transfer.{Transfer}
+use Rattle.rearrange.specs.TestedPlans.{can_gain, can_lose, keeps}
+use Rattle.call_arguments.specs.proposals.declared.allocations.Row.{Row}
+use Rattle.call_arguments.specs.proposals.declared.plans.SeatState.{SeatState}
+use Rattle.call_arguments.specs.proposals.declared.plans.Touched.{Touched}
+use Rattle.call_arguments.specs.proposals.declared.plans.Transfer.{Transfer}
 use Rattle.refusals.specs.Outcomes.{◌>>◌}
 use Rattle.refusals.specs.declared.codes.Refusal.{Refusal}
 

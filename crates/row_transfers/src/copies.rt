@@ -2,14 +2,14 @@
 
 ghost use Rattle.std.specs.Prelude.{◌≡◌, ◌<◌, ◌++◌, ◌∷◌, [], All, IfOk, IfSome, IsNone, OnOk, length, option_copied, slice_index_or, slice_set};
 ghost use Rattle.std.specs.Global.{Vec};
-ghost use Rattle.proposals.specs.Rows.{AreApart};
-ghost use Rattle.proposals.specs.declared.allocations.Row.{Row};
+ghost use Rattle.call_arguments.specs.proposals.Rows.{AreApart};
+ghost use Rattle.call_arguments.specs.proposals.declared.allocations.Row.{Row};
 ghost use Rattle.rearrange.specs.Seats as given;
 ghost use Rattle.rearrange.specs.Working as copies;
 ghost use Rattle.rearrange.specs.declared.sums.SeatRows.{SeatRows};
 
-use proposals::allocations::{Allocation, Row};
-use proposals::plans::SeatState;
+use call_arguments::proposals_lib::allocations::{Allocation, Row};
+use call_arguments::proposals_lib::plans::SeatState;
 use rearrange::seats::state_of;
 use rearrange::sums::SeatRows;
 use std::alloc::{AllocError, Global};

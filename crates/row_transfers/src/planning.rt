@@ -1,9 +1,9 @@
 //! The plan that transfers come to.
 
 ghost use Rattle.std.specs.Prelude.{◌≡◌, ◌≤◌, length, ◌++◌, All, IfErr, IfOk, IfSome, OnOk, map, option_to_list};
-ghost use Rattle.plan_checks.specs.Plans.{transfer_changes};
-ghost use Rattle.plan_refusals.specs.Bounds.{AreBounded};
-ghost use Rattle.proposals.specs.Rows.{AreApart, most_rows};
+ghost use Rattle.rearrange.specs.TestedPlans.{transfer_changes};
+ghost use Rattle.rearrange.specs.Bounds.{AreBounded};
+ghost use Rattle.call_arguments.specs.proposals.Rows.{AreApart, most_rows};
 ghost use Rattle.rearrange.specs.Safety.{MeetProposal};
 ghost use Rattle.rearrange.specs.Seats as given;
 ghost use Rattle.rearrange.specs.Staged.{touched_with};
@@ -12,21 +12,21 @@ ghost use Rattle.rearrange.specs.Transfers as lists;
 ghost use Rattle.rearrange.specs.Working.{CanSettle, rows_now};
 ghost use Rattle.refusals.specs.Outcomes.{Gives};
 ghost use Rattle.row_transfers.specs.Tests.{kept_plan};
-ghost use Rattle.transfer_arguments.specs.Views.{transfer_view, transfer_views};
+ghost use Rattle.row_transfers.specs.Views.{transfer_view, transfer_views};
 
 use crate::copies::{allocation_of, rows_now};
 use crate::listed::once;
 use crate::plans::plan_of;
 use crate::settled::settled;
 use crate::slots::have_values;
+use crate::values::RowTransfer;
 use crate::working::work_all;
-use plan_refusals::plan_told;
-use proposals::allocations::Row;
-use proposals::plans::{Plan, SeatState};
+use call_arguments::proposals_lib::allocations::Row;
+use call_arguments::proposals_lib::plans::{Plan, SeatState};
+use rearrange::plan_refusals::plan_told;
 use rearrange::sums::SeatRows;
 use refusals::stops::Stop;
 use std::alloc::{AllocError, Global};
-use transfer_arguments::values::RowTransfer;
 
 /// Puts a seat behind the others, if there is one.
 fn add_seat(seats: &mut Vec<u32>, seat: Option<u32>) -> Result<(), AllocError>
@@ -126,7 +126,7 @@ fn check_bounded(states: &[SeatState], list: &[SeatRows]) -> Result<(), Stop>
 }
 
 /// The plan by which seats have rows, or the first test that it fails: `NotConserved`, `NotOfferSafe`, `Limit`.
-#[tactic(auto, using(plan_check_laws::proofs::Kept::plan_passes, plan_check_laws::proofs::Kept::plan_fails, crate::proofs::Planned::fault_shown), unfolding(refusals::specs::Outcomes::bind))]
+#[tactic(auto, using(rearrange::proofs::Kept::plan_passes, rearrange::proofs::Kept::plan_fails, crate::proofs::Planned::fault_shown), unfolding(refusals::specs::Outcomes::bind))]
 fn planned(alloc: Global, states: &[SeatState], list: Vec<SeatRows>) -> Result<Plan, Stop>
     requires apart { All (λ s. AreApart s.rows.items) list.items }
     requires meets { All (λ s. IfSome (given.state_of states.now s.seat) (MeetProposal s.rows.items)) list.items }
@@ -145,7 +145,7 @@ fn planned(alloc: Global, states: &[SeatState], list: Vec<SeatRows>) -> Result<P
 /// The plan that transfers come to, worked in the order of the list on a working copy (Zoe's atomicRearrange), or the
 /// first test that fails: for each transfer in turn `NotEnough`, `Overlap`, `TooMuch`, each over its rows; then
 /// `NotConserved`, `NotOfferSafe` and `Limit`. A record of a transfer may have any number of rows.
-#[tactic(auto, using(crate::proofs::Planned::can_settle_all), unfolding(plan_checks::specs::Plans::transfer_changes, refusals::specs::Outcomes::bind))]
+#[tactic(auto, using(crate::proofs::Planned::can_settle_all), unfolding(rearrange::specs::TestedPlans::transfer_changes, refusals::specs::Outcomes::bind))]
 pub fn plan_transfers(
     alloc: Global,
     states: &[SeatState],

@@ -1,7 +1,7 @@
 //! The plan of a change, once it is worked, and the tests that it must pass.
 
 ghost use Rattle.std.specs.Prelude.{◌≡◌, ◌<◌, ◌≤◌, ◌++◌, ◌∷◌, [], All, Any, IfErr, IfOk, IfSome, OnOk, length};
-ghost use Rattle.proposals.specs.Rows.{AreApart, most_rows};
+ghost use Rattle.call_arguments.specs.proposals.Rows.{AreApart, most_rows};
 ghost use Rattle.rearrange.specs.Plans.{IsPlanRefusal};
 ghost use Rattle.rearrange.specs.Safety.{AreSafe, MeetProposal};
 ghost use Rattle.rearrange.specs.Seats.{state_of};
@@ -9,8 +9,8 @@ ghost use Rattle.rearrange.specs.Sums.{AreConserved, touched_of};
 ghost use Rattle.rearrange.specs.Sums as sums;
 
 use crate::copies::allocation_copy;
-use allocation_changes::slots::{SlotsFault, allocation_of};
-use proposals::plans::{Plan, SeatState, Touched};
+use call_arguments::proposals_lib::plans::{Plan, SeatState, Touched};
+use call_arguments::proposals_lib::slots::{SlotsFault, allocation_of};
 use rearrange::plans::PlanFault;
 use rearrange::safety::least_unsafe;
 use rearrange::sums::{SeatRows, first_unkept};

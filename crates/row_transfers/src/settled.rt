@@ -1,12 +1,12 @@
 //! What a seat's slots have once rows become its allocation.
 
 ghost use Rattle.std.specs.Prelude.{◌≡◌, ◌++◌, All, IfOk, OnErr, OnOk, map};
-ghost use Rattle.proposals.specs.OfferSafety.{MeetSlots, MeetsSlot};
+ghost use Rattle.call_arguments.specs.proposals.OfferSafety.{MeetSlots, MeetsSlot};
 ghost use Rattle.rearrange.specs.Settled as lists;
 
-use allocation_changes::slots::{amount_of, further};
-use amount_math::{Amount, Value};
-use proposals::allocations::Row;
+use call_arguments::proposals_lib::allocations::Row;
+use call_arguments::proposals_lib::slots::{amount_of, further};
+use refusals::amount_math_lib::{Amount, Value};
 use std::alloc::{AllocError, Global};
 
 /// What rows have under a slot's keyword. Keys take memory.

@@ -1,21 +1,21 @@
 //! Slots with rows more and with rows less, however many these are.
 
 ghost use Rattle.std.specs.Prelude.{◌≡◌, All, IfErr, IfOk, IsOk, OnOk, map};
-ghost use Rattle.allocation_changes.specs.Gains.{CanRaise, raised, with_gains};
-ghost use Rattle.allocation_changes.specs.Losses.{CanLower, lowered, without};
-ghost use Rattle.amount_math.specs.Content.{sum};
-ghost use Rattle.amount_math.specs.Worth.{IsPutRefusal, IsValue, with_content};
-ghost use Rattle.plan_checks.specs.Slots.{can_give, can_take};
-ghost use Rattle.plan_refusals.specs.Bounds.{HasValue};
-ghost use Rattle.proposals.specs.OfferSafety.{MeetSlots};
-ghost use Rattle.proposals.specs.Rows.{AreApart, row_of};
+ghost use Rattle.call_arguments.specs.proposals.Gains.{CanRaise, raised, with_gains};
+ghost use Rattle.call_arguments.specs.proposals.Losses.{CanLower, lowered, without};
+ghost use Rattle.refusals.specs.amount_math.Content.{sum};
+ghost use Rattle.refusals.specs.amount_math.Worth.{IsPutRefusal, IsValue, with_content};
+ghost use Rattle.rearrange.specs.Slots.{can_give, can_take};
+ghost use Rattle.rearrange.specs.Bounds.{HasValue};
+ghost use Rattle.call_arguments.specs.proposals.OfferSafety.{MeetSlots};
+ghost use Rattle.call_arguments.specs.proposals.Rows.{AreApart, row_of};
 ghost use Rattle.refusals.specs.Outcomes.{Gives};
 
-use allocation_changes::slots::{amount_of, open_further};
-use amount_math::{Amount, PutFault, Value};
-use proposals::allocations::Row;
+use call_arguments::proposals_lib::allocations::Row;
+use call_arguments::proposals_lib::slots::{amount_of, open_further};
+use rearrange::slot_checks::{check_gains, check_losses};
+use refusals::amount_math_lib::{Amount, PutFault, Value};
 use refusals::stops::Stop;
-use slot_checks::{check_gains, check_losses};
 use std::alloc::{AllocError, Global};
 
 /// That rows have values of their kinds, for a caller's proof.

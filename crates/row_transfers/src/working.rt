@@ -1,25 +1,25 @@
 //! Transfers, worked one after the other on a working copy.
 
 ghost use Rattle.std.specs.Prelude.{◌≡◌, All, IfOk, IfSome, OnOk};
-ghost use Rattle.plan_checks.specs.Plans.{can_lose, can_work, passes_at};
-ghost use Rattle.plan_checks.specs.Slots.{can_give};
-ghost use Rattle.proposals.specs.OfferSafety.{MeetSlots};
-ghost use Rattle.proposals.specs.Rows.{AreApart};
+ghost use Rattle.rearrange.specs.TestedPlans.{can_lose, can_work, passes_at};
+ghost use Rattle.rearrange.specs.Slots.{can_give};
+ghost use Rattle.call_arguments.specs.proposals.OfferSafety.{MeetSlots};
+ghost use Rattle.call_arguments.specs.proposals.Rows.{AreApart};
 ghost use Rattle.rearrange.specs.Seats as given;
 ghost use Rattle.rearrange.specs.Transfers as lists;
 ghost use Rattle.rearrange.specs.Working as copies;
 ghost use Rattle.refusals.specs.Outcomes.{Gives};
 ghost use Rattle.row_transfers.specs.Tests.{can_move};
-ghost use Rattle.transfer_arguments.specs.Views.{transfer_view, transfer_views};
+ghost use Rattle.row_transfers.specs.Views.{transfer_view, transfer_views};
 
 use crate::copies::{put_rows, rows_now};
 use crate::slots::{increased, lessened};
-use proposals::allocations::Row;
-use proposals::plans::SeatState;
+use crate::values::RowTransfer;
+use call_arguments::proposals_lib::allocations::Row;
+use call_arguments::proposals_lib::plans::SeatState;
 use rearrange::sums::SeatRows;
 use refusals::stops::Stop;
 use std::alloc::Global;
-use transfer_arguments::values::RowTransfer;
 
 /// What a transfer takes.
 fn losses_of(transfer: &RowTransfer) -> &[Row]

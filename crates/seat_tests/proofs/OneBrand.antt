@@ -2,9 +2,9 @@
 use Rattle.std.proofs.Common.{ℕ, ◌==◌, ◌++◌, List, [], ◌∷◌, All, Bool, true, false, cond, Option, None, Some, IfSome, get_or, flat_map, unwrap_or, sym, ap, ◌∙◌}
 use Rattle.std.specs.Option.{option_map_or}
 use Rattle.std.proofs.lemmas.List.Elements.{All-append, All-head, All-nil, All-push, All-tail}
-use Rattle.proposals.specs.declared.allocations.Row.{Row}
-use Rattle.proposals.specs.declared.plans.SeatState.{SeatState}
-use Rattle.proposals.specs.declared.plans.Transfer.{Transfer}
+use Rattle.seats.specs.proposals.declared.allocations.Row.{Row}
+use Rattle.seats.specs.proposals.declared.plans.SeatState.{SeatState}
+use Rattle.seats.specs.proposals.declared.plans.Transfer.{Transfer}
 use Rattle.rearrange.specs.Seats.{seats_named, state_of}
 use Rattle.rearrange.specs.Staged.{Agree, IsOfOneBrand, rows_of}
 use Rattle.rearrange.specs.Transfers.{HasOneBrand, amounts_for, gains_of, losses_of, rows_at}

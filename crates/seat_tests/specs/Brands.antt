@@ -1,11 +1,11 @@
 -- The brand and the kind that the tests give each keyword, so that amounts under one keyword meet.
 use Rattle.std.specs.Prelude.{◌≡◌, ℕ, ◌||◌, List, All, IfSome, codes, if◌then◌else◌}
 use Rattle.std.specs.Str.{bytes_eq}
-use Rattle.amount_math.specs.declared.Kind.{Kind}
-use Rattle.amount_math.specs.declared.Kind.TheVariants.{Nat, Set}
-use Rattle.proposals.specs.declared.allocations.Row.{Row}
-use Rattle.proposals.specs.declared.plans.SeatState.{SeatState}
-use Rattle.proposals.specs.declared.plans.Transfer.{Transfer}
+use Rattle.seats.specs.amount_math.declared.Kind.{Kind}
+use Rattle.seats.specs.amount_math.declared.Kind.TheVariants.{Nat, Set}
+use Rattle.seats.specs.proposals.declared.allocations.Row.{Row}
+use Rattle.seats.specs.proposals.declared.plans.SeatState.{SeatState}
+use Rattle.seats.specs.proposals.declared.plans.Transfer.{Transfer}
 
 -- what is sold is of brand 1, tokens that are told apart are of brand 3, and all else is money, of brand 2
 abbrev pub brand_of : List ℕ → ℕ

@@ -1,6 +1,5 @@
-//! Tests of seats and of the changes of what they have: worked rearrangements (Zoe's atomicRearrange and
-//! reallocate) with each of their refusals, and each call of the seats' store that takes memory. It stands
-//! on those crates, and no crate stands on it.
+//! Tests of seats and of changes of what they have: worked rearrangements with each of their
+//! refusals.
 #![tactic(auto)]
 
 #[cfg(test)]

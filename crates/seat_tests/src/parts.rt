@@ -3,13 +3,13 @@
 ghost use Rattle.std.specs.Prelude.{◌≡◌, ◌++◌, ◌∷◌, [], All, IfSome};
 ghost use Rattle.seat_tests.specs.Brands.{AreOfTheirBrands, HasBrands, IsOfItsBrand, brand_of, kind_of};
 
-use amount_math::{Amount, Key, Kind, NAT_BOUND, Value};
-use host_text::keyword::Keyword;
-use proposals::allocations::{Allocation, MOST_ROWS};
-use proposals::offers::{Exit, Proposal};
-use proposals::plans::{Plan, SeatState};
 use rearrange::plans::PlanFault;
 use rearrange::seats::SeatsFault;
+use seats::amount_math_lib::{Amount, Key, Kind, NAT_BOUND, Value};
+use seats::host_text_lib::keyword::Keyword;
+use seats::proposals_lib::allocations::{Allocation, MOST_ROWS};
+use seats::proposals_lib::offers::{Exit, Proposal};
+use seats::proposals_lib::plans::{Plan, SeatState};
 use std::alloc::Global;
 use std::process::Abort;
 

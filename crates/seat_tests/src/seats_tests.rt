@@ -1,21 +1,21 @@
 //! Seats by number: what is opened, put in, taken out, staged and closed, and the way back.
 
 ghost use Rattle.std.specs.Prelude.{◌≡◌, ◌<◌, ◌≤◌, IsTrue, length};
-ghost use Rattle.amount_math.specs.Worth.{nat_bound};
-ghost use Rattle.proposals.specs.Slots.{FitsSeat};
-ghost use Rattle.seat_slots.specs.Seats.{HasPlace, IsOpen};
-ghost use Rattle.seat_store.specs.Store.{HasSlotIn, seat_in, slot_store};
+ghost use Rattle.seats.specs.amount_math.Worth.{nat_bound};
+ghost use Rattle.seats.specs.proposals.Slots.{FitsSeat};
+ghost use Rattle.seats.specs.Seats.{HasPlace, IsOpen};
+ghost use Rattle.seats.specs.Store.{HasSlotIn, seat_in, slot_store};
 
 use crate::parts::{MOST, Rows, has_rows, keyword, proposal, rows, token};
-use amount_math::shortfall::LossFault;
-use amount_math::{Kind, NAT_BOUND, PutFault, Value};
-use ertp_mint::{Balance, Circulations, Parcel};
-use host_text::keyword::Keyword;
-use proposals::allocations::MOST_ROWS;
-use proposals::offers::Proposal;
-use proposals::plans::SeatState;
-use seat_slots::CloseFault;
-use seat_store::seats::{SeatExited, Seats, SlotFault, StageFault};
+use rearrange::ertp_mint_lib::{Balance, Circulations, Parcel};
+use seats::amount_math_lib::shortfall::LossFault;
+use seats::amount_math_lib::{Kind, NAT_BOUND, PutFault, Value};
+use seats::host_text_lib::keyword::Keyword;
+use seats::proposals_lib::allocations::MOST_ROWS;
+use seats::proposals_lib::offers::Proposal;
+use seats::proposals_lib::plans::SeatState;
+use seats::seat_slots::CloseFault;
+use seats::seats::{SeatExited, Seats, SlotFault, StageFault};
 use std::alloc::Global;
 use std::process::Abort;
 

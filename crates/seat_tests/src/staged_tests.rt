@@ -4,8 +4,8 @@ ghost use Rattle.std.specs.Prelude.{All};
 ghost use Rattle.seat_tests.specs.Brands.{HasBrands};
 
 use crate::parts::{FULL, Given, OPEN, Rows, Said, states, told};
-use proposals::plans::SeatState;
 use rearrange::staged::plan_staged;
+use seats::proposals_lib::plans::SeatState;
 use std::alloc::Global;
 use std::process::Abort;
 

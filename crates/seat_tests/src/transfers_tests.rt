@@ -4,8 +4,8 @@ ghost use Rattle.std.specs.Prelude.{All};
 ghost use Rattle.seat_tests.specs.Brands.{HasBrands, MovesBrands};
 
 use crate::parts::{FULL, Given, MOST, OPEN, Rows, Said, some_rows, states, told};
-use proposals::plans::{SeatState, Transfer};
 use rearrange::transfers::plan_transfers;
+use seats::proposals_lib::plans::{SeatState, Transfer};
 use std::alloc::Global;
 use std::process::Abort;
 

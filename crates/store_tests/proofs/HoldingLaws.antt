@@ -1,14 +1,14 @@
 -- What a movement of a number leaves where it goes, and that there is room for small ones.
 use Rattle.std.specs.Prelude.{◌≢◌, ◌<◌, ◌≤◌, ◌^◌, ℕ, Bool, true, false, cond, ◌&&◌}
 use Rattle.std.proofs.Common.{arith}
-use Rattle.amount_math.specs.Content.{Content, Contains, Contains-of_nat, Contains-trans, count-sum, of_nat, sum}
-use Rattle.amount_math.specs.Counted.{counted, counted-of_nat}
-use Rattle.amount_math.specs.Worth.{nat_bound}
-use Rattle.rights_model.specs.declared.Holder.{Holder}
-use Rattle.rights_model.specs.declared.Holder.TheVariants.{Outside}
-use Rattle.rights_model.specs.Supply.{is_outside}
-use Rattle.rights_model.specs.Table.{Table, holds, moved, taken}
-use Rattle.rights_model.proofs.TableLaws.{holds-given}
+use Rattle.escrow.specs.amount_math.Content.{Content, Contains, Contains-of_nat, Contains-trans, count-sum, of_nat, sum}
+use Rattle.escrow.specs.amount_math.Counted.{counted, counted-of_nat}
+use Rattle.escrow.specs.amount_math.Worth.{nat_bound}
+use Rattle.escrow.specs.rights_model.declared.Holder.{Holder}
+use Rattle.escrow.specs.rights_model.declared.Holder.TheVariants.{Outside}
+use Rattle.escrow.specs.rights_model.Supply.{is_outside}
+use Rattle.escrow.specs.rights_model.Table.{Table, holds, moved, taken}
+use Rattle.escrow.proofs.rights_model.TableLaws.{holds-given}
 use Rattle.escrow.specs.Sums.{AreSums}
 use Rattle.escrow.specs.Told.{EscrowState, leaving, minted_with, totals_of}
 use Rattle.store_tests.specs.Holdings.{HoldsNumber, movement_of}

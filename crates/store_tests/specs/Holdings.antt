@@ -1,10 +1,10 @@
 -- What the tests of escrow carry from one movement to the next.
 use Rattle.std.specs.Prelude.{ℕ}
-use Rattle.amount_math.specs.Content.{Contains, of_nat}
-use Rattle.amount_math.specs.declared.Kind.TheVariants.{Nat}
-use Rattle.rights_model.specs.declared.Holder.{Holder}
-use Rattle.rights_model.specs.declared.Movement.{Movement}
-use Rattle.rights_model.specs.Table.{CanMove, Table, holds, movement}
+use Rattle.escrow.specs.amount_math.Content.{Contains, of_nat}
+use Rattle.escrow.specs.amount_math.declared.Kind.TheVariants.{Nat}
+use Rattle.escrow.specs.rights_model.declared.Holder.{Holder}
+use Rattle.escrow.specs.rights_model.declared.Movement.{Movement}
+use Rattle.escrow.specs.rights_model.Table.{CanMove, Table, holds, movement}
 use Rattle.escrow.specs.Told.{EscrowState}
 use Rattle.escrow.specs.Sums.{AreSums}
 

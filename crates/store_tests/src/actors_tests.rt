@@ -1,15 +1,15 @@
 ghost use Rattle.std.specs.Prelude.{◌≡◌, ◌<◌, IsTrue};
-ghost use Rattle.promise_store.specs.States.{is_final, pending, settlement_view};
-ghost use Rattle.promise_store.specs.Turns.{state_at};
-ghost use Rattle.promise_store.specs.Views.{links_now, now_of};
+ghost use Rattle.actors.specs.promise_store.States.{is_final, pending, settlement_view};
+ghost use Rattle.actors.specs.promise_store.Turns.{state_at};
+ghost use Rattle.actors.specs.promise_store.Views.{links_now, now_of};
 
+use actors::host_data_lib::data::{Data, Obj, ObjKind};
 use actors::leaving::leaves;
 use actors::paths::{ResolveFault, Stands};
+use actors::promise_store_lib::{Promises, Settlement, State};
 use actors::{BindFault, Parties};
-use host_text::label::Label;
-use host_text::text::Text;
-use jessie_tree::data::{Data, Obj, ObjKind};
-use promise_store::{Promises, Settlement, State};
+use escrow::host_text_lib::label::Label;
+use escrow::host_text_lib::text::Text;
 use std::alloc::Global;
 use std::process::Abort;
 

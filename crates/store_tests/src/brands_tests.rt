@@ -1,8 +1,8 @@
-use amount_math::Kind;
-use brands::Brands;
-use brands::issuer_record::{IssuerFault, IssuerRecord};
-use host_text::keyword::Keyword;
-use host_text::text::Text;
+use actors::brands_lib::Brands;
+use actors::brands_lib::issuer_record::{IssuerFault, IssuerRecord};
+use escrow::amount_math_lib::Kind;
+use escrow::host_text_lib::keyword::Keyword;
+use escrow::host_text_lib::text::Text;
 use std::alloc::Global;
 use std::process::Abort;
 

@@ -1,10 +1,10 @@
 //! A holder's store and a supply that are changed in place.
 
 ghost use Rattle.std.specs.Prelude.{◌≡◌, ◌<◌, length};
-ghost use Rattle.ertp_mint.specs.Circulating.{circulation_at};
+ghost use Rattle.holders.specs.ertp_mint.Circulating.{circulation_at};
 
-use amount_math::{AmountKind, Key, Kind, PutFault, SetKind, Value};
-use ertp_mint::{Balance, Circulations, Parcel};
+use escrow::amount_math_lib::{AmountKind, Key, Kind, PutFault, SetKind, Value};
+use holders::ertp_mint_lib::{Balance, Circulations, Parcel};
 use std::alloc::{AllocError, Global};
 use std::process::Abort;
 

@@ -1,15 +1,15 @@
 ghost use Rattle.std.specs.Prelude.{◌≡◌, ◌≢◌, ◌<◌, ◌≤◌, ℕ, codes, length};
-ghost use Rattle.amount_math.specs.Worth.{nat_bound};
-ghost use Rattle.rights_model.specs.Table.{Table, no_holdings};
-ghost use Rattle.rights_model.specs.declared.Holder.TheVariants as holder;
+ghost use Rattle.escrow.specs.amount_math.Worth.{nat_bound};
+ghost use Rattle.escrow.specs.rights_model.Table.{Table, no_holdings};
+ghost use Rattle.escrow.specs.rights_model.declared.Holder.TheVariants as holder;
 ghost use Rattle.escrow.specs.Sums.{AreSums};
 ghost use Rattle.escrow.specs.Told.{IsOpened, IsSeated, nothing_told, totals_of};
 ghost use Rattle.store_tests.specs.Holdings.{CanTellNext, HoldsNumber, movement_of};
 
-use amount_math::Value;
 use escrow::Escrow;
-use host_text::keyword::Keyword;
-use rights_model::{Holder, Movement, Sum};
+use escrow::amount_math_lib::Value;
+use escrow::host_text_lib::keyword::Keyword;
+use escrow::rights_model_lib::{Holder, Movement, Sum};
 use std::alloc::Global;
 use std::process::Abort;
 

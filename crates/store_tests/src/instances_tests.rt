@@ -1,14 +1,14 @@
 ghost use Rattle.std.specs.Prelude.{◌<◌};
-ghost use Rattle.instance_store.specs.Turns.{installations_made, instances_made};
+ghost use Rattle.actors.specs.InstanceTurns.{installations_made, instances_made};
 
-use brands::issuer_record::{IssuerFault, IssuerRecord};
-use host_text::keyword::Keyword;
-use host_text::text::Text;
-use instance_store::facets::{Facet, Facets};
-use instance_store::seat_promises::{SeatPair, SeatPromises};
-use instance_store::{Instances, Standing};
-use jessie_syntax::syntax::{Constant, Literal, Module, Variable};
-use jessie_tree::data::Data;
+use actors::brands_lib::issuer_record::{IssuerFault, IssuerRecord};
+use actors::host_data_lib::data::Data;
+use actors::instance_store::facets::{Facet, Facets};
+use actors::instance_store::seat_promises::{SeatPair, SeatPromises};
+use actors::instance_store::{Instances, Standing};
+use actors::jessie_grammar_lib::syntax::{Constant, Literal, Module, Variable};
+use escrow::host_text_lib::keyword::Keyword;
+use escrow::host_text_lib::text::Text;
 use sqlite_items::Items;
 use std::alloc::Global;
 use std::process::Abort;

@@ -1,5 +1,5 @@
-//! Tests of the stores that can go back: each call that takes memory comes to its end, and worked rows.
-//! It stands on those crates, whose own proofs are so made once, and no crate stands on it.
+//! Tests of the stores that can go back: each call that takes memory comes to its end, and worked
+//! rows.
 #![tactic(auto)]
 
 #[cfg(test)]

@@ -1,8 +1,8 @@
 ghost use Rattle.std.specs.Prelude.{◌<◌};
 
-use amount_math::Kind;
-use ertp_mint::{Balance, Parcel};
-use payments::Payments;
+use escrow::amount_math_lib::Kind;
+use holders::ertp_mint_lib::{Balance, Parcel};
+use holders::payments::Payments;
 use std::alloc::Global;
 
 /// A parcel of nothing.

@@ -1,10 +1,10 @@
 ghost use Rattle.std.specs.Prelude.{◌≡◌, ◌<◌, IsTrue};
-ghost use Rattle.promise_store.specs.States.{is_final, pending, settlement_view};
-ghost use Rattle.promise_store.specs.Turns.{state_at};
-ghost use Rattle.promise_store.specs.Views.{links_now, now_of};
+ghost use Rattle.actors.specs.promise_store.States.{is_final, pending, settlement_view};
+ghost use Rattle.actors.specs.promise_store.Turns.{state_at};
+ghost use Rattle.actors.specs.promise_store.Views.{links_now, now_of};
 
-use jessie_tree::data::Data;
-use promise_store::{Event, FollowFault, Promises, Settlement, State};
+use actors::host_data_lib::data::Data;
+use actors::promise_store_lib::{Event, FollowFault, Promises, Settlement, State};
 
 #[derive(Clone, Copy)]
 enum Step {

@@ -1,15 +1,15 @@
 //! Purses.
 
 ghost use Rattle.std.specs.Prelude.{◌≡◌, ◌<◌, ◌≤◌, ◌∷◌, [], length};
-ghost use Rattle.amount_math.specs.Worth.{nat_bound};
-ghost use Rattle.ertp_mint.specs.Balances.{empty_store};
-ghost use Rattle.purses.specs.Purses.{store_at};
+ghost use Rattle.escrow.specs.amount_math.Worth.{nat_bound};
+ghost use Rattle.holders.specs.ertp_mint.Balances.{empty_store};
+ghost use Rattle.holders.specs.Purses.{store_at};
 
 use crate::ertp_mint_tests::set;
-use amount_math::shortfall::LossFault;
-use amount_math::{AmountKind, Key, Kind, PutFault, SetKind, Value};
-use ertp_mint::{Balance, Circulations, Parcel};
-use purses::Purses;
+use escrow::amount_math_lib::shortfall::LossFault;
+use escrow::amount_math_lib::{AmountKind, Key, Kind, PutFault, SetKind, Value};
+use holders::ertp_mint_lib::{Balance, Circulations, Parcel};
+use holders::purses::Purses;
 use std::alloc::{AllocError, Global};
 use std::process::Abort;
 

@@ -1,4 +1,4 @@
-use timer::Timer;
+use actors::turn_stores_lib::timer::Timer;
 
 #[derive(Clone, Copy)]
 enum Step {

@@ -1,4 +1,4 @@
-use turn_queue::TurnQueue;
+use actors::turn_stores_lib::turn_queue::TurnQueue;
 
 #[derive(Clone, Copy)]
 enum Step {

@@ -1,4 +1,4 @@
-use undo_map::UndoMap;
+use actors::turn_stores_lib::undo_map::UndoMap;
 
 #[derive(Clone, Copy)]
 enum Step {

@@ -2,9 +2,9 @@
 use Rattle.std.specs.Prelude.{◌≤◌, ℕ, List}
 use Rattle.contract_texts.specs.Reader.{reader}
 use Rattle.contract_texts.proofs.Modules.{reads_modules}
-use Rattle.host_runs.specs.Runs.{most_meter, run_of}
-use Rattle.supply_laws.specs.Steps.{AreCalledForToLimit}
-use Rattle.supply_laws.proofs.Hosts.{runs_mint}
+use Rattle.run_laws.specs.Runs.{most_meter, run_of}
+use Rattle.run_laws.specs.Steps.{AreCalledForToLimit}
+use Rattle.run_laws.proofs.Hosts.{runs_mint}
 
 pub runs_called_for : (meter most : ℕ) (input : List ℕ) → meter ≤ most_meter → AreCalledForToLimit (run_of reader meter most input).turns
 runs_called_for meter most input few = runs_mint reader meter most input reads_modules few

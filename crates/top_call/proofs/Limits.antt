@@ -2,7 +2,7 @@
 use Rattle.std.proofs.Common.{◌≡◌, ℕ, ◌^◌, ◌<◌, ◌≤◌, List, length, true}
 use Rattle.std.proofs.lemmas.Bool.{lt-ltb, le-ltb}
 use Rattle.std.specs.List.{list_any}
-use Rattle.message_lines.specs.InputLines.{is_long, is_too_long, lines_of}
+use Rattle.run_laws.specs.message_lines.InputLines.{is_long, is_too_long, lines_of}
 
 pub longer : (input : List ℕ) → 2 ^ 30 < length input → is_too_long input ≡ true
 unfolding is_too_long

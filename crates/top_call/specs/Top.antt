@@ -5,13 +5,13 @@ use Rattle.command_words.specs.declared.words.Options.{Options}
 use Rattle.command_words.specs.declared.words.WordsFault.{WordsFault}
 use Rattle.command_words.specs.declared.words.WordsFault.TheVariants as words
 use Rattle.contract_texts.specs.Reader.{reader}
-use Rattle.fair_rows.specs.Turns.{IsFairJournal}
+use Rattle.run_laws.specs.fair_rows.Turns.{IsFairJournal}
 use Rattle.host_io.specs.Causes.{Rose}
 use Rattle.host_io.specs.Fronts.{AppendsFront}
-use Rattle.host_runs.specs.Runs.{AppendsToLimit, AppendsTurns, journal_of, left_of, turns_of}
-use Rattle.message_lines.specs.InputLines.{is_too_long}
-use Rattle.turn_rows.specs.Turns.{Turn}
-use Rattle.world_state.specs.Rights.{most_turns}
+use Rattle.run_laws.specs.Runs.{AppendsToLimit, AppendsTurns, journal_of, left_of, turns_of}
+use Rattle.run_laws.specs.message_lines.InputLines.{is_too_long}
+use Rattle.contract_texts.specs.turn_rows.Turns.{Turn}
+use Rattle.contract_texts.specs.world_state.Rights.{most_turns}
 use Rattle.top_call.specs.declared.top.Status.{Status}
 use Rattle.top_call.specs.declared.top.Status.TheVariants.{Done, Usage, ReadFault, WriteFault, NoMemory, TurnLimit, TooLong}
 

@@ -1,7 +1,11 @@
-//! All that the program does, over whatever source, sink and host it is given. It stands on the words of the
-//! command line (command_words), on the run on an input (input_runs) and on what is read and written (host_io).
-//! Its one contract is `top::zoe_top`'s: what is written is the journal of what was read, whose turns are fair, in form
-//! and in the order of their deliveries, and each status has its cause.
+//! All that the program does, over whatever source, sink and host it is given: what is written is
+//! the journal of what was read, its turns fair and in order, and each status has its cause.
 #![tactic(auto)]
 
+pub mod hosts;
+pub mod run;
 pub mod top;
+
+pub use command_words as command_words_lib;
+pub use host_io as host_io_lib;
+pub use run_laws::message_lines_lib;

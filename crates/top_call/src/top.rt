@@ -5,19 +5,19 @@ ghost use Rattle.std.specs.Prelude.{IfSome, OnOk, Some};
 ghost use Rattle.std.specs.Io.KnownBytes.{IsAtEnd};
 ghost use Rattle.command_words.specs.Words.{options_of, takes_words};
 ghost use Rattle.contract_texts.specs.Reader.{reader};
-ghost use Rattle.fair_run_laws.specs.Limits.{AreFairToLimit};
-ghost use Rattle.host_runs.specs.Order.{AreInOrder};
-ghost use Rattle.host_runs.specs.Runs.{meanings_of, most_meter, run_of, turns_of};
-ghost use Rattle.message_lines.specs.InputLines.{is_too_long};
-ghost use Rattle.supply_laws.specs.Steps.{AreCalledForToLimit};
+ghost use Rattle.run_laws.specs.Limits.{AreFairToLimit};
+ghost use Rattle.run_laws.specs.Order.{AreInOrder};
+ghost use Rattle.run_laws.specs.Runs.{meanings_of, most_meter, run_of, turns_of};
+ghost use Rattle.run_laws.specs.message_lines.InputLines.{is_too_long};
+ghost use Rattle.run_laws.specs.Steps.{AreCalledForToLimit};
 ghost use Rattle.top_call.specs.Top.{Ends, IsFree, IsNotRun, IsOfRun, IsRefused, Says, exit_code};
 ghost use Rattle.top_call.specs.Top.{no_faults, status_name, words_status};
 
+use crate::hosts::HostSteps;
+use crate::run::{RunFault, run_input};
 use command_words::words::{Options, WordsFault, read_words};
 use host_io::{ReadError, Sink, Source, read_all};
-use input_runs::hosts::HostSteps;
-use input_runs::run::{RunFault, run_input};
-use message_lines::lines::{MAX_INPUT, has_long_line};
+use run_laws::message_lines_lib::lines::{MAX_INPUT, has_long_line};
 use std::alloc::Global;
 
 /// How the program ended.
@@ -148,7 +148,7 @@ fn run_on<H: HostSteps, K: Sink>(
 }
 
 /// Reads the whole input and writes the journal of the run on it.
-#[tactic(auto, using(host_runs::proofs::RunOrder::runs_in_order, input_runs::proofs::InForm::runs_fair, crate::proofs::Called::runs_called_for))]
+#[tactic(auto, using(run_laws::proofs::RunOrder::runs_in_order, crate::proofs::InForm::runs_fair, crate::proofs::Called::runs_called_for))]
 pub fn zoe_top<H: HostSteps, S: Source, K: Sink>(
     alloc: Global,
     words: &[String],

@@ -1,15 +1,15 @@
 -- The calls of the two parts: what they ask for, and what they make of the whole.
 use Rattle.std.proofs.Common.{◌≡◌, ℕ, ◌+◌, ◌-◌, ◌<◌, List, [], ◌∷◌, ◌++◌, length, take, sym, ◌∙◌, ap, subst, arith}
 use Rattle.std.specs.Prelude.{slice_set, ◌^◌, ◌≤◌}
-use Rattle.amount_math.specs.Content.{Contains, count-difference, difference, difference-nothing, nothing, sum, sum-nothing}
-use Rattle.amount_math.specs.Counted.{counted, counted-difference, counted-nothing}
-use Rattle.amount_math.specs.Held.{Held, GoesIn, ComesOut, HasRoom, with_less, with_more}
-use Rattle.amount_math.specs.Worth.{Worth, Fits, IsIssueRefusal, keys_of}
-use Rattle.amount_math.specs.declared.PutFault.{PutFault}
-use Rattle.amount_math.specs.declared.Kind.{Kind}
-use Rattle.amount_math.specs.declared.Kind.TheVariants.{Nat}
+use Rattle.ertp_mint.specs.amount_math.Content.{Contains, count-difference, difference, difference-nothing, nothing, sum, sum-nothing}
+use Rattle.ertp_mint.specs.amount_math.Counted.{counted, counted-difference, counted-nothing}
+use Rattle.ertp_mint.specs.amount_math.Held.{Held, GoesIn, ComesOut, HasRoom, with_less, with_more}
+use Rattle.ertp_mint.specs.amount_math.Worth.{Worth, Fits, IsIssueRefusal, keys_of}
+use Rattle.ertp_mint.specs.amount_math.declared.PutFault.{PutFault}
+use Rattle.ertp_mint.specs.amount_math.declared.Kind.{Kind}
+use Rattle.ertp_mint.specs.amount_math.declared.Kind.TheVariants.{Nat}
 use Rattle.ertp_mint.specs.Circulating.{CanReturn, IsOut, CirculationView, circulation_at, new_circulation, with_forgotten, with_issued, with_retired, with_unissued, with_unretired}
-use Rattle.list_edits.proofs.ListEdits.{length_set, read_set}
+use Rattle.lemmas.proofs.ListEdits.{length_set, read_set}
 use Rattle.transit.specs.Transit.{AreKept, CanHold, IsInStore, IsKept, IsOnItsWay, TransitView, empty_hand, held_at, whole_of, wholes, with_hand, with_out}
 use Rattle.transit.proofs.Wholes.{forgotten_circulation, held_circulation, issued_circulation, let_go_circulation, retired_circulation, unissued_circulation, unretired_circulation, wholes-kept, wholes-length, wholes-push, wholes-read, wholes-take, wholes-roomed, wholes-set_out}
 use Rattle.transit.proofs.Keeping.{can_let_go, can_return, can_return_part, fits_hand, kept_forgotten, kept_held, kept_issued, kept_let_go, kept_push, kept_retired, kept_take, kept_set, kept_set_hand, kept_set_out, kept_unissued, kept_unretired, on_its_way}

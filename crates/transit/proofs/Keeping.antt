@@ -2,14 +2,14 @@
 use Rattle.std.proofs.Common.{◌≡◌, inl, inr, ℕ, zero, suc, ◌+◌, ◌<◌, ◌≤◌, List, [], ◌∷◌, ◌++◌, length, take, refl, sym, ◌∙◌, ap, subst, arith}
 use Rattle.std.specs.Prelude.{slice_set}
 use Rattle.std.proofs.lemmas.Bool.{cases_eq}
-use Rattle.amount_math.specs.Content.{Content, Contains, count-difference, count-nothing, count-sum, difference, nothing, same_content, sum, sum-nothing}
-use Rattle.amount_math.specs.Counted.{counted, counted-difference, counted-nothing, counted-sum}
-use Rattle.amount_math.specs.Held.{Held, with_less, with_more}
-use Rattle.amount_math.specs.Worth.{Fits, Worth, fits_within}
-use Rattle.amount_math.specs.declared.Kind.{Kind}
-use Rattle.amount_math.specs.declared.Kind.TheVariants.{Nat}
+use Rattle.ertp_mint.specs.amount_math.Content.{Content, Contains, count-difference, count-nothing, count-sum, difference, nothing, same_content, sum, sum-nothing}
+use Rattle.ertp_mint.specs.amount_math.Counted.{counted, counted-difference, counted-nothing, counted-sum}
+use Rattle.ertp_mint.specs.amount_math.Held.{Held, with_less, with_more}
+use Rattle.ertp_mint.specs.amount_math.Worth.{Fits, Worth, fits_within}
+use Rattle.ertp_mint.specs.amount_math.declared.Kind.{Kind}
+use Rattle.ertp_mint.specs.amount_math.declared.Kind.TheVariants.{Nat}
 use Rattle.ertp_mint.specs.Circulating.{CanReturn, CirculationView, circulation_at, new_circulation, with_forgotten, with_issued, with_retired, with_unissued, with_unretired}
-use Rattle.list_edits.proofs.ListEdits.{length_push, length_set, read_before, read_other, read_pushed, read_set, read_take, set_same}
+use Rattle.lemmas.proofs.ListEdits.{length_push, length_set, read_before, read_other, read_pushed, read_set, read_take, set_same}
 use Rattle.transit.specs.Transit.{AreKept, IsKept, empty_hand, held_at, whole_of}
 
 module _ (x : CirculationView) (h : Held) (w : Worth) (is : IsKept x h) where

@@ -1,10 +1,10 @@
 -- What is read of a brand: of the whole, by its two parts.
 use Rattle.std.proofs.Common.{◌≡◌, ℕ, ◌+◌, ◌-◌, ◌<◌, ◌≤◌, List, length, sym, ap, subst, ◌∙◌, arith}
-use Rattle.amount_math.specs.Content.{sum}
-use Rattle.amount_math.specs.Counted.{counted, counted-sum}
-use Rattle.amount_math.specs.Held.{Held}
-use Rattle.amount_math.specs.Worth.{Fits}
-use Rattle.amount_math.specs.declared.Kind.{Kind}
+use Rattle.ertp_mint.specs.amount_math.Content.{sum}
+use Rattle.ertp_mint.specs.amount_math.Counted.{counted, counted-sum}
+use Rattle.ertp_mint.specs.amount_math.Held.{Held}
+use Rattle.ertp_mint.specs.amount_math.Worth.{Fits}
+use Rattle.ertp_mint.specs.amount_math.declared.Kind.{Kind}
 use Rattle.ertp_mint.specs.BrandSupply.{AddsUp}
 use Rattle.ertp_mint.specs.Circulating.{CirculationView, circulation_at}
 use Rattle.transit.specs.Transit.{AreKept, held_at, whole_of, wholes}

@@ -1,14 +1,14 @@
 -- What the whole supply is, of a brand and of all: what a step makes of the two parts, it makes of the whole.
 use Rattle.std.proofs.Common.{◌≡◌, ℕ, zero, suc, ◌+◌, ◌-◌, ◌<◌, ◌≤◌, List, [], ◌∷◌, ◌++◌, length, take, refl, sym, ◌∙◌, ap, arith}
 use Rattle.std.specs.Prelude.{slice_set}
-use Rattle.amount_math.specs.Content.{Content, Contains, count-difference, count-sum, difference, same_content, sum}
-use Rattle.amount_math.specs.Counted.{counted, counted-difference, counted-sum}
-use Rattle.amount_math.specs.Held.{Held}
-use Rattle.amount_math.specs.Worth.{with_content}
-use Rattle.amount_math.specs.declared.Kind.TheVariants.{Nat}
+use Rattle.ertp_mint.specs.amount_math.Content.{Content, Contains, count-difference, count-sum, difference, same_content, sum}
+use Rattle.ertp_mint.specs.amount_math.Counted.{counted, counted-difference, counted-sum}
+use Rattle.ertp_mint.specs.amount_math.Held.{Held}
+use Rattle.ertp_mint.specs.amount_math.Worth.{with_content}
+use Rattle.ertp_mint.specs.amount_math.declared.Kind.TheVariants.{Nat}
 use Rattle.ertp_mint.specs.BrandSupply.{BrandSupply, issued, retired}
 use Rattle.ertp_mint.specs.Circulating.{CirculationView, circulation_at, new_circulation, unissued, unretired, with_forgotten, with_issued, with_retired, with_unissued, with_unretired}
-use Rattle.list_edits.proofs.ListEdits.{set_same}
+use Rattle.lemmas.proofs.ListEdits.{set_same}
 use Rattle.transit.specs.Transit.{empty_hand, held_at, whole_of, wholes}
 
 -- ---- of all brands

@@ -1,13 +1,13 @@
 -- What is out of each brand, and what the hand's own store has of it, which is out too.
 use Rattle.std.specs.Prelude.{◌≡◌, ℕ, ◌<◌, ◌≤◌, List, [], ◌∷◌, length, slice_index_or, slice_set, refl}
 use Rattle.std.specs.Coded.{Coded, code_by, coded×, coded_list}
-use Rattle.amount_math.specs.Content.{Content, Contains, nothing, sum}
-use Rattle.amount_math.specs.Counted.{counted}
-use Rattle.amount_math.specs.Held.{Held, HasRoom, coded_held}
-use Rattle.amount_math.specs.Worth.{Worth, Fits, keys_of}
-use Rattle.amount_math.specs.declared.Amount.{Amount}
-use Rattle.amount_math.specs.declared.Kind.{Kind}
-use Rattle.amount_math.specs.declared.Kind.TheVariants.{Nat}
+use Rattle.ertp_mint.specs.amount_math.Content.{Content, Contains, nothing, sum}
+use Rattle.ertp_mint.specs.amount_math.Counted.{counted}
+use Rattle.ertp_mint.specs.amount_math.Held.{Held, HasRoom, coded_held}
+use Rattle.ertp_mint.specs.amount_math.Worth.{Worth, Fits, keys_of}
+use Rattle.ertp_mint.specs.amount_math.declared.Amount.{Amount}
+use Rattle.ertp_mint.specs.amount_math.declared.Kind.{Kind}
+use Rattle.ertp_mint.specs.amount_math.declared.Kind.TheVariants.{Nat}
 use Rattle.ertp_mint.specs.BrandSupply.{BrandSupply}
 use Rattle.ertp_mint.specs.Circulating.{CirculationView, circulation_at, coded_circulation, with_unretired}
 

@@ -1,20 +1,18 @@
-//! Rights on their way in a turn: what is out of each brand, and the hand's own store, which takes what a
-//! turn gives up, and what is on its way while a turn is undone. It stands on amounts and parcels. Its one
-//! contract: each call gives the whole new supply and the whole new store; what the store has is out; no
-//! number of keys bounds it; and within the room that was taken before, nothing that undoing needs takes
-//! memory.
+//! Rights on their way in a turn: what is out of each brand, and the hand's own store; within the
+//! room that was taken before, nothing that undoing needs takes memory.
 #![tactic(auto)]
 
 ghost use Rattle.std.specs.Prelude.{◌≡◌, ◌<◌, ◌≤◌, ◌+◌, ◌-◌, ◌^◌, ◌++◌, ◌∷◌, [], length, take, IfErr, IfOk, IsOk, OnErr, OnOk};
-ghost use Rattle.amount_math.specs.Content.{Contains, nothing, sum};
-ghost use Rattle.amount_math.specs.Counted.{counted};
-ghost use Rattle.amount_math.specs.Held.{HasRoom, with_less, with_more};
-ghost use Rattle.amount_math.specs.Worth.{Fits, IsIssueRefusal, keys_of};
+ghost use Rattle.ertp_mint.specs.amount_math.Content.{Contains, nothing, sum};
+ghost use Rattle.ertp_mint.specs.amount_math.Counted.{counted};
+ghost use Rattle.ertp_mint.specs.amount_math.Held.{HasRoom, with_less, with_more};
+ghost use Rattle.ertp_mint.specs.amount_math.Worth.{Fits, IsIssueRefusal, keys_of};
 ghost use Rattle.ertp_mint.specs.BrandSupply.{AddsUp};
 ghost use Rattle.ertp_mint.specs.Circulating.{CanReturn, circulation_at, new_circulation, with_forgotten, with_issued, with_retired, with_unissued, with_unretired};
 ghost use Rattle.transit.specs.Transit.{CanHold, IsInStore, IsOnItsWay, empty_hand, held_at, in_store, kind_in, supply_in, with_hand, with_out};
 
-use amount_math::{Holding, Kind, PutFault, Value};
+pub use ertp_mint as ertp_mint_lib;
+use ertp_mint::amount_math_lib::{Holding, Kind, PutFault, Value};
 use ertp_mint::{Circulations, Parcel};
 use std::alloc::{AllocError, Global};
 use std::marker::Model;

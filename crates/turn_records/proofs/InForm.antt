@@ -4,10 +4,10 @@ use Rattle.std.proofs.lemmas.List.{length-append}
 use Rattle.std.specs.List.{AllByRecursion}
 use Rattle.serde_json.specs.Data.{depth}
 use Rattle.serde_json.specs.Read.{max_depth}
-use Rattle.data_rows.proofs.Values.{value_form}
+use Rattle.turn_records.proofs.Values.{value_form}
 use Rattle.proposals.specs.declared.offers.Exit as offered
 use Rattle.proposals.specs.declared.offers.Exit.TheVariants.{AfterDeadline, OnDemand, Waived}
-use Rattle.rights_model.specs.declared.Sum.{Sum}
+use Rattle.turn_rows.specs.rights_model.declared.Sum.{Sum}
 use Rattle.turn_rows.specs.Form.{HasEventForm, HasExitForm, HasExitRuleForm, HasOpeningForm, IsInForm, MayStand}
 use Rattle.turn_rows.specs.Rows.{event_row, sum_row, turn_row}
 use Rattle.turn_records.specs.Events.{Event, called, opened, moved, exited, settled, Leaving, Opening}

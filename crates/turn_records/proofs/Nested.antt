@@ -1,11 +1,11 @@
 -- No row nests deep.
 use Rattle.std.proofs.Common.{◌≡◌, ◌≤◌, ◌^◌, ℕ, List, [], ◌∷◌, Bool, true, false, nat_lt, refl, arith}
 use Rattle.serde_json.specs.Data.{depth, items_depth, members_depth}
-use Rattle.data_rows.proofs.Depth.{data_depth}
-use Rattle.data_rows.specs.Printed as data_rows
-use Rattle.data_rows.specs.Printable.{IsPrintable}
-use Rattle.data_rows.specs.Values.{printed_value}
-use Rattle.jessie_tree.specs.Tree.{Tree}
+use Rattle.turn_records.proofs.Depth.{data_depth}
+use Rattle.turn_records.specs.PrintedData as data_rows
+use Rattle.turn_records.specs.Printable.{IsPrintable}
+use Rattle.turn_records.specs.Values.{printed_value}
+use Rattle.refusals.specs.host_data.Tree.{Tree}
 use Rattle.promise_store.specs.States.{SettlementView, broken, ok}
 use Rattle.refusals.specs.Codes.{shown_by, shown_trees}
 use Rattle.turn_rows.specs.Rows.{amounts_json, answer_json, element_json, elements_json, event_row, exit_rule_json, number_json, payouts_json, settlement_json, value_json}

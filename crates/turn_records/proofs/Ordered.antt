@@ -5,10 +5,10 @@ use Rattle.std.specs.List.{AllByRecursion}
 use Rattle.std.specs.List.Sorted.{IsStrictlySortedBy}
 use Rattle.std.specs.Ordering.{match_ordering, nat_cmp}
 use Rattle.serde_json.specs.Data as json
-use Rattle.host_text.specs.Words.{is_keyword}
-use Rattle.amount_math.specs.Content.{key_cmp}
-use Rattle.data_rows.proofs.Fields.{sorted_put}
-use Rattle.data_rows.proofs.Values.{value_form}
+use Rattle.turn_rows.specs.host_text.Words.{is_keyword}
+use Rattle.turn_rows.specs.amount_math.Content.{key_cmp}
+use Rattle.turn_records.proofs.Fields.{sorted_put}
+use Rattle.turn_records.proofs.Values.{value_form}
 use Rattle.proposals.specs.declared.allocations.Row.{Row}
 use Rattle.turn_rows.proofs.Order.{puts_amount, puts_payout}
 use Rattle.turn_rows.specs.Form.{AreAmounts, HasAmountForm, names_of, objects_end}

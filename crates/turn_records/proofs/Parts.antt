@@ -2,15 +2,15 @@
 use Rattle.std.proofs.Common.{◌≡◌, ◌<◌, ◌^◌, ℕ, pos, List, [], ◌∷◌, Bool, true, false, nat_lt, length, codes, Option, Some, None, inl, inr, refl, sym, subst, arith}
 use Rattle.std.specs.Str.{IsUtf8}
 use Rattle.serde_json.specs.Data as json
-use Rattle.data_rows.proofs.Form.{data_is}
-use Rattle.data_rows.specs.Names.{object_name}
-use Rattle.data_rows.specs.Printed.{printed_number}
-use Rattle.data_rows.specs.Printed as data_rows
-use Rattle.jessie_tree.specs.Tree.{Tree}
-use Rattle.jessie_tree.specs.Tree as tree
-use Rattle.jessie_tree.specs.declared.data.Obj.{Obj}
-use Rattle.jessie_tree.specs.declared.data.ObjKind.{ObjKind}
-use Rattle.jessie_tree.specs.declared.data.ObjKind.TheVariants.{Facet, Instance, Promise, Seat, Timer, Zseat}
+use Rattle.turn_records.proofs.Form.{data_is}
+use Rattle.turn_records.specs.Names.{object_name}
+use Rattle.turn_records.specs.PrintedData.{printed_number}
+use Rattle.turn_records.specs.PrintedData as data_rows
+use Rattle.refusals.specs.host_data.Tree.{Tree}
+use Rattle.refusals.specs.host_data.Tree as tree
+use Rattle.refusals.specs.host_data.declared.data.Obj.{Obj}
+use Rattle.refusals.specs.host_data.declared.data.ObjKind.{ObjKind}
+use Rattle.refusals.specs.host_data.declared.data.ObjKind.TheVariants.{Facet, Instance, Promise, Seat, Timer, Zseat}
 use Rattle.promise_store.specs.States.{SettlementView, broken, ok}
 use Rattle.refusals.specs.Codes.{bare_name, code_of, number_name, shown_by, shown_trees, text_name}
 use Rattle.refusals.specs.declared.codes.BareCode.{BareCode}

@@ -1,7 +1,7 @@
 -- What is delivered: what waits in the queue, and what is read for it when its turn comes.
 use Rattle.std.specs.Prelude.{ℕ, List, Option, Some, None}
-use Rattle.jessie_tree.specs.Tree.{Tree}
-use Rattle.jessie_tree.specs.declared.data.Obj.{Obj}
+use Rattle.refusals.specs.host_data.Tree.{Tree}
+use Rattle.refusals.specs.host_data.declared.data.Obj.{Obj}
 use Rattle.promise_store.specs.States.{SettlementView}
 use Rattle.refusals.specs.declared.codes.Refusal.{Refusal}
 use Rattle.turn_records.specs.Messages.{LineGift, LineCall}

@@ -1,12 +1,12 @@
 -- What is answered, and what happens in a turn.
 use Rattle.std.specs.Prelude.{ℕ, List, [], ◌∷◌, Option}
 use Rattle.std.specs.List.{flat_map}
-use Rattle.jessie_tree.specs.Tree.{Tree}
-use Rattle.jessie_tree.specs.declared.data.Obj.{Obj}
+use Rattle.refusals.specs.host_data.Tree.{Tree}
+use Rattle.refusals.specs.host_data.declared.data.Obj.{Obj}
 use Rattle.promise_store.specs.States.{SettlementView}
 use Rattle.proposals.specs.declared.offers.Proposal.{Proposal}
 use Rattle.refusals.specs.declared.codes.Refusal.{Refusal}
-use Rattle.rights_model.specs.declared.Movement.{Movement}
+use Rattle.turn_rows.specs.rights_model.declared.Movement.{Movement}
 use Rattle.turn_rows.specs.Causes.{Cause}
 use Rattle.turn_rows.specs.Kinds.{How}
 use Rattle.turn_rows.specs.Turns.{Payout}

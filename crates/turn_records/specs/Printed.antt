@@ -2,24 +2,24 @@
 use Rattle.std.specs.Prelude.{ℕ, List, [], ◌∷◌, map, Option, codes, true, false, nat_lt, if◌then◌else◌}
 use Rattle.std.specs.Option.{option_map_or}
 use Rattle.serde_json.specs.Data as json
-use Rattle.call_data.specs.Values.{number_tree}
-use Rattle.data_rows.specs.Names.{object_name}
-use Rattle.data_rows.specs.Printable.{most_nested}
-use Rattle.data_rows.specs.Printed.{printed_items}
-use Rattle.data_rows.specs.Printed as data_rows
-use Rattle.data_rows.specs.Values.{printed_value}
-use Rattle.jessie_tree.specs.Tree.{Tree, boolean, field, fields, nesting, no_fields, null}
-use Rattle.jessie_tree.specs.View.{items_of}
-use Rattle.jessie_tree.specs.declared.data.Obj.{Obj}
-use Rattle.jessie_tree.specs.declared.data.ObjKind.{ObjKind}
-use Rattle.jessie_tree.specs.declared.data.ObjKind.TheVariants.{Facet, Instance, Promise, Seat, Timer, Zseat}
+use Rattle.refusals.specs.host_data.Values.{number_tree}
+use Rattle.turn_records.specs.Names.{object_name}
+use Rattle.turn_records.specs.Printable.{most_nested}
+use Rattle.turn_records.specs.PrintedData.{printed_items}
+use Rattle.turn_records.specs.PrintedData as data_rows
+use Rattle.turn_records.specs.Values.{printed_value}
+use Rattle.refusals.specs.host_data.Tree.{Tree, boolean, field, fields, nesting, no_fields, null}
+use Rattle.refusals.specs.host_data.View.{items_of}
+use Rattle.refusals.specs.host_data.declared.data.Obj.{Obj}
+use Rattle.refusals.specs.host_data.declared.data.ObjKind.{ObjKind}
+use Rattle.refusals.specs.host_data.declared.data.ObjKind.TheVariants.{Facet, Instance, Promise, Seat, Timer, Zseat}
 use Rattle.promise_store.specs.States.{SettlementView, broken, ok}
 use Rattle.proposals.specs.declared.allocations.Row.{Row}
 use Rattle.proposals.specs.declared.offers.Exit as offered
 use Rattle.proposals.specs.declared.offers.Exit.TheVariants.{AfterDeadline, OnDemand, Waived}
 use Rattle.refusals.specs.Codes.{code_of, shown_by, shown_trees}
 use Rattle.refusals.specs.declared.codes.Refusal.{Refusal}
-use Rattle.rights_model.specs.declared.Movement.{Movement}
+use Rattle.turn_rows.specs.rights_model.declared.Movement.{Movement}
 use Rattle.turn_rows.specs.Kinds as kinds
 use Rattle.turn_rows.specs.Kinds.{Kind}
 use Rattle.turn_rows.specs.Order.{put_amount, put_payout}

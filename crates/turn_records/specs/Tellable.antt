@@ -2,20 +2,20 @@
 use Rattle.std.specs.Prelude.{◌≡◌, ◌<◌, ◌+◌, ◌≤◌, ◌^◌, ℕ, true, List, length, Option, Some, None}
 use Rattle.std.specs.List.{AllByRecursion}
 use Rattle.std.specs.Str.{IsUtf8}
-use Rattle.host_text.specs.Words.{is_field_name, is_keyword, is_label}
-use Rattle.amount_math.specs.Worth.{IsValue, Worth}
-use Rattle.data_rows.specs.Names.{numbers_end}
-use Rattle.data_rows.specs.Printable.{IsPrintable}
-use Rattle.data_rows.specs.Values.{HasTexts}
-use Rattle.jessie_tree.specs.Tree.{Tree}
-use Rattle.jessie_tree.specs.declared.data.Obj.{Obj}
-use Rattle.jessie_tree.specs.declared.data.ObjKind.TheVariants.{Promise}
+use Rattle.turn_rows.specs.host_text.Words.{is_field_name, is_keyword, is_label}
+use Rattle.turn_rows.specs.amount_math.Worth.{IsValue, Worth}
+use Rattle.turn_records.specs.Names.{numbers_end}
+use Rattle.turn_records.specs.Printable.{IsPrintable}
+use Rattle.turn_records.specs.Values.{HasTexts}
+use Rattle.refusals.specs.host_data.Tree.{Tree}
+use Rattle.refusals.specs.host_data.declared.data.Obj.{Obj}
+use Rattle.refusals.specs.host_data.declared.data.ObjKind.TheVariants.{Promise}
 use Rattle.promise_store.specs.States.{SettlementView, broken, ok}
 use Rattle.proposals.specs.declared.allocations.Row.{Row}
 use Rattle.proposals.specs.declared.offers.Exit as offered
 use Rattle.proposals.specs.declared.offers.Exit.TheVariants.{AfterDeadline, OnDemand, Waived}
 use Rattle.refusals.specs.Codes.{shown_by, shown_trees}
-use Rattle.rights_model.specs.declared.Movement.{Movement}
+use Rattle.turn_rows.specs.rights_model.declared.Movement.{Movement}
 use Rattle.turn_rows.specs.Form.{HasHolderForm, HasSumForm, IsAnswerOf, IsCallAnswer, IsParty, MayStand, brands_end, most_keywords, objects_end, runs_function, times_end}
 use Rattle.turn_rows.specs.Kinds as kinds
 use Rattle.turn_rows.specs.Kinds.{How}

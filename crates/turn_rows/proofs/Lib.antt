@@ -7,3 +7,5 @@ pub mod Worked
 pub mod PlainRows
 pub mod InForm
 pub mod Ranges
+pub use Rattle.rights_model.proofs.amount_math
+pub use Rattle.rights_model.proofs as rights_model

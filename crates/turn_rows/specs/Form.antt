@@ -8,9 +8,9 @@ use Rattle.std.specs.Str.{IsUtf8, bytes_eq}
 use Rattle.serde_json.specs.Data as json
 use Rattle.serde_json.specs.Data.{depth}
 use Rattle.serde_json.specs.Read.{max_depth}
-use Rattle.host_text.specs.Words.{is_field_name, is_keyword, is_label}
-use Rattle.amount_math.specs.Content.{key_cmp}
-use Rattle.amount_math.specs.Worth.{bag_bound, most_keys, nat_bound}
+use Rattle.rights_model.specs.host_text.Words.{is_field_name, is_keyword, is_label}
+use Rattle.rights_model.specs.amount_math.Content.{key_cmp}
+use Rattle.rights_model.specs.amount_math.Worth.{bag_bound, most_keys, nat_bound}
 use Rattle.rights_model.specs.declared.Holder.{Holder}
 use Rattle.rights_model.specs.declared.Holder.TheVariants as holders
 use Rattle.rights_model.specs.declared.Sum.{Sum}

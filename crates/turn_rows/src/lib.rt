@@ -1,6 +1,8 @@
-//! Turns as a journal prints them: one record of a turn, its rows as JSON, the form of rows, and the text of a
-//! journal. It stands on amounts and rights alone: on no store, and on nothing that runs. Its one contract: the
-//! text of a journal in form tells its turns and what is left (`laws`).
+//! Turns as a journal prints them: the record of a turn, its rows as JSON, the form of rows, and
+//! the text of a journal, which tells its turns and what is left.
 #![tactic(auto)]
 
 pub mod laws;
+
+pub use rights_model as rights_model_lib;
+pub use rights_model::{amount_math_lib, host_text_lib};

@@ -1,13 +1,13 @@
-use jessie_tree::data::Data;
-use promise_store::Settlement;
-use refusals::codes::Refusal;
 use std::alloc::Global;
-use turn_answers::records::{Delivered, turn_of};
-use turn_answers::settlements::settlement_of;
-use turn_events::deliveries::{Delivery, Reading, Start};
-use turn_events::events::{Answer, Event};
-use turn_events::log::Log;
-use turn_events::turns::TurnRecord;
+use turn_writer::host_data_lib::data::Data;
+use turn_writer::promise_store_lib::Settlement;
+use turn_writer::refusals_lib::codes::Refusal;
+use turn_writer::turn_records_lib::deliveries::{Delivery, Reading, Start};
+use turn_writer::turn_records_lib::events::{Answer, Event};
+use turn_writer::turn_records_lib::log::Log;
+use turn_writer::turn_records_lib::turn_answers::records::{Delivered, turn_of};
+use turn_writer::turn_records_lib::turn_answers::settlements::settlement_of;
+use turn_writer::turn_records_lib::turns::TurnRecord;
 use turn_writer::{write_close, write_turn};
 
 /// Whether the text of a turn is the expected one.

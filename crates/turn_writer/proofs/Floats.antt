@@ -5,10 +5,10 @@ use Rattle.std.specs.Cmp.Lexicographic.{slice_cmp}
 use Rattle.serde_json.specs.Data as json
 use Rattle.serde_json.specs.Find.{is_float, of_integer}
 use Rattle.serde_json.specs.Written.{has_float, items_have_float, members_have_float}
-use Rattle.jessie_tree.specs.Tree.{Tree, null, boolean, number, text, array, fields, object, function, Items, no_items, item, Fields, no_fields, field}
-use Rattle.data_rows.specs.Printed.{is_wide, printed, printed_fields, printed_items, printed_number}
-use Rattle.promise_store.specs.States as settlements
-use Rattle.promise_store.specs.States.{SettlementView}
+use Rattle.turn_records.specs.host_data.Tree.{Tree, null, boolean, number, text, array, fields, object, function, Items, no_items, item, Fields, no_fields, field}
+use Rattle.turn_records.specs.PrintedData.{is_wide, printed, printed_fields, printed_items, printed_number}
+use Rattle.turn_records.specs.promise_store.States as settlements
+use Rattle.turn_records.specs.promise_store.States.{SettlementView}
 use Rattle.turn_rows.specs.Rows.{amounts_json, answer_json, elements_json, event_row, exit_rule_json, number_json, payouts_json, settlement_json, turn_row, value_json}
 use Rattle.turn_rows.specs.Turns as rows
 use Rattle.turn_rows.specs.Turns.{Element, KeywordAmount, Payout, Value}

@@ -1,2 +1,9 @@
 pub mod Floats
 pub mod Puts
+pub mod Told
+pub mod Texts
+pub mod Nodes
+pub mod Brought
+pub use Rattle.turn_records.proofs.host_data
+pub use Rattle.turn_records.proofs.proposals
+pub use Rattle.turn_records.proofs.refusals

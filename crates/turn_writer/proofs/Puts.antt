@@ -2,13 +2,13 @@
 use Rattle.std.proofs.Common.{◌≡◌, ◌<◌, ◌≤◌, ◌-◌, ◌+◌, ℕ, List, ◌∷◌, drop, length, get_or, sym, ap, ◌∙◌, arith}
 use Rattle.std.proofs.lemmas.List.{drop_more}
 use Rattle.serde_json.specs.Data as json
-use Rattle.data_rows.specs.Values.{printed_value}
-use Rattle.proposals.specs.declared.allocations.Row.{Row}
+use Rattle.turn_records.specs.Values.{printed_value}
+use Rattle.turn_records.specs.proposals.declared.allocations.Row.{Row}
 use Rattle.turn_rows.proofs.Order.{puts_amount, puts_payout}
 use Rattle.turn_rows.specs.Rows.{amount_json, amounts_json, payment_name, payouts_json}
 use Rattle.turn_records.specs.Printed.{printed_payouts, printed_row, printed_rows}
-use Rattle.turn_events.specs.Views.{payout_view, payout_views}
-use Rattle.turn_events.specs.declared.events.Payout.{Payout}
+use Rattle.turn_records.specs.Views.{payout_view, payout_views}
+use Rattle.turn_records.specs.declared.events.Payout.{Payout}
 
 module _ {A : Type 0} where
   last_of : (xs : List A) (left : ℕ) (x : A) → 0 < left → left ≤ length xs → x ≡ get_or xs (left - 1) x → drop (left - 1) xs ≡ x ∷ drop left xs

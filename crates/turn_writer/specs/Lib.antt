@@ -1,3 +1,10 @@
 pub mod JsonRows
 pub mod Notices
 pub mod Texts
+pub mod Typed
+pub mod Printing
+pub use Rattle.turn_records.specs.host_data
+pub use Rattle.turn_rows.specs.host_text
+pub use Rattle.turn_records.specs.proposals
+pub use Rattle.turn_records.specs.refusals
+pub use Rattle.turn_rows.specs.rights_model

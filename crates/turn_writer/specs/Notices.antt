@@ -1,8 +1,8 @@
 -- What a function is notified of, as JSON.
 use Rattle.std.specs.Prelude.{Bool, codes}
 use Rattle.serde_json.specs.Data as json
-use Rattle.data_rows.specs.Printed.{printed}
-use Rattle.jessie_tree.specs.Tree.{Tree}
+use Rattle.turn_records.specs.PrintedData.{printed}
+use Rattle.turn_records.specs.host_data.Tree.{Tree}
 use Rattle.turn_records.specs.Printed.{told_value}
 
 -- `{"ok":b,"value":d}`

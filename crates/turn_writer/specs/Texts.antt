@@ -2,9 +2,9 @@
 use Rattle.std.specs.Prelude.{ℕ, List, map}
 use Rattle.std.specs.List.{flat_map}
 use Rattle.serde_json.specs.Data.{Data, array}
-use Rattle.jessie_tree.specs.Tree.{Tree}
-use Rattle.promise_store.specs.States.{SettlementView}
-use Rattle.rights_model.specs.declared.Sum.{Sum}
+use Rattle.turn_records.specs.host_data.Tree.{Tree}
+use Rattle.turn_records.specs.promise_store.States.{SettlementView}
+use Rattle.turn_rows.specs.rights_model.declared.Sum.{Sum}
 use Rattle.turn_rows.specs.Kinds.{kind_word}
 use Rattle.turn_rows.specs.Rows.{event_row, settle_row, settlement_json, sum_row}
 use Rattle.turn_rows.specs.Texts.{row_text}

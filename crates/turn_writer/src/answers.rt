@@ -1,22 +1,22 @@
 //! Data and answers in rows.
 
-ghost use Rattle.jessie_tree.specs.View.{tree};
-ghost use Rattle.data_rows.specs.Printed.{printed};
-ghost use Rattle.promise_store.specs.States.{settlement_view};
+ghost use Rattle.turn_records.specs.host_data.View.{tree};
+ghost use Rattle.turn_records.specs.PrintedData.{printed};
+ghost use Rattle.turn_records.specs.promise_store.States.{settlement_view};
 ghost use Rattle.turn_rows.specs.Rows.{answer_json, only};
 ghost use Rattle.turn_records.specs.Printed.{printed_answer, printed_refusal};
-ghost use Rattle.turn_events.specs.Views.{answer_view};
+ghost use Rattle.turn_records.specs.Views.{answer_view};
 ghost use Rattle.turn_writer.specs.JsonRows.{IsJson};
 ghost use Rattle.turn_writer.specs.Texts.{settled_json};
 
 use crate::json_row::only_field;
-use data_rows::data_value;
-use jessie_tree::data::Data;
-use promise_store::Settlement;
-use refusals::codes::Refusal;
 use serde_json::Value;
 use std::alloc::{AllocError, Global};
-use turn_events::events::Answer;
+use turn_records::data_rows::data_value;
+use turn_records::events::Answer;
+use turn_records::host_data_lib::data::Data;
+use turn_records::promise_store_lib::Settlement;
+use turn_records::refusals_lib::codes::Refusal;
 
 /// Data under a name, alone: `{"ok":d}`.
 fn under(alloc: Global, name: &str, inner: &Data) -> Result<Value, AllocError>

@@ -2,30 +2,30 @@
 
 ghost use Rattle.std.specs.Prelude.{◌≡◌, codes};
 ghost use Rattle.serde_json.specs.Data.{object, string};
-ghost use Rattle.data_rows.specs.Values.{printed_value};
-ghost use Rattle.promise_store.specs.States.{settlement_view};
+ghost use Rattle.turn_records.specs.Values.{printed_value};
+ghost use Rattle.turn_records.specs.promise_store.States.{settlement_view};
 ghost use Rattle.turn_rows.specs.Causes as causes;
 ghost use Rattle.turn_rows.specs.Kinds as kinds;
 ghost use Rattle.turn_rows.specs.Rows.{amount_json, amounts_json, brand_name, call_row, event_row, exit_row, exit_rule_json, move_row, only, open_row, payouts_json, value_json};
 ghost use Rattle.turn_records.specs.Printed.{called_on, printed_call, printed_event, printed_exit, printed_move, printed_opening, printed_payouts, printed_rows, printed_rule};
-ghost use Rattle.turn_events.specs.Views.{call_view, cause_view, event_view, how_view, leaving_view, opening_view, payout_views};
+ghost use Rattle.turn_records.specs.Views.{call_view, cause_view, event_view, how_view, leaving_view, opening_view, payout_views};
 ghost use Rattle.turn_writer.specs.JsonRows.{IsJson, IsText};
 ghost use Rattle.turn_writer.specs.Texts.{settled_row};
 
 use crate::answers::{answer_value, settlement_value};
 use crate::json_row::{JsonRow, only_field};
 use crate::names::{brand_text, holder_text, instance_text, payment_text};
-use amount_math::{Amount, Value as Held};
-use call_data::values::value_data;
-use data_rows::{data_value, items_value, number_value, object_name};
-use jessie_tree::data::Obj;
-use promise_store::Settlement;
-use proposals::allocations::Row;
-use proposals::offers::Exit;
-use rights_model::Movement;
 use serde_json::{Map, Value, put};
 use std::alloc::{AllocError, Global};
-use turn_events::events::{Call, Cause, Event, How, Leaving, Opening, Payout};
+use turn_records::data_rows::{data_value, items_value, number_value, object_name};
+use turn_records::events::{Call, Cause, Event, How, Leaving, Opening, Payout};
+use turn_records::host_data_lib::data::Obj;
+use turn_records::host_data_lib::values::value_data;
+use turn_records::promise_store_lib::Settlement;
+use turn_records::proposals_lib::allocations::Row;
+use turn_records::proposals_lib::offers::Exit;
+use turn_rows::amount_math_lib::{Amount, Value as Held};
+use turn_rows::rights_model_lib::Movement;
 
 fn how_word(how: How) -> &'static str
     ensures { result.now ≡ kinds.how_word (how_view how) }

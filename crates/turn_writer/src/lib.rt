@@ -1,6 +1,5 @@
-//! The text of a turn's rows, and of the close row. It stands on the record of a turn (turn_events) and on what
-//! a journal prints of it (turn_records, turn_rows). Its one contract: what is written is just the text of the
-//! printed turn; for want of memory nothing is written.
+//! The text of a turn's rows and of the close row: what is written is just the text of the printed
+//! turn, and for want of memory nothing is written.
 #![tactic(auto)]
 
 ghost use Rattle.std.specs.Prelude.{◌≡◌, false};
@@ -10,7 +9,7 @@ ghost use Rattle.serde_json.specs.Written.{has_float};
 ghost use Rattle.turn_rows.specs.Rows.{close_row, rows_of, sum_row, turn_row};
 ghost use Rattle.turn_rows.specs.Texts.{row_text};
 ghost use Rattle.turn_records.specs.Printed.{printed};
-ghost use Rattle.turn_events.specs.Views.{event_view, event_views, turn_view};
+ghost use Rattle.turn_records.specs.Views.{event_view, event_views, turn_view};
 ghost use Rattle.turn_writer.specs.JsonRows.{Adds, IsJson, IsText};
 ghost use Rattle.turn_writer.specs.Texts.{event_text, events_text, sums_text};
 
@@ -18,17 +17,20 @@ mod answers;
 mod event_rows;
 mod json_row;
 mod names;
+pub mod turn_form;
 mod turn_row;
 
 use event_rows::event_value;
 use json_row::JsonRow;
 use names::{brand_text, decimal_text};
-use rights_model::Sum;
 use serde_json::Value;
 use std::alloc::{AllocError, Global};
-use turn_events::events::Event;
-use turn_events::turns::TurnRecord;
+pub use turn_records as turn_records_lib;
+use turn_records::events::Event;
+use turn_records::turns::TurnRecord;
+pub use turn_records::{host_data_lib, promise_store_lib, refusals_lib};
 use turn_row::turn_value;
+use turn_rows::rights_model_lib::Sum;
 
 fn sum_value(alloc: Global, sum: &Sum) -> Result<Value, AllocError>
     ensures { IsJson result (sum_row sum.now) }

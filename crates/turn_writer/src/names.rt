@@ -5,10 +5,10 @@ ghost use Rattle.turn_records.specs.Printed.{named};
 ghost use Rattle.turn_rows.specs.Rows.{brand_name, holder_name, instance_name, payment_name};
 ghost use Rattle.turn_writer.specs.JsonRows.{IsText};
 
-use data_rows::object_name;
-use jessie_tree::data::{Obj, ObjKind};
-use rights_model::Holder;
 use std::alloc::{AllocError, Global};
+use turn_records::data_rows::object_name;
+use turn_records::host_data_lib::data::{Obj, ObjKind};
+use turn_rows::rights_model_lib::Holder;
 
 /// The name of the object of a kind and a number.
 pub fn numbered_name(alloc: Global, kind: ObjKind, number: u32) -> Result<String, AllocError>

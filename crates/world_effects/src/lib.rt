@@ -1,22 +1,33 @@
-//! Effects carried out on the world of a turn. It stands on the effects on rights, on seats and on the plain stores,
-//! and on plans. Its one contract: good effects, carried out in order, make of the world just what the world's
-//! definitions say; whatever a call answers, the turn can be undone, and its start is as it was.
+//! Effects carried out on the world of a turn: good effects, carried out in order, make of it just
+//! what their definitions say, and whatever a call answers the turn can be undone.
 #![tactic(auto)]
 
-ghost use Rattle.std.specs.Prelude.{◌≡◌, OnOk};
-ghost use Rattle.call_plans.specs.Lists.{IsEachShaped, effects_view};
-ghost use Rattle.call_plans.specs.Views.{AreShaped, IsShaped, effect_view, effect_views};
-ghost use Rattle.host_world.specs.Worlds.{IsUndoable, world_of};
-ghost use Rattle.carried_effects.specs.Carried.{AreCarried, IsCarried, IsInTurn};
-ghost use Rattle.world_state.specs.Good.{AreGood, IsGoodEffect};
+pub mod beside_seats;
+pub mod carry;
+pub mod instances;
+pub mod labels;
+pub mod plain;
+pub mod promises;
+pub mod rights_effects;
+pub mod seat_effects;
 
-use call_plans::effects::Effect;
-use call_plans::lists::Effects;
-use carried_effects::plain::{on_instances, on_labels, on_promises};
-use host_world::World;
-use rights_effects::carry_rights;
-use seat_effects::carry_seats;
+ghost use Rattle.std.specs.Prelude.{◌≡◌, OnOk};
+ghost use Rattle.world_reads.specs.call_plans.Lists.{IsEachShaped, effects_view};
+ghost use Rattle.world_reads.specs.call_plans.Views.{AreShaped, IsShaped, effect_view, effect_views};
+ghost use Rattle.world_reads.specs.host_world.Worlds.{IsUndoable, world_of};
+ghost use Rattle.world_effects.specs.Carried.{AreCarried, IsCarried, IsInTurn};
+ghost use Rattle.world_laws.specs.world_state.Good.{AreGood, IsGoodEffect};
+
+use crate::plain::{on_instances, on_labels, on_promises};
+use crate::rights_effects::carry_rights;
+use crate::seat_effects::carry_seats;
 use std::alloc::{AllocError, Global};
+pub use world_laws::{actors_lib, rights_model_lib, turn_records_lib};
+pub use world_reads as world_reads_lib;
+use world_reads::call_plans_lib::effects::Effect;
+use world_reads::call_plans_lib::lists::Effects;
+use world_reads::host_world_lib::World;
+pub use world_reads::{call_plans_lib, escrow_lib, host_world_lib};
 
 /// A good effect is carried out.
 fn carry_one(world: &mut World, alloc: Global, effect: Effect) -> Result<(), AllocError>

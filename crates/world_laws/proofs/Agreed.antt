@@ -5,14 +5,14 @@ use Rattle.std.specs.Option.{ForSome}
 use Rattle.std.specs.Str.{bytes_eq}
 use Rattle.std.proofs.Common.{◌≡◌, inl, inr, ℕ, ◌<◌, Bool, true, false, cond, List, [], ◌∷◌, ◌++◌, Some, None, Option, length, refl, sym, ◌∙◌, ap, subst, arith}
 use Rattle.std.proofs.lemmas.Bool.{cases_eq}
-use Rattle.list_edits.proofs.ListEdits.{read_before, read_other}
-use Rattle.amount_math.specs.Amount.{Meet}
-use Rattle.amount_math.specs.declared.Amount.{Amount}
-use Rattle.ertp_mint.specs.BrandSupply.{BrandSupply}
-use Rattle.proposals.specs.OfferSafety.{MeetSlots}
-use Rattle.proposals.specs.Rows.{AreApart, AreRows, amount_under}
-use Rattle.proposals.specs.declared.allocations.Row.{Row}
-use Rattle.proposals.specs.declared.offers.Proposal.{Proposal}
+use Rattle.world_state.proofs.lemmas.ListEdits.{read_before, read_other}
+use Rattle.world_state.specs.amount_math.Amount.{Meet}
+use Rattle.world_state.specs.amount_math.declared.Amount.{Amount}
+use Rattle.world_state.specs.ertp_mint.BrandSupply.{BrandSupply}
+use Rattle.world_state.specs.proposals.OfferSafety.{MeetSlots}
+use Rattle.world_state.specs.proposals.Rows.{AreApart, AreRows, amount_under}
+use Rattle.world_state.specs.proposals.declared.allocations.Row.{Row}
+use Rattle.world_state.specs.proposals.declared.offers.Proposal.{Proposal}
 use Rattle.world_state.specs.Good.{AreRowsOf, HasSlot, HaveSlots, IsGoodEffect, IsGoodWorld, IsLast, IsOfKind, IsOfSlot}
 use Rattle.world_state.specs.Rights.{kind_at, slots_at}
 use Rattle.world_state.specs.Worlds.{Effect, Seat, State, after, left_seat, no_seat, seat_at, staged_at, empty_seat, exit, offer}

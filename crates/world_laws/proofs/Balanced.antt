@@ -4,25 +4,25 @@ use Rattle.std.specs.List.{AllByRecursion}
 use Rattle.std.specs.Option.{option_map}
 use Rattle.std.specs.Str.{bytes_eq}
 use Rattle.std.proofs.Common.{◌≡◌, ◌+◌, ◌<◌, ◌==◌, ℕ, zero, suc, Bool, true, false, cond, List, [], ◌∷◌, ◌++◌, Some, None, Option, length, map, refl, ◌∙◌, ap, subst, arith, if◌then◌else◌}
-use Rattle.amount_math.specs.Content.{Content, Contains, nothing, sum, difference, count, count-sum, count-difference, count-nothing}
-use Rattle.amount_math.specs.Worth.{Worth}
-use Rattle.amount_math.specs.declared.Amount.{Amount}
-use Rattle.amount_math.specs.declared.Kind.{Kind}
-use Rattle.amount_math.specs.declared.Kind.TheVariants.{Nat}
-use Rattle.brands.specs.Brands.{brand_at}
-use Rattle.ertp_mint.specs.BrandSupply.{BrandSupply, issued, new_supply, retired, supply_at}
-use Rattle.ertp_mint.specs.Stocks.{empty_amount, no_amount}
-use Rattle.payments.specs.Papers.{Paper, live_paper, paper_at, spent_paper}
-use Rattle.proposals.specs.Rows.{amount_under, row_of}
-use Rattle.proposals.specs.Slots.{emptied, slots_of}
-use Rattle.proposals.specs.declared.allocations.Row.{Row}
-use Rattle.rights_model.specs.declared.Holder.{Holder}
-use Rattle.rights_model.specs.declared.Holder.TheVariants.{Purse, Payment, Slot, Hand, Outside}
-use Rattle.rights_model.specs.declared.Movement.{Movement}
-use Rattle.right_steps.specs.Lists.{amount_of, less, more, purse_at}
-use Rattle.right_steps.specs.Tables.{Right, all_in, hand_minus, hand_plus, in_brand, no_hand, right_in, right_on}
-use Rattle.right_steps.proofs.Sound.{at_or_else, minus_count, part, plus_count}
-use Rattle.list_edits.proofs.ListEdits.{length_map, length_set, map_set, read_map, read_other, read_set}
+use Rattle.world_state.specs.amount_math.Content.{Content, Contains, nothing, sum, difference, count, count-sum, count-difference, count-nothing}
+use Rattle.world_state.specs.amount_math.Worth.{Worth}
+use Rattle.world_state.specs.amount_math.declared.Amount.{Amount}
+use Rattle.world_state.specs.amount_math.declared.Kind.{Kind}
+use Rattle.world_state.specs.amount_math.declared.Kind.TheVariants.{Nat}
+use Rattle.world_state.specs.brands.Brands.{brand_at}
+use Rattle.world_state.specs.ertp_mint.BrandSupply.{BrandSupply, issued, new_supply, retired, supply_at}
+use Rattle.world_state.specs.ertp_mint.Stocks.{empty_amount, no_amount}
+use Rattle.world_state.specs.holders.Papers.{Paper, live_paper, paper_at, spent_paper}
+use Rattle.world_state.specs.proposals.Rows.{amount_under, row_of}
+use Rattle.world_state.specs.proposals.Slots.{emptied, slots_of}
+use Rattle.world_state.specs.proposals.declared.allocations.Row.{Row}
+use Rattle.world_state.specs.rights_model.declared.Holder.{Holder}
+use Rattle.world_state.specs.rights_model.declared.Holder.TheVariants.{Purse, Payment, Slot, Hand, Outside}
+use Rattle.world_state.specs.rights_model.declared.Movement.{Movement}
+use Rattle.world_state.specs.right_steps.Lists.{amount_of, less, more, purse_at}
+use Rattle.world_state.specs.right_steps.Tables.{Right, all_in, hand_minus, hand_plus, in_brand, no_hand, right_in, right_on}
+use Rattle.world_state.proofs.right_steps.Sound.{at_or_else, minus_count, part, plus_count}
+use Rattle.world_state.proofs.lemmas.ListEdits.{length_map, length_set, map_set, read_map, read_other, read_set}
 use Rattle.world_state.specs.Good.{HasNothing, IsBalanced, IsGoodEffect, IsGoodWorld}
 use Rattle.world_state.specs.Rights.{CanGive, CanMove, CanMoveAll, CanTake, Has, HasOrOpens, IsNextOr, IsNothing, Rights, TakesOrOpens, Takes, all_moved, all_spent, given, hand_after, hand_in, hand_out, held_of, moved, moved_together, paid, paper_less, paper_more, right_of_row, rows_less, rows_more, slot_rights, slots_at, spent_from, taken, value_less, value_more, with_slots}
 use Rattle.world_state.specs.Worlds.{Effect, State, after, burn_and_escrows, empty_slots, invitation_move, paid_out, empty_payment, empty_seat, exit, invite, moves, new_brand, new_purse, offer}

@@ -3,14 +3,14 @@ use Rattle.std.specs.Prelude.{cond, nat_lt, not, slice_set}
 use Rattle.std.specs.List.{AllByRecursion, filter, flat_map}
 use Rattle.std.proofs.Common.{◌≡◌, ◌≢◌, ◌⊎◌, inl, inr, ℕ, zero, suc, ◌<◌, ◌≤◌, Bool, true, false, List, [], ◌∷◌, ◌++◌, Some, None, Option, length, refl, sym, ◌∙◌, subst, arith}
 use Rattle.std.proofs.lemmas.Bool.{eq-eqb, ltb-true}
-use Rattle.list_edits.proofs.ListEdits.{read_before, read_other, read_past}
-use Rattle.instance_store.specs.SeatPromises.{pair_at}
-use Rattle.jessie_tree.specs.Tree.{null}
-use Rattle.promise_store.specs.Linked.{followers}
-use Rattle.promise_store.specs.States.{SettlementView, ok}
-use Rattle.promise_store.specs.declared.links.Following.{Following}
-use Rattle.turn_records.specs.Deliveries.{Delivery, Notice}
-use Rattle.turn_records.specs.Events.{Event}
+use Rattle.world_state.proofs.lemmas.ListEdits.{read_before, read_other, read_past}
+use Rattle.world_state.specs.actors.SeatPromises.{pair_at}
+use Rattle.world_state.specs.host_data.Tree.{null}
+use Rattle.world_state.specs.promise_store.Linked.{followers}
+use Rattle.world_state.specs.promise_store.States.{SettlementView, ok}
+use Rattle.world_state.specs.promise_store.declared.links.Following.{Following}
+use Rattle.world_state.specs.turn_records.Deliveries.{Delivery, Notice}
+use Rattle.world_state.specs.turn_records.Events.{Event}
 use Rattle.world_state.specs.Promises.{CascadeStep, Flow, PromiseBook, WasSettled, all_stepped, asking, asks, cascade, flowing, following, no_promise, notifies, resolving, resolving_to, settlement_at, settles, settling, stepped, target_of, with_promise}
 use Rattle.world_state.specs.Good.{AreAsked, IsGoodWorld}
 use Rattle.world_state.specs.Known.{Keeps}

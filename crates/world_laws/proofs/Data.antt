@@ -3,24 +3,24 @@ use Rattle.std.specs.Prelude.{IsSome, cond, nat_lt, not}
 use Rattle.std.proofs.lemmas.Bool.{eqb-true}
 use Rattle.std.specs.List.{AllByRecursion, filter}
 use Rattle.std.proofs.Common.{◌≡◌, ℕ, ◌+◌, ◌<◌, ◌≤◌, Bool, true, false, List, [], ◌∷◌, ◌++◌, Some, None, Option, length, map, refl, sym, ap, subst, arith}
-use Rattle.list_edits.proofs.ListEdits.{length_push, read_pushed}
-use Rattle.actors.specs.Labels.{bound}
-use Rattle.instance_store.specs.SeatPromises.{no_pair, pair_at}
-use Rattle.instance_store.specs.Tables.{module_at, new_instance}
-use Rattle.instance_store.specs.declared.seat_promises.SeatPair.{SeatPair}
-use Rattle.invitations.specs.Details.{no_details}
-use Rattle.jessie_tree.specs.Tree.{null}
-use Rattle.promise_store.specs.States.{SettlementView, ok}
+use Rattle.world_state.proofs.lemmas.ListEdits.{length_push, read_pushed}
+use Rattle.world_state.specs.actors.Labels.{bound}
+use Rattle.world_state.specs.actors.SeatPromises.{no_pair, pair_at}
+use Rattle.world_state.specs.actors.Tables.{module_at, new_instance}
+use Rattle.world_state.specs.actors.declared.instance_store.seat_promises.SeatPair.{SeatPair}
+use Rattle.world_state.specs.turn_stores.Details.{no_details}
+use Rattle.world_state.specs.host_data.Tree.{null}
+use Rattle.world_state.specs.promise_store.States.{SettlementView, ok}
 use Rattle.world_laws.proofs.Cascades.{Has, Paired, cascade_paired, steps_settle}
-use Rattle.proposals.specs.Rows.{AreRows}
-use Rattle.proposals.specs.declared.offers.Exit.{Exit}
-use Rattle.proposals.specs.declared.offers.Exit.TheVariants.{AfterDeadline, OnDemand, Waived}
-use Rattle.timer.specs.Schedules.{Schedule, due_after, due_by}
-use Rattle.turn_records.specs.Deliveries as deliveries
-use Rattle.turn_records.specs.Deliveries.{Delivery, Notice, notify, call, give, tick, bad}
-use Rattle.turn_records.specs.Events.{Event}
+use Rattle.world_state.specs.proposals.Rows.{AreRows}
+use Rattle.world_state.specs.proposals.declared.offers.Exit.{Exit}
+use Rattle.world_state.specs.proposals.declared.offers.Exit.TheVariants.{AfterDeadline, OnDemand, Waived}
+use Rattle.world_state.specs.turn_stores.Schedules.{Schedule, due_after, due_by}
+use Rattle.world_state.specs.turn_records.Deliveries as deliveries
+use Rattle.world_state.specs.turn_records.Deliveries.{Delivery, Notice, notify, call, give, tick, bad}
+use Rattle.world_state.specs.turn_records.Events.{Event}
 use Rattle.world_state.specs.Good.{AreNamed, IsDue, IsFacet, IsFinal, IsGoodEffect, IsGoodWorld, IsInvitation, IsLabel, IsLine, IsModule, IsNotice, IsSettled, IsRule, IsSettling, IsTimed, IsTimedEntry, IsTimely}
-use Rattle.turn_rows.specs.Form.{times_end}
+use Rattle.world_state.specs.turn_rows.Form.{times_end}
 use Rattle.world_state.specs.Known.{IsHanded}
 use Rattle.world_state.specs.Promises.{CascadeStep, Flow, PromiseBook, Resolved, all_stepped, asking, asks, cascade, flowing, following, no_promise, notifies, WasSettled, resolving, resolving_to, settlement_at, settles, settling, stepped, target_of, told_at_once, with_promise}
 use Rattle.world_state.specs.Rights.{slots_at}

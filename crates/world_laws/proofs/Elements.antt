@@ -6,12 +6,12 @@ use Rattle.std.proofs.lemmas.List.{length-append, length-replicate, append_cance
 use Rattle.std.specs.Fmt.{decimal, digits, digits_onto, digit_glyph}
 use Rattle.std.specs.Ordering.{eq_by_cmp}
 use Rattle.std.specs.Str.Parse.{digits_value}
-use Rattle.amount_math.specs.Content.{count, count-nothing, count-one_of, counts, key_cmp, nothing, one_of}
-use Rattle.amount_math.specs.Counted.{counted, counted-nothing}
-use Rattle.amount_math.specs.Entries.{IsKey}
-use Rattle.amount_math.specs.Totals.{total-put}
-use Rattle.amount_math.proofs.Listed.{same_key}
-use Rattle.invitations.specs.Elements.{element, ten_digits}
+use Rattle.world_state.specs.amount_math.Content.{count, count-nothing, count-one_of, counts, key_cmp, nothing, one_of}
+use Rattle.world_state.specs.amount_math.Counted.{counted, counted-nothing}
+use Rattle.world_state.specs.amount_math.Entries.{IsKey}
+use Rattle.world_state.specs.amount_math.Totals.{total-put}
+use Rattle.world_state.proofs.amount_math.Listed.{same_key}
+use Rattle.world_state.specs.turn_stores.Elements.{element, ten_digits}
 
 -- ---- how many digits a number has
 

@@ -1,10 +1,10 @@
 -- The world of a new host is good.
 use Rattle.std.proofs.Common.{◌≡◌, ◌*◌, ℕ, zero, suc, List, [], ◌∷◌, Some, None, refl, arith}
-use Rattle.amount_math.specs.Content.{count, count-nothing}
-use Rattle.amount_math.specs.declared.Kind.TheVariants.{Set}
-use Rattle.brands.specs.Brands.{brand_at, started}
-use Rattle.ertp_mint.specs.BrandSupply.{new_supply, supply_at}
-use Rattle.proposals.specs.declared.allocations.Row.{Row}
+use Rattle.world_state.specs.amount_math.Content.{count, count-nothing}
+use Rattle.world_state.specs.amount_math.declared.Kind.TheVariants.{Set}
+use Rattle.world_state.specs.brands.Brands.{brand_at, started}
+use Rattle.world_state.specs.ertp_mint.BrandSupply.{new_supply, supply_at}
+use Rattle.world_state.specs.proposals.declared.allocations.Row.{Row}
 use Rattle.world_state.specs.Good.{IsGoodWorld}
 use Rattle.world_state.specs.Rights.{IsRoomy, kind_at, most_issued, most_turns}
 use Rattle.world_laws.specs.First.{first_world}

@@ -3,16 +3,16 @@ use Rattle.std.specs.Prelude.{◌==◌}
 use Rattle.std.specs.List.{AllByRecursion, flat_map}
 use Rattle.std.proofs.Common.{◌≡◌, ◌⊎◌, inl, inr, ℕ, zero, suc, ◌<◌, Bool, true, false, cond, List, [], ◌∷◌, ◌++◌, Some, None, Option, length, refl, sym, ◌∙◌, ap, subst, arith, if◌then◌else◌}
 use Rattle.std.proofs.lemmas.Bool.{eq-eqb, eqb-true}
-use Rattle.list_edits.proofs.ListEdits.{length_push, read_before}
-use Rattle.instance_store.specs.SeatPromises.{pair_at}
-use Rattle.jessie_tree.specs.Tree.{array, boolean, fields, function, null, number, object, text}
-use Rattle.jessie_tree.specs.declared.data.ObjKind.{ObjKind}
-use Rattle.jessie_tree.specs.declared.data.ObjKind.TheVariants as kinds
-use Rattle.promise_store.specs.Linked.{IsForest, LeadsTo, followers, leader}
-use Rattle.promise_store.specs.States.{SettlementView, broken, is_promise_kind, ok}
-use Rattle.promise_store.specs.declared.links.Following.{Following}
-use Rattle.turn_records.specs.Deliveries.{Delivery, Notice}
-use Rattle.turn_records.specs.Events.{Event}
+use Rattle.world_state.proofs.lemmas.ListEdits.{length_push, read_before}
+use Rattle.world_state.specs.actors.SeatPromises.{pair_at}
+use Rattle.world_state.specs.host_data.Tree.{array, boolean, fields, function, null, number, object, text}
+use Rattle.world_state.specs.host_data.declared.data.ObjKind.{ObjKind}
+use Rattle.world_state.specs.host_data.declared.data.ObjKind.TheVariants as kinds
+use Rattle.world_state.specs.promise_store.Linked.{IsForest, LeadsTo, followers, leader}
+use Rattle.world_state.specs.promise_store.States.{SettlementView, broken, is_promise_kind, ok}
+use Rattle.world_state.specs.promise_store.declared.links.Following.{Following}
+use Rattle.world_state.specs.turn_records.Deliveries.{Delivery, Notice}
+use Rattle.world_state.specs.turn_records.Events.{Event}
 use Rattle.world_state.specs.Good.{AreFollowing, IsFollowing, IsGoodEffect, IsGoodWorld, IsSettling, one_if}
 use Rattle.world_state.specs.Known.{made_as}
 use Rattle.world_state.specs.Promises.{CascadeStep, IsPending, PromiseBook, WasSettled, all_stepped, asking, cascade, flowing, following, no_promise, notifies, resolving_to, settlement_at, settles, settling, target_of, with_promise}

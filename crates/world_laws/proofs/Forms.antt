@@ -2,24 +2,24 @@
 use Rattle.std.specs.Prelude.{IfSome}
 use Rattle.std.specs.List.{AllByRecursion}
 use Rattle.std.proofs.Common.{◌≡◌, ℕ, ◌<◌, List, Some, None, Option, length, sym, ◌∙◌, ap, subst, arith}
-use Rattle.actors.specs.Labels.{Bound}
-use Rattle.brands.specs.declared.Brand.{Brand}
-use Rattle.brands.specs.declared.issuer_record.Issuer.{Issuer}
-use Rattle.data_nodes.specs.Nodes.{FunctionIs, ObjectIs}
-use Rattle.data_nodes.proofs.Nodes.{weaker}
-use Rattle.instance_store.specs.Facets.{FacetView}
-use Rattle.instance_store.specs.Tables.{InstanceView, instance_at, module_at}
-use Rattle.instance_store.specs.declared.seat_promises.SeatPair.{SeatPair}
-use Rattle.invitations.specs.Details.{DetailsView}
-use Rattle.jessie_syntax.specs.Syntax.{routines}
-use Rattle.jessie_tree.specs.Tree.{Tree, object, function}
-use Rattle.jessie_tree.specs.declared.data.Obj.{Obj}
-use Rattle.jessie_tree.specs.declared.data.ObjKind.{ObjKind}
-use Rattle.jessie_tree.specs.declared.data.ObjKind.TheVariants as kinds
-use Rattle.jessie_syntax.specs.declared.syntax.Module.{Module}
-use Rattle.promise_store.specs.States.{SettlementView, broken, ok}
-use Rattle.proposals.specs.declared.offers.Proposal.{Proposal}
-use Rattle.turn_records.specs.Deliveries.{Delivery, Notice, Offer, Send, Start, Wakeup, bad, call, deadline, give, notify, offer, send, start, tick, wake}
+use Rattle.world_state.specs.actors.Labels.{Bound}
+use Rattle.world_state.specs.brands.declared.Brand.{Brand}
+use Rattle.world_state.specs.brands.declared.issuer_record.Issuer.{Issuer}
+use Rattle.world_state.specs.host_data.Nodes.{FunctionIs, ObjectIs}
+use Rattle.world_state.proofs.host_data.Nodes.{weaker}
+use Rattle.world_state.specs.actors.Facets.{FacetView}
+use Rattle.world_state.specs.actors.Tables.{InstanceView, instance_at, module_at}
+use Rattle.world_state.specs.actors.declared.instance_store.seat_promises.SeatPair.{SeatPair}
+use Rattle.world_state.specs.turn_stores.Details.{DetailsView}
+use Rattle.world_state.specs.jessie_grammar.Syntax.{routines}
+use Rattle.world_state.specs.host_data.Tree.{Tree, object, function}
+use Rattle.world_state.specs.host_data.declared.data.Obj.{Obj}
+use Rattle.world_state.specs.host_data.declared.data.ObjKind.{ObjKind}
+use Rattle.world_state.specs.host_data.declared.data.ObjKind.TheVariants as kinds
+use Rattle.world_state.specs.jessie_grammar.declared.syntax.Module.{Module}
+use Rattle.world_state.specs.promise_store.States.{SettlementView, broken, ok}
+use Rattle.world_state.specs.proposals.declared.offers.Proposal.{Proposal}
+use Rattle.world_state.specs.turn_records.Deliveries.{Delivery, Notice, Offer, Send, Start, Wakeup, bad, call, deadline, give, notify, offer, send, start, tick, wake}
 use Rattle.world_state.specs.Good.{IsDue, IsFacet, IsFinal, IsInstance, IsInvitation, IsIssuer, IsLabel, IsMethod, IsNews, IsNotice, IsOfferCall, IsSend, IsSettled, IsSettling, IsStart, IsTimed, IsWakeup}
 use Rattle.world_state.specs.Known.{FunctionKnown, Grows, HasFunction, IsFormed, IsHanded, IsKnownTo, IsNamed, IsPlain, IsSeatOf, ObjectKnown, known_as, made_as, module_of}
 use Rattle.world_state.specs.Worlds.{State}

@@ -3,15 +3,15 @@ use Rattle.std.specs.Prelude.{◌==◌, drop, slice_set}
 use Rattle.std.specs.List.{AllByRecursion}
 use Rattle.std.proofs.Common.{◌≡◌, ◌≢◌, ℕ, ◌+◌, Bool, true, false, List, [], ◌∷◌, ◌++◌, Some, None, Option, length, refl, ◌∙◌, sym, ap, subst, arith}
 use Rattle.std.proofs.lemmas.Bool.{eq-eqb, eqb-true}
-use Rattle.brands.specs.Brands.{no_brand}
-use Rattle.instance_store.specs.Facets.{no_facet}
-use Rattle.instance_store.specs.SeatPromises.{no_pair, pair_at}
-use Rattle.instance_store.specs.Tables.{instance_at, no_instance, no_module}
-use Rattle.invitations.specs.Details.{no_details}
-use Rattle.payments.specs.Papers.{spent_paper}
-use Rattle.promise_store.specs.States.{SettlementView, ok}
-use Rattle.turn_records.specs.Deliveries.{Delivery, promise_of}
-use Rattle.turn_records.specs.Events.{Event}
+use Rattle.world_state.specs.brands.Brands.{no_brand}
+use Rattle.world_state.specs.actors.Facets.{no_facet}
+use Rattle.world_state.specs.actors.SeatPromises.{no_pair, pair_at}
+use Rattle.world_state.specs.actors.Tables.{instance_at, no_instance, no_module}
+use Rattle.world_state.specs.turn_stores.Details.{no_details}
+use Rattle.world_state.specs.holders.Papers.{spent_paper}
+use Rattle.world_state.specs.promise_store.States.{SettlementView, ok}
+use Rattle.world_state.specs.turn_records.Deliveries.{Delivery, promise_of}
+use Rattle.world_state.specs.turn_records.Events.{Event}
 use Rattle.world_state.specs.Good.{AreGood, IsDue, IsFacet, IsGoodEffect, IsGoodWorld, IsInHand, IsInvitation, IsLabel, IsMaker, IsNotice, IsSettled, IsTimedEntry, LeavesAnswer, is_for, one_if, owes}
 use Rattle.world_state.specs.Known.{Grows, WasLeft, WasSpent, instance_origin, seat_origin, whole}
 use Rattle.world_state.specs.Promises.{CascadeStep, Flow, PromiseBook, Resolved, WasSettled, all_stepped, cascade, flowing, following, no_promise, notifies, resolving, resolving_to, settlement_at, settles, settling, stepped, target_of}

@@ -2,24 +2,24 @@
 use Rattle.std.specs.Prelude.{◌==◌, cond, slice_set}
 use Rattle.std.specs.Option.{option_map}
 use Rattle.std.proofs.Common.{◌≡◌, ℕ, ◌≤◌, true, false, List, [], ◌∷◌, ◌++◌, Some, None, Option, length, map, refl, ◌∙◌, ap, arith}
-use Rattle.list_edits.proofs.ListEdits.{length_push, length_set}
-use Rattle.brands.specs.Brands.{brand_at, no_brand}
-use Rattle.instance_store.specs.Facets.{no_facet}
-use Rattle.instance_store.specs.SeatPromises.{no_pair, pair_at}
-use Rattle.instance_store.specs.Tables.{no_instance, no_module}
-use Rattle.invitations.specs.Details.{no_details}
-use Rattle.payments.specs.Papers.{Paper, live_paper, paper_at, spent_paper}
-use Rattle.ertp_mint.specs.Stocks.{empty_amount}
-use Rattle.jessie_tree.specs.Tree.{null}
-use Rattle.promise_store.specs.States.{SettlementView, ok}
-use Rattle.rights_model.specs.declared.Holder.{Holder}
-use Rattle.rights_model.specs.declared.Holder.TheVariants.{Purse, Payment}
-use Rattle.rights_model.specs.declared.Movement.{Movement}
-use Rattle.amount_math.specs.Content.{Content}
-use Rattle.amount_math.specs.Worth.{Worth}
-use Rattle.amount_math.specs.declared.Amount.{Amount}
-use Rattle.turn_records.specs.Deliveries.{Delivery, Notice}
-use Rattle.turn_records.specs.Events.{Event}
+use Rattle.world_state.proofs.lemmas.ListEdits.{length_push, length_set}
+use Rattle.world_state.specs.brands.Brands.{brand_at, no_brand}
+use Rattle.world_state.specs.actors.Facets.{no_facet}
+use Rattle.world_state.specs.actors.SeatPromises.{no_pair, pair_at}
+use Rattle.world_state.specs.actors.Tables.{no_instance, no_module}
+use Rattle.world_state.specs.turn_stores.Details.{no_details}
+use Rattle.world_state.specs.holders.Papers.{Paper, live_paper, paper_at, spent_paper}
+use Rattle.world_state.specs.ertp_mint.Stocks.{empty_amount}
+use Rattle.world_state.specs.host_data.Tree.{null}
+use Rattle.world_state.specs.promise_store.States.{SettlementView, ok}
+use Rattle.world_state.specs.rights_model.declared.Holder.{Holder}
+use Rattle.world_state.specs.rights_model.declared.Holder.TheVariants.{Purse, Payment}
+use Rattle.world_state.specs.rights_model.declared.Movement.{Movement}
+use Rattle.world_state.specs.amount_math.Content.{Content}
+use Rattle.world_state.specs.amount_math.Worth.{Worth}
+use Rattle.world_state.specs.amount_math.declared.Amount.{Amount}
+use Rattle.world_state.specs.turn_records.Deliveries.{Delivery, Notice}
+use Rattle.world_state.specs.turn_records.Events.{Event}
 use Rattle.world_state.specs.Known.{Extends, Grows, Keeps, WasLeft, WasSpent, instance_origin, seat_origin, whole}
 use Rattle.world_state.specs.Promises.{CascadeStep, Flow, PromiseBook, all_stepped, asking, cascade, flowing, following, no_promise, notifies, WasSettled, resolving, resolving_to, settlement_at, settles, settling, stepped, target_of, with_promise}
 use Rattle.world_state.specs.Rights.{Rights, all_moved, all_spent, given, moved, moved_together, paid, paper_less, paper_more, slots_at, spent_from, taken, value_less, value_more, with_slots}

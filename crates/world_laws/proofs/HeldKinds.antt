@@ -1,13 +1,13 @@
 -- By effect: whatever is held is of the kind of its brand.
 use Rattle.std.specs.List.{AllByRecursion}
 use Rattle.std.proofs.Common.{ℕ, ◌<◌, Bool, true, false, if◌then◌else◌, List, [], ◌∷◌, ◌++◌, length, map, arith}
-use Rattle.brands.specs.Brands.{brand_at}
-use Rattle.ertp_mint.specs.BrandSupply.{BrandSupply, new_supply}
-use Rattle.ertp_mint.specs.Stocks.{empty_amount}
-use Rattle.proposals.specs.Slots.{emptied, in_byte_order, is_upto, placed, slots_of}
-use Rattle.proposals.specs.declared.offers.Proposal.{Proposal}
-use Rattle.proposals.specs.declared.allocations.Row.{Row}
-use Rattle.right_steps.specs.Tables.{no_hand}
+use Rattle.world_state.specs.brands.Brands.{brand_at}
+use Rattle.world_state.specs.ertp_mint.BrandSupply.{BrandSupply, new_supply}
+use Rattle.world_state.specs.ertp_mint.Stocks.{empty_amount}
+use Rattle.world_state.specs.proposals.Slots.{emptied, in_byte_order, is_upto, placed, slots_of}
+use Rattle.world_state.specs.proposals.declared.offers.Proposal.{Proposal}
+use Rattle.world_state.specs.proposals.declared.allocations.Row.{Row}
+use Rattle.world_state.specs.right_steps.Tables.{no_hand}
 use Rattle.world_state.specs.Good.{AreRowsOf, IsGoodEffect, IsGoodWorld, IsOfKind, IsPaper}
 use Rattle.world_state.specs.Rights.{slots_at, with_slots}
 use Rattle.world_state.specs.Worlds.{Effect, State, after, burn_and_escrows, empty_slots, invitation_move, paid_out, empty_payment, empty_seat, exit, invite, moves, new_brand, new_purse, offer}

@@ -3,16 +3,16 @@ use Rattle.std.specs.Prelude.{slice_set}
 use Rattle.std.specs.List.{AllByRecursion}
 use Rattle.std.proofs.Common.{◌≡◌, ◌≢◌, inl, inr, ℕ, zero, suc, ◌<◌, Bool, true, false, cond, ap, List, [], ◌∷◌, ◌++◌, Some, None, length, refl, sym, ◌∙◌, subst, arith}
 use Rattle.std.proofs.lemmas.Bool.{cases_eq}
-use Rattle.list_edits.proofs.ListEdits.{length_push, length_set, read_before, read_other, read_pushed, read_set}
+use Rattle.world_state.proofs.lemmas.ListEdits.{length_push, length_set, read_before, read_other, read_pushed, read_set}
 use Rattle.std.specs.Str.{bytes_eq}
-use Rattle.brands.specs.IssuerRecords.{AreApart, AreIssuers, brand_under, most_issuers}
-use Rattle.brands.specs.declared.issuer_record.Issuer.{Issuer}
+use Rattle.world_state.specs.brands.IssuerRecords.{AreApart, AreIssuers, brand_under, most_issuers}
+use Rattle.world_state.specs.brands.declared.issuer_record.Issuer.{Issuer}
 use Rattle.world_laws.proofs.SlotRows.{other_way}
-use Rattle.instance_store.specs.Tables.{InstanceView, initial_state, instance_at, module_at, new_instance, no_instance, no_module, stopped}
-use Rattle.instance_store.specs.declared.instance.Standing.{Standing}
-use Rattle.instance_store.specs.declared.instance.Standing.TheVariants.{Accepting, Halted, Stopped}
-use Rattle.proposals.specs.declared.allocations.Row.{Row}
-use Rattle.invitations.specs.Details.{no_details}
+use Rattle.world_state.specs.actors.Tables.{InstanceView, initial_state, instance_at, module_at, new_instance, no_instance, no_module, stopped}
+use Rattle.world_state.specs.actors.declared.instance_store.instance.Standing.{Standing}
+use Rattle.world_state.specs.actors.declared.instance_store.instance.Standing.TheVariants.{Accepting, Halted, Stopped}
+use Rattle.world_state.specs.proposals.declared.allocations.Row.{Row}
+use Rattle.world_state.specs.turn_stores.Details.{no_details}
 use Rattle.world_state.specs.Good.{AreAtWork, AreInstances, IsGoodEffect, IsGoodWorld, IsInstance, IsIssuer, IsInvitation, IsModule, IsPlaced, standing_of}
 use Rattle.world_state.specs.Known.{IsKnownTo, IsPlain}
 use Rattle.world_state.specs.Worlds.{Effect, IsOpen, Seat, State, after, left_seat, no_seat, seat_at, add_issuer, empty_seat, exit, halt, keep_state, offer, publish, start, stop}

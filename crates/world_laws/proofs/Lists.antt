@@ -4,7 +4,7 @@ use Rattle.std.specs.List.{AllByRecursion, filter}
 use Rattle.std.proofs.Common.{◌≡◌, inl, inr, ℕ, zero, suc, ◌+◌, ◌<◌, ◌≤◌, Bool, true, false, List, [], ◌∷◌, ◌++◌, length, map, refl, ◌∙◌, sym, ap, subst, arith}
 use Rattle.std.proofs.lemmas.Bool.{cases_eq}
 use Rattle.world_state.specs.Known.{Extends, Keeps}
-use Rattle.list_edits.proofs.ListEdits.{length_push, length_set, read_before, read_other, read_set}
+use Rattle.world_state.proofs.lemmas.ListEdits.{length_push, length_set, read_before, read_other, read_set}
 
 module _ {A : Type 0} (P Q : A → Type 0) (to : (x : A) → P x → Q x) where
   pub all_map : (xs : List A) → AllByRecursion P xs → AllByRecursion Q xs

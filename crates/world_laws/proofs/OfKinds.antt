@@ -4,20 +4,20 @@ use Rattle.std.specs.List.{AllByRecursion}
 use Rattle.std.specs.Option.{option_map}
 use Rattle.std.specs.Str.{bytes_eq}
 use Rattle.std.proofs.Common.{◌≡◌, ℕ, zero, suc, ◌<◌, ◌≤◌, Bool, true, false, List, [], ◌∷◌, ◌++◌, Some, None, Option, length, refl, sym, ◌∙◌, ap, arith, if◌then◌else◌}
-use Rattle.list_edits.proofs.ListEdits.{length_push, length_set, read_before}
-use Rattle.amount_math.specs.Amount.{holding}
-use Rattle.amount_math.specs.Content.{Content, nothing}
-use Rattle.amount_math.specs.Worth.{Worth}
-use Rattle.amount_math.specs.declared.Amount.{Amount}
-use Rattle.ertp_mint.specs.BrandSupply.{BrandSupply, issued, new_supply, retired, supply_at}
-use Rattle.amount_math.specs.declared.Kind.TheVariants.{Nat}
-use Rattle.ertp_mint.specs.Stocks.{no_amount}
-use Rattle.payments.specs.Papers.{Paper, live_paper, paper_at, spent_paper}
-use Rattle.proposals.specs.declared.allocations.Row.{Row}
-use Rattle.rights_model.specs.declared.Holder.{Holder}
-use Rattle.rights_model.specs.declared.Holder.TheVariants.{Purse, Payment, Slot, Hand, Outside}
-use Rattle.rights_model.specs.declared.Movement.{Movement}
-use Rattle.right_steps.specs.Lists.{amount_of, less, more}
+use Rattle.world_state.proofs.lemmas.ListEdits.{length_push, length_set, read_before}
+use Rattle.world_state.specs.amount_math.Amount.{holding}
+use Rattle.world_state.specs.amount_math.Content.{Content, nothing}
+use Rattle.world_state.specs.amount_math.Worth.{Worth}
+use Rattle.world_state.specs.amount_math.declared.Amount.{Amount}
+use Rattle.world_state.specs.ertp_mint.BrandSupply.{BrandSupply, issued, new_supply, retired, supply_at}
+use Rattle.world_state.specs.amount_math.declared.Kind.TheVariants.{Nat}
+use Rattle.world_state.specs.ertp_mint.Stocks.{no_amount}
+use Rattle.world_state.specs.holders.Papers.{Paper, live_paper, paper_at, spent_paper}
+use Rattle.world_state.specs.proposals.declared.allocations.Row.{Row}
+use Rattle.world_state.specs.rights_model.declared.Holder.{Holder}
+use Rattle.world_state.specs.rights_model.declared.Holder.TheVariants.{Purse, Payment, Slot, Hand, Outside}
+use Rattle.world_state.specs.rights_model.declared.Movement.{Movement}
+use Rattle.world_state.specs.right_steps.Lists.{amount_of, less, more}
 use Rattle.world_state.specs.Good.{AreRowsOf, IsOfKind, IsPaper}
 use Rattle.world_state.specs.Rights.{CanGive, CanMove, CanMoveAll, CanTake, Rights, all_moved, all_spent, given, hand_after, kind_at, moved, moved_together, paper_less, paper_more, changed_row, rows_with, slots_at, spent_from, taken, value_less, value_more}
 use Rattle.world_laws.proofs.Lists.{all_map, all_push, all_read, all_read_or, all_set}

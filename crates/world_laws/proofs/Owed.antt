@@ -3,14 +3,14 @@ use Rattle.std.specs.Prelude.{IsSome, is_some, not}
 use Rattle.std.specs.List.{AllByRecursion, filter, flat_map}
 use Rattle.std.proofs.Common.{◌≡◌, ◌≢◌, ◌⊎◌, inl, inr, ℕ, zero, suc, ◌+◌, ◌<◌, ◌==◌, Bool, true, false, cond, List, [], ◌∷◌, ◌++◌, Some, None, Option, length, map, refl, sym, ◌∙◌, ap, subst, arith, if◌then◌else◌}
 use Rattle.std.proofs.lemmas.Bool.{eq-eqb, ne_eqb}
-use Rattle.list_edits.proofs.ListEdits.{length_set, read_other}
-use Rattle.instance_store.specs.declared.seat_promises.SeatPair.{SeatPair}
-use Rattle.promise_store.specs.Linked.{followers, leader}
-use Rattle.promise_store.specs.States.{SettlementView, broken}
-use Rattle.promise_store.specs.declared.links.Following.{Following}
-use Rattle.jessie_tree.specs.Tree.{null}
-use Rattle.turn_records.specs.Deliveries.{Delivery, Notice, notify}
-use Rattle.turn_records.specs.Events.{Event}
+use Rattle.world_state.proofs.lemmas.ListEdits.{length_set, read_other}
+use Rattle.world_state.specs.actors.declared.instance_store.seat_promises.SeatPair.{SeatPair}
+use Rattle.world_state.specs.promise_store.Linked.{followers, leader}
+use Rattle.world_state.specs.promise_store.States.{SettlementView, broken}
+use Rattle.world_state.specs.promise_store.declared.links.Following.{Following}
+use Rattle.world_state.specs.host_data.Tree.{null}
+use Rattle.world_state.specs.turn_records.Deliveries.{Delivery, Notice, notify}
+use Rattle.world_state.specs.turn_records.Events.{Event}
 use Rattle.world_state.specs.Good.{AreOwed, one_if, owed_answers, owed_notices, owes}
 use Rattle.world_state.specs.Promises.{CascadeStep, Flow, IsPending, PromiseBook, Resolved, all_stepped, asks, cascade, flowing, following, notifies, resolving, resolving_to, settlement_at, settles, settling, stepped, target_of}
 use Rattle.world_state.specs.Worlds.{Seat}

@@ -3,19 +3,19 @@ use Rattle.std.specs.Prelude.{◌&&◌, is_none, nat_lt, slice_set}
 use Rattle.std.specs.List.{AllByRecursion}
 use Rattle.std.proofs.Common.{◌≡◌, inl, inr, ℕ, zero, suc, ◌+◌, ◌<◌, ◌≤◌, ◌==◌, Bool, true, false, cond, List, [], ◌∷◌, ◌++◌, Some, None, Option, length, map, refl, sym, ◌∙◌, ap, subst, arith}
 use Rattle.std.proofs.lemmas.Bool.{cases_eq, eq-eqb, ne_eqb}
-use Rattle.list_edits.proofs.ListEdits.{length_push, read_before, read_pushed}
-use Rattle.instance_store.specs.SeatPromises.{pair_at}
-use Rattle.instance_store.specs.declared.seat_promises.SeatPair.{SeatPair}
-use Rattle.jessie_tree.specs.Tree.{null}
-use Rattle.promise_store.specs.Linked.{leader}
-use Rattle.promise_store.specs.States.{SettlementView, broken, ok}
-use Rattle.promise_store.specs.declared.links.Following.{Following}
-use Rattle.proposals.specs.declared.allocations.Row.{Row}
-use Rattle.proposals.specs.declared.offers.Exit.{Exit}
-use Rattle.proposals.specs.declared.offers.Exit.TheVariants.{AfterDeadline, OnDemand, Waived}
-use Rattle.timer.specs.Schedules.{Schedule, due_by}
-use Rattle.turn_records.specs.Deliveries as deliveries
-use Rattle.turn_records.specs.Deliveries.{Delivery, Notice, promise_of}
+use Rattle.world_state.proofs.lemmas.ListEdits.{length_push, read_before, read_pushed}
+use Rattle.world_state.specs.actors.SeatPromises.{pair_at}
+use Rattle.world_state.specs.actors.declared.instance_store.seat_promises.SeatPair.{SeatPair}
+use Rattle.world_state.specs.host_data.Tree.{null}
+use Rattle.world_state.specs.promise_store.Linked.{leader}
+use Rattle.world_state.specs.promise_store.States.{SettlementView, broken, ok}
+use Rattle.world_state.specs.promise_store.declared.links.Following.{Following}
+use Rattle.world_state.specs.proposals.declared.allocations.Row.{Row}
+use Rattle.world_state.specs.proposals.declared.offers.Exit.{Exit}
+use Rattle.world_state.specs.proposals.declared.offers.Exit.TheVariants.{AfterDeadline, OnDemand, Waived}
+use Rattle.world_state.specs.turn_stores.Schedules.{Schedule, due_by}
+use Rattle.world_state.specs.turn_records.Deliveries as deliveries
+use Rattle.world_state.specs.turn_records.Deliveries.{Delivery, Notice, promise_of}
 use Rattle.world_state.specs.Good.{AreOwed, IsGoodEffect, IsGoodWorld, IsLine, IsTimed, IsTimedEntry, is_for, one_if, owed_answers, owed_notices, owed_payouts, owes}
 use Rattle.world_state.specs.Promises.{IsPending, PromiseBook, asking, settlement_at, told_at_once, with_promise}
 use Rattle.world_state.specs.Rights.{slots_at}

@@ -3,13 +3,13 @@ use Rattle.std.specs.Prelude.{slice_set}
 use Rattle.std.proofs.Common.{◌≡◌, ◌≢◌, inl, inr, ℕ, zero, suc, ◌<◌, List, [], ◌∷◌, ◌++◌, Some, None, length, sym, ◌∙◌, ap, subst, arith}
 use Rattle.std.proofs.lemmas.Bool.{cases_eq}
 use Rattle.std.specs.List.{flat_map}
-use Rattle.list_edits.proofs.ListEdits.{length_push, length_set, read_before, read_other, read_pushed, read_set}
-use Rattle.instance_store.specs.SeatPromises.{no_pair, pair_at}
-use Rattle.instance_store.specs.declared.seat_promises.SeatPair.{SeatPair}
-use Rattle.promise_store.specs.Linked.{followers}
-use Rattle.promise_store.specs.States.{SettlementView, ok}
-use Rattle.promise_store.specs.declared.links.Following.{Following}
-use Rattle.proposals.specs.declared.allocations.Row.{Row}
+use Rattle.world_state.proofs.lemmas.ListEdits.{length_push, length_set, read_before, read_other, read_pushed, read_set}
+use Rattle.world_state.specs.actors.SeatPromises.{no_pair, pair_at}
+use Rattle.world_state.specs.actors.declared.instance_store.seat_promises.SeatPair.{SeatPair}
+use Rattle.world_state.specs.promise_store.Linked.{followers}
+use Rattle.world_state.specs.promise_store.States.{SettlementView, ok}
+use Rattle.world_state.specs.promise_store.declared.links.Following.{Following}
+use Rattle.world_state.specs.proposals.declared.allocations.Row.{Row}
 use Rattle.world_state.specs.Good.{ArePaidOut, IsGoodEffect, IsGoodWorld, IsPair, IsPaidOut}
 use Rattle.world_state.specs.Promises.{CascadeStep, Flow, all_stepped, cascade, flowing, no_promise, notifies, settlement_at, settles, stepped}
 use Rattle.world_state.specs.Rights.{slots_at}

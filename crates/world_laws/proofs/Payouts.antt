@@ -8,14 +8,14 @@ use Rattle.std.specs.declared.cmp.Ordering.{Ordering}
 use Rattle.std.specs.declared.cmp.Ordering.TheVariants.{Equal, Greater, Less}
 use Rattle.std.proofs.lemmas.Cmp.{nat_list_cmp_total}
 use Rattle.std.proofs.lemmas.Slice.Eq.{bytes_eq-Decides}
-use Rattle.data_nodes.specs.Nodes.{AreInOrder, EachField, EachNode, FunctionIs, HasFieldsInOrder, IsShallow, NodeFact, ObjectIs}
-use Rattle.jessie_tree.specs.Tree.{Before, Tree, fields, Fields, no_fields, field}
-use Rattle.jessie_tree.specs.declared.data.ObjKind.TheVariants as kinds
-use Rattle.proposals.specs.Rows.{AreApart, amount_under}
-use Rattle.proposals.specs.Slots.{is_upto}
-use Rattle.proposals.specs.declared.allocations.Row.{Row}
-use Rattle.data_rows.specs.Printable.{HaveFieldNames}
-use Rattle.host_text.specs.Words.{is_field_name, is_keyword}
+use Rattle.world_state.specs.host_data.Nodes.{AreInOrder, EachField, EachNode, FunctionIs, HasFieldsInOrder, IsShallow, NodeFact, ObjectIs}
+use Rattle.world_state.specs.host_data.Tree.{Before, Tree, fields, Fields, no_fields, field}
+use Rattle.world_state.specs.host_data.declared.data.ObjKind.TheVariants as kinds
+use Rattle.world_state.specs.proposals.Rows.{AreApart, amount_under}
+use Rattle.world_state.specs.proposals.Slots.{is_upto}
+use Rattle.world_state.specs.proposals.declared.allocations.Row.{Row}
+use Rattle.world_state.specs.turn_records.Printable.{HaveFieldNames}
+use Rattle.world_state.specs.host_text.Words.{is_field_name, is_keyword}
 use Rattle.world_state.specs.Good.{AreNamed}
 use Rattle.world_state.specs.Known.{FunctionKnown, HasNames, IsHanded, ObjectKnown}
 use Rattle.world_state.specs.Worlds.{State, object_tree, payout_fields, payouts_from, placed_field}

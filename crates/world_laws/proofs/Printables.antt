@@ -1,17 +1,17 @@
 -- What the world holds can be printed.
 use Rattle.std.specs.List.{AllByRecursion}
 use Rattle.std.proofs.Common.{◌≡◌, inl, inr, ℕ, ◌<◌, true, List, [], ◌∷◌, Some, None, Option, subst, arith}
-use Rattle.data_nodes.proofs.Nodes.{both, weaker}
-use Rattle.data_nodes.specs.Nodes.{Both, EachNode, IsShallow, ObjectIs}
-use Rattle.data_rows.specs.Names.{numbers_end}
-use Rattle.data_rows.specs.Printable.{HasForm, IsPrintable}
-use Rattle.host_text.specs.Words.{is_field_name}
-use Rattle.instance_store.specs.Tables.{instance_at, no_module}
-use Rattle.jessie_syntax.specs.Syntax.{Routine, routines}
-use Rattle.jessie_tree.specs.Tree.{Tree, array, boolean, fields, function, null, number, object, text}
-use Rattle.jessie_tree.specs.declared.data.ObjKind.{ObjKind}
-use Rattle.jessie_tree.specs.declared.data.ObjKind.TheVariants as kinds
-use Rattle.turn_rows.specs.Form.{objects_end}
+use Rattle.world_state.proofs.host_data.Nodes.{both, weaker}
+use Rattle.world_state.specs.host_data.Nodes.{Both, EachNode, IsShallow, ObjectIs}
+use Rattle.world_state.specs.turn_records.Names.{numbers_end}
+use Rattle.world_state.specs.turn_records.Printable.{HasForm, IsPrintable}
+use Rattle.world_state.specs.host_text.Words.{is_field_name}
+use Rattle.world_state.specs.actors.Tables.{instance_at, no_module}
+use Rattle.world_state.specs.jessie_grammar.Syntax.{Routine, routines}
+use Rattle.world_state.specs.host_data.Tree.{Tree, array, boolean, fields, function, null, number, object, text}
+use Rattle.world_state.specs.host_data.declared.data.ObjKind.{ObjKind}
+use Rattle.world_state.specs.host_data.declared.data.ObjKind.TheVariants as kinds
+use Rattle.world_state.specs.turn_rows.Form.{objects_end}
 use Rattle.world_state.specs.Good.{IsGoodWorld, IsModule}
 use Rattle.world_state.specs.Known.{HasFunction, HasNames, HasWidth, IsFormed, IsNamed, ObjectKnown, known_as, made_as, module_of}
 use Rattle.world_state.specs.Worlds.{State}

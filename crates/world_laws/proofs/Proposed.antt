@@ -6,24 +6,24 @@ use Rattle.std.proofs.Common.{◌≡◌, ◌≢◌, inl, inr, ℕ, ◌+◌, ◌�
 use Rattle.std.proofs.lemmas.Bool.{cases_eq}
 use Rattle.std.proofs.lemmas.List.Elements.{All-head, All-tail}
 use Rattle.std.proofs.lemmas.Slice.Eq.{bytes_eq-Decides}
-use Rattle.list_edits.proofs.ListEdits.{length_push, length_set, read_before, read_other, read_pushed, read_set}
-use Rattle.amount_math.specs.Amount.{Meet, holding}
-use Rattle.amount_math.specs.Content.{nothing}
-use Rattle.amount_math.specs.Worth.{Worth}
-use Rattle.amount_math.specs.declared.Amount.{Amount}
-use Rattle.ertp_mint.specs.BrandSupply.{BrandSupply, new_supply}
-use Rattle.instance_store.specs.declared.seat_promises.SeatPair.{SeatPair}
-use Rattle.jessie_tree.specs.Tree.{null}
-use Rattle.promise_store.specs.States.{ok}
-use Rattle.proposals.specs.Rows.{AreApart, AreRows, amount_under}
-use Rattle.proposals.specs.Slots.{FitsSeat, emptied, in_byte_order, is_upto, placed, slots_of}
-use Rattle.proposals.specs.declared.allocations.Row.{Row}
-use Rattle.proposals.specs.declared.offers.Proposal.{Proposal}
-use Rattle.proposals.proofs.RowLists.{not_first, not_later}
-use Rattle.rights_model.specs.declared.Holder.{Holder}
-use Rattle.rights_model.specs.declared.Holder.TheVariants.{Slot}
-use Rattle.rights_model.specs.declared.Movement.{Movement}
-use Rattle.right_steps.specs.Lists.{amount_of, less, more}
+use Rattle.world_state.proofs.lemmas.ListEdits.{length_push, length_set, read_before, read_other, read_pushed, read_set}
+use Rattle.world_state.specs.amount_math.Amount.{Meet, holding}
+use Rattle.world_state.specs.amount_math.Content.{nothing}
+use Rattle.world_state.specs.amount_math.Worth.{Worth}
+use Rattle.world_state.specs.amount_math.declared.Amount.{Amount}
+use Rattle.world_state.specs.ertp_mint.BrandSupply.{BrandSupply, new_supply}
+use Rattle.world_state.specs.actors.declared.instance_store.seat_promises.SeatPair.{SeatPair}
+use Rattle.world_state.specs.host_data.Tree.{null}
+use Rattle.world_state.specs.promise_store.States.{ok}
+use Rattle.world_state.specs.proposals.Rows.{AreApart, AreRows, amount_under}
+use Rattle.world_state.specs.proposals.Slots.{FitsSeat, emptied, in_byte_order, is_upto, placed, slots_of}
+use Rattle.world_state.specs.proposals.declared.allocations.Row.{Row}
+use Rattle.world_state.specs.proposals.declared.offers.Proposal.{Proposal}
+use Rattle.world_state.proofs.proposals.RowLists.{not_first, not_later}
+use Rattle.world_state.specs.rights_model.declared.Holder.{Holder}
+use Rattle.world_state.specs.rights_model.declared.Holder.TheVariants.{Slot}
+use Rattle.world_state.specs.rights_model.declared.Movement.{Movement}
+use Rattle.world_state.specs.right_steps.Lists.{amount_of, less, more}
 use Rattle.world_state.specs.Good.{AreNamed, AreProposed, AreRowsOf, AreRowsValued, HasSlot, HaveSlots, IsGoodEffect, IsGoodWorld, IsLast, IsPair, IsProposal, IsSeat}
 use Rattle.world_state.specs.Rights.{Rights, all_moved, given, moved, slots_at, taken, with_slots}
 use Rattle.world_state.specs.Worlds.{Effect, Seat, State, after, burn_and_escrows, empty_slots, invitation_move, left_seat, new_seat, next_pair, no_seat, of_own, offered_by, promises_made, seat_at, empty_seat, exit, invite, moves, new_brand, offer}

@@ -2,15 +2,15 @@
 use Rattle.std.specs.Prelude.{IsSome, is_none, is_some, slice_set, unwrap_or}
 use Rattle.std.proofs.Common.{◌≡◌, inl, inr, ℕ, zero, suc, ◌+◌, ◌<◌, List, [], ◌∷◌, ◌++◌, Some, None, Option, length, map, refl, sym, ◌∙◌, ap, subst, arith, if◌then◌else◌}
 use Rattle.std.proofs.lemmas.Bool.{cases_eq, eq-eqb}
-use Rattle.list_edits.proofs.ListEdits.{length_push, read_before, read_other, read_pushed, read_set}
-use Rattle.amount_math.specs.declared.Amount.{Amount}
-use Rattle.brands.specs.Brands.{brand_at}
-use Rattle.ertp_mint.specs.BrandSupply.{BrandSupply, new_supply}
-use Rattle.ertp_mint.specs.Stocks.{empty_amount}
-use Rattle.payments.specs.Papers.{Paper, live_paper, paper_at}
-use Rattle.proposals.specs.Slots.{emptied}
-use Rattle.proposals.specs.declared.allocations.Row.{Row}
-use Rattle.right_steps.specs.Lists.{amount_of}
+use Rattle.world_state.proofs.lemmas.ListEdits.{length_push, read_before, read_other, read_pushed, read_set}
+use Rattle.world_state.specs.amount_math.declared.Amount.{Amount}
+use Rattle.world_state.specs.brands.Brands.{brand_at}
+use Rattle.world_state.specs.ertp_mint.BrandSupply.{BrandSupply, new_supply}
+use Rattle.world_state.specs.ertp_mint.Stocks.{empty_amount}
+use Rattle.world_state.specs.holders.Papers.{Paper, live_paper, paper_at}
+use Rattle.world_state.specs.proposals.Slots.{emptied}
+use Rattle.world_state.specs.proposals.declared.allocations.Row.{Row}
+use Rattle.world_state.specs.right_steps.Lists.{amount_of}
 use Rattle.world_state.specs.Good.{AreStaged, HasRoom, IsGoodEffect, IsGoodWorld, IsStaged, open_slots, slots_in}
 use Rattle.world_state.specs.Rights.{all_moved, paid, paper_more, slots_at, with_slots}
 use Rattle.world_state.specs.Worlds.{Effect, Seat, State, after, empty_slots, burn_and_escrows, invitation_move, invitation_value, left_seat, new_seat, no_rows, no_seat, of_own, offered_by, paid_out, seat_at, staged_at, empty_payment, empty_seat, end_staging, exit, invite, moves, new_brand, offer, stage, unstage}

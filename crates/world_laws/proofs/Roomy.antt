@@ -1,13 +1,13 @@
 -- What is issued uses up room, and nothing else does.
 use Rattle.std.specs.Prelude.{slice_set}
 use Rattle.std.proofs.Common.{ℕ, zero, suc, ◌+◌, ◌≤◌, List, [], ◌∷◌, ◌++◌, arith}
-use Rattle.amount_math.specs.Counted.{counted}
-use Rattle.amount_math.specs.Worth.{Worth}
-use Rattle.amount_math.specs.declared.Kind.{Kind}
-use Rattle.ertp_mint.specs.BrandSupply.{BrandSupply, issued, new_supply, retired, supply_at}
-use Rattle.rights_model.specs.declared.Holder.{Holder}
-use Rattle.rights_model.specs.declared.Holder.TheVariants.{Purse, Payment, Slot, Hand, Outside}
-use Rattle.rights_model.specs.declared.Movement.{Movement}
+use Rattle.world_state.specs.amount_math.Counted.{counted}
+use Rattle.world_state.specs.amount_math.Worth.{Worth}
+use Rattle.world_state.specs.amount_math.declared.Kind.{Kind}
+use Rattle.world_state.specs.ertp_mint.BrandSupply.{BrandSupply, issued, new_supply, retired, supply_at}
+use Rattle.world_state.specs.rights_model.declared.Holder.{Holder}
+use Rattle.world_state.specs.rights_model.declared.Holder.TheVariants.{Purse, Payment, Slot, Hand, Outside}
+use Rattle.world_state.specs.rights_model.declared.Movement.{Movement}
 use Rattle.world_state.specs.Rights.{IsRoomy, Rights, all_moved, given, issued_from, issued_in, moved, taken, with_slots}
 use Rattle.world_state.specs.Worlds.{Effect, State, after, after_all, burn_and_escrows, empty_slots, invitation_move, issued_by, issued_by_all, invite, moves, new_brand, offer}
 

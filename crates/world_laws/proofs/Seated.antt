@@ -4,22 +4,22 @@ use Rattle.std.specs.List.{AllByRecursion}
 use Rattle.std.specs.Str.{bytes_eq}
 use Rattle.std.proofs.Common.{◌≡◌, ◌≢◌, inl, inr, ℕ, ◌<◌, List, [], ◌∷◌, ◌++◌, Some, None, Option, length, map, refl, sym, ◌∙◌, ap, subst, arith}
 use Rattle.std.proofs.lemmas.Bool.{cases_eq}
-use Rattle.list_edits.proofs.ListEdits.{length_push, length_set, read_before, read_other, read_pushed, read_set}
-use Rattle.amount_math.specs.Amount.{holding}
-use Rattle.amount_math.specs.Content.{Content, nothing}
-use Rattle.amount_math.specs.Worth.{Worth}
-use Rattle.amount_math.specs.declared.Amount.{Amount}
-use Rattle.proposals.specs.OfferSafety.{IsOfferSafe}
-use Rattle.proposals.specs.Rows.{AreApart, AreRows, amount_under, most_rows}
-use Rattle.proposals.proofs.SlotLists.{AreRows-slots_of}
-use Rattle.proposals.specs.Slots.{FitsSeat, emptied, slots_of}
-use Rattle.proposals.specs.declared.offers.Proposal.{Proposal}
-use Rattle.proposals.specs.declared.allocations.Row.{Row}
-use Rattle.rights_model.specs.declared.Holder.{Holder}
-use Rattle.rights_model.specs.declared.Holder.TheVariants.{Purse, Payment, Slot, Hand, Outside}
-use Rattle.rights_model.specs.declared.Movement.{Movement}
-use Rattle.right_steps.specs.Lists.{amount_of, less, more}
-use Rattle.right_steps.specs.Tables.{no_hand}
+use Rattle.world_state.proofs.lemmas.ListEdits.{length_push, length_set, read_before, read_other, read_pushed, read_set}
+use Rattle.world_state.specs.amount_math.Amount.{holding}
+use Rattle.world_state.specs.amount_math.Content.{Content, nothing}
+use Rattle.world_state.specs.amount_math.Worth.{Worth}
+use Rattle.world_state.specs.amount_math.declared.Amount.{Amount}
+use Rattle.world_state.specs.proposals.OfferSafety.{IsOfferSafe}
+use Rattle.world_state.specs.proposals.Rows.{AreApart, AreRows, amount_under, most_rows}
+use Rattle.world_state.proofs.proposals.SlotLists.{AreRows-slots_of}
+use Rattle.world_state.specs.proposals.Slots.{FitsSeat, emptied, slots_of}
+use Rattle.world_state.specs.proposals.declared.offers.Proposal.{Proposal}
+use Rattle.world_state.specs.proposals.declared.allocations.Row.{Row}
+use Rattle.world_state.specs.rights_model.declared.Holder.{Holder}
+use Rattle.world_state.specs.rights_model.declared.Holder.TheVariants.{Purse, Payment, Slot, Hand, Outside}
+use Rattle.world_state.specs.rights_model.declared.Movement.{Movement}
+use Rattle.world_state.specs.right_steps.Lists.{amount_of, less, more}
+use Rattle.world_state.specs.right_steps.Tables.{no_hand}
 use Rattle.world_state.specs.Good.{AreCovered, AreNamed, AreSeats, IsGoodEffect, IsGoodMove, IsGoodWorld, IsKeyword, IsNamedHolder}
 use Rattle.world_state.specs.Rights.{CanGive, CanMoveAll, CanTake, HasOrOpens, Rights, TakesOrOpens, all_moved, given, hand_after, moved, slots_at, taken, with_slots}
 use Rattle.world_state.specs.Worlds.{Effect, IsOpen, Seat, State, after, burn_and_escrows, empty_slots, left_seat, new_seat, next_pair, no_rows, no_seat, of_own, offered_by, seat_at, empty_seat, end_staging, exit, invite, moves, offer, stage, unstage}

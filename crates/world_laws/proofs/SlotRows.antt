@@ -4,11 +4,11 @@ use Rattle.std.specs.List.{AllByRecursion}
 use Rattle.std.specs.Str.{bytes_eq}
 use Rattle.std.proofs.Common.{◌≡◌, ℕ, zero, suc, ◌+◌, ◌<◌, ◌≤◌, Bool, true, false, cond, List, [], ◌∷◌, Some, None, Option, length, map, refl, sym, ◌∙◌, ap, arith, if◌then◌else◌}
 use Rattle.std.proofs.lemmas.Slice.Eq.{bytes_eq-Decides}
-use Rattle.amount_math.specs.Amount.{Meet}
-use Rattle.amount_math.specs.declared.Amount.{Amount}
-use Rattle.proposals.specs.Rows.{AreApart, AreRows, amount_under, most_rows, row_of}
-use Rattle.proposals.specs.Slots.{emptied}
-use Rattle.proposals.specs.declared.allocations.Row.{Row}
+use Rattle.world_state.specs.amount_math.Amount.{Meet}
+use Rattle.world_state.specs.amount_math.declared.Amount.{Amount}
+use Rattle.world_state.specs.proposals.Rows.{AreApart, AreRows, amount_under, most_rows, row_of}
+use Rattle.world_state.specs.proposals.Slots.{emptied}
+use Rattle.world_state.specs.proposals.declared.allocations.Row.{Row}
 use Rattle.world_state.specs.Good.{AreNamed, HasSlot, IsKeyword}
 use Rattle.world_state.specs.Rights.{changed_row, rows_with, slots_at}
 

@@ -4,22 +4,22 @@ use Rattle.std.specs.List.{AllByRecursion}
 use Rattle.std.specs.Ordering.{eq_by_cmp}
 use Rattle.std.proofs.Common.{◌≡◌, ◌≢◌, inl, inr, ℕ, ◌+◌, ◌<◌, ◌≤◌, Bool, true, false, cond, List, [], ◌∷◌, ◌++◌, length, refl, sym, ◌∙◌, ap, subst, arith}
 use Rattle.std.proofs.lemmas.Bool.{cases_eq, eq-eqb}
-use Rattle.list_edits.proofs.ListEdits.{length_push, length_set, read_before, read_other, read_pushed, read_set}
-use Rattle.amount_math.specs.Content.{Content, count, count-difference, count-nothing, count-one_of, count-sum, key_cmp, one_of, sum}
-use Rattle.amount_math.specs.Worth.{Fits, Worth}
-use Rattle.amount_math.specs.declared.Kind.TheVariants.{Nat, Set}
-use Rattle.amount_math.proofs.Listed.{same_key}
-use Rattle.amount_math.proofs.Together.{one_is_set}
-use Rattle.brands.specs.Brands.{no_brand}
-use Rattle.brands.specs.declared.Brand.{Brand}
-use Rattle.ertp_mint.specs.BrandSupply.{BrandSupply, issued, new_supply, retired, supply_at}
-use Rattle.ertp_mint.specs.Stocks.{most_made}
-use Rattle.invitations.specs.Details.{DetailsView}
-use Rattle.invitations.specs.Elements.{element}
-use Rattle.rights_model.specs.declared.Holder.{Holder}
-use Rattle.rights_model.specs.declared.Holder.TheVariants.{Purse, Payment, Slot, Hand, Outside}
-use Rattle.rights_model.specs.declared.Movement.{Movement}
-use Rattle.right_steps.specs.Tables.{no_hand}
+use Rattle.world_state.proofs.lemmas.ListEdits.{length_push, length_set, read_before, read_other, read_pushed, read_set}
+use Rattle.world_state.specs.amount_math.Content.{Content, count, count-difference, count-nothing, count-one_of, count-sum, key_cmp, one_of, sum}
+use Rattle.world_state.specs.amount_math.Worth.{Fits, Worth}
+use Rattle.world_state.specs.amount_math.declared.Kind.TheVariants.{Nat, Set}
+use Rattle.world_state.proofs.amount_math.Listed.{same_key}
+use Rattle.world_state.proofs.amount_math.Together.{one_is_set}
+use Rattle.world_state.specs.brands.Brands.{no_brand}
+use Rattle.world_state.specs.brands.declared.Brand.{Brand}
+use Rattle.world_state.specs.ertp_mint.BrandSupply.{BrandSupply, issued, new_supply, retired, supply_at}
+use Rattle.world_state.specs.ertp_mint.Stocks.{most_made}
+use Rattle.world_state.specs.turn_stores.Details.{DetailsView}
+use Rattle.world_state.specs.turn_stores.Elements.{element}
+use Rattle.world_state.specs.rights_model.declared.Holder.{Holder}
+use Rattle.world_state.specs.rights_model.declared.Holder.TheVariants.{Purse, Payment, Slot, Hand, Outside}
+use Rattle.world_state.specs.rights_model.declared.Movement.{Movement}
+use Rattle.world_state.specs.right_steps.Tables.{no_hand}
 use Rattle.world_state.specs.Good.{AreBrands, AreInvitations, IsGoodEffect, IsGoodMove, IsGoodWorld, IsInBounds}
 use Rattle.world_state.specs.Rights.{CanMoveAll, CanTake, Rights, all_moved, given, hand_after, kind_at, moved, taken, with_slots, IsNextOr}
 use Rattle.world_state.specs.Worlds.{Effect, Maker, Seat, State, after, burn_and_escrows, empty_slots, invitation_move, invitation_value, of_host, invite, moves, new_brand, offer}

@@ -4,23 +4,23 @@ use Rattle.std.specs.List.{AllByRecursion}
 use Rattle.std.specs.Option.{option_map}
 use Rattle.std.specs.Str.{bytes_eq}
 use Rattle.std.proofs.Common.{ℕ, Bool, true, false, cond, List, [], ◌∷◌, ◌++◌, Some, None, Option, length, map, sym, subst, arith, if◌then◌else◌}
-use Rattle.amount_math.specs.Content.{Contains, Content, count-difference, difference, nothing, sum}
-use Rattle.amount_math.specs.KindLaws.{nothing_is_value, value_of_part}
-use Rattle.amount_math.specs.Worth.{IsValue, Worth}
-use Rattle.amount_math.specs.declared.Amount.{Amount}
-use Rattle.amount_math.specs.declared.Kind.{Kind}
-use Rattle.amount_math.specs.Amount.{holding}
-use Rattle.brands.specs.Brands.{brand_at}
-use Rattle.ertp_mint.specs.Stocks.{no_amount}
-use Rattle.payments.specs.Papers.{Paper, live_paper, paper_at, spent_paper}
-use Rattle.proposals.specs.Rows.{amount_under, row_of}
-use Rattle.proposals.specs.Slots.{emptied}
-use Rattle.proposals.specs.declared.allocations.Row.{Row}
-use Rattle.rights_model.specs.declared.Holder.{Holder}
-use Rattle.rights_model.specs.declared.Holder.TheVariants.{Purse, Payment, Slot, Hand, Outside}
-use Rattle.rights_model.specs.declared.Movement.{Movement}
-use Rattle.right_steps.specs.Lists.{amount_of, less, more, purse_at}
-use Rattle.right_steps.specs.Tables.{no_hand}
+use Rattle.world_state.specs.amount_math.Content.{Contains, Content, count-difference, difference, nothing, sum}
+use Rattle.world_state.specs.amount_math.KindLaws.{nothing_is_value, value_of_part}
+use Rattle.world_state.specs.amount_math.Worth.{IsValue, Worth}
+use Rattle.world_state.specs.amount_math.declared.Amount.{Amount}
+use Rattle.world_state.specs.amount_math.declared.Kind.{Kind}
+use Rattle.world_state.specs.amount_math.Amount.{holding}
+use Rattle.world_state.specs.brands.Brands.{brand_at}
+use Rattle.world_state.specs.ertp_mint.Stocks.{no_amount}
+use Rattle.world_state.specs.holders.Papers.{Paper, live_paper, paper_at, spent_paper}
+use Rattle.world_state.specs.proposals.Rows.{amount_under, row_of}
+use Rattle.world_state.specs.proposals.Slots.{emptied}
+use Rattle.world_state.specs.proposals.declared.allocations.Row.{Row}
+use Rattle.world_state.specs.rights_model.declared.Holder.{Holder}
+use Rattle.world_state.specs.rights_model.declared.Holder.TheVariants.{Purse, Payment, Slot, Hand, Outside}
+use Rattle.world_state.specs.rights_model.declared.Movement.{Movement}
+use Rattle.world_state.specs.right_steps.Lists.{amount_of, less, more, purse_at}
+use Rattle.world_state.specs.right_steps.Tables.{no_hand}
 use Rattle.world_state.specs.Good.{AreRowsValued, AreValues, IsAmountValued, IsGoodEffect, IsGoodWorld, IsPaperValued, IsValued}
 use Rattle.world_state.specs.Rights.{CanGive, CanMoveAll, IsNextOr, Rights, Takes, TakesOrOpens, all_moved, all_spent, given, hand_after, moved, moved_together, paid, paper_less, paper_more, rows_less, rows_more, slots_at, spent_from, taken, value_less, value_more, with_slots}
 use Rattle.world_state.specs.Worlds.{Effect, State, after, burn_and_escrows, empty_slots, invitation_move, paid_out, empty_payment, empty_seat, exit, invite, moves, new_purse, offer}

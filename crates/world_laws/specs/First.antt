@@ -1,8 +1,8 @@
 -- The world of a new host: the brand of invitations was made, and nothing else.
 use Rattle.std.specs.Prelude.{[], ◌∷◌}
-use Rattle.amount_math.specs.declared.Kind.TheVariants.{Set}
-use Rattle.brands.specs.Brands.{started}
-use Rattle.ertp_mint.specs.BrandSupply.{new_supply}
+use Rattle.world_state.specs.amount_math.declared.Kind.TheVariants.{Set}
+use Rattle.world_state.specs.brands.Brands.{started}
+use Rattle.world_state.specs.ertp_mint.BrandSupply.{new_supply}
 use Rattle.world_state.specs.Worlds.{State, of_host}
 
 abbrev pub first_world : State

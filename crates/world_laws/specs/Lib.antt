@@ -1,2 +1,23 @@
 pub mod First
 pub mod Turns
+pub mod Fronts
+pub mod Tables
+pub mod Views
+pub mod Combinations
+pub use Rattle.world_state.specs.actors
+pub use Rattle.world_state.specs.amount_math
+pub use Rattle.world_state.specs.brands
+pub use Rattle.world_state.specs.ertp_mint
+pub use Rattle.world_state.specs.host_data
+pub use Rattle.world_state.specs.host_text
+pub use Rattle.world_state.specs.jessie_values
+pub use Rattle.world_state.specs.lemmas
+pub use Rattle.world_state.specs.promise_store
+pub use Rattle.world_state.specs.proposals
+pub use Rattle.world_state.specs.refusals
+pub use Rattle.world_state.specs.right_steps
+pub use Rattle.world_state.specs.rights_model
+pub use Rattle.world_state.specs.turn_records
+pub use Rattle.world_state.specs.turn_rows
+pub use Rattle.world_state.specs.turn_stores
+pub use Rattle.world_state.specs as world_state

@@ -1,7 +1,7 @@
 -- What a turn's laws speak of: all amounts that are known of a seat.
 use Rattle.std.specs.Prelude.{◌≡◌, ℕ, All, List, [], ◌++◌, unwrap_or}
-use Rattle.amount_math.specs.Amount.{Meet}
-use Rattle.proposals.specs.declared.allocations.Row.{Row}
+use Rattle.world_state.specs.amount_math.Amount.{Meet}
+use Rattle.world_state.specs.proposals.declared.allocations.Row.{Row}
 use Rattle.world_state.specs.Rights.{slots_at}
 use Rattle.world_state.specs.Worlds.{State, seat_at, staged_at}
 

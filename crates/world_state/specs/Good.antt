@@ -4,53 +4,53 @@ use Rattle.std.specs.Prelude.{◌≡◌, ◌≢◌, ◌⊎◌, ℕ, ◌+◌, ◌
 use Rattle.std.specs.Prelude.{Bool, true, false, codes, List, [], ◌∷◌, ◌++◌, length}
 use Rattle.std.specs.Prelude.{Option, Some, None, IfSome, IsSome, IsSomeAnd, is_none}
 use Rattle.std.specs.List.{AllByRecursion}
-use Rattle.amount_math.specs.Amount.{Meet}
-use Rattle.amount_math.specs.Content.{count}
-use Rattle.amount_math.specs.Worth.{Fits, IsValue, Worth}
-use Rattle.amount_math.specs.declared.Amount.{Amount}
-use Rattle.amount_math.specs.declared.Kind.TheVariants.{Set}
+use Rattle.right_steps.specs.amount_math.Amount.{Meet}
+use Rattle.right_steps.specs.amount_math.Content.{count}
+use Rattle.right_steps.specs.amount_math.Worth.{Fits, IsValue, Worth}
+use Rattle.right_steps.specs.amount_math.declared.Amount.{Amount}
+use Rattle.right_steps.specs.amount_math.declared.Kind.TheVariants.{Set}
 use Rattle.actors.specs.Labels.{Bound, bound_to}
-use Rattle.brands.specs.Brands.{brand_at, most_brands}
-use Rattle.brands.specs.IssuerRecords.{AreIssuers, brand_under, most_issuers}
-use Rattle.brands.specs.declared.Brand.{Brand}
-use Rattle.brands.specs.declared.issuer_record.Issuer.{Issuer}
-use Rattle.ertp_mint.specs.BrandSupply.{BrandSupply, supply_at}
-use Rattle.ertp_mint.specs.Stocks.{most_made}
-use Rattle.host_text.specs.Words.{is_field_name, is_keyword}
-use Rattle.instance_store.specs.Facets.{FacetView}
-use Rattle.instance_store.specs.SeatPromises.{pair_at}
-use Rattle.instance_store.specs.Tables.{InstanceView, initial_state, instance_at, module_at}
-use Rattle.instance_store.specs.declared.instance.Standing.{Standing}
-use Rattle.instance_store.specs.declared.instance.Standing.TheVariants.{Halted}
-use Rattle.instance_store.specs.declared.seat_promises.SeatPair.{SeatPair}
-use Rattle.invitations.specs.Details.{DetailsView}
-use Rattle.invitations.specs.Elements.{element}
-use Rattle.jessie_semantics.specs.Naming.{IsFieldName, RoutinesWrite}
-use Rattle.jessie_syntax.specs.Syntax.{Routine, routines}
-use Rattle.jessie_tree.specs.Tree.{Tree, fields, get, object}
-use Rattle.jessie_tree.specs.declared.data.Obj.{Obj}
-use Rattle.jessie_syntax.specs.declared.syntax.Module.{Module}
-use Rattle.payments.specs.Papers.{Paper, paper_at}
-use Rattle.promise_store.specs.Linked.{IsForest, LeadsTo, leader}
-use Rattle.promise_store.specs.States.{SettlementView, broken, ok}
-use Rattle.promise_store.specs.declared.links.Following.{Following}
-use Rattle.proposals.specs.OfferSafety.{IsOfferSafe}
-use Rattle.proposals.specs.Rows.{AreRows, amount_under}
-use Rattle.proposals.specs.Slots.{FitsSeat, in_byte_order}
-use Rattle.proposals.specs.declared.allocations.Row.{Row}
-use Rattle.proposals.specs.declared.offers.Exit.{Exit}
-use Rattle.proposals.specs.declared.offers.Exit.TheVariants.{AfterDeadline, OnDemand, Waived}
-use Rattle.proposals.specs.declared.offers.Proposal.{Proposal}
-use Rattle.rights_model.specs.declared.Holder.{Holder}
-use Rattle.rights_model.specs.declared.Holder.TheVariants.{Purse, Payment, Slot, Hand, Outside}
-use Rattle.rights_model.specs.declared.Movement.{Movement}
+use Rattle.actors.specs.brands.Brands.{brand_at, most_brands}
+use Rattle.actors.specs.brands.IssuerRecords.{AreIssuers, brand_under, most_issuers}
+use Rattle.actors.specs.brands.declared.Brand.{Brand}
+use Rattle.actors.specs.brands.declared.issuer_record.Issuer.{Issuer}
+use Rattle.right_steps.specs.ertp_mint.BrandSupply.{BrandSupply, supply_at}
+use Rattle.right_steps.specs.ertp_mint.Stocks.{most_made}
+use Rattle.right_steps.specs.host_text.Words.{is_field_name, is_keyword}
+use Rattle.actors.specs.Facets.{FacetView}
+use Rattle.actors.specs.SeatPromises.{pair_at}
+use Rattle.actors.specs.Tables.{InstanceView, initial_state, instance_at, module_at}
+use Rattle.actors.specs.declared.instance_store.instance.Standing.{Standing}
+use Rattle.actors.specs.declared.instance_store.instance.Standing.TheVariants.{Halted}
+use Rattle.actors.specs.declared.instance_store.seat_promises.SeatPair.{SeatPair}
+use Rattle.actors.specs.turn_stores.Details.{DetailsView}
+use Rattle.actors.specs.turn_stores.Elements.{element}
+use Rattle.actors.specs.jessie_semantics.Naming.{IsFieldName, RoutinesWrite}
+use Rattle.actors.specs.jessie_grammar.Syntax.{Routine, routines}
+use Rattle.right_steps.specs.host_data.Tree.{Tree, fields, get, object}
+use Rattle.right_steps.specs.host_data.declared.data.Obj.{Obj}
+use Rattle.actors.specs.jessie_grammar.declared.syntax.Module.{Module}
+use Rattle.right_steps.specs.holders.Papers.{Paper, paper_at}
+use Rattle.turn_records.specs.promise_store.Linked.{IsForest, LeadsTo, leader}
+use Rattle.turn_records.specs.promise_store.States.{SettlementView, broken, ok}
+use Rattle.turn_records.specs.promise_store.declared.links.Following.{Following}
+use Rattle.right_steps.specs.proposals.OfferSafety.{IsOfferSafe}
+use Rattle.right_steps.specs.proposals.Rows.{AreRows, amount_under}
+use Rattle.right_steps.specs.proposals.Slots.{FitsSeat, in_byte_order}
+use Rattle.right_steps.specs.proposals.declared.allocations.Row.{Row}
+use Rattle.right_steps.specs.proposals.declared.offers.Exit.{Exit}
+use Rattle.right_steps.specs.proposals.declared.offers.Exit.TheVariants.{AfterDeadline, OnDemand, Waived}
+use Rattle.right_steps.specs.proposals.declared.offers.Proposal.{Proposal}
+use Rattle.right_steps.specs.rights_model.declared.Holder.{Holder}
+use Rattle.right_steps.specs.rights_model.declared.Holder.TheVariants.{Purse, Payment, Slot, Hand, Outside}
+use Rattle.right_steps.specs.rights_model.declared.Movement.{Movement}
 use Rattle.right_steps.specs.Tables.{no_hand}
-use Rattle.timer.specs.Schedules.{Schedule}
+use Rattle.actors.specs.turn_stores.Schedules.{Schedule}
 use Rattle.turn_records.specs.Deliveries.{Delivery, Notice, Offer, Send, Start, Wakeup, promise_of}
 use Rattle.turn_records.specs.Deliveries.{bad, call, deadline, give, notify, tick}
 use Rattle.turn_records.specs.Deliveries.{offer as offers, send as sends, start as starts}
 use Rattle.turn_records.specs.Deliveries.{wake as wakes}
-use Rattle.turn_rows.specs.Form.{times_end}
+use Rattle.turn_records.specs.turn_rows.Form.{times_end}
 use Rattle.world_state.specs.Known.{HasFunction, IsHanded, IsKnownTo, IsNamed, IsPlain, IsSeatOf}
 use Rattle.world_state.specs.Lines.{IsFormedCall, IsFormedGift}
 use Rattle.world_state.specs.Promises.{IsPending, PromiseBook, WasSettled, settlement_at, target_of}

@@ -3,27 +3,27 @@
 use Rattle.std.specs.Prelude.{◌≡◌, ℕ, ◌<◌, ◌≤◌, ◌⊎◌, true, Option, Some, None, IsSome}
 use Rattle.std.specs.Prelude.{List, [], ◌∷◌, length, slice_index_or}
 use Rattle.std.specs.Str.{IsUtf8}
-use Rattle.amount_math.specs.declared.Kind.{Kind}
-use Rattle.brands.specs.Brands.{brand_at, no_brand}
-use Rattle.brands.specs.declared.Brand.{Brand}
-use Rattle.data_nodes.specs.Nodes.{NodeFact}
-use Rattle.data_nodes.specs.Nodes.{EachNode, FunctionIs, HasFieldsInOrder, IsShallow, ObjectIs}
-use Rattle.data_rows.specs.Printable.{HaveFieldNames, IsNumber}
-use Rattle.host_text.specs.Words.{is_field_name}
-use Rattle.instance_store.specs.Facets.{no_facet}
-use Rattle.instance_store.specs.SeatPromises.{no_pair}
-use Rattle.instance_store.specs.Tables.{InstanceView, Tables, instance_at, module_at}
-use Rattle.instance_store.specs.Tables.{no_instance, no_module}
-use Rattle.invitations.specs.Details.{no_details}
-use Rattle.jessie_syntax.specs.Syntax.{Routine, routines}
-use Rattle.jessie_tree.specs.Tree.{Tree, fields, function, number, object, text}
-use Rattle.jessie_tree.specs.declared.data.Obj.{Obj}
-use Rattle.jessie_tree.specs.declared.data.ObjKind.{ObjKind}
-use Rattle.jessie_tree.specs.declared.data.ObjKind.TheVariants as kinds
-use Rattle.jessie_syntax.specs.declared.syntax.Module.{Module}
-use Rattle.payments.specs.Papers.{Paper, spent_paper}
-use Rattle.proposals.specs.declared.offers.Proposal.{Proposal}
-use Rattle.turn_rows.specs.Form.{objects_end}
+use Rattle.right_steps.specs.amount_math.declared.Kind.{Kind}
+use Rattle.actors.specs.brands.Brands.{brand_at, no_brand}
+use Rattle.actors.specs.brands.declared.Brand.{Brand}
+use Rattle.right_steps.specs.host_data.Nodes.{NodeFact}
+use Rattle.right_steps.specs.host_data.Nodes.{EachNode, FunctionIs, HasFieldsInOrder, IsShallow, ObjectIs}
+use Rattle.turn_records.specs.Printable.{HaveFieldNames, IsNumber}
+use Rattle.right_steps.specs.host_text.Words.{is_field_name}
+use Rattle.actors.specs.Facets.{no_facet}
+use Rattle.actors.specs.SeatPromises.{no_pair}
+use Rattle.actors.specs.Tables.{InstanceView, Tables, instance_at, module_at}
+use Rattle.actors.specs.Tables.{no_instance, no_module}
+use Rattle.actors.specs.turn_stores.Details.{no_details}
+use Rattle.actors.specs.jessie_grammar.Syntax.{Routine, routines}
+use Rattle.right_steps.specs.host_data.Tree.{Tree, fields, function, number, object, text}
+use Rattle.right_steps.specs.host_data.declared.data.Obj.{Obj}
+use Rattle.right_steps.specs.host_data.declared.data.ObjKind.{ObjKind}
+use Rattle.right_steps.specs.host_data.declared.data.ObjKind.TheVariants as kinds
+use Rattle.actors.specs.jessie_grammar.declared.syntax.Module.{Module}
+use Rattle.right_steps.specs.holders.Papers.{Paper, spent_paper}
+use Rattle.right_steps.specs.proposals.declared.offers.Proposal.{Proposal}
+use Rattle.turn_records.specs.turn_rows.Form.{objects_end}
 use Rattle.world_state.specs.Promises.{WasSettled, no_promise}
 use Rattle.world_state.specs.Worlds.{Maker, Seat, State, maker_at, no_seat, seat_at}
 use Rattle.world_state.specs.Worlds.{of_host, of_instance, of_kit}

@@ -3,12 +3,12 @@ use Rattle.std.specs.Prelude.{◌≡◌, ℕ, zero, suc, ◌==◌, if◌then◌e
 use Rattle.std.specs.Prelude.{List, [], ◌∷◌, ◌++◌, length, map, slice_index_or, slice_set}
 use Rattle.std.specs.Prelude.{Option, Some, None, IsSome}
 use Rattle.std.specs.List.{filter, flat_map}
-use Rattle.jessie_tree.specs.Tree.{null, object}
-use Rattle.jessie_tree.specs.declared.data.Obj.{Obj}
-use Rattle.promise_store.specs.Linked.{followers, leader}
-use Rattle.promise_store.specs.States.{SettlementView, StateView, ok, broken, pending, follows}
-use Rattle.promise_store.specs.States.{settled as has_settled, is_promise_kind}
-use Rattle.promise_store.specs.declared.links.Following.{Following}
+use Rattle.right_steps.specs.host_data.Tree.{null, object}
+use Rattle.right_steps.specs.host_data.declared.data.Obj.{Obj}
+use Rattle.turn_records.specs.promise_store.Linked.{followers, leader}
+use Rattle.turn_records.specs.promise_store.States.{SettlementView, StateView, ok, broken, pending, follows}
+use Rattle.turn_records.specs.promise_store.States.{settled as has_settled, is_promise_kind}
+use Rattle.turn_records.specs.promise_store.declared.links.Following.{Following}
 use Rattle.turn_records.specs.Deliveries.{Delivery, Notice, notify}
 use Rattle.turn_records.specs.Events as events
 use Rattle.turn_records.specs.Events.{Event}

@@ -6,19 +6,19 @@ use Rattle.std.specs.Prelude.{Option, Some, None, IsSomeAnd}
 use Rattle.std.specs.List.{flat_map}
 use Rattle.std.specs.Option.{option_map}
 use Rattle.std.specs.Str.{bytes_eq}
-use Rattle.amount_math.specs.Amount.{holding}
-use Rattle.amount_math.specs.Content.{Content, Contains, sum, difference, count, nothing}
-use Rattle.amount_math.specs.Counted.{counted}
-use Rattle.amount_math.specs.Worth.{Worth, Fits, IsValue, with_content}
-use Rattle.amount_math.specs.declared.Amount.{Amount}
-use Rattle.amount_math.specs.declared.Kind.{Kind}
-use Rattle.ertp_mint.specs.BrandSupply.{BrandSupply, issued, retired, supply_at}
-use Rattle.payments.specs.Papers.{Paper, live_paper, paper_at, spent_paper}
-use Rattle.proposals.specs.Rows.{amount_under, most_rows, row_of}
-use Rattle.proposals.specs.declared.allocations.Row.{Row}
-use Rattle.rights_model.specs.declared.Holder.{Holder}
-use Rattle.rights_model.specs.declared.Holder.TheVariants.{Purse, Payment, Slot, Hand, Outside}
-use Rattle.rights_model.specs.declared.Movement.{Movement}
+use Rattle.right_steps.specs.amount_math.Amount.{holding}
+use Rattle.right_steps.specs.amount_math.Content.{Content, Contains, sum, difference, count, nothing}
+use Rattle.right_steps.specs.amount_math.Counted.{counted}
+use Rattle.right_steps.specs.amount_math.Worth.{Worth, Fits, IsValue, with_content}
+use Rattle.right_steps.specs.amount_math.declared.Amount.{Amount}
+use Rattle.right_steps.specs.amount_math.declared.Kind.{Kind}
+use Rattle.right_steps.specs.ertp_mint.BrandSupply.{BrandSupply, issued, retired, supply_at}
+use Rattle.right_steps.specs.holders.Papers.{Paper, live_paper, paper_at, spent_paper}
+use Rattle.right_steps.specs.proposals.Rows.{amount_under, most_rows, row_of}
+use Rattle.right_steps.specs.proposals.declared.allocations.Row.{Row}
+use Rattle.right_steps.specs.rights_model.declared.Holder.{Holder}
+use Rattle.right_steps.specs.rights_model.declared.Holder.TheVariants.{Purse, Payment, Slot, Hand, Outside}
+use Rattle.right_steps.specs.rights_model.declared.Movement.{Movement}
 use Rattle.right_steps.specs.Lists.{amount_of, less, more, purse_at}
 use Rattle.right_steps.specs.Tables.{Right, all_in, hand_minus, hand_plus, right_in, right_on}
 

@@ -1,45 +1,45 @@
 -- The state of the world in a turn, the effects that a call may have on it, what each makes of it.
 use Rattle.std.specs.Prelude.{◌≡◌, ℕ, suc, ◌+◌, if◌then◌else◌, nat_lt, Option, Some, None}
 use Rattle.std.specs.Prelude.{List, [], ◌∷◌, ◌++◌, drop, length, map, slice_index_or, slice_set}
-use Rattle.amount_math.specs.declared.Kind.TheVariants.{Set}
-use Rattle.amount_math.specs.Content.{one_of}
-use Rattle.amount_math.specs.Worth.{Worth}
-use Rattle.amount_math.specs.declared.Amount.{Amount}
+use Rattle.right_steps.specs.amount_math.declared.Kind.TheVariants.{Set}
+use Rattle.right_steps.specs.amount_math.Content.{one_of}
+use Rattle.right_steps.specs.amount_math.Worth.{Worth}
+use Rattle.right_steps.specs.amount_math.declared.Amount.{Amount}
 use Rattle.actors.specs.Labels.{Bound, bound}
-use Rattle.brands.specs.Brands as brands
-use Rattle.brands.specs.declared.Brand.{Brand}
-use Rattle.brands.specs.declared.issuer_record.Issuer.{Issuer}
-use Rattle.ertp_mint.specs.BrandSupply.{new_supply}
-use Rattle.ertp_mint.specs.Stocks.{empty_amount}
-use Rattle.instance_store.specs.Facets.{FacetView}
-use Rattle.instance_store.specs.SeatPromises.{pair_at}
-use Rattle.instance_store.specs.Tables.{Tables, installed, started, with_halted, with_issuer}
-use Rattle.instance_store.specs.Tables.{with_public_facet, with_state, with_stopped}
-use Rattle.instance_store.specs.declared.seat_promises.SeatPair.{SeatPair}
-use Rattle.invitations.specs.Details.{DetailsView, details_at}
-use Rattle.invitations.specs.Elements.{element}
-use Rattle.jessie_tree.specs.Tree.{Tree, fields, null, object, Fields, no_fields, field}
-use Rattle.jessie_tree.specs.declared.data.Obj.{Obj}
-use Rattle.jessie_tree.specs.declared.data.ObjKind.{ObjKind}
-use Rattle.jessie_tree.specs.declared.data.ObjKind.TheVariants as kinds
-use Rattle.jessie_syntax.specs.declared.syntax.Module.{Module}
-use Rattle.payments.specs.Papers.{Paper, live_paper}
-use Rattle.promise_store.specs.States.{SettlementView, ok}
-use Rattle.proposals.specs.Slots.{emptied, is_upto, slots_of}
-use Rattle.proposals.specs.declared.allocations.Row.{Row}
-use Rattle.proposals.specs.declared.offers.Exit.{Exit}
-use Rattle.proposals.specs.declared.offers.Exit.TheVariants.{AfterDeadline, OnDemand, Waived}
-use Rattle.proposals.specs.declared.offers.Proposal.{Proposal}
-use Rattle.rights_model.specs.Table.{movement}
-use Rattle.rights_model.specs.declared.Holder.TheVariants.{Outside, Payment, Slot}
-use Rattle.rights_model.specs.declared.Movement.{Movement}
-use Rattle.timer.specs.Schedules.{Schedule, due_after, due_by, woken_at}
+use Rattle.actors.specs.brands.Brands as brands
+use Rattle.actors.specs.brands.declared.Brand.{Brand}
+use Rattle.actors.specs.brands.declared.issuer_record.Issuer.{Issuer}
+use Rattle.right_steps.specs.ertp_mint.BrandSupply.{new_supply}
+use Rattle.right_steps.specs.ertp_mint.Stocks.{empty_amount}
+use Rattle.actors.specs.Facets.{FacetView}
+use Rattle.actors.specs.SeatPromises.{pair_at}
+use Rattle.actors.specs.Tables.{Tables, installed, started, with_halted, with_issuer}
+use Rattle.actors.specs.Tables.{with_public_facet, with_state, with_stopped}
+use Rattle.actors.specs.declared.instance_store.seat_promises.SeatPair.{SeatPair}
+use Rattle.actors.specs.turn_stores.Details.{DetailsView, details_at}
+use Rattle.actors.specs.turn_stores.Elements.{element}
+use Rattle.right_steps.specs.host_data.Tree.{Tree, fields, null, object, Fields, no_fields, field}
+use Rattle.right_steps.specs.host_data.declared.data.Obj.{Obj}
+use Rattle.right_steps.specs.host_data.declared.data.ObjKind.{ObjKind}
+use Rattle.right_steps.specs.host_data.declared.data.ObjKind.TheVariants as kinds
+use Rattle.actors.specs.jessie_grammar.declared.syntax.Module.{Module}
+use Rattle.right_steps.specs.holders.Papers.{Paper, live_paper}
+use Rattle.turn_records.specs.promise_store.States.{SettlementView, ok}
+use Rattle.right_steps.specs.proposals.Slots.{emptied, is_upto, slots_of}
+use Rattle.right_steps.specs.proposals.declared.allocations.Row.{Row}
+use Rattle.right_steps.specs.proposals.declared.offers.Exit.{Exit}
+use Rattle.right_steps.specs.proposals.declared.offers.Exit.TheVariants.{AfterDeadline, OnDemand, Waived}
+use Rattle.right_steps.specs.proposals.declared.offers.Proposal.{Proposal}
+use Rattle.right_steps.specs.rights_model.Table.{movement}
+use Rattle.right_steps.specs.rights_model.declared.Holder.TheVariants.{Outside, Payment, Slot}
+use Rattle.right_steps.specs.rights_model.declared.Movement.{Movement}
+use Rattle.actors.specs.turn_stores.Schedules.{Schedule, due_after, due_by, woken_at}
 use Rattle.turn_records.specs.Deliveries as deliveries
 use Rattle.turn_records.specs.Deliveries.{Delivery, Notice, Offer, Send, Start, Wakeup}
 use Rattle.turn_records.specs.Events.{Call, Event, called, exited, moved as movement_made}
 use Rattle.turn_records.specs.Events.{opened, settled}
-use Rattle.turn_rows.specs.Causes.{Cause}
-use Rattle.turn_rows.specs.Turns.{Payout}
+use Rattle.turn_records.specs.turn_rows.Causes.{Cause}
+use Rattle.turn_records.specs.turn_rows.Turns.{Payout}
 use Rattle.world_state.specs.Promises.{PromiseBook, Resolved, asking, resolving, settlement_at}
 use Rattle.world_state.specs.Promises.{told_at_once, with_promise}
 use Rattle.world_state.specs.Rights.{Rights, issued_in, moved_together, slots_at}

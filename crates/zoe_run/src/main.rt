@@ -1,15 +1,12 @@
-//! An escrow host: a program that reads JSON lines and writes a journal of their turns. It stands on
-//! `top_call`, on the host over all its rows (`escrow_host`) and on `host_io`'s standard ends. Its one
-//! contract is `top_call::top::zoe_top`'s, over these: `main` gives it the words, the input and the
-//! output, and ends with its status.
+//! The program: the top call over standard input and output.
 #![tactic(auto)]
 
-use command_words::words::usage;
 use escrow_host::EscrowHost;
-use host_io::std_ends::{StdSink, StdSource};
+use escrow_host::command_words_lib::words::usage;
+use escrow_host::host_io_lib::std_ends::{StdSink, StdSource};
+use escrow_host::top_call_lib::top::{Status, zoe_top};
 use std::process::ExitCode;
 use std::{env, io};
-use top_call::top::{Status, zoe_top};
 
 /// The words of the command line.
 fn words_of(rt: &(impl env::Env + AllocGlobal)) -> io::Result<Vec<String>> {

@@ -1,4 +1,4 @@
-use Rattle.turn_events.specs.Views.{event_view}
+use Rattle.turn_records.specs.Views.{event_view}
 use Rattle.turn_writer.proofs.Floats.{flat_event}
 use Rattle.turn_writer.proofs.push_event.Goals as goal
 

@@ -3,7 +3,7 @@ use Rattle.std.specs.List.{flat_map}
 use Rattle.turn_rows.specs.Rows.{event_row}
 use Rattle.turn_rows.specs.Texts.{row_text}
 use Rattle.turn_records.specs.Printed.{printed_event}
-use Rattle.turn_events.specs.Views.{event_views}
+use Rattle.turn_records.specs.Views.{event_views}
 use Rattle.turn_writer.proofs.push_events.Given as goal
 
 abbrev pub invariant-loop-event : goal.invariant-loop-event

@@ -1,4 +1,4 @@
-use Rattle.turn_events.specs.Views.{turn_view}
+use Rattle.turn_records.specs.Views.{turn_view}
 use Rattle.turn_writer.proofs.Floats.{flat_turn}
 use Rattle.turn_writer.proofs.push_turn_row.Goals as goal
 

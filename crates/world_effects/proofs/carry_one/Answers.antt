@@ -1,7 +1,7 @@
 use Rattle.std.proofs.Common.{OnOk, subst, sym}
-use Rattle.call_plans.specs.Views.{effect_view}
-use Rattle.call_plans.specs.declared.effects.Effect.{Effect}
-use Rattle.carried_effects.specs.Carried.{IsCarried}
+use Rattle.world_reads.specs.call_plans.Views.{effect_view}
+use Rattle.world_reads.specs.call_plans.declared.effects.Effect.{Effect}
+use Rattle.world_effects.specs.Carried.{IsCarried}
 use Rattle.world_effects.proofs.carry_one.Goals as goal
 
 pub returns-in-Rights-clause-ok : goal.returns-in-Rights-clause-ok

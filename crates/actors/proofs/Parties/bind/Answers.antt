@@ -2,7 +2,7 @@ use Rattle.std.proofs.Common.{map, sym, ◌&&◌, ◌∙◌}
 use Rattle.std.proofs.lemmas.List.{length-map}
 use Rattle.std.specs.Str.{bytes_eq}
 use Rattle.indexmap.proofs.CallerLemmas.{insert_entry-new}
-use Rattle.jessie_tree.specs.View.{tree}
+use Rattle.promise_store.specs.host_data.View.{tree}
 use Rattle.actors.specs.Labels.{binding, bound}
 use Rattle.actors.proofs.Bindings.{absent_free, bound_last, inserted, labels_inserted, seen_last, within_inserted}
 use Rattle.actors.proofs.Parties.bind.Goals as goal

@@ -1,6 +1,6 @@
 use Rattle.std.proofs.Common.{◌≡◌, ◌+◌, length}
 use Rattle.std.specs.Option.{option_map_or}
-use Rattle.jessie_tree.specs.View.{tree}
+use Rattle.promise_store.specs.host_data.View.{tree}
 use Rattle.promise_store.specs.Views.{now_of}
 use Rattle.actors.specs.Paths.{states_in, steps_behind, walked}
 use Rattle.actors.proofs.paths.walk.Given as goal

@@ -2,7 +2,7 @@ use Rattle.std.proofs.Common.{◌≡◌, Bool, true, false, nat_cmp, not, take, 
 use Rattle.std.proofs.lemmas.List.{get_or_default}
 use Rattle.std.specs.BTreeSet.{contains}
 use Rattle.call_arguments.specs.Numbers.{is_among}
-use Rattle.call_arguments.proofs.Lists.{again_later, seen_more, take_next}
+use Rattle.call_arguments.proofs.ArgumentLists.{again_later, seen_more, take_next}
 use Rattle.call_arguments.proofs.numbers.first_repeated.Goals as goal
 
 absent : (old added : Bool) → added ≡ not old → added ≡ true → old ≡ false

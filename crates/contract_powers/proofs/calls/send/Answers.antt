@@ -1,6 +1,6 @@
-use Rattle.host_world.specs.Worlds.{world_of}
-use Rattle.jessie_semantics.specs.Play as plays
-use Rattle.jessie_tree.specs.View.{trees}
+use Rattle.world_effects.specs.host_world.Worlds.{world_of}
+use Rattle.jessie_machine.specs.jessie_semantics.Play as plays
+use Rattle.refusals.specs.host_data.View.{trees}
 use Rattle.contract_powers.proofs.Carried.{answered_so, can_carry}
 use Rattle.contract_powers.proofs.calls.send.Goals as goal
 

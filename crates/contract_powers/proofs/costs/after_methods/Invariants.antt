@@ -1,5 +1,5 @@
 use Rattle.std.proofs.Common.{◌≡◌, ◌+◌, length}
-use Rattle.jessie_semantics.specs.Play.{methods_size}
+use Rattle.jessie_machine.specs.jessie_semantics.Play.{methods_size}
 use Rattle.contract_powers.proofs.costs.after_methods.Given as goal
 
 -- what was taken is what the methods before the rest have

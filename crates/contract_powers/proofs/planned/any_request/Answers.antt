@@ -1,7 +1,7 @@
 use Rattle.delivery_turns.specs.HostCalls.{when_row}
-use Rattle.host_world.specs.Worlds.{world_of}
-use Rattle.jessie_semantics.specs.Play as plays
-use Rattle.jessie_tree.specs.View.{tree}
+use Rattle.world_effects.specs.host_world.Worlds.{world_of}
+use Rattle.jessie_machine.specs.jessie_semantics.Play as plays
+use Rattle.refusals.specs.host_data.View.{tree}
 use Rattle.contract_powers.proofs.Oks.{answered_if}
 use Rattle.contract_powers.proofs.planned.any_request.Goals as goal
 

@@ -1,10 +1,10 @@
 use Rattle.std.proofs.Common.{List, subst}
-use Rattle.call_plans.specs.Plans.{Plans}
+use Rattle.world_effects.specs.call_plans.Plans.{Plans}
 use Rattle.delivery_turns.specs.HostCalls.{send_row}
-use Rattle.host_world.specs.Worlds.{world_of}
-use Rattle.jessie_semantics.specs.Play as plays
-use Rattle.jessie_tree.specs.View.{trees}
-use Rattle.jessie_tree.specs.declared.data.Data.{Data}
+use Rattle.world_effects.specs.host_world.Worlds.{world_of}
+use Rattle.jessie_machine.specs.jessie_semantics.Play as plays
+use Rattle.refusals.specs.host_data.View.{trees}
+use Rattle.refusals.specs.host_data.declared.data.Data.{Data}
 use Rattle.contract_powers.proofs.Oks.{answered_as}
 use Rattle.contract_powers.proofs.planned.any_send.Goals as goal
 

@@ -1,11 +1,11 @@
 use Rattle.std.proofs.Common.{◌∙◌, List, ap, sym}
 use Rattle.delivery_turns.specs.HostCalls.{far_row}
-use Rattle.host_world.specs.Worlds.{world_of}
-use Rattle.jessie_semantics.specs.Play as plays
-use Rattle.jessie_tree.specs.Tree.{Tree}
-use Rattle.jessie_tree.specs.View.{trees}
-use Rattle.jessie_tree.specs.declared.data.Data.{Data}
-use Rattle.known_data.specs.Tests.{all_pass}
+use Rattle.world_effects.specs.host_world.Worlds.{world_of}
+use Rattle.jessie_machine.specs.jessie_semantics.Play as plays
+use Rattle.refusals.specs.host_data.Tree.{Tree}
+use Rattle.refusals.specs.host_data.View.{trees}
+use Rattle.refusals.specs.host_data.declared.data.Data.{Data}
+use Rattle.world_effects.specs.world_reads.Tests.{all_pass}
 use Rattle.contract_powers.proofs.Oks.{facet_shows}
 use Rattle.contract_powers.proofs.Passes.{passed_call, stray_call}
 use Rattle.contract_powers.proofs.planned.known_facet.Goals as goal

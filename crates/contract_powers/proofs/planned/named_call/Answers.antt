@@ -1,8 +1,8 @@
 use Rattle.std.proofs.Common.{◌≡◌, ◌∙◌, List, subst, sym}
-use Rattle.host_world.specs.Worlds.{world_of}
-use Rattle.jessie_semantics.specs.Play as plays
-use Rattle.jessie_tree.specs.View.{trees}
-use Rattle.jessie_tree.specs.declared.data.Data.{Data}
+use Rattle.world_effects.specs.host_world.Worlds.{world_of}
+use Rattle.jessie_machine.specs.jessie_semantics.Play as plays
+use Rattle.refusals.specs.host_data.View.{trees}
+use Rattle.refusals.specs.host_data.declared.data.Data.{Data}
 use Rattle.contract_powers.specs.Passing.{call_passes}
 use Rattle.contract_powers.proofs.Passes.{passed_call, stray_call}
 use Rattle.contract_powers.proofs.planned.named_call.Goals as goal

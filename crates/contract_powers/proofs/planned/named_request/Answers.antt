@@ -1,7 +1,7 @@
 use Rattle.std.proofs.Common.{◌∙◌, sym}
-use Rattle.host_world.specs.Worlds.{world_of}
-use Rattle.jessie_semantics.specs.Play as plays
-use Rattle.jessie_tree.specs.View.{tree}
+use Rattle.world_effects.specs.host_world.Worlds.{world_of}
+use Rattle.jessie_machine.specs.jessie_semantics.Play as plays
+use Rattle.refusals.specs.host_data.View.{tree}
 use Rattle.contract_powers.proofs.Passes.{passed_call, stray_call}
 use Rattle.contract_powers.proofs.planned.named_request.Goals as goal
 

@@ -1,8 +1,8 @@
 use Rattle.std.specs.Prelude.{IfOk}
 use Rattle.std.proofs.Common.{ℕ, List, subst}
-use Rattle.host_world.specs.Worlds.{world_of}
-use Rattle.jessie_semantics.specs.Play as plays
-use Rattle.jessie_tree.specs.View.{trees}
+use Rattle.world_effects.specs.host_world.Worlds.{world_of}
+use Rattle.jessie_machine.specs.jessie_semantics.Play as plays
+use Rattle.refusals.specs.host_data.View.{trees}
 use Rattle.contract_powers.specs.Planned.{IsPlanned}
 use Rattle.contract_powers.proofs.planned.planned_call.Goals as goal
 

@@ -1,10 +1,10 @@
 use Rattle.std.proofs.Common.{◌≡◌, ◌∙◌, ℕ, List, subst, sym}
 use Rattle.delivery_turns.specs.HostCalls.{call_row}
-use Rattle.host_calls.specs.Answered.{IsAnswered}
-use Rattle.host_world.specs.Worlds.{world_of}
-use Rattle.jessie_semantics.specs.Play as plays
-use Rattle.jessie_tree.specs.View.{trees}
-use Rattle.jessie_tree.specs.declared.data.Data.{Data}
+use Rattle.contract_powers.specs.AnsweredCalls.{IsAnswered}
+use Rattle.world_effects.specs.host_world.Worlds.{world_of}
+use Rattle.jessie_machine.specs.jessie_semantics.Play as plays
+use Rattle.refusals.specs.host_data.View.{trees}
+use Rattle.refusals.specs.host_data.declared.data.Data.{Data}
 use Rattle.contract_powers.specs.Passing.{call_passes}
 use Rattle.contract_powers.proofs.Passes.{passed_call, stray_call}
 use Rattle.contract_powers.proofs.planned.planned_send.Goals as goal

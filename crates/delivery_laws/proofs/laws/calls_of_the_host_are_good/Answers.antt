@@ -1,4 +1,4 @@
-use Rattle.contract_row_laws.proofs.Calls.{calls_are}
+use Rattle.row_laws.proofs.Calls.{calls_are}
 use Rattle.delivery_laws.proofs.Replies.{call_is}
 use Rattle.delivery_laws.proofs.laws.calls_of_the_host_are_good.Goals as goal
 

@@ -1,5 +1,5 @@
-use Rattle.contract_row_laws.proofs.Calls.{calls_are}
-use Rattle.service_row_laws.proofs.Services.{services_are}
+use Rattle.row_laws.proofs.Calls.{calls_are}
+use Rattle.row_laws.proofs.Services.{services_are}
 use Rattle.delivery_laws.proofs.Hosts.{steps_good}
 use Rattle.delivery_laws.proofs.laws.steps_keep_hosts_good.Goals as goal
 

@@ -1,8 +1,8 @@
-use Rattle.host_world.specs.Worlds.{world_of}
-use Rattle.message_reads.specs.Views.{addressed_view}
-use Rattle.turn_events.specs.Views.{line_call_view}
-use Rattle.turn_records.specs.Deliveries as deliveries
-use Rattle.world_laws.proofs.Fronts.{good_behind}
+use Rattle.world_reads.specs.host_world.Worlds.{world_of}
+use Rattle.delivery_tasks.specs.MessageViews.{addressed_view}
+use Rattle.delivery_turns.specs.turn_records.Views.{line_call_view}
+use Rattle.delivery_turns.specs.turn_records.Deliveries as deliveries
+use Rattle.delivery_turns.proofs.world_laws.Fronts.{good_behind}
 use Rattle.delivery_tasks.proofs.Due.{call_target}
 use Rattle.delivery_tasks.proofs.beginnings.call_beginning.Goals as goal
 

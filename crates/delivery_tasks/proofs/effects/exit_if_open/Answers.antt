@@ -1,8 +1,8 @@
 use Rattle.std.proofs.Common.{ap, ◌++◌, ◌∙◌}
 use Rattle.delivery_turns.specs.Tasks.{exit_if_open}
-use Rattle.host_world.specs.Worlds.{world_of}
-use Rattle.turn_events.specs.Views.{cause_view}
-use Rattle.open_seats.proofs.Bare.{open_shaped}
+use Rattle.world_reads.specs.host_world.Worlds.{world_of}
+use Rattle.delivery_turns.specs.turn_records.Views.{cause_view}
+use Rattle.delivery_tasks.proofs.BareSeats.{open_shaped}
 use Rattle.delivery_tasks.proofs.effects.exit_if_open.Goals as goal
 
 pub returns-clause-shaped : goal.returns-clause-shaped

@@ -1,11 +1,11 @@
 use Rattle.std.proofs.Common.{◌∙◌, List, ap, subst, sym}
-use Rattle.delivery_laws.proofs.Ends.{ending_good}
-use Rattle.delivery_turns.specs.Endings.{ending}
-use Rattle.host_world.specs.Worlds.{world_of}
-use Rattle.turn_events.specs.Views.{answer_view}
-use Rattle.turn_records.specs.Deliveries.{Delivery}
-use Rattle.world_state.specs.Good.{AreGood}
-use Rattle.world_state.specs.Worlds.{Effect}
+use Rattle.fair_laws.proofs.delivery_laws.Ends.{ending_good}
+use Rattle.delivery_tasks.specs.delivery_turns.Endings.{ending}
+use Rattle.world_reads.specs.host_world.Worlds.{world_of}
+use Rattle.plain_stores.specs.turn_records.Views.{answer_view}
+use Rattle.plain_stores.specs.turn_records.Deliveries.{Delivery}
+use Rattle.plain_stores.specs.world_state.Good.{AreGood}
+use Rattle.plain_stores.specs.world_state.Worlds.{Effect}
 use Rattle.front_turns.specs.Turning.{front}
 use Rattle.front_turns.proofs.ends.carry_end.Goals as goal
 

@@ -1,7 +1,7 @@
 use Rattle.std.proofs.Common.{List, subst, sym}
-use Rattle.host_world.specs.Worlds.{world_of}
-use Rattle.world_state.specs.Good.{AreGood}
-use Rattle.world_state.specs.Worlds.{Effect}
+use Rattle.world_reads.specs.host_world.Worlds.{world_of}
+use Rattle.plain_stores.specs.world_state.Good.{AreGood}
+use Rattle.plain_stores.specs.world_state.Worlds.{Effect}
 use Rattle.front_turns.proofs.Carrying.{halting_good}
 use Rattle.front_turns.proofs.tasks.halted.Goals as goal
 

@@ -1,6 +1,6 @@
 use Rattle.std.specs.Prelude.{Ok}
 use Rattle.std.proofs.Common.{◌∙◌, ap, sym}
-use Rattle.carried_effects.proofs.Joined.{back_on}
+use Rattle.world_effects.proofs.Joined.{back_on}
 use Rattle.delivery_tasks.specs.Views.{function_call_view}
 use Rattle.front_turns.proofs.Carrying.{start_stays}
 use Rattle.front_turns.proofs.Done.{ended_done, spent_done}

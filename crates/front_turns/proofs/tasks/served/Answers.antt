@@ -1,12 +1,12 @@
 use Rattle.std.specs.Prelude.{IfOk}
 use Rattle.std.proofs.Common.{ℕ, List, subst}
-use Rattle.call_rows.specs.Rows.{Outcome}
+use Rattle.contract_texts.specs.rules.Rows.{Outcome}
 use Rattle.contract_texts.specs.Reader.{reader}
-use Rattle.delivery_turns.specs.Tasks.{row_work}
-use Rattle.host_world.specs.Worlds.{world_of}
-use Rattle.jessie_tree.specs.View.{trees}
-use Rattle.jessie_tree.specs.declared.data.Data.{Data}
-use Rattle.zoe_rows.specs.Host.{serve}
+use Rattle.delivery_tasks.specs.delivery_turns.Tasks.{row_work}
+use Rattle.world_reads.specs.host_world.Worlds.{world_of}
+use Rattle.delivery_tasks.specs.host_data.View.{trees}
+use Rattle.delivery_tasks.specs.host_data.declared.data.Data.{Data}
+use Rattle.contract_texts.specs.rules.Host.{serve}
 use Rattle.front_turns.specs.Turning.{IsDone}
 use Rattle.front_turns.proofs.tasks.served.Goals as goal
 

@@ -1,6 +1,6 @@
 use Rattle.std.proofs.Common.{◌∙◌, refl, sym}
-use Rattle.carried_effects.proofs.Joined.{back_on}
-use Rattle.host_world.specs.Worlds.{world_at_start}
+use Rattle.world_effects.proofs.Joined.{back_on}
+use Rattle.world_reads.specs.host_world.Worlds.{world_at_start}
 use Rattle.front_turns.proofs.Carrying.{halted_from, turn_begins}
 use Rattle.front_turns.proofs.tasks.spent.Goals as goal
 

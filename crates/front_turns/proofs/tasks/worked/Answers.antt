@@ -1,7 +1,7 @@
 use Rattle.std.proofs.Common.{ap}
-use Rattle.call_plans.specs.Lists.{effects_view}
+use Rattle.world_reads.specs.call_plans.Lists.{effects_view}
 use Rattle.delivery_tasks.specs.Views.{task_view}
-use Rattle.jessie_tree.specs.View.{trees}
+use Rattle.delivery_tasks.specs.host_data.View.{trees}
 use Rattle.front_turns.proofs.Done.{all_done, all_good, refused_done, serve_done, serve_good}
 use Rattle.front_turns.proofs.tasks.worked.Goals as goal
 

@@ -1,9 +1,9 @@
 use Rattle.std.proofs.Common.{ap, refl, subst, sym}
-use Rattle.carried_effects.proofs.Joined.{back_on}
+use Rattle.world_effects.proofs.Joined.{back_on}
 use Rattle.delivery_tasks.specs.Views.{beginning_view}
-use Rattle.delivery_turns.specs.Tasks.{Beginning}
-use Rattle.host_world.specs.Worlds.{world_of}
-use Rattle.world_state.specs.Good.{AreGood}
+use Rattle.delivery_tasks.specs.delivery_turns.Tasks.{Beginning}
+use Rattle.world_reads.specs.host_world.Worlds.{world_of}
+use Rattle.plain_stores.specs.world_state.Good.{AreGood}
 use Rattle.front_turns.specs.There.{IsThere}
 use Rattle.front_turns.specs.Turning.{work_of}
 use Rattle.front_turns.proofs.Whole.{answer_out, delivered, done_by, label_free, still_fronted, task_there, turn_work}

@@ -1,5 +1,5 @@
 use Rattle.std.proofs.Common.{sym, subst}
-use Rattle.turn_sums.specs.Telling.{Tells, TurnOf}
+use Rattle.host_turns.specs.Telling.{Tells, TurnOf}
 use Rattle.host_turns.proofs.Turned.{ending_is}
 use Rattle.host_turns.proofs.turns.end_turn.Goals as goal
 

@@ -1,5 +1,5 @@
 use Rattle.std.proofs.Common.{◌≡◌, ◌∙◌}
-use Rattle.draft_views.proofs.Staged.{staged_ended}
+use Rattle.draft_reads.proofs.Staged.{staged_ended}
 use Rattle.plain_stores.specs.Plain.{after_turn}
 use Rattle.plain_stores.specs.Stores.{plain_now}
 use Rattle.host_world.specs.Worlds.{vault_state}

@@ -1,13 +1,13 @@
 use Rattle.std.proofs.Common.{◌≡◌, ◌+◌, true, false, [], ◌∷◌, ◌∙◌, ap, refl, sym}
 use Rattle.std.proofs.lemmas.Result.{err_from_is_err_and}
-use Rattle.jessie_lexer.specs.declared.token.Kind.TheVariants as k
-use Rattle.jessie_lexer.specs.Tokens.{kind, has}
-use Rattle.jessie_syntax.specs.declared.syntax.Expr.TheVariants as expr
-use Rattle.jessie_language.specs.Words.{always, ongoing, step_begins}
-use Rattle.jessie_language.specs.Parse.{and_then, pure}
-use Rattle.jessie_language.specs.Levels.{level_at, operands}
-use Rattle.jessie_language.specs.Rules as p
-use Rattle.jessie_language.proofs.Reading.{loop_goes, loop_ends, loop_fails, flag_goes, flag_fails, after_fails, items_fall, fields_fall, steps_fall, op_falls, inner_is}
+use Rattle.jessie_grammar.specs.declared.jessie_lexer.token.Kind.TheVariants as k
+use Rattle.jessie_grammar.specs.Tokens.{kind, has}
+use Rattle.jessie_grammar.specs.declared.syntax.Expr.TheVariants as expr
+use Rattle.jessie_grammar.specs.Words.{always, ongoing, step_begins}
+use Rattle.jessie_grammar.specs.Parse.{and_then, pure}
+use Rattle.jessie_grammar.specs.Levels.{level_at, operands}
+use Rattle.jessie_grammar.specs.Rules as p
+use Rattle.jessie_grammar.proofs.Reading.{loop_goes, loop_ends, loop_fails, flag_goes, flag_fails, after_fails, items_fall, fields_fall, steps_fall, op_falls, inner_is}
 use Rattle.jessie_expressions.proofs.expression.+expression.Goals.{later_items-then-items-test+else-is, later_items-else-items-test, later_fields-then-fields-test+else-is, later_fields-else-fields-test, operators-then-operators-test+else-is_operator, operators-else-operators-test}
 use Rattle.jessie_expressions.proofs.Lists.{bracketed_goes, listed_goes, gives_along, step_reads, step_fails}
 use Rattle.jessie_expressions.proofs.expression.+expression.Goals as goal

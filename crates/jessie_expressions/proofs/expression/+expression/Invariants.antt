@@ -1,10 +1,10 @@
 use Rattle.std.proofs.Common.{◌≡◌, ◌+◌, ◌-◌, ◌*◌, true, [], ◌∷◌, length}
-use Rattle.jessie_lexer.specs.declared.token.Kind.TheVariants as k
-use Rattle.jessie_syntax.specs.declared.syntax.Expr.{Expr}
-use Rattle.jessie_language.specs.Parse.{loop}
-use Rattle.jessie_language.specs.Words.{always, ongoing, step_begins}
-use Rattle.jessie_language.specs.Levels.{level_at, operands}
-use Rattle.jessie_language.specs.Rules as p
+use Rattle.jessie_grammar.specs.declared.jessie_lexer.token.Kind.TheVariants as k
+use Rattle.jessie_grammar.specs.declared.syntax.Expr.{Expr}
+use Rattle.jessie_grammar.specs.Parse.{loop}
+use Rattle.jessie_grammar.specs.Words.{always, ongoing, step_begins}
+use Rattle.jessie_grammar.specs.Levels.{level_at, operands}
+use Rattle.jessie_grammar.specs.Rules as p
 use Rattle.jessie_expressions.proofs.expression.+expression.Given as goal
 
 -- each call goes down in room, or else in rank

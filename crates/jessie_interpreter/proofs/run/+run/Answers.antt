@@ -1,16 +1,16 @@
 use Rattle.std.proofs.Common.{◌-◌, ◌+◌, ◌++◌, drop, length, sym, ap, ◌∙◌, arith, rules}
 use Rattle.std.specs.Option.{option_to_list}
 use Rattle.std.specs.Vec.Iter.{into_iter_items}
-use Rattle.jessie_tree.specs.View.{tree, trees, named_trees}
-use Rattle.jessie_tree.proofs.Views.{tree-Null}
-use Rattle.jessie_syntax.specs.Syntax.{routine, routines, term_view, terms_view, named_terms_view, link_view, return_view, statement_view, block_view}
-use Rattle.jessie_syntax.proofs.Views.{term-Literal, term-Name, link-Field, link-Index, statement-Const, statement-Let, statement-Assign, statement-Return, statement-Throw, statement-Run}
-use Rattle.jessie_values.specs.declared.reasons.Reason.TheVariants.{WrongKind, TooDeep}
-use Rattle.amount_calls.specs.AmountMath.{amount_call}
-use Rattle.jessie_semantics.specs.Actions.{scoped}
-use Rattle.jessie_semantics.specs.Rules.{worked, counted, leaves, expr, exprs, named_exprs, one_link, form, test, block, rounds, walk, with_name, pairs, find_routine, enter}
-use Rattle.jessie_semantics.specs.Runs.{throws, came, halted}
-use Rattle.jessie_semantics.proofs.Runs.{computed, computes_as, pure_computes, spend_computes, then_runs, stop_runs, caught_came, caught_spends, caught_throws, runs_as, runs_to, reaches_itself, reaches_as, reaches_more, reaches_runs, reaches_metered, bind_as, scoped_as, within_as}
+use Rattle.jessie_machine.specs.host_data.View.{tree, trees, named_trees}
+use Rattle.jessie_machine.proofs.host_data.Views.{tree-Null}
+use Rattle.jessie_machine.specs.jessie_grammar.Syntax.{routine, routines, term_view, terms_view, named_terms_view, link_view, return_view, statement_view, block_view}
+use Rattle.jessie_machine.proofs.jessie_grammar.Views.{term-Literal, term-Name, link-Field, link-Index, statement-Const, statement-Let, statement-Assign, statement-Return, statement-Throw, statement-Run}
+use Rattle.jessie_machine.specs.jessie_values.declared.reasons.Reason.TheVariants.{WrongKind, TooDeep}
+use Rattle.jessie_machine.specs.jessie_semantics.AmountMath.{amount_call}
+use Rattle.jessie_machine.specs.jessie_semantics.Actions.{scoped}
+use Rattle.jessie_machine.specs.jessie_semantics.Rules.{worked, counted, leaves, expr, exprs, named_exprs, one_link, form, test, block, rounds, walk, with_name, pairs, find_routine, enter}
+use Rattle.jessie_machine.specs.jessie_semantics.Runs.{throws, came, halted}
+use Rattle.jessie_machine.proofs.jessie_semantics.Runs.{computed, computes_as, pure_computes, spend_computes, then_runs, stop_runs, caught_came, caught_spends, caught_throws, runs_as, runs_to, reaches_itself, reaches_as, reaches_more, reaches_runs, reaches_metered, bind_as, scoped_as, within_as}
 use Rattle.jessie_machine.specs.Stops.{halt}
 use Rattle.jessie_machine.specs.Machine.{end_of, all_seen, fields_seen}
 use Rattle.jessie_machine.proofs.Places.{names_left, one_more, one_name_more}

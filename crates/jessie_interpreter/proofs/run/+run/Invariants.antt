@@ -1,10 +1,10 @@
 use Rattle.std.proofs.Common.{◌≡◌, ◌≤◌, ◌+◌, ◌*◌, ◌-◌, [], drop, length}
 use Rattle.std.specs.Vec.Iter.{into_iter_items, into_iter_len}
-use Rattle.jessie_tree.specs.View.{tree, trees, named_trees}
-use Rattle.jessie_syntax.specs.Syntax.{routines, term_view, terms_view, named_terms_view, operands_view, link_view, links_view, return_view, statement_view, branches_view, block_view}
-use Rattle.jessie_semantics.specs.Actions.{scoped}
-use Rattle.jessie_semantics.specs.Rules.{expr, exprs, named_exprs, links, operands, repeat_rule, for_rule, with_name, test, branches, block, rounds, walk}
-use Rattle.jessie_semantics.specs.Runs.{Reaches}
+use Rattle.jessie_machine.specs.host_data.View.{tree, trees, named_trees}
+use Rattle.jessie_machine.specs.jessie_grammar.Syntax.{routines, term_view, terms_view, named_terms_view, operands_view, link_view, links_view, return_view, statement_view, branches_view, block_view}
+use Rattle.jessie_machine.specs.jessie_semantics.Actions.{scoped}
+use Rattle.jessie_machine.specs.jessie_semantics.Rules.{expr, exprs, named_exprs, links, operands, repeat_rule, for_rule, with_name, test, branches, block, rounds, walk}
+use Rattle.jessie_machine.specs.jessie_semantics.Runs.{Reaches}
 use Rattle.jessie_interpreter.specs.Parts.{running, here, behind}
 use Rattle.jessie_interpreter.proofs.Weights.{weight, terms_weight, named_weight, operands_weight, link_weight, links_weight, statement_weight, branches_weight, block_weight, routines_weight}
 use Rattle.jessie_interpreter.proofs.run.+run.Given as goal

@@ -1,5 +1,5 @@
 use Rattle.std.proofs.Common.{sym}
-use Rattle.jessie_tree.specs.View.{tree}
+use Rattle.jessie_semantics.specs.host_data.View.{tree}
 use Rattle.jessie_semantics.proofs.Runs.{then_computes}
 use Rattle.jessie_machine.proofs.Exits.{stops_here, pure_as}
 use Rattle.jessie_machine.proofs.machine.read_literal.Goals as goal

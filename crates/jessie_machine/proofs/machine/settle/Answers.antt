@@ -1,5 +1,5 @@
 use Rattle.std.proofs.Common.{ap}
-use Rattle.jessie_tree.specs.View.{tree}
+use Rattle.jessie_semantics.specs.host_data.View.{tree}
 use Rattle.jessie_semantics.specs.Rules.{heard}
 use Rattle.jessie_semantics.proofs.Runs.{computes_as, then_computes, pure_computes}
 use Rattle.jessie_machine.specs.Host.{reply_of}

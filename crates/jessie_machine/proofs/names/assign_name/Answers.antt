@@ -1,10 +1,10 @@
 use Rattle.std.proofs.Common.{◌≡◌, ap, ◌∙◌, Some, None, map}
-use Rattle.jessie_tree.specs.View.{tree}
-use Rattle.jessie_syntax.specs.Syntax.{variable_names}
-use Rattle.jessie_values.specs.Reasons.{bad_step}
-use Rattle.jessie_values.specs.declared.reasons.Reason.TheVariants.{WrongKind}
+use Rattle.jessie_semantics.specs.host_data.View.{tree}
+use Rattle.jessie_index.specs.jessie_grammar.Syntax.{variable_names}
+use Rattle.jessie_index.specs.jessie_values.Reasons.{bad_step}
+use Rattle.jessie_index.specs.jessie_values.declared.reasons.Reason.TheVariants.{WrongKind}
 use Rattle.jessie_semantics.specs.Actions.{rebind}
-use Rattle.jessie_locals.specs.Places as locals
+use Rattle.jessie_index.specs.Places as locals
 use Rattle.jessie_machine.specs.Machine.{place}
 use Rattle.jessie_machine.proofs.Places.{same_place, local_bound, local_rebind, variable_bound, put_local, put_variable, put_nowhere}
 use Rattle.jessie_machine.proofs.names.assign_name.Goals as goal

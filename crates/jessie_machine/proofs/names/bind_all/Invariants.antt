@@ -1,6 +1,6 @@
 use Rattle.std.proofs.Common.{◌≡◌, ◌++◌, drop}
 use Rattle.std.specs.Vec.Iter.{into_iter_items}
-use Rattle.jessie_tree.specs.View.{trees, named_trees}
+use Rattle.jessie_semantics.specs.host_data.View.{trees, named_trees}
 use Rattle.jessie_semantics.specs.Rules.{pairs}
 use Rattle.jessie_machine.proofs.names.bind_all.Given as goal
 

@@ -1,5 +1,5 @@
 use Rattle.std.proofs.Common.{ap, sym, ◌∙◌, option_map}
-use Rattle.jessie_tree.specs.View.{tree}
+use Rattle.jessie_semantics.specs.host_data.View.{tree}
 use Rattle.jessie_machine.proofs.Places.{given_here, given_none, seen_copied}
 use Rattle.jessie_machine.proofs.names.given_value.Goals as goal
 

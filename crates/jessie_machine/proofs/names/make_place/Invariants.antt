@@ -1,5 +1,5 @@
 use Rattle.std.proofs.Common.{◌≡◌, ℕ, ◌-◌, ◌+◌, List, length}
-use Rattle.jessie_tree.specs.Tree.{Tree}
+use Rattle.jessie_semantics.specs.host_data.Tree.{Tree}
 use Rattle.jessie_machine.specs.Machine.{current, changes}
 use Rattle.jessie_machine.proofs.names.make_place.Given as goal
 

@@ -1,6 +1,6 @@
 use Rattle.std.proofs.Common.{ap, ◌∙◌, Some}
-use Rattle.jessie_tree.specs.View.{tree}
-use Rattle.jessie_tree.proofs.Views.{tree-Number}
+use Rattle.jessie_semantics.specs.host_data.View.{tree}
+use Rattle.jessie_semantics.proofs.host_data.Views.{tree-Number}
 use Rattle.jessie_semantics.specs.Actions.{paid}
 use Rattle.jessie_semantics.proofs.Runs.{computes_as}
 use Rattle.jessie_machine.proofs.names.pay_copy.Goals as goal

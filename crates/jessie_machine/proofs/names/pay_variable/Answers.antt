@@ -1,8 +1,8 @@
 use Rattle.std.proofs.Common.{ap, sym, ◌∙◌, Some}
 use Rattle.std.specs.Prelude.{slice_get}
-use Rattle.jessie_tree.specs.Tree.{null}
-use Rattle.jessie_tree.specs.View.{trees}
-use Rattle.jessie_tree.proofs.Views.{tree-Null}
+use Rattle.jessie_semantics.specs.host_data.Tree.{null}
+use Rattle.jessie_semantics.specs.host_data.View.{trees}
+use Rattle.jessie_semantics.proofs.host_data.Views.{tree-Null}
 use Rattle.jessie_semantics.specs.Actions.{paid}
 use Rattle.jessie_semantics.proofs.Runs.{computes_as}
 use Rattle.jessie_machine.specs.Machine.{changes, or_else}

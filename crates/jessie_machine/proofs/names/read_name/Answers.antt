@@ -1,12 +1,12 @@
 use Rattle.std.proofs.Common.{◌≡◌, ap, sym, ◌∙◌, Some, None, map}
-use Rattle.jessie_tree.specs.View.{tree, trees, named_trees}
-use Rattle.jessie_syntax.specs.Syntax.{routines, variable_names}
-use Rattle.jessie_values.specs.Reasons.{bad_step}
-use Rattle.jessie_values.specs.declared.reasons.Reason.TheVariants.{WrongKind}
+use Rattle.jessie_semantics.specs.host_data.View.{tree, trees, named_trees}
+use Rattle.jessie_index.specs.jessie_grammar.Syntax.{routines, variable_names}
+use Rattle.jessie_index.specs.jessie_values.Reasons.{bad_step}
+use Rattle.jessie_index.specs.jessie_values.declared.reasons.Reason.TheVariants.{WrongKind}
 use Rattle.jessie_semantics.specs.Actions.{first_of, look, paid}
 use Rattle.jessie_semantics.specs.Rules.{find_routine, function_named}
 use Rattle.jessie_semantics.proofs.Runs.{then_computes, named_computes, computes_as}
-use Rattle.jessie_locals.specs.Places as locals
+use Rattle.jessie_index.specs.Places as locals
 use Rattle.jessie_machine.specs.Machine.{place, current, changes, local_at, value_at}
 use Rattle.jessie_machine.proofs.Exits.{stops_here}
 use Rattle.jessie_machine.proofs.Places.{same_place, local_look, variable_look}

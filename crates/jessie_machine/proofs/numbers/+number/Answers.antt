@@ -1,7 +1,7 @@
 use Rattle.std.proofs.Common.{◌-◌, FitsSigned, refl, ap, arith, rules}
 use Rattle.std.specs.Int.{w128}
 use Rattle.std.proofs.Math.Facts.{to_z-of_z}
-use Rattle.jessie_syntax.specs.Syntax.{term_view}
+use Rattle.jessie_index.specs.jessie_grammar.Syntax.{term_view}
 use Rattle.jessie_semantics.specs.Rules.{expr}
 use Rattle.jessie_semantics.proofs.Runs.{computes_as}
 use Rattle.jessie_machine.proofs.AtHand.{made_as, number_operated, chain_at, chain_begins, chain_goes_on, chain_ends}

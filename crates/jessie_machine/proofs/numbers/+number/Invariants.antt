@@ -1,7 +1,7 @@
 use Rattle.std.specs.Int.{w128}
 use Rattle.std.proofs.Common.{FitsSigned, ◌≤◌, ◌+◌, ◌*◌, drop}
-use Rattle.jessie_tree.specs.View.{named_trees}
-use Rattle.jessie_syntax.specs.Syntax.{chain, operands_view, term_view}
+use Rattle.jessie_semantics.specs.host_data.View.{named_trees}
+use Rattle.jessie_index.specs.jessie_grammar.Syntax.{chain, operands_view, term_view}
 use Rattle.jessie_semantics.specs.Rules.{Program, expr}
 use Rattle.jessie_machine.proofs.AtHand.{Reached}
 use Rattle.jessie_machine.proofs.numbers.+number.Given as goal

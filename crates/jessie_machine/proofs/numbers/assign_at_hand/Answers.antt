@@ -1,14 +1,14 @@
 use Rattle.std.proofs.Common.{◌≡◌, FitsSigned, refl, ap, ◌∙◌, Some, map}
 use Rattle.std.specs.Int.{w128}
 use Rattle.std.proofs.Math.Facts.{to_z-of_z}
-use Rattle.jessie_tree.specs.Tree.{number}
-use Rattle.jessie_tree.specs.View.{named_trees}
-use Rattle.jessie_tree.proofs.Views.{tree-Number}
-use Rattle.jessie_values.specs.Reasons.{bad_step}
-use Rattle.jessie_values.specs.declared.reasons.Reason.TheVariants.{WrongKind}
+use Rattle.jessie_semantics.specs.host_data.Tree.{number}
+use Rattle.jessie_semantics.specs.host_data.View.{named_trees}
+use Rattle.jessie_semantics.proofs.host_data.Views.{tree-Number}
+use Rattle.jessie_index.specs.jessie_values.Reasons.{bad_step}
+use Rattle.jessie_index.specs.jessie_values.declared.reasons.Reason.TheVariants.{WrongKind}
 use Rattle.jessie_semantics.specs.Rules.{expr}
 use Rattle.jessie_semantics.proofs.Runs.{then_computes, pure_computes, computes_as}
-use Rattle.jessie_locals.specs.Places as locals
+use Rattle.jessie_index.specs.Places as locals
 use Rattle.jessie_machine.specs.Machine.{place, set_value}
 use Rattle.jessie_machine.proofs.Places.{same_place, local_bound, local_rebind, put_local}
 use Rattle.jessie_machine.proofs.AtHand.{chain_at}

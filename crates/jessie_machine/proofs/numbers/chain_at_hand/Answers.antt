@@ -1,7 +1,7 @@
 use Rattle.std.proofs.Common.{FitsSigned, refl, ap, arith}
 use Rattle.std.specs.Int.{w128}
 use Rattle.std.proofs.Math.Facts.{to_z-of_z}
-use Rattle.jessie_syntax.specs.Syntax.{chain, term_view}
+use Rattle.jessie_index.specs.jessie_grammar.Syntax.{chain, term_view}
 use Rattle.jessie_semantics.specs.Rules.{expr}
 use Rattle.jessie_semantics.proofs.Runs.{computes_as}
 use Rattle.jessie_machine.proofs.AtHand.{makes_to, one_operand, chain_decides}

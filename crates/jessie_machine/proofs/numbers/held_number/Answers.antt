@@ -1,6 +1,6 @@
 use Rattle.std.proofs.Common.{ap, ◌∙◌}
-use Rattle.jessie_syntax.specs.Syntax.{term_view}
-use Rattle.jessie_syntax.proofs.Views.{term-Literal, term-Name}
+use Rattle.jessie_index.specs.jessie_grammar.Syntax.{term_view}
+use Rattle.jessie_index.proofs.jessie_grammar.Views.{term-Literal, term-Name}
 use Rattle.jessie_semantics.specs.Rules.{expr}
 use Rattle.jessie_machine.proofs.AtHand.{made_as}
 use Rattle.jessie_machine.proofs.numbers.held_number.Goals as goal

@@ -1,5 +1,5 @@
 use Rattle.std.proofs.Common.{ap}
-use Rattle.jessie_values.specs.Literals.{literal_tree}
+use Rattle.jessie_index.specs.jessie_values.Literals.{literal_tree}
 use Rattle.jessie_machine.proofs.AtHand.{literal_paid}
 use Rattle.jessie_machine.proofs.numbers.literal_number.Goals as goal
 

@@ -1,7 +1,7 @@
 use Rattle.std.proofs.Common.{◌≡◌, ap, ◌∙◌, Some, map}
-use Rattle.jessie_tree.specs.View.{tree, named_trees}
-use Rattle.jessie_tree.proofs.Views.{tree-Number}
-use Rattle.jessie_locals.specs.Places as locals
+use Rattle.jessie_semantics.specs.host_data.View.{tree, named_trees}
+use Rattle.jessie_semantics.proofs.host_data.Views.{tree-Number}
+use Rattle.jessie_index.specs.Places as locals
 use Rattle.jessie_machine.specs.Machine.{place}
 use Rattle.jessie_machine.proofs.Places.{same_place}
 use Rattle.jessie_machine.proofs.AtHand.{local_number, name_paid}

@@ -1,5 +1,5 @@
 use Rattle.std.proofs.Common.{ap, ◌∙◌, arith}
-use Rattle.jessie_syntax.specs.Syntax.{chain, term_view}
+use Rattle.jessie_index.specs.jessie_grammar.Syntax.{chain, term_view}
 use Rattle.jessie_semantics.specs.Rules.{test}
 use Rattle.jessie_semantics.proofs.Runs.{computes_as}
 use Rattle.jessie_machine.proofs.AtHand.{chain_at, one_operand, condition_decides}

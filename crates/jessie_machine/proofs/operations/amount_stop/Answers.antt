@@ -1,5 +1,5 @@
 use Rattle.std.proofs.Common.{subst}
-use Rattle.amount_calls.specs.Refusals.{Fails}
+use Rattle.jessie_semantics.specs.Refusals.{Fails}
 use Rattle.jessie_machine.proofs.Exits.{counted_as_thrown, unfinished_computes}
 use Rattle.jessie_machine.proofs.operations.amount_stop.Goals as goal
 

@@ -1,6 +1,6 @@
 use Rattle.std.proofs.Common.{ap, sym}
-use Rattle.jessie_tree.specs.View.{trees}
-use Rattle.amount_calls.specs.AmountMath.{amount_call}
+use Rattle.jessie_semantics.specs.host_data.View.{trees}
+use Rattle.jessie_semantics.specs.AmountMath.{amount_call}
 use Rattle.jessie_semantics.specs.Rules.{counted}
 use Rattle.jessie_semantics.proofs.Runs.{computes_as}
 use Rattle.jessie_machine.proofs.Exits.{counted_as_ok}

@@ -1,8 +1,8 @@
 use Rattle.std.proofs.Common.{ap, sym, ◌∙◌, ◌+◌}
-use Rattle.jessie_tree.specs.Tree.{items_size}
-use Rattle.jessie_tree.specs.View.{tree, trees, items_of}
-use Rattle.jessie_values.specs.Outcomes.{of_kind}
-use Rattle.jessie_values.specs.declared.reasons.Reason.TheVariants.{WrongKind}
+use Rattle.jessie_semantics.specs.host_data.Tree.{items_size}
+use Rattle.jessie_semantics.specs.host_data.View.{tree, trees, items_of}
+use Rattle.jessie_index.specs.jessie_values.Outcomes.{of_kind}
+use Rattle.jessie_index.specs.jessie_values.declared.reasons.Reason.TheVariants.{WrongKind}
 use Rattle.jessie_semantics.specs.Actions.{charge, ask}
 use Rattle.jessie_semantics.specs.Play.{call}
 use Rattle.jessie_semantics.proofs.Runs.{computed, computes_as, then_runs, stop_runs, ask_runs, runs_as, host_runs}

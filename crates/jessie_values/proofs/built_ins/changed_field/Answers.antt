@@ -1,7 +1,7 @@
 use Rattle.std.proofs.Common.{[], length, refl, sym, ap, ◌∙◌, subst}
-use Rattle.jessie_tree.specs.Tree.{fields}
-use Rattle.jessie_tree.specs.View.{fields_of, named_trees}
-use Rattle.jessie_tree.proofs.Views.{tree-Record}
+use Rattle.host_data.specs.Tree.{fields}
+use Rattle.host_data.specs.View.{fields_of, named_trees}
+use Rattle.host_data.proofs.Views.{tree-Record}
 use Rattle.jessie_values.specs.Named.{IsFirstNamed, Named, NotBefore}
 use Rattle.jessie_values.specs.Records.{made}
 use Rattle.jessie_values.proofs.NamedFields.{Entry, changed_first, get_first, get_none}

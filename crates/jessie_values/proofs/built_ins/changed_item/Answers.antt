@@ -1,6 +1,6 @@
 use Rattle.std.proofs.Common.{◌≡◌, Some, length, ap, ◌∙◌, arith, rules}
 use Rattle.std.proofs.lemmas.Int.{to_z-of_z}
-use Rattle.jessie_tree.specs.View.{trees}
+use Rattle.host_data.specs.View.{trees}
 use Rattle.jessie_values.specs.Records.{made_array}
 use Rattle.jessie_values.specs.Steps.{place_in}
 use Rattle.jessie_values.proofs.NamedFields.{length_trees, trees_set}

@@ -1,7 +1,7 @@
 use Rattle.std.proofs.Common.{◌≡◌, Ok, length, pos, ap, ◌∙◌, arith}
-use Rattle.jessie_tree.specs.Tree.{count, listed, number}
-use Rattle.jessie_tree.specs.View.{fields_of, items_of, named_trees, trees}
-use Rattle.jessie_tree.proofs.Views.{count_back, tree-Array, tree-Record}
+use Rattle.host_data.specs.Tree.{count, listed, number}
+use Rattle.host_data.specs.View.{fields_of, items_of, named_trees, trees}
+use Rattle.host_data.proofs.Views.{count_back, tree-Array, tree-Record}
 use Rattle.jessie_values.proofs.NamedFields.{length_listed}
 use Rattle.jessie_values.proofs.built_ins.length_in.Goals as goal
 

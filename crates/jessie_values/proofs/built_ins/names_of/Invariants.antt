@@ -1,6 +1,6 @@
 use Rattle.std.proofs.Common.{◌≡◌, map, take}
-use Rattle.jessie_tree.specs.Tree.{text}
-use Rattle.jessie_tree.specs.View.{named_trees, trees}
+use Rattle.host_data.specs.Tree.{text}
+use Rattle.host_data.specs.View.{named_trees, trees}
 use Rattle.jessie_values.proofs.built_ins.names_of.Given as goal
 
 abbrev pub invariant-loop-name : goal.invariant-loop-name

@@ -1,7 +1,7 @@
 use Rattle.std.proofs.Common.{ap, ◌∙◌}
-use Rattle.jessie_tree.specs.Tree.{array, fields}
-use Rattle.jessie_tree.specs.View.{items_of}
-use Rattle.jessie_tree.proofs.Views.{tree-Array, tree-Record}
+use Rattle.host_data.specs.Tree.{array, fields}
+use Rattle.host_data.specs.View.{items_of}
+use Rattle.host_data.proofs.Views.{tree-Array, tree-Record}
 use Rattle.jessie_values.proofs.Constants.{constant-Array, constant-Record}
 use Rattle.jessie_values.specs.Records.{record_of}
 use Rattle.jessie_values.proofs.literals.+constant.Goals as goal

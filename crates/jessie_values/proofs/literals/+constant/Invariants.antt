@@ -1,5 +1,5 @@
 use Rattle.std.proofs.Common.{◌≡◌, map, take}
-use Rattle.jessie_tree.specs.View.{named_trees, trees}
+use Rattle.host_data.specs.View.{named_trees, trees}
 use Rattle.jessie_values.specs.Literals.{constant_tree}
 use Rattle.jessie_values.proofs.literals.+constant.Given as goal
 

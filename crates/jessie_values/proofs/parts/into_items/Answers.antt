@@ -1,6 +1,6 @@
 use Rattle.std.proofs.Common.{Some, sym, ap}
-use Rattle.jessie_tree.specs.View.{trees}
-use Rattle.jessie_tree.proofs.Views.{listed_back, tree-Array}
+use Rattle.host_data.specs.View.{trees}
+use Rattle.host_data.proofs.Views.{listed_back, tree-Array}
 use Rattle.jessie_values.proofs.parts.into_items.Goals as goal
 
 pub returns-in-Array : goal.returns-in-Array

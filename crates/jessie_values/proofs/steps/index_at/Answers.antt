@@ -1,6 +1,6 @@
 use Rattle.std.proofs.Common.{sym, ap, ◌∙◌}
-use Rattle.jessie_tree.specs.View.{tree, trees}
-use Rattle.jessie_tree.proofs.Views.{listed_back, tree-Array}
+use Rattle.host_data.specs.View.{tree, trees}
+use Rattle.host_data.proofs.Views.{listed_back, tree-Array}
 use Rattle.jessie_values.specs.Steps.{item_under}
 use Rattle.jessie_values.proofs.steps.index_at.Goals as goal
 

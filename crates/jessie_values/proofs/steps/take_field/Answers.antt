@@ -1,5 +1,5 @@
 use Rattle.std.proofs.Common.{Some, length, refl, sym, ap, ◌∙◌, subst}
-use Rattle.jessie_tree.specs.View.{tree}
+use Rattle.host_data.specs.View.{tree}
 use Rattle.jessie_values.specs.Named.{IsFirstNamed, Named, NotBefore}
 use Rattle.jessie_values.specs.Outcomes.{there}
 use Rattle.jessie_values.proofs.NamedFields.{Entry, get_first, get_none}

@@ -1,9 +1,9 @@
 use Rattle.std.proofs.Common.{◌≡◌, ◌∷◌, [], ◌++◌, Some, None, true, false, map, sym, ap, ◌∙◌, append_assoc, append-nil, string_bytes}
 use Rattle.std.proofs.lemmas.List.{take_all, map-append}
 use Rattle.serde_json.specs.View.{view}
-use Rattle.host_text.specs.Words.{is_field_name}
+use Rattle.turn_records.specs.host_text.Words.{is_field_name}
 use Rattle.message_lines.specs.Arguments.{part_in}
-use Rattle.turn_events.specs.Views.{part_view}
+use Rattle.turn_records.specs.Views.{part_view}
 use Rattle.message_lines.proofs.ReadParts.{Entry, entry_part, named_part, member_part, parts_in-all, parts_in-none, fields_in-all, fields_in-none}
 use Rattle.message_lines.proofs.arguments.+read.Goals as goal
 

@@ -1,7 +1,7 @@
 use Rattle.std.proofs.Common.{◌≡◌, ◌++◌, List, map, take, Some}
 use Rattle.serde_json.specs.View.{view}
 use Rattle.message_lines.specs.Arguments.{part_in}
-use Rattle.turn_events.specs.Views.{part_view}
+use Rattle.turn_records.specs.Views.{part_view}
 use Rattle.message_lines.proofs.ReadParts.{Entry, entry_part, named_part}
 use Rattle.message_lines.proofs.arguments.+read.Given as goal
 

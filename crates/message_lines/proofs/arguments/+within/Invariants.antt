@@ -1,6 +1,6 @@
 use Rattle.std.proofs.Common.{◌≡◌, drop, nat_le}
 use Rattle.message_lines.specs.Arguments.{parts_nesting, fields_nesting}
-use Rattle.turn_events.specs.Views.{part_views, parts_of, field_parts_of}
+use Rattle.turn_records.specs.Views.{part_views, parts_of, field_parts_of}
 use Rattle.message_lines.specs.NamedParts.{named_views}
 use Rattle.message_lines.proofs.arguments.+within.Given as goal
 

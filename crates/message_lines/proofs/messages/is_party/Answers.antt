@@ -1,5 +1,5 @@
 use Rattle.std.proofs.Common.{◌≡◌, true, sym}
-use Rattle.host_text.specs.Words.{is_label}
+use Rattle.turn_records.specs.host_text.Words.{is_label}
 use Rattle.message_lines.specs.Meanings.{begins_instance}
 use Rattle.message_lines.proofs.messages.is_party.Goals as goal
 

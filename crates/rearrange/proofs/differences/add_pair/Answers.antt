@@ -1,7 +1,7 @@
 use Rattle.std.proofs.Common.{subst}
 use Rattle.std.proofs.lemmas.Result.{on_ok_weaker}
-use Rattle.amount_math.specs.Content.{entries}
-use Rattle.amount_math.specs.Entries.{Entries}
+use Rattle.refusals.specs.amount_math.Content.{entries}
+use Rattle.refusals.specs.amount_math.Entries.{Entries}
 use Rattle.rearrange.specs.Parts.{HaveEntries}
 use Rattle.rearrange.proofs.Changes.{added_on, rows_changed}
 use Rattle.rearrange.proofs.differences.add_pair.Goals as goal

@@ -1,5 +1,5 @@
 use Rattle.std.proofs.Common.{[], ◌∷◌, take, sym, ◌∙◌, subst}
-use Rattle.amount_math.specs.Entries.{Entries}
+use Rattle.refusals.specs.amount_math.Entries.{Entries}
 use Rattle.rearrange.specs.Parts.{HaveEntries, entries_count}
 use Rattle.rearrange.specs.declared.parts.Side.TheVariants.{Before, After}
 use Rattle.rearrange.proofs.Changes.{entries_count-append, passed_alike, passed_unlike}

@@ -1,7 +1,7 @@
 use Rattle.std.proofs.Common.{◌≡◌, ◌↔◌, ℕ, Bool, List, IsTrue, sym, ap, ◌∙◌}
 use Rattle.std.specs.Ordering.{is_eq}
-use Rattle.amount_math.specs.Content.{key_cmp}
-use Rattle.amount_math.proofs.Listed.{same_key, tied}
+use Rattle.refusals.specs.amount_math.Content.{key_cmp}
+use Rattle.refusals.proofs.amount_math.Listed.{same_key, tied}
 use Rattle.rearrange.proofs.differences.is_alike.Goals as goal
 
 alike : (e f : List ℕ × ℕ) (is : Bool) → e.1 ≡ f.1 → is ≡ is_eq (key_cmp e.0 f.0) → IsTrue is ↔ (e ≡ f)

@@ -1,6 +1,6 @@
 use Rattle.std.proofs.Common.{◌≡◌, ℕ, List, Option, All, IfSome, sym, ap, ◌∙◌, subst}
 use Rattle.std.proofs.lemmas.Result.{IfErr-weaker, on_ok_weaker}
-use Rattle.allocation_changes.specs.Gains.{CanGain, with_gains}
+use Rattle.proposals.specs.Gains.{CanGain, with_gains}
 use Rattle.proposals.specs.OfferSafety.{MeetSlots}
 use Rattle.proposals.specs.Rows.{AreApart}
 use Rattle.proposals.specs.declared.allocations.Row.{Row}

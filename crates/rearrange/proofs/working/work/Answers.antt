@@ -1,6 +1,6 @@
 use Rattle.std.proofs.Common.{ℕ, List, All, IfSome, sym, ap, ◌∙◌, subst}
 use Rattle.std.proofs.lemmas.Result.{IfErr-weaker, on_ok_weaker}
-use Rattle.allocation_changes.specs.Gains.{CanGain}
+use Rattle.proposals.specs.Gains.{CanGain}
 use Rattle.proposals.specs.OfferSafety.{MeetSlots}
 use Rattle.proposals.specs.declared.allocations.Row.{Row}
 use Rattle.rearrange.specs.Transfers.{IsTransferRefusal, gains_of}

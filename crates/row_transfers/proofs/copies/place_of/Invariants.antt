@@ -1,6 +1,6 @@
 use Rattle.std.proofs.Common.{◌≡◌, ◌++◌, take, drop}
 use Rattle.std.specs.Global.{Vec}
-use Rattle.proposals.specs.declared.allocations.Row.{Row}
+use Rattle.call_arguments.specs.proposals.declared.allocations.Row.{Row}
 use Rattle.rearrange.specs.Working.{put_rows}
 use Rattle.row_transfers.proofs.copies.place_of.Given as goal
 

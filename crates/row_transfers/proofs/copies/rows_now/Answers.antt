@@ -1,5 +1,5 @@
 use Rattle.std.proofs.Common.{◌==◌, Option, IfSome, sym, subst}
-use Rattle.proposals.specs.Rows.{AreApart}
+use Rattle.call_arguments.specs.proposals.Rows.{AreApart}
 use Rattle.rearrange.specs.declared.sums.SeatRows.{SeatRows}
 use Rattle.rearrange.proofs.Agreeing.{find_holds}
 use Rattle.row_transfers.proofs.copies.rows_now.Goals as goal

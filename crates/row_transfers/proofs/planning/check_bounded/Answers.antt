@@ -1,8 +1,8 @@
 use Rattle.std.specs.Prelude.{sum_by}
 use Rattle.std.proofs.Common.{ℕ, ◌+◌, ◌≤◌, All, List, length, ap, subst, arith}
 use Rattle.std.proofs.lemmas.List.{take_all}
-use Rattle.plan_refusals.specs.Bounds.{HasValue}
-use Rattle.proposals.specs.declared.allocations.Row.{Row}
+use Rattle.rearrange.specs.Bounds.{HasValue}
+use Rattle.call_arguments.specs.proposals.declared.allocations.Row.{Row}
 use Rattle.rearrange.specs.Seats.{allocation_of}
 use Rattle.rearrange.specs.declared.sums.SeatRows.{SeatRows}
 use Rattle.row_transfers.proofs.Planned.{all_more, bounded, sum_more}

@@ -1,6 +1,6 @@
 use Rattle.std.specs.Prelude.{sum_by}
 use Rattle.std.proofs.Common.{◌+◌, ◌<◌, ◌≤◌, ◌^◌, All, length, take}
-use Rattle.plan_refusals.specs.Bounds.{HasValue}
+use Rattle.rearrange.specs.Bounds.{HasValue}
 use Rattle.rearrange.specs.Seats.{allocation_of}
 use Rattle.row_transfers.proofs.planning.check_bounded.Given as goal
 

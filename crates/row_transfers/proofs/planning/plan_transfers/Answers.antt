@@ -1,12 +1,12 @@
 use Rattle.std.proofs.Common.{◌≡◌, List, sym, ap, ◌∙◌, subst}
 use Rattle.std.proofs.lemmas.Result.{IfOk-weaker}
-use Rattle.proposals.specs.declared.plans.Touched.{Touched}
+use Rattle.call_arguments.specs.proposals.declared.plans.Touched.{Touched}
 use Rattle.rearrange.specs.Sums.{all_touched}
 use Rattle.rearrange.specs.Transfers.{transfers_plan}
 use Rattle.rearrange.specs.Working.{rows_now}
 use Rattle.refusals.specs.Outcomes.{Gives}
 use Rattle.row_transfers.specs.Tests.{kept_plan}
-use Rattle.transfer_arguments.specs.Views.{transfer_views}
+use Rattle.row_transfers.specs.Views.{transfer_views}
 use Rattle.row_transfers.proofs.Planned.{can_settle_all, changes_are, plan_same}
 use Rattle.row_transfers.proofs.planning.plan_transfers.Goals as goal
 

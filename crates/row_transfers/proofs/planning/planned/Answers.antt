@@ -1,8 +1,8 @@
 use Rattle.std.proofs.Common.{Ok, sym, subst}
-use Rattle.plan_check_laws.proofs.Kept.{plan_fails}
-use Rattle.plan_check_laws.proofs.Worked.{fails_then}
-use Rattle.plan_checks.specs.Plans.{keeps}
-use Rattle.plan_refusals.specs.Told.{plan_told}
+use Rattle.rearrange.proofs.Kept.{plan_fails}
+use Rattle.rearrange.proofs.TestedWorking.{fails_then}
+use Rattle.rearrange.specs.TestedPlans.{keeps}
+use Rattle.rearrange.specs.Told.{plan_told}
 use Rattle.rearrange.specs.Sums.{all_touched}
 use Rattle.refusals.specs.Outcomes.{Fails}
 use Rattle.refusals.specs.declared.stops.Stop.{Stop}

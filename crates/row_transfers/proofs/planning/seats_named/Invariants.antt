@@ -1,6 +1,6 @@
 use Rattle.std.proofs.Common.{◌≡◌, take}
 use Rattle.rearrange.specs.Seats.{seats_named}
-use Rattle.transfer_arguments.specs.Views.{transfer_views}
+use Rattle.row_transfers.specs.Views.{transfer_views}
 use Rattle.row_transfers.proofs.planning.seats_named.Given as goal
 
 abbrev pub invariant-loop-transfer : goal.invariant-loop-transfer

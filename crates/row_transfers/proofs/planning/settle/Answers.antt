@@ -1,5 +1,5 @@
 use Rattle.std.proofs.Common.{sym, subst}
-use Rattle.proposals.specs.Rows.{AreApart}
+use Rattle.call_arguments.specs.proposals.Rows.{AreApart}
 use Rattle.rearrange.proofs.Agreeing.{AreApart-settled}
 use Rattle.row_transfers.proofs.planning.settle.Goals as goal
 

@@ -1,5 +1,5 @@
 use Rattle.std.proofs.Common.{◌≡◌, All, IfSome, map, take}
-use Rattle.proposals.specs.Rows.{AreApart}
+use Rattle.call_arguments.specs.proposals.Rows.{AreApart}
 use Rattle.rearrange.specs.Safety.{MeetProposal}
 use Rattle.rearrange.specs.Seats.{state_of}
 use Rattle.rearrange.specs.Staged.{touched_with}

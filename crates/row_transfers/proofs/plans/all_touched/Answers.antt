@@ -1,8 +1,8 @@
 use Rattle.std.proofs.Common.{◌≡◌, ◌<◌, ◌≤◌, ◌++◌, ◌∷◌, [], List, Any, All, length, rules, sym, ap, ◌∙◌, subst, append_assoc}
 use Rattle.std.proofs.lemmas.List.Elements.{All-append, All-cons, All-nil, All-tail}
 use Rattle.std.specs.Vec.Iter.{into_iter_items}
-use Rattle.proposals.specs.Rows.{AreApart, most_rows}
-use Rattle.proposals.specs.declared.plans.Touched.{Touched}
+use Rattle.call_arguments.specs.proposals.Rows.{AreApart, most_rows}
+use Rattle.call_arguments.specs.proposals.declared.plans.Touched.{Touched}
 use Rattle.rearrange.specs.Sums.{all_touched, touched_of}
 use Rattle.rearrange.specs.declared.sums.SeatRows.{SeatRows}
 use Rattle.rearrange.proofs.Touching.{any_at}

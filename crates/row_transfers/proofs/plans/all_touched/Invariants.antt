@@ -1,6 +1,6 @@
 use Rattle.std.proofs.Common.{◌≡◌, ◌≤◌, ◌++◌, All, length}
 use Rattle.std.specs.Vec.Iter.{into_iter_items, into_iter_len}
-use Rattle.proposals.specs.Rows.{AreApart, most_rows}
+use Rattle.call_arguments.specs.proposals.Rows.{AreApart, most_rows}
 use Rattle.rearrange.specs.Sums as sums
 use Rattle.row_transfers.proofs.plans.all_touched.Given as goal
 

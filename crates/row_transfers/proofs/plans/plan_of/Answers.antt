@@ -1,6 +1,6 @@
 use Rattle.std.proofs.Common.{◌≤◌, All, List, length, sym, ◌∙◌, subst}
-use Rattle.proposals.specs.Rows.{most_rows}
-use Rattle.proposals.specs.declared.plans.Touched.{Touched}
+use Rattle.call_arguments.specs.proposals.Rows.{most_rows}
+use Rattle.call_arguments.specs.proposals.declared.plans.Touched.{Touched}
 use Rattle.rearrange.specs.Safety.{AreSafe}
 use Rattle.rearrange.specs.Sums.{AreConserved, all_touched}
 use Rattle.rearrange.specs.declared.sums.SeatRows.{SeatRows}

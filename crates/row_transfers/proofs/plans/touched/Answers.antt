@@ -1,5 +1,5 @@
 use Rattle.std.proofs.Common.{List, length, refl, ap, arith}
-use Rattle.proposals.specs.declared.allocations.Row.{Row}
+use Rattle.call_arguments.specs.proposals.declared.allocations.Row.{Row}
 use Rattle.row_transfers.proofs.plans.touched.Goals as goal
 
 pub returns-in-Ok-clause-few : goal.returns-in-Ok-clause-few

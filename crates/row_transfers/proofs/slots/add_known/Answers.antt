@@ -1,4 +1,4 @@
-use Rattle.allocation_changes.proofs.Sums.{not_overlapping, not_too_much}
+use Rattle.call_arguments.proofs.proposals.Sums.{not_overlapping, not_too_much}
 use Rattle.row_transfers.proofs.slots.add_known.Goals as goal
 
 pub unreachable-requires : goal.unreachable-requires

@@ -1,6 +1,6 @@
 use Rattle.std.specs.List.{All}
 use Rattle.std.proofs.Common.{take}
-use Rattle.plan_refusals.specs.Bounds.{HasValue}
+use Rattle.rearrange.specs.Bounds.{HasValue}
 use Rattle.row_transfers.proofs.slots.have_values.Given as goal
 
 abbrev pub invariant-loop-row : goal.invariant-loop-row

@@ -1,9 +1,9 @@
 use Rattle.std.proofs.Common.{refl, sym, subst, ap, ◌∙◌, ◌++◌}
-use Rattle.allocation_changes.proofs.Apart.{AreApart-further}
-use Rattle.allocation_changes.proofs.Sums.{can_raise}
-use Rattle.allocation_changes.specs.Gains.{raised}
-use Rattle.allocation_changes.specs.Rows.{further}
-use Rattle.proposals.specs.Rows.{AreApart}
+use Rattle.call_arguments.proofs.proposals.Apart.{AreApart-further}
+use Rattle.call_arguments.proofs.proposals.Sums.{can_raise}
+use Rattle.call_arguments.specs.proposals.Gains.{raised}
+use Rattle.call_arguments.specs.proposals.ChangedRows.{further}
+use Rattle.call_arguments.specs.proposals.Rows.{AreApart}
 use Rattle.row_transfers.proofs.Raising.{can_gain}
 use Rattle.row_transfers.proofs.slots.increased.Goals as goal
 

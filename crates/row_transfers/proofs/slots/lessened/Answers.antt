@@ -1,9 +1,9 @@
 use Rattle.std.proofs.Common.{refl, sym, subst}
-use Rattle.allocation_changes.proofs.Apart.{AreApart-map}
-use Rattle.allocation_changes.proofs.Sums.{can_lower}
-use Rattle.allocation_changes.specs.Losses.{lowered}
-use Rattle.plan_check_laws.proofs.Slots.{taken_if}
-use Rattle.proposals.specs.Rows.{AreApart}
+use Rattle.call_arguments.proofs.proposals.Apart.{AreApart-map}
+use Rattle.call_arguments.proofs.proposals.Sums.{can_lower}
+use Rattle.call_arguments.specs.proposals.Losses.{lowered}
+use Rattle.rearrange.proofs.Slots.{taken_if}
+use Rattle.call_arguments.specs.proposals.Rows.{AreApart}
 use Rattle.row_transfers.proofs.slots.lessened.Goals as goal
 
 pub lowered_slots-requires : goal.lowered_slots-requires

@@ -1,9 +1,9 @@
 use Rattle.std.proofs.Common.{ap, sym, ◌∙◌}
-use Rattle.amount_math.specs.Content.{difference, difference-nothing}
-use Rattle.amount_math.specs.Worth.{Worth, with_content}
-use Rattle.proposals.specs.declared.allocations.Row.{Row}
-use Rattle.proposals.specs.Rows.{row_of}
-use Rattle.allocation_changes.proofs.Sums.{changed_there, changed_none}
+use Rattle.refusals.specs.amount_math.Content.{difference, difference-nothing}
+use Rattle.refusals.specs.amount_math.Worth.{Worth, with_content}
+use Rattle.call_arguments.specs.proposals.declared.allocations.Row.{Row}
+use Rattle.call_arguments.specs.proposals.Rows.{row_of}
+use Rattle.call_arguments.proofs.proposals.Sums.{changed_there, changed_none}
 use Rattle.row_transfers.proofs.slots.lowered.Goals as goal
 use Rattle.row_transfers.proofs.slots.lowered.Goals.{in-Some, in_default}
 

@@ -1,5 +1,5 @@
 use Rattle.std.proofs.Common.{sym, subst}
-use Rattle.allocation_changes.specs.Losses.{CanLower}
+use Rattle.call_arguments.specs.proposals.Losses.{CanLower}
 use Rattle.row_transfers.proofs.slots.lowered_slots.Goals as goal
 
 pub lowered-requires : goal.lowered-requires

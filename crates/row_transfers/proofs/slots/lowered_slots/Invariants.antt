@@ -1,5 +1,5 @@
 use Rattle.std.proofs.Common.{◌≡◌, map, take}
-use Rattle.allocation_changes.specs.Losses.{lowered}
+use Rattle.call_arguments.specs.proposals.Losses.{lowered}
 use Rattle.row_transfers.proofs.slots.lowered_slots.Given as goal
 
 abbrev pub invariant-loop-slot : goal.invariant-loop-slot

@@ -1,5 +1,5 @@
 use Rattle.std.proofs.Common.{sym, subst}
-use Rattle.allocation_changes.specs.Gains.{CanRaise}
+use Rattle.call_arguments.specs.proposals.Gains.{CanRaise}
 use Rattle.row_transfers.proofs.slots.raised_slots.Goals as goal
 
 pub raised-requires : goal.raised-requires

@@ -1,5 +1,5 @@
 use Rattle.std.proofs.Common.{◌≡◌, map, take}
-use Rattle.allocation_changes.specs.Gains.{raised}
+use Rattle.call_arguments.specs.proposals.Gains.{raised}
 use Rattle.row_transfers.proofs.slots.raised_slots.Given as goal
 
 abbrev pub invariant-loop-slot : goal.invariant-loop-slot

@@ -1,7 +1,7 @@
 use Rattle.std.proofs.Common.{ap, sym, ◌∙◌}
-use Rattle.amount_math.specs.Content.{sum, sum-nothing}
-use Rattle.amount_math.specs.Worth.{Worth, with_content}
-use Rattle.allocation_changes.proofs.Sums.{changed_there, changed_none}
+use Rattle.refusals.specs.amount_math.Content.{sum, sum-nothing}
+use Rattle.refusals.specs.amount_math.Worth.{Worth, with_content}
+use Rattle.call_arguments.proofs.proposals.Sums.{changed_there, changed_none}
 use Rattle.row_transfers.proofs.slots.raised_value.Goals as goal
 use Rattle.row_transfers.proofs.slots.raised_value.Goals.{in-Some+in_ok-add_known, in_default}
 

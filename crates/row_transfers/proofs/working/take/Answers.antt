@@ -1,13 +1,13 @@
 use Rattle.std.proofs.Common.{ℕ, List, Option, All, IfSome, sym, ap, ◌∙◌, subst}
-use Rattle.allocation_changes.specs.Losses.{without}
-use Rattle.proposals.specs.OfferSafety.{MeetSlots}
-use Rattle.proposals.specs.Rows.{AreApart}
-use Rattle.proposals.specs.declared.allocations.Row.{Row}
+use Rattle.call_arguments.specs.proposals.Losses.{without}
+use Rattle.call_arguments.specs.proposals.OfferSafety.{MeetSlots}
+use Rattle.call_arguments.specs.proposals.Rows.{AreApart}
+use Rattle.call_arguments.specs.proposals.declared.allocations.Row.{Row}
 use Rattle.rearrange.proofs.Copies.{apart_put, put_on}
 use Rattle.rearrange.specs.Transfers.{losses_of}
 use Rattle.rearrange.specs.Working.{rows_now}
 use Rattle.rearrange.specs.declared.sums.SeatRows.{SeatRows}
-use Rattle.transfer_arguments.specs.Views.{transfer_view}
+use Rattle.row_transfers.specs.Views.{transfer_view}
 use Rattle.row_transfers.proofs.working.take.Goals as goal
 
 pub lessened-requires-clause-meet : goal.lessened-requires-clause-meet

@@ -1,13 +1,13 @@
 use Rattle.std.proofs.Common.{ℕ, List, IfSome, sym, ap, ◌∙◌, subst}
 use Rattle.std.proofs.lemmas.Result.{on_ok_weaker}
-use Rattle.plan_checks.specs.Plans.{passes_at}
-use Rattle.plan_checks.specs.Slots.{can_give}
-use Rattle.proposals.specs.OfferSafety.{MeetSlots}
-use Rattle.proposals.specs.declared.allocations.Row.{Row}
+use Rattle.rearrange.specs.TestedPlans.{passes_at}
+use Rattle.rearrange.specs.Slots.{can_give}
+use Rattle.call_arguments.specs.proposals.OfferSafety.{MeetSlots}
+use Rattle.call_arguments.specs.proposals.declared.allocations.Row.{Row}
 use Rattle.rearrange.specs.Transfers.{gains_of}
 use Rattle.rearrange.specs.Working.{raised_by, rows_now}
 use Rattle.refusals.specs.Outcomes.{Gives}
-use Rattle.transfer_arguments.specs.Views.{transfer_view}
+use Rattle.row_transfers.specs.Views.{transfer_view}
 use Rattle.row_transfers.proofs.Worked.{past_losses}
 use Rattle.row_transfers.proofs.working.work.Goals as goal
 

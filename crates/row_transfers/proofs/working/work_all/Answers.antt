@@ -1,13 +1,13 @@
 use Rattle.std.proofs.Common.{◌≡◌, ℕ, List, Ok, IfSome, sym, ap, ◌∙◌, subst}
 use Rattle.std.proofs.lemmas.Result.{err_from_is_err_and}
-use Rattle.proposals.specs.Rows.{AreApart}
-use Rattle.proposals.specs.declared.allocations.Row.{Row}
+use Rattle.call_arguments.specs.proposals.Rows.{AreApart}
+use Rattle.call_arguments.specs.proposals.declared.allocations.Row.{Row}
 use Rattle.rearrange.specs.Transfers.{gains_of, worked_by}
 use Rattle.rearrange.specs.Working.{CanMeet}
 use Rattle.refusals.specs.Outcomes.{Fails}
 use Rattle.row_transfers.specs.Tests.{can_move}
-use Rattle.transfer_arguments.specs.Views.{transfer_view}
-use Rattle.transfer_arguments.specs.declared.values.RowTransfer.{RowTransfer}
+use Rattle.row_transfers.specs.Views.{transfer_view}
+use Rattle.row_transfers.specs.declared.values.RowTransfer.{RowTransfer}
 use Rattle.row_transfers.proofs.Worked.{can_end, can_more, can_stop, meets, same_end, worked_more}
 use Rattle.row_transfers.proofs.working.work_all.Goals as goal
 

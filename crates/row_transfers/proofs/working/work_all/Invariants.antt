@@ -1,10 +1,10 @@
 use Rattle.std.proofs.Common.{◌≡◌, All, drop, take}
-use Rattle.plan_checks.specs.Plans.{can_work}
-use Rattle.proposals.specs.Rows.{AreApart}
+use Rattle.rearrange.specs.TestedPlans.{can_work}
+use Rattle.call_arguments.specs.proposals.Rows.{AreApart}
 use Rattle.rearrange.specs.Seats.{allocation_of}
 use Rattle.rearrange.specs.Transfers.{worked}
 use Rattle.rearrange.specs.Working.{rows_now}
-use Rattle.transfer_arguments.specs.Views.{transfer_views}
+use Rattle.row_transfers.specs.Views.{transfer_views}
 use Rattle.row_transfers.proofs.working.work_all.Given as goal
 
 abbrev pub invariant-loop-transfer : goal.invariant-loop-transfer

@@ -1,5 +1,5 @@
 use Rattle.std.proofs.Common.{arith}
-use Rattle.rights_model.specs.declared.Holder.TheVariants.{Purse}
+use Rattle.escrow.specs.rights_model.declared.Holder.TheVariants.{Purse}
 use Rattle.store_tests.proofs.HoldingLaws.{holds_fewer}
 use Rattle.store_tests.proofs.escrow_tests.goes_to_a_slot.Goals as goal
 

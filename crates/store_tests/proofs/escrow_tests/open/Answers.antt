@@ -1,5 +1,5 @@
 use Rattle.std.proofs.Common.{sym, subst}
-use Rattle.rights_model.specs.Table.{no_holdings}
+use Rattle.escrow.specs.rights_model.Table.{no_holdings}
 use Rattle.escrow.specs.Told.{EscrowState}
 use Rattle.escrow.specs.Sums.{AreSums}
 use Rattle.escrow.proofs.Tellings.{sums_started}

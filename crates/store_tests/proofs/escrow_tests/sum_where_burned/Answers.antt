@@ -1,7 +1,7 @@
 use Rattle.std.proofs.Common.{sym, subst}
-use Rattle.rights_model.specs.declared.Holder.TheVariants.{Outside}
-use Rattle.rights_model.specs.declared.Movement.{Movement}
-use Rattle.rights_model.specs.Table.{CanMove}
+use Rattle.escrow.specs.rights_model.declared.Holder.TheVariants.{Outside}
+use Rattle.escrow.specs.rights_model.declared.Movement.{Movement}
+use Rattle.escrow.specs.rights_model.Table.{CanMove}
 use Rattle.store_tests.proofs.HoldingLaws.{room_for}
 use Rattle.store_tests.proofs.escrow_tests.sum_where_burned.Goals as goal
 

@@ -1,6 +1,6 @@
 use Rattle.std.proofs.Common.{sym, subst}
-use Rattle.rights_model.specs.declared.Movement.{Movement}
-use Rattle.rights_model.specs.Table.{CanMove, moved}
+use Rattle.escrow.specs.rights_model.declared.Movement.{Movement}
+use Rattle.escrow.specs.rights_model.Table.{CanMove, moved}
 use Rattle.escrow.specs.Sums.{AreSums}
 use Rattle.store_tests.proofs.HoldingLaws.{holds_moved, room_for}
 use Rattle.store_tests.proofs.escrow_tests.tell.Goals as goal

@@ -1,5 +1,5 @@
 use Rattle.std.proofs.Common.{◌≡◌, true, sym, ap, ◌∙◌, Err}
-use Rattle.message_lines.specs.InputLines.{is_too_long}
+use Rattle.run_laws.specs.message_lines.InputLines.{is_too_long}
 use Rattle.top_call.proofs.Limits.{longer, within}
 use Rattle.top_call.proofs.Statuses.{known, weaker}
 use Rattle.top_call.proofs.top.read_input.Goals as goal

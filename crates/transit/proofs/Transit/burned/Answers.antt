@@ -1,6 +1,6 @@
 use Rattle.std.proofs.Common.{arith, refl}
-use Rattle.amount_math.specs.declared.Kind.TheVariants.{Nat}
-use Rattle.list_edits.proofs.ListEdits.{read_now}
+use Rattle.ertp_mint.specs.amount_math.declared.Kind.TheVariants.{Nat}
+use Rattle.lemmas.proofs.ListEdits.{read_now}
 use Rattle.transit.specs.Transit.{empty_hand}
 use Rattle.transit.proofs.Calls.{made, made_too}
 use Rattle.transit.proofs.ReadOff.{burned_read, less_burned}

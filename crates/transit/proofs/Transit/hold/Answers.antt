@@ -1,8 +1,8 @@
 use Rattle.std.proofs.Common.{◌∙◌, arith, set}
-use Rattle.amount_math.specs.Held.{with_more}
-use Rattle.list_edits.proofs.ListEdits.{read_now}
+use Rattle.ertp_mint.specs.amount_math.Held.{with_more}
+use Rattle.lemmas.proofs.ListEdits.{read_now}
 use Rattle.transit.specs.Transit.{empty_hand}
-use Rattle.amount_math.specs.declared.Kind.TheVariants.{Nat}
+use Rattle.ertp_mint.specs.amount_math.declared.Kind.TheVariants.{Nat}
 use Rattle.transit.proofs.Calls.{goes_in_at, hold_keeps, hold_view, made, made_too, way_out}
 use Rattle.transit.proofs.Transit.hold.Goals as goal
 

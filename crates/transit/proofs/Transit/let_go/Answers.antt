@@ -1,8 +1,8 @@
 use Rattle.std.proofs.Common.{◌∙◌, arith, ap, set, refl}
-use Rattle.amount_math.specs.Held.{Held, with_less}
-use Rattle.list_edits.proofs.ListEdits.{read_now}
+use Rattle.ertp_mint.specs.amount_math.Held.{Held, with_less}
+use Rattle.lemmas.proofs.ListEdits.{read_now}
 use Rattle.transit.specs.Transit.{empty_hand}
-use Rattle.amount_math.specs.declared.Kind.TheVariants.{Nat}
+use Rattle.ertp_mint.specs.amount_math.declared.Kind.TheVariants.{Nat}
 use Rattle.transit.proofs.Calls.{comes_out_at, go_keeps, go_part, go_view, made, made_too}
 use Rattle.transit.proofs.Transit.let_go.Goals as goal
 

@@ -1,9 +1,9 @@
 use Rattle.std.proofs.Common.{◌∙◌, arith, ap, refl}
 use Rattle.std.proofs.lemmas.Result.{on_ok_weaker}
-use Rattle.list_edits.proofs.ListEdits.{read_now}
+use Rattle.lemmas.proofs.ListEdits.{read_now}
 use Rattle.transit.specs.Transit.{empty_hand}
-use Rattle.amount_math.specs.Held.{Held}
-use Rattle.amount_math.specs.declared.Kind.TheVariants.{Nat}
+use Rattle.ertp_mint.specs.amount_math.Held.{Held}
+use Rattle.ertp_mint.specs.amount_math.declared.Kind.TheVariants.{Nat}
 use Rattle.transit.proofs.Calls.{has_room, made_too, roomed_keeps, roomed_view}
 use Rattle.transit.proofs.Transit.make_room.Goals as goal
 

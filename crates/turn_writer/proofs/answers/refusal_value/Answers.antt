@@ -1,4 +1,4 @@
-use Rattle.refusals.specs.Codes.{refusal_tree}
+use Rattle.turn_records.specs.refusals.Codes.{refusal_tree}
 use Rattle.turn_writer.proofs.answers.refusal_value.Goals as goal
 
 pub returns : goal.returns

@@ -1,7 +1,7 @@
 use Rattle.std.proofs.Common.{[], ◌∷◌}
 use Rattle.std.specs.Prelude.{codes}
 use Rattle.serde_json.specs.Data.{string}
-use Rattle.data_rows.specs.Values.{printed_value}
+use Rattle.turn_records.specs.Values.{printed_value}
 use Rattle.turn_rows.specs.Rows.{brand_name, only, value_json}
 use Rattle.turn_writer.proofs.event_rows.amount_value.Goals as goal
 

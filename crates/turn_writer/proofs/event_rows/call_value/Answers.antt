@@ -2,12 +2,12 @@ use Rattle.std.proofs.Common.{◌≡◌, IfOk, [], ◌∷◌, refl}
 use Rattle.std.specs.Prelude.{codes}
 use Rattle.serde_json.specs.Data.{array, string}
 use Rattle.serde_json.specs.View.{view}
-use Rattle.data_rows.specs.Printed.{printed_items}
-use Rattle.jessie_tree.specs.View.{items_of, trees}
+use Rattle.turn_records.specs.PrintedData.{printed_items}
+use Rattle.turn_records.specs.host_data.View.{items_of, trees}
 use Rattle.turn_rows.specs.Kinds.{how_word}
 use Rattle.turn_rows.specs.Rows.{answer_json}
 use Rattle.turn_records.specs.Printed.{called_on, printed_answer}
-use Rattle.turn_events.specs.Views.{answer_view, how_view}
+use Rattle.turn_records.specs.Views.{answer_view, how_view}
 use Rattle.turn_writer.proofs.event_rows.call_value.Goals as goal
 
 pub returns : goal.returns

@@ -5,7 +5,7 @@ use Rattle.serde_json.specs.View.{view}
 use Rattle.turn_rows.specs.Causes.{cause_word}
 use Rattle.turn_rows.specs.Rows.{payouts_json}
 use Rattle.turn_records.specs.Printed.{printed_payouts}
-use Rattle.turn_events.specs.Views.{cause_view, payout_views}
+use Rattle.turn_records.specs.Views.{cause_view, payout_views}
 use Rattle.turn_writer.proofs.event_rows.exit_value.Goals as goal
 
 pub returns : goal.returns

@@ -1,4 +1,4 @@
-use Rattle.data_rows.proofs.Values.{values_alike}
+use Rattle.turn_records.proofs.Values.{values_alike}
 use Rattle.turn_writer.proofs.event_rows.held_value.Goals as goal
 
 pub returns : goal.returns

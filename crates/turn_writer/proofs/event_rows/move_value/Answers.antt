@@ -1,7 +1,7 @@
 use Rattle.std.proofs.Common.{[], ◌∷◌, refl}
 use Rattle.std.specs.Prelude.{codes}
 use Rattle.serde_json.specs.Data.{string}
-use Rattle.data_rows.specs.Values.{printed_value}
+use Rattle.turn_records.specs.Values.{printed_value}
 use Rattle.turn_rows.specs.Rows.{brand_name, holder_name, value_json}
 use Rattle.turn_writer.proofs.event_rows.move_value.Goals as goal
 

@@ -2,7 +2,7 @@ use Rattle.std.proofs.Common.{◌≡◌, ◌≤◌, drop, length}
 use Rattle.serde_json.specs.View.{members_view}
 use Rattle.turn_rows.specs.Rows.{payouts_json}
 use Rattle.turn_records.specs.Printed.{printed_payouts}
-use Rattle.turn_events.specs.Views.{payout_views}
+use Rattle.turn_records.specs.Views.{payout_views}
 use Rattle.turn_writer.proofs.event_rows.payouts_value.Given as goal
 
 abbrev pub invariant-loop-left : goal.invariant-loop-left

@@ -1,7 +1,7 @@
 use Rattle.std.proofs.Common.{[], ◌∷◌, refl}
 use Rattle.std.specs.Prelude.{codes}
 use Rattle.serde_json.specs.Data.{number, string, unsigned}
-use Rattle.promise_store.specs.States.{settlement_view}
+use Rattle.turn_records.specs.promise_store.States.{settlement_view}
 use Rattle.turn_rows.specs.Rows.{settlement_json}
 use Rattle.turn_records.specs.Printed.{printed_settlement}
 use Rattle.turn_writer.proofs.event_rows.settle_value.Goals as goal

@@ -3,8 +3,8 @@ use Rattle.std.specs.Prelude.{codes}
 use Rattle.serde_json.specs.Data.{boolean}
 use Rattle.serde_json.specs.View.{view}
 use Rattle.serde_json.specs.declared.value.Value as V
-use Rattle.data_rows.specs.Printed.{printed}
-use Rattle.jessie_tree.specs.View.{tree}
+use Rattle.turn_records.specs.PrintedData.{printed}
+use Rattle.turn_records.specs.host_data.View.{tree}
 use Rattle.turn_records.specs.Printed.{told_value}
 use Rattle.turn_writer.proofs.turn_row.notice.Goals as goal
 

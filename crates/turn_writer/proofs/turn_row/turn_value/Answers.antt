@@ -4,7 +4,7 @@ use Rattle.serde_json.specs.Data.{array, number, string, unsigned}
 use Rattle.turn_rows.specs.Kinds.{kind_word}
 use Rattle.turn_rows.specs.Rows.{answer_json}
 use Rattle.turn_records.specs.Printed.{by_of, kind_of, method_of, on_of, printed_answer, printed_trees, trees_of}
-use Rattle.turn_events.specs.Views.{answer_view, delivery_view, reading_view}
+use Rattle.turn_records.specs.Views.{answer_view, delivery_view, reading_view}
 use Rattle.turn_writer.proofs.turn_row.turn_value.Goals as goal
 
 pub returns : goal.returns

@@ -1,12 +1,12 @@
 use Rattle.std.proofs.Common.{◌≡◌, ◌+◌, List, subst, false}
 use Rattle.std.proofs.Math.Logic.{∥∥₁_map}
-use Rattle.host_world.specs.Worlds.{world_of}
+use Rattle.world_effects.specs.host_world.Worlds.{world_of}
 use Rattle.jessie_machine.specs.Host.{reply_of}
-use Rattle.jessie_semantics.specs.Play as plays
-use Rattle.jessie_semantics.specs.Play.{cost}
-use Rattle.jessie_tree.specs.Tree.{items_size}
-use Rattle.jessie_tree.specs.View.{items_of, trees}
-use Rattle.jessie_tree.specs.declared.data.Data.{Data}
+use Rattle.jessie_machine.specs.jessie_semantics.Play as plays
+use Rattle.jessie_machine.specs.jessie_semantics.Play.{cost}
+use Rattle.refusals.specs.host_data.Tree.{items_size}
+use Rattle.refusals.specs.host_data.View.{items_of, trees}
+use Rattle.refusals.specs.host_data.declared.data.Data.{Data}
 use Rattle.contract_powers.specs.Running.{situation}
 use Rattle.contract_powers.proofs.Stable.{running_of}
 use Rattle.contract_powers.proofs.Steps.{failed_ready, goes_back, is_answered, less_room, ready, runs_on}

@@ -1,7 +1,7 @@
 use Rattle.std.proofs.Common.{ℕ, IfOk, subst}
-use Rattle.delivery_turns.specs.Functions as functions
-use Rattle.function_runs.specs.Ran.{CameTo}
-use Rattle.jessie_tree.specs.View.{trees}
+use Rattle.front_turns.specs.delivery_turns.Functions as functions
+use Rattle.front_turns.specs.FunctionRuns.{CameTo}
+use Rattle.host_data.specs.View.{trees}
 use Rattle.escrow_host.proofs.rows.RowsWorks.run.Goals as goal
 
 pub returns-clause-ran : goal.returns-clause-ran

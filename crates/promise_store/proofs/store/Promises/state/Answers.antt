@@ -2,7 +2,7 @@ use Rattle.std.proofs.Common.{◌<◌, length, sym, ap, ◌∙◌, arith, map}
 use Rattle.std.proofs.lemmas.List.{get_or-map, length-map}
 use Rattle.promise_store.specs.Linked.{leader}
 use Rattle.promise_store.specs.States.{settled, settlement_view, state_of, broken, is_final}
-use Rattle.jessie_tree.specs.Tree.{null}
+use Rattle.host_data.specs.Tree.{null}
 use Rattle.promise_store.proofs.Whole.{final_at, numbered_at}
 use Rattle.promise_store.proofs.store.Promises.state.Goals as goal
 

@@ -1,8 +1,8 @@
 use Rattle.std.proofs.Common.{◌≡◌, ◌≤◌, sym, subst}
 use Rattle.std.proofs.lemmas.Result.{IfOk-weaker}
-use Rattle.jessie_tree.specs.Tree.{Tree, Ordered, nesting}
-use Rattle.jessie_tree.specs.View.{tree}
-use Rattle.data_nodes.specs.Nodes.{EachNode}
+use Rattle.host_data.specs.Tree.{Tree, Ordered, nesting}
+use Rattle.host_data.specs.View.{tree}
+use Rattle.host_data.specs.Nodes.{EachNode}
 use Rattle.refusals.specs.Codes.{refusal_tree}
 use Rattle.refusals.specs.Plain.{IsPlain}
 use Rattle.refusals.proofs.Plainly.{nests, ordered, plain}

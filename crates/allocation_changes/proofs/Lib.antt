@@ -1,4 +1,0 @@
-pub mod Firsts
-pub mod Apart
-pub mod Sums
-pub mod Under

@@ -1,6 +1,0 @@
-use Rattle.std.proofs.Common.{All, take}
-use Rattle.allocation_changes.specs.Gains.{IsApart}
-use Rattle.allocation_changes.proofs.gains.check_apart.Given as goal
-
-abbrev pub invariant-loop-row : goal.invariant-loop-row
-invariant-loop-row l = All (IsApart l.slots) (take l.row-index l.gains)

@@ -1,6 +1,0 @@
-use Rattle.std.proofs.Common.{◌≡◌, map, take}
-use Rattle.allocation_changes.specs.Gains.{raised}
-use Rattle.allocation_changes.proofs.gains.raised_slots.Given as goal
-
-abbrev pub invariant-loop-slot : goal.invariant-loop-slot
-invariant-loop-slot l = l.after.items ≡ map (raised l.gains) (take l.slot-index l.slots)

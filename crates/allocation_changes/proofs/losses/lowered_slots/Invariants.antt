@@ -1,6 +1,0 @@
-use Rattle.std.proofs.Common.{◌≡◌, map, take}
-use Rattle.allocation_changes.specs.Losses.{lowered}
-use Rattle.allocation_changes.proofs.losses.lowered_slots.Given as goal
-
-abbrev pub invariant-loop-slot : goal.invariant-loop-slot
-invariant-loop-slot l = l.after.items ≡ map (lowered l.losses) (take l.slot-index l.slots)

@@ -1,6 +1,0 @@
-use Rattle.std.proofs.Common.{◌≡◌, drop}
-use Rattle.proposals.specs.Rows.{amount_under}
-use Rattle.allocation_changes.proofs.slots.amount_of.Given as goal
-
-abbrev pub invariant-loop-slot : goal.invariant-loop-slot
-invariant-loop-slot l = amount_under l.keyword (drop l.slot-index l.slots) ≡ amount_under l.keyword l.slots

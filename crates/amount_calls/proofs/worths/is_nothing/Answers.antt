@@ -1,7 +1,0 @@
-use Rattle.amount_calls.proofs.Tests.{is_nothing-true, same_test, true-is_nothing}
-use Rattle.amount_calls.proofs.worths.is_nothing.Goals as goal
-
-pub returns : goal.returns
-returns c =
-    let v = c.args.value.now.content in
-    same_test _ _ (λ h. true-is_nothing v (c.is_empty.ensures.0 h)) (λ h. c.is_empty.ensures.1 (is_nothing-true v h))

@@ -1,4 +1,0 @@
-pub mod Refusals
-pub mod Given
-pub mod Worths
-pub mod AmountMath

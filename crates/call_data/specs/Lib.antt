@@ -1,4 +1,0 @@
-pub mod Values
-pub mod Refusals
-pub mod Outcomes
-pub mod Amounts

@@ -1,5 +1,0 @@
-use Rattle.call_row_laws.proofs.Reading.{kept_front}
-use Rattle.call_row_laws.proofs.laws.rows_keep_the_turns_delivery.Goals as goal
-
-pub returns : goal.returns
-returns c = record { kept = kept_front }

@@ -1,2 +1,0 @@
-pub mod HandedObjects
-pub mod KeywordReads

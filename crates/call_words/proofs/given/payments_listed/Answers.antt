@@ -1,5 +1,0 @@
-use Rattle.call_words.proofs.HandedObjects.{payments_known}
-use Rattle.call_words.proofs.given.payments_listed.Goals as goal
-
-pub objects_in-requires : goal.objects_in-requires
-objects_in-requires c = rw c.payments_made-made.ensures (payments_known _ c.args.place _ _ c.requires.handed c.requires.listed)

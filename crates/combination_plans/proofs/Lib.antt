@@ -1,2 +1,0 @@
-pub mod LiveLists
-pub mod PartLists

@@ -1,5 +1,0 @@
-use Rattle.amount_math.specs.KindLaws.{has_few}
-use Rattle.combination_plans.proofs.listed.with_value.Goals as goal
-
-pub copy-requires : goal.copy-requires
-copy-requires c = has_few _ _ c.in-Some.ensures.value

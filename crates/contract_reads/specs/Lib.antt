@@ -1,0 +1,4 @@
+pub mod Known
+pub mod Brands
+pub mod Valued
+pub mod Calls

@@ -1,3 +1,0 @@
-pub mod ZcfRows
-pub mod SeatRows
-pub mod Contracts

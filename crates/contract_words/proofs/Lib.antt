@@ -1,3 +1,0 @@
-pub mod KnownObjects
-pub mod Opened
-pub mod Allocated

@@ -1,8 +1,0 @@
-//! What a contract's calls of the host are tested for, as code that reads the world: seats that weren't left, an
-//! instance's own seats, and objects that its arguments name. It stands on the world of a turn. Its one contract:
-//! each gives what its definition in the rows of contracts' calls does, or that definition's refusal.
-#![tactic(auto)]
-
-pub mod allocations;
-pub mod given;
-pub mod own_seats;

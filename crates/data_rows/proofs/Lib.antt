@@ -1,5 +1,0 @@
-pub mod Fields
-pub mod Form
-pub mod Depth
-pub mod Values
-pub mod Trees

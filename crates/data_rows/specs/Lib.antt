@@ -1,4 +1,0 @@
-pub mod Names
-pub mod Printed
-pub mod Printable
-pub mod Values

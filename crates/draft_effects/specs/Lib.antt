@@ -1,0 +1,4 @@
+pub mod Steps
+pub mod Storing
+pub mod Sums
+pub mod Offers

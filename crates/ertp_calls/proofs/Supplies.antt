@@ -1,0 +1,14 @@
+-- What is out of brands, as a store has it and as the lists do; and a clean draft's hand has nothing in its store.
+use Rattle.std.proofs.Common.{◌≡◌, ℕ, List, length, map}
+use Rattle.refusals.specs.amount_math.Content.{nothing}
+use Rattle.rules.specs.ertp_mint.Circulating.{CirculationView}
+use Rattle.rules.proofs.lemmas.ListEdits.{length_map}
+use Rattle.world_reads.proofs.vault.HandLaws.{none_given_up}
+use Rattle.world_reads.specs.vault.Drafts.{DraftState, IsClean, IsValid, given_at}
+use Rattle.world_reads.specs.vault.Memory.{supply_of}
+
+pub supplies_counted : (cs : List CirculationView) → length (map supply_of cs) ≡ length cs
+supplies_counted cs = length_map supply_of cs
+
+pub nothing_stored : (d : DraftState) → IsValid d → IsClean d → (b : ℕ) → given_at d b ≡ nothing
+nothing_stored d valid clean b = none_given_up d valid b (clean.hand b)

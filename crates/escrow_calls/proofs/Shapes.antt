@@ -1,0 +1,49 @@
+-- Movements between slots and what is outside are transfers.
+use Rattle.std.specs.Prelude.{map}
+use Rattle.std.specs.List.{AllByRecursion}
+use Rattle.std.proofs.Common.{ℕ, List, [], ◌∷◌}
+use Rattle.rules.specs.world_state.Shapes.{AreTransfers, IsGivenOnce, IsTakenOnce}
+use Rattle.rules.specs.proposals.declared.allocations.Row.{Row}
+use Rattle.rules.specs.rights_model.declared.Holder.TheVariants.{Outside, Slot}
+use Rattle.rules.specs.rights_model.declared.Movement.{Movement}
+use Rattle.rules.specs.Mints.{gain, loss}
+
+slot_taken : (seat : ℕ) (k : List ℕ) (ms : List Movement) → AllByRecursion (IsTakenOnce (Slot seat k)) ms
+slot_taken seat k [] = tt
+slot_taken seat k (m ∷ ms) = (tt, slot_taken seat k ms)
+
+slot_given : (seat : ℕ) (k : List ℕ) (ms : List Movement) → AllByRecursion (IsGivenOnce (Slot seat k)) ms
+slot_given seat k [] = tt
+slot_given seat k (m ∷ ms) = (tt, slot_given seat k ms)
+
+outside_taken : (ms : List Movement) → AllByRecursion (IsTakenOnce Outside) ms
+outside_taken [] = tt
+outside_taken (m ∷ ms) = (tt, outside_taken ms)
+
+outside_given : (ms : List Movement) → AllByRecursion (IsGivenOnce Outside) ms
+outside_given [] = tt
+outside_given (m ∷ ms) = (tt, outside_given ms)
+
+pub losses_apart : (seat : ℕ) (rows : List Row) → AreTransfers (map (loss seat) rows)
+losses_apart seat [] = tt
+losses_apart seat (r ∷ rs) = (
+  record {
+    from = tt;
+    to = tt;
+    taken = slot_taken seat r.keyword (map (loss seat) rs);
+    given = outside_given (map (loss seat) rs);
+  },
+  losses_apart seat rs,
+)
+
+pub gains_apart : (seat : ℕ) (rows : List Row) → AreTransfers (map (gain seat) rows)
+gains_apart seat [] = tt
+gains_apart seat (r ∷ rs) = (
+  record {
+    from = tt;
+    to = tt;
+    taken = outside_taken (map (gain seat) rs);
+    given = slot_given seat r.keyword (map (gain seat) rs);
+  },
+  gains_apart seat rs,
+)

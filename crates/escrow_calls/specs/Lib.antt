@@ -1,0 +1,3 @@
+pub mod MintedLeft
+pub mod EscrowedLeft
+pub mod Paying

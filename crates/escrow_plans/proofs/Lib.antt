@@ -1,4 +1,0 @@
-pub mod Names
-pub mod KnownFields
-pub mod Transfers
-pub mod Steps

@@ -1,6 +1,0 @@
-use Rattle.std.proofs.Common.{◌≡◌, ◌+◌, ◌++◌, drop}
-use Rattle.world_state.specs.Worlds.{payout_moves}
-use Rattle.escrow_plans.proofs.payouts.payout_moves.Given as goal
-
-abbrev pub invariant-loop-place : goal.invariant-loop-place
-invariant-loop-place l = l.moves.items ++ payout_moves l.seat (l.first + l.place) (drop l.place l.rows) ≡ payout_moves l.seat l.first l.rows

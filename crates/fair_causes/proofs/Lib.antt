@@ -1,4 +1,0 @@
-pub mod Shown
-pub mod Owing
-pub mod Calls
-pub mod Others

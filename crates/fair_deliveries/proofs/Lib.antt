@@ -1,4 +1,0 @@
-pub mod Ends
-pub mod Works
-pub mod Whole
-pub mod Fair

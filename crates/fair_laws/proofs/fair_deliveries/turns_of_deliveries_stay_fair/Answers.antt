@@ -1,0 +1,9 @@
+use Rattle.delivery_laws.proofs.row_laws.Calls.{calls_are}
+use Rattle.fair_laws.proofs.Fair.{stay_fair}
+use Rattle.fair_laws.proofs.Whole.{steps_are}
+use Rattle.fair_laws.proofs.fair_deliveries.turns_of_deliveries_stay_fair.Goals as goal
+use Rattle.delivery_laws.proofs.row_laws.Services.{services_are}
+use Rattle.fair_laws.proofs.HeldReads.{calls_read, services_read}
+
+pub returns : goal.returns
+returns c = record { step = λ read s ts modules host steady before fair leaves. stay_fair read s ts fair leaves (steps_are read (services_are read modules) calls_are calls_read (services_read read) s host steady before) }

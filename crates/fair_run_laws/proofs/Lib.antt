@@ -1,2 +1,0 @@
-pub mod Little
-pub mod RunsFair

@@ -1,5 +1,0 @@
-use Rattle.fair_run_laws.proofs.RunsFair.{run_journal}
-use Rattle.fair_run_laws.proofs.laws.journals_of_runs_are_fair.Goals as goal
-
-pub returns : goal.returns
-returns c = record { journal = λ read meter most input gives few short form. run_journal read gives meter most input few short form }

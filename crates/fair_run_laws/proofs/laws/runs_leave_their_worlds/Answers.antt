@@ -1,5 +1,0 @@
-use Rattle.fair_run_laws.proofs.RunsFair.{run_leaves}
-use Rattle.fair_run_laws.proofs.laws.runs_leave_their_worlds.Goals as goal
-
-pub returns : goal.returns
-returns c = record { leaves = λ read meter most input gives few short. run_leaves read gives meter most input few short }

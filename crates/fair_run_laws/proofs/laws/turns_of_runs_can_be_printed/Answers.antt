@@ -1,5 +1,0 @@
-use Rattle.fair_run_laws.proofs.RunsFair.{run_prints}
-use Rattle.fair_run_laws.proofs.laws.turns_of_runs_can_be_printed.Goals as goal
-
-pub returns : goal.returns
-returns c = record { prints = λ read meter most input gives few first later is within. run_prints read gives meter most input few first later is within }

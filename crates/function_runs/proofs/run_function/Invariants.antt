@@ -1,5 +1,0 @@
-use Rattle.contract_powers.specs.Starts.{start_of}
-use Rattle.function_runs.proofs.run_function.Given as goal
-
-abbrev pub ghosts-run_in : goal.ghosts-run_in
-ghosts-run_in g a = record { base = start_of a.world }

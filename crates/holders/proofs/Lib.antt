@@ -1,0 +1,3 @@
+pub mod Stores
+pub mod Lists
+pub mod Books

@@ -1,0 +1,9 @@
+use Rattle.std.proofs.Common.{◌∙◌}
+use Rattle.ertp_mint.specs.Balances.{with_taken}
+use Rattle.holders.proofs.Stores.{written_over}
+use Rattle.holders.proofs.purses.Purses.put_within.Goals as goal
+
+pub returns-clause-undone : goal.returns-clause-undone
+returns-clause-undone c =
+    let made = rw (← c.self.view_is) at c.requires.made in
+    written_over c.self.inside.balances.items c.args.purse c.put_within.new.self c.index_mut.result.now made c.index_mut.ensures.value (λ s. with_taken s c.args.parcel.value.content) c.put_within.ensures.undone ∙ c.self.view_is

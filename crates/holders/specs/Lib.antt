@@ -1,0 +1,4 @@
+pub mod Purses
+pub mod Papers
+pub mod Kept
+pub use Rattle.ertp_mint.specs as ertp_mint

@@ -1,9 +1,0 @@
-//! The calls of the host that instances' functions make, but for those of methods, as plans: sends, requests to be told
-//! of a promise, and facets; and what a call comes to, whatever its row plans: it is told, and then has its effects. It
-//! stands on plans and on the types of turns. Its one contract: each row plans what its definition (delivery_turns)
-//! does, and a call comes to what `call_reply` and `call_effects` say.
-#![tactic(auto)]
-
-pub mod answered;
-pub mod rows;
-pub mod told;

@@ -1,0 +1,3 @@
+pub use Rattle.draft_reads.proofs as draft_reads
+pub use Rattle.escrow.proofs as escrow
+pub use Rattle.draft_reads.proofs.vault

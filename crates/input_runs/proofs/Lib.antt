@@ -1,5 +1,0 @@
-pub mod TurnsWritten
-pub mod Drained
-pub mod LinesWorked
-pub mod RunWritten
-pub mod InForm

@@ -1,4 +1,0 @@
-pub mod Steps
-pub mod Faults
-pub mod Forms
-pub mod Texts

@@ -1,5 +1,0 @@
-pub mod Tables
-pub mod Changes
-pub mod Turns
-pub mod Facets
-pub mod SeatPromises

@@ -1,3 +1,0 @@
-pub mod Details
-pub mod Turns
-pub mod Elements

@@ -1,0 +1,246 @@
+// Constants: what a state variable can hold at first. Each function answers what it read, and the
+// tokens after it; what the text does with names goes behind the events.
+ghost use Rattle.std.specs.Prelude.{[], ◌∷◌, ◌≡◌, ◌<◌, true, length};
+ghost use Rattle.jessie_grammar.specs.Parse.{Gives};
+ghost use Rattle.jessie_grammar.specs.Levels.{more_items};
+ghost use Rattle.jessie_grammar.specs.Rules as rules;
+
+use jessie_grammar::host_text_lib::text::Text;
+use jessie_grammar::jessie_language::fault::ParseError;
+use jessie_grammar::jessie_lexer::token::{Kind, Token, peek};
+use jessie_grammar::jessie_scopes::event::Event;
+use jessie_grammar::syntax::Constant;
+use jessie_terminals::constants::{
+    add_constant, add_constant_field, array_constant, literal_constant, record_constant,
+};
+use jessie_terminals::deeds::fills;
+use jessie_terminals::kinds::{is, is_literal};
+use jessie_terminals::names::name;
+use jessie_terminals::symbols::{expect, open};
+use jessie_terminals::values::{literal, negative};
+use sqlite_items::{Boxed, Items};
+use std::alloc::Global;
+
+/// A comma, and the constant behind it or none; and whether more may follow.
+#[cycle(constant)]
+#[tactic(auto, using(jessie_grammar::proofs::Reading::inner_constant_is))]
+fn item_step<'a>(
+    alloc: Global,
+    tokens: &'a [Token],
+    room: u32,
+    found: &mut Items<Constant>,
+    events: &mut Items<Event>,
+) -> Result<(bool, &'a [Token]), ParseError>
+    requires { 0 < room }
+    ensures { Gives (λ x. (((found.new, events.new), x.0), x.1.now)) result
+        (rules.comma_step Kind.RightBracket (rules.inner_constant room)
+        ((found.old, events.old), true) tokens.now) }
+{
+    let rest = expect(tokens, Kind::Comma)?;
+    if is(rest, Kind::Comma) || is(rest, Kind::RightBracket) {
+        return Ok((false, rest));
+    }
+    let (item, rest) = constant(alloc, rest, room - 1, events)?;
+    add_constant(item, found)?;
+    Ok((true, rest))
+}
+
+/// The constants of an array after its first ones.
+#[cycle(constant)]
+fn more_constants<'a>(
+    alloc: Global,
+    tokens: &'a [Token],
+    room: u32,
+    found: &mut Items<Constant>,
+    events: &mut Items<Event>,
+) -> Result<&'a [Token], ParseError>
+    requires { 0 < room }
+    ensures { Gives (λ rest. ((found.new, events.new), rest.now)) result
+        (more_items Kind.RightBracket (rules.inner_constant room) (found.old, events.old)
+        tokens.now) }
+{
+    let mut more = true;
+    let mut rest = tokens;
+    'items: while more && is(rest, Kind::Comma) {
+        let (again, after) = item_step(alloc, rest, room, found, events)?;
+        more = again;
+        rest = after;
+    }
+    Ok(rest)
+}
+
+/// The constants of an array up to its closing bracket.
+#[cycle(constant)]
+#[tactic(auto, using(jessie_grammar::proofs::Reading::inner_constant_is))]
+fn constants<'a>(
+    alloc: Global,
+    tokens: &'a [Token],
+    room: u32,
+    events: &mut Items<Event>,
+) -> Result<(Items<Constant>, &'a [Token]), ParseError>
+    requires { 0 < room }
+    ensures { Gives (λ x. ((x.0, events.new), x.1.now)) result
+        (rules.listed Kind.RightBracket (rules.inner_constant room) events.old tokens.now) }
+{
+    let mut found = Items::new(alloc);
+    if is(tokens, Kind::RightBracket) {
+        return Ok((found, tokens));
+    }
+    let (first, rest) = constant(alloc, tokens, room - 1, events)?;
+    add_constant(first, &mut found)?;
+    let rest = more_constants(alloc, rest, room, &mut found, events)?;
+    Ok((found, rest))
+}
+
+#[cycle(constant)]
+#[tactic(auto, unfolding(jessie_grammar::specs::Parse::bracketed))]
+fn array<'a>(
+    alloc: Global,
+    tokens: &'a [Token],
+    room: u32,
+    events: &mut Items<Event>,
+) -> Result<(Boxed<Constant>, &'a [Token]), ParseError>
+    ensures { Gives (λ x. ((x.0, events.new), x.1.now)) result
+        (rules.constant_array room (rules.inner_constant room) events.old tokens.now) }
+{
+    let rest = open(tokens, room, Kind::LeftBracket)?;
+    let (found, rest) = constants(alloc, rest, room, events)?;
+    let rest = expect(rest, Kind::RightBracket)?;
+    Ok((array_constant(alloc, found)?, rest))
+}
+
+/// A field of a record: its name and its constant.
+#[cycle(constant)]
+#[tactic(auto, using(jessie_grammar::proofs::Reading::inner_constant_is), unfolding(jessie_grammar::specs::Rules::constant_field))]
+fn field<'a>(
+    alloc: Global,
+    tokens: &'a [Token],
+    room: u32,
+    events: &mut Items<Event>,
+) -> Result<((&'a Token, Boxed<Constant>), &'a [Token]), ParseError>
+    requires { 0 < room }
+    ensures { Gives (λ x. (((x.0.0.now.text, x.0.1), events.new), x.1.now)) result
+        (rules.constant_field (rules.inner_constant room) events.old tokens.now) }
+{
+    let (key, rest) = name(tokens)?;
+    let rest = expect(rest, Kind::Colon)?;
+    fills(alloc, key, events)?;
+    let (value, rest) = constant(alloc, rest, room - 1, events)?;
+    Ok(((key, value), rest))
+}
+
+/// A comma, and the field behind it or none; and whether more may follow.
+#[cycle(constant)]
+fn field_step<'a>(
+    alloc: Global,
+    tokens: &'a [Token],
+    room: u32,
+    found: &mut Items<(Text, Constant)>,
+    events: &mut Items<Event>,
+) -> Result<(bool, &'a [Token]), ParseError>
+    requires { 0 < room }
+    ensures { Gives (λ x. (((found.new, events.new), x.0), x.1.now)) result
+        (rules.comma_step Kind.RightBrace (rules.constant_field (rules.inner_constant room))
+        ((found.old, events.old), true) tokens.now) }
+{
+    let rest = expect(tokens, Kind::Comma)?;
+    if is(rest, Kind::Comma) || is(rest, Kind::RightBrace) {
+        return Ok((false, rest));
+    }
+    let ((key, value), rest) = field(alloc, rest, room, events)?;
+    add_constant_field(alloc, key, value, found)?;
+    Ok((true, rest))
+}
+
+/// The fields of a record after its first ones.
+#[cycle(constant)]
+fn more_fields<'a>(
+    alloc: Global,
+    tokens: &'a [Token],
+    room: u32,
+    found: &mut Items<(Text, Constant)>,
+    events: &mut Items<Event>,
+) -> Result<&'a [Token], ParseError>
+    requires { 0 < room }
+    ensures { Gives (λ rest. ((found.new, events.new), rest.now)) result
+        (more_items Kind.RightBrace (rules.constant_field (rules.inner_constant room))
+        (found.old, events.old) tokens.now) }
+{
+    let mut more = true;
+    let mut rest = tokens;
+    'fields: while more && is(rest, Kind::Comma) {
+        let (again, after) = field_step(alloc, rest, room, found, events)?;
+        more = again;
+        rest = after;
+    }
+    Ok(rest)
+}
+
+/// The fields of a record up to its closing brace.
+#[cycle(constant)]
+fn fields<'a>(
+    alloc: Global,
+    tokens: &'a [Token],
+    room: u32,
+    events: &mut Items<Event>,
+) -> Result<(Items<(Text, Constant)>, &'a [Token]), ParseError>
+    requires { 0 < room }
+    ensures { Gives (λ x. ((x.0, events.new), x.1.now)) result
+        (rules.listed Kind.RightBrace (rules.constant_field (rules.inner_constant room))
+        events.old tokens.now) }
+{
+    let mut found = Items::new(alloc);
+    if is(tokens, Kind::RightBrace) {
+        return Ok((found, tokens));
+    }
+    let ((key, value), rest) = field(alloc, tokens, room, events)?;
+    add_constant_field(alloc, key, value, &mut found)?;
+    let rest = more_fields(alloc, rest, room, &mut found, events)?;
+    Ok((found, rest))
+}
+
+#[cycle(constant)]
+#[tactic(auto, unfolding(jessie_grammar::specs::Parse::bracketed))]
+fn record_text<'a>(
+    alloc: Global,
+    tokens: &'a [Token],
+    room: u32,
+    events: &mut Items<Event>,
+) -> Result<(Boxed<Constant>, &'a [Token]), ParseError>
+    ensures { Gives (λ x. ((x.0, events.new), x.1.now)) result
+        (rules.constant_record room (rules.inner_constant room) events.old tokens.now) }
+{
+    let rest = open(tokens, room, Kind::LeftBrace)?;
+    events.push(Event::Opens)?;
+    let (found, rest) = fields(alloc, rest, room, events)?;
+    let rest = expect(rest, Kind::RightBrace)?;
+    events.push(Event::Closes)?;
+    Ok((record_constant(alloc, found)?, rest))
+}
+
+/// A constant, where `room` more brackets may be open.
+#[cycle(constant)]
+#[tactic(auto, using(jessie_grammar::proofs::Reading::constant_is), unfolding(jessie_grammar::specs::Rules::constant_in))]
+pub fn constant<'a>(
+    alloc: Global,
+    tokens: &'a [Token],
+    room: u32,
+    events: &mut Items<Event>,
+) -> Result<(Boxed<Constant>, &'a [Token]), ParseError>
+    ensures { Gives (λ x. ((x.0, events.new), x.1.now)) result
+        (rules.constant room events.old tokens.now) }
+{
+    if is_literal(peek(tokens)) {
+        let (value, rest) = literal(alloc, tokens)?;
+        return Ok((literal_constant(alloc, value)?, rest));
+    }
+    if is(tokens, Kind::Minus) {
+        let rest = expect(tokens, Kind::Minus)?;
+        let (value, rest) = negative(rest)?;
+        return Ok((literal_constant(alloc, value)?, rest));
+    }
+    if is(tokens, Kind::LeftBracket) {
+        return array(alloc, tokens, room, events);
+    }
+    record_text(alloc, tokens, room, events)
+}

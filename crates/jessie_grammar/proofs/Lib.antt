@@ -1,0 +1,21 @@
+pub mod Views
+pub mod Cutting
+pub mod Numbers
+pub mod Pieces
+pub mod Words
+pub mod Blocks
+pub mod Entries
+pub mod Exprs
+pub mod Good
+pub mod Modules
+pub mod Reading
+pub mod GrammarRows
+pub mod Sets
+pub mod Statements
+pub mod Texts
+pub mod ToldNames
+pub mod ToldTurns
+pub mod Unique
+pub mod Whole
+pub mod Answered
+mod TextRows

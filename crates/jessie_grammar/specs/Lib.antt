@@ -1,0 +1,20 @@
+pub mod Syntax
+pub mod Lex
+pub mod Pieces
+pub mod Tokens
+pub mod OpenBlocks
+pub mod Reserved
+pub mod Scopes
+pub mod BlockTurns
+pub mod Grammar
+pub mod Lang
+pub mod Laws
+pub mod Levels
+pub mod Parse
+pub mod Refused
+pub mod Rules
+pub mod StatementList
+pub mod Words
+pub mod Answers
+pub mod Texts
+pub use Rattle.host_text.specs as host_text

@@ -1,4 +1,0 @@
-pub mod Cutting
-pub mod Numbers
-pub mod Pieces
-pub mod Words

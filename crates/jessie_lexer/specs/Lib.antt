@@ -1,3 +1,0 @@
-pub mod Lex
-pub mod Pieces
-pub mod Tokens

@@ -1,8 +1,0 @@
-use Rattle.jessie_texts.proofs.Answered.{answered, answered_alone}
-use Rattle.jessie_module_reader.proofs.reader.read_module.Goals as goal
-
-pub returns-clause-comes : goal.returns-clause-comes
-returns-clause-comes c = answered c.args.bytes.now c.answer.result c.answer.ensures
-
-pub returns-clause-alone : goal.returns-clause-alone
-returns-clause-alone c = answered_alone c.args.bytes.now c.answer.result c.answer.ensures

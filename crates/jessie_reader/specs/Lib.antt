@@ -1,0 +1,1 @@
+pub use Rattle.jessie_grammar.specs.host_text

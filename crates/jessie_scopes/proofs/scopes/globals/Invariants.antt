@@ -1,9 +1,0 @@
-use Rattle.std.proofs.Common.{◌≡◌, ◌++◌, length}
-use Rattle.jessie_scopes.specs.Scopes as spec
-use Rattle.jessie_scopes.proofs.scopes.globals.Given as goal
-
-abbrev pub invariant-events : goal.invariant-events
-invariant-events l = spec.globals l.fn.events ≡ l.found ++ spec.globals l.rest
-
-abbrev pub decreases-events : goal.decreases-events
-decreases-events l = length l.rest

@@ -1,9 +1,0 @@
-use Rattle.std.proofs.Common.{◌≡◌, length}
-use Rattle.jessie_scopes.specs.Scopes as spec
-use Rattle.jessie_scopes.proofs.scopes.is_function.Given as goal
-
-abbrev pub invariant-globals : goal.invariant-globals
-invariant-globals l = spec.is_function l.name l.fn.globals ≡ spec.is_function l.name l.rest
-
-abbrev pub decreases-globals : goal.decreases-globals
-decreases-globals l = length l.rest

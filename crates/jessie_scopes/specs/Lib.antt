@@ -1,3 +1,0 @@
-pub mod OpenBlocks
-pub mod Reserved
-pub mod Scopes

@@ -1,0 +1,222 @@
+//! The functions of AmountMath, by their names.
+
+ghost use Rattle.std.specs.Prelude.{◌≡◌, [], Err, IfOk, Ok, OnErr};
+ghost use Rattle.host_data.specs.Tree.{null};
+ghost use Rattle.host_data.specs.View.{tree, trees};
+ghost use Rattle.jessie_semantics.specs.AmountMath.{amount_call, answer, answer_of, argument, coerced, containment, emptied, emptiness, equality, function_named, made, made_empty, shown, value_of, worked};
+ghost use Rattle.jessie_semantics.specs.Refusals.{Answers};
+ghost use Rattle.jessie_semantics.specs.Worths.{value_of_two};
+
+use crate::given::{amount_given, amount_made, amount_of_brand, brand_wanted, two_amounts};
+use crate::refusals::{AmountFault, AmountRefusal, put};
+use crate::worths::{Operation, has, is_nothing, value_of_two};
+use host_data::amount_math_lib::Value;
+use host_data::data::{Data, ObjKind};
+use host_data::host_text_lib::text::Text;
+use host_data::refusals::Refusal;
+use host_data::values::{object_data, value_data};
+use std::alloc::{AllocError, Global};
+
+/// A function of AmountMath.
+#[derive(Clone, Copy, PartialEq, Eq)]
+pub enum AmountFunction {
+    Make,
+    MakeEmpty,
+    MakeEmptyFromAmount,
+    IsEmpty,
+    IsGte,
+    IsEqual,
+    Add,
+    Subtract,
+    Min,
+    Max,
+    Coerce,
+    GetValue,
+}
+
+/// The function of that name.
+fn function_named(name: &str) -> Option<AmountFunction>
+    ensures { result ≡ function_named name.now }
+{
+    match name {
+        "make" => Some(AmountFunction::Make),
+        "makeEmpty" => Some(AmountFunction::MakeEmpty),
+        "makeEmptyFromAmount" => Some(AmountFunction::MakeEmptyFromAmount),
+        "isEmpty" => Some(AmountFunction::IsEmpty),
+        "isGTE" => Some(AmountFunction::IsGte),
+        "isEqual" => Some(AmountFunction::IsEqual),
+        "add" => Some(AmountFunction::Add),
+        "subtract" => Some(AmountFunction::Subtract),
+        "min" => Some(AmountFunction::Min),
+        "max" => Some(AmountFunction::Max),
+        "coerce" => Some(AmountFunction::Coerce),
+        "getValue" => Some(AmountFunction::GetValue),
+        _ => None,
+    }
+}
+
+/// `AmountMath.name(arguments)`. `NoMethod` for another name; else, in this order, `BadArgs` with the place
+/// of what is no brand or amount, `WrongBrand` with the brand of the second amount, `BadValue`, and then
+/// what the kind of the values refuses: `Overlap`, `TooMuch`, `NotEnough`. Values are shown in byte order.
+#[tactic(auto, unfolding(crate::specs::AmountMath::amount_call))]
+pub fn call_amount_math(alloc: Global, name: &str, args: &[Data]) -> Result<Data, AmountFault>
+    ensures { Answers tree result (amount_call name.now (trees args.now)) }
+{
+    let null = Data::Null;
+    match function_named(name) {
+        Some(function) => answer(
+            alloc,
+            function,
+            argument(args, 0, &null),
+            argument(args, 1, &null),
+        ),
+        None => no_function(alloc, name),
+    }
+}
+
+fn no_function(alloc: Global, name: &str) -> Result<Data, AmountFault>
+    ensures { Answers tree result (answer_of None name.now []) }
+{
+    let name = Text::from_str(alloc, name)?;
+    Err(AmountFault::Refused(AmountRefusal::Refused(Refusal::NoMethod(name))))
+}
+
+/// An argument, null where it is missing.
+fn argument<'a>(args: &'a [Data], place: usize, missing: &'a Data) -> &'a Data
+    requires { tree missing.now ≡ null }
+    ensures { tree result.now ≡ argument place (trees args.now) }
+{
+    if place < args.len() {
+        &args[place]
+    } else {
+        missing
+    }
+}
+
+/// What a function answers.
+fn answer(
+    alloc: Global,
+    function: AmountFunction,
+    first: &Data,
+    second: &Data,
+) -> Result<Data, AmountFault>
+    ensures { Answers tree result (answer function (tree first.now) (tree second.now)) }
+{
+    match function {
+        AmountFunction::Make => made(alloc, first, second),
+        AmountFunction::MakeEmpty => made_empty(alloc, first),
+        AmountFunction::MakeEmptyFromAmount => emptied(alloc, first),
+        AmountFunction::IsEmpty => emptiness(alloc, first),
+        AmountFunction::IsGte => containment(alloc, first, second),
+        AmountFunction::IsEqual => equality(alloc, first, second),
+        AmountFunction::Add => worked(alloc, Operation::Sum, first, second),
+        AmountFunction::Subtract => worked(alloc, Operation::Difference, first, second),
+        AmountFunction::Min => worked(alloc, Operation::Least, first, second),
+        AmountFunction::Max => worked(alloc, Operation::Greatest, first, second),
+        AmountFunction::Coerce => coerced(alloc, first, second),
+        AmountFunction::GetValue => value_of(alloc, first, second),
+    }
+}
+
+/// What was made, unless memory ran out.
+fn answered(made: Result<Data, AllocError>) -> Result<Data, AmountFault>
+    ensures ok { IfOk made (λ value. result ≡ Ok value) }
+    ensures err { OnErr made (result ≡ Err AmountFault.NoMemory) }
+{
+    match made {
+        Ok(value) => Ok(value),
+        Err(_) => Err(AmountFault::NoMemory),
+    }
+}
+
+/// An amount, as data.
+#[tactic(auto, unfolding(host_data::specs::Values::amount_tree))]
+fn shown(alloc: Global, brand: u32, value: &Value) -> Result<Data, AllocError>
+    ensures { IfOk result (λ made. tree made ≡ shown brand value.now) }
+{
+    let named = object_data(ObjKind::Brand(value.kind()), brand);
+    let mut fields = Vec::new(alloc);
+    put(alloc, &mut fields, "brand", named)?;
+    put(alloc, &mut fields, "value", value_data(alloc, value)?)?;
+    Ok(Data::Record(fields))
+}
+
+#[tactic(auto, unfolding(crate::specs::Refusals::bind))]
+fn made(alloc: Global, brand: &Data, value: &Data) -> Result<Data, AmountFault>
+    ensures { Answers tree result (made (tree brand.now) (tree value.now)) }
+{
+    let amount = amount_made(alloc, brand, value)?;
+    answered(shown(alloc, amount.brand, &amount.value))
+}
+
+#[tactic(auto, unfolding(crate::specs::Refusals::bind))]
+fn made_empty(alloc: Global, brand: &Data) -> Result<Data, AmountFault>
+    ensures { Answers tree result (made_empty (tree brand.now)) }
+{
+    let own = brand_wanted(brand)?;
+    answered(shown(alloc, own.number, &Value::empty(own.kind)))
+}
+
+#[tactic(auto, unfolding(crate::specs::Refusals::bind))]
+fn emptied(alloc: Global, given: &Data) -> Result<Data, AmountFault>
+    ensures { Answers tree result (emptied (tree given.now)) }
+{
+    let amount = amount_given(alloc, given)?;
+    answered(shown(alloc, amount.brand, &Value::empty(amount.value.kind())))
+}
+
+#[tactic(auto, unfolding(crate::specs::Refusals::bind))]
+fn emptiness(alloc: Global, given: &Data) -> Result<Data, AmountFault>
+    ensures { Answers tree result (emptiness (tree given.now)) }
+{
+    let amount = amount_given(alloc, given)?;
+    Ok(Data::Bool(is_nothing(&amount.value)))
+}
+
+#[tactic(auto, unfolding(crate::specs::Refusals::bind))]
+fn containment(alloc: Global, first: &Data, second: &Data) -> Result<Data, AmountFault>
+    ensures { Answers tree result (containment (tree first.now) (tree second.now)) }
+{
+    let two = two_amounts(alloc, first, second)?;
+    Ok(Data::Bool(has(&two.left, &two.right)))
+}
+
+#[tactic(auto, unfolding(crate::specs::Refusals::bind))]
+fn equality(alloc: Global, first: &Data, second: &Data) -> Result<Data, AmountFault>
+    ensures { Answers tree result (equality (tree first.now) (tree second.now)) }
+{
+    let two = two_amounts(alloc, first, second)?;
+    Ok(Data::Bool(has(&two.left, &two.right) && has(&two.right, &two.left)))
+}
+
+/// The amount of the brand of two that a function makes of their values.
+#[tactic(auto, unfolding(crate::specs::Refusals::bind))]
+fn worked(
+    alloc: Global,
+    operation: Operation,
+    first: &Data,
+    second: &Data,
+) -> Result<Data, AmountFault>
+    ensures { Answers tree result (worked (value_of_two operation) (tree first.now) (tree second.now)) }
+{
+    let two = two_amounts(alloc, first, second)?;
+    let brand = two.brand;
+    let value = value_of_two(operation, two)?;
+    answered(shown(alloc, brand, &value))
+}
+
+#[tactic(auto, unfolding(crate::specs::Refusals::bind))]
+fn coerced(alloc: Global, brand: &Data, given: &Data) -> Result<Data, AmountFault>
+    ensures { Answers tree result (coerced (tree brand.now) (tree given.now)) }
+{
+    let amount = amount_of_brand(alloc, brand, given)?;
+    answered(shown(alloc, amount.brand, &amount.value))
+}
+
+#[tactic(auto, unfolding(crate::specs::Refusals::bind))]
+fn value_of(alloc: Global, brand: &Data, given: &Data) -> Result<Data, AmountFault>
+    ensures { Answers tree result (value_of (tree brand.now) (tree given.now)) }
+{
+    let amount = amount_of_brand(alloc, brand, given)?;
+    answered(value_data(alloc, &amount.value))
+}

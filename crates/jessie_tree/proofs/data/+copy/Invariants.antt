@@ -1,9 +1,0 @@
-use Rattle.std.proofs.Common.{◌≡◌, take}
-use Rattle.jessie_tree.specs.View.{trees, named_trees}
-use Rattle.jessie_tree.proofs.data.+copy.Given as goal
-
-abbrev pub invariant-copy_fields-loop-name : goal.invariant-copy_fields-loop-name
-invariant-copy_fields-loop-name l = named_trees l.copies.items ≡ named_trees (take l.name-index l.fields)
-
-abbrev pub invariant-copy_items-loop-item : goal.invariant-copy_items-loop-item
-invariant-copy_items-loop-item l = trees l.copies.items ≡ trees (take l.item-index l.items)

@@ -1,9 +1,0 @@
-use Rattle.std.proofs.Common.{Some, sym, ap}
-use Rattle.jessie_tree.specs.View.{trees}
-use Rattle.jessie_tree.proofs.Views.{listed_back, tree-Array}
-use Rattle.jessie_tree.proofs.data.Data.items.Goals as goal
-
-pub returns-in-Array : goal.returns-in-Array
-returns-in-Array c =
-    let v = c.in-Array.items in
-    rw (c.in-Array.is, tree-Array v, c.as_slice.ensures.value) (ap Some (sym (listed_back (trees v.items))))

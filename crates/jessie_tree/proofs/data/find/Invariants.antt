@@ -1,7 +1,0 @@
-use Rattle.std.proofs.Common.{◌≡◌, drop}
-use Rattle.jessie_tree.specs.Tree.{get}
-use Rattle.jessie_tree.specs.View.{named_trees, fields_of}
-use Rattle.jessie_tree.proofs.data.find.Given as goal
-
-abbrev pub invariant-loop-key : goal.invariant-loop-key
-invariant-loop-key l = get l.name (fields_of (named_trees (drop l.key-index l.fields))) ≡ get l.name (fields_of (named_trees l.fields))

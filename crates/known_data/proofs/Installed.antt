@@ -1,8 +1,0 @@
--- The installation of an instance was made.
-use Rattle.std.proofs.Common.{ℕ, ◌<◌, length}
-use Rattle.instance_store.specs.Tables.{instance_at}
-use Rattle.world_state.specs.Good.{IsGoodWorld}
-use Rattle.world_state.specs.Worlds.{State}
-
-pub installed_in : (w : State) (i : ℕ) → IsGoodWorld w → i < length w.tables.instances → (instance_at w.tables.instances i).installation < length w.tables.installations
-installed_in w i good made = (good.instances.each i made).installed

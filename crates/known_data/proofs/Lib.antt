@@ -1,3 +1,0 @@
-pub mod Installed
-pub mod NamedObjects
-pub mod Known

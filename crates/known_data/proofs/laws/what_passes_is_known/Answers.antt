@@ -1,5 +1,0 @@
-use Rattle.known_data.proofs.Known.{known_passes, passed_known}
-use Rattle.known_data.proofs.laws.what_passes_is_known.Goals as goal
-
-pub returns : goal.returns
-returns c = λ w i t good made. (passed_known w i good made t, known_passes w i good made t)

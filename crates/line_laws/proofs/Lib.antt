@@ -1,2 +1,0 @@
-pub mod OrderedJson
-pub mod FormedLines

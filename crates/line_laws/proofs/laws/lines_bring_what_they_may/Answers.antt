@@ -1,5 +1,0 @@
-use Rattle.line_laws.proofs.FormedLines.{line_is_line}
-use Rattle.line_laws.proofs.laws.lines_bring_what_they_may.Goals as goal
-
-pub returns : goal.returns
-returns c = record { line = line_is_line }

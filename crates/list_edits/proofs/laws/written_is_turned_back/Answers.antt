@@ -1,5 +1,0 @@
-use Rattle.list_edits.proofs.ListEdits.{written_back}
-use Rattle.list_edits.proofs.laws.written_is_turned_back.Goals as goal
-
-pub returns : goal.returns
-returns c = λ xs n d x turned lt is. written_back xs n d x lt turned is

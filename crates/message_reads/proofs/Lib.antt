@@ -1,3 +1,0 @@
-pub mod StatesMet
-pub mod PartsResolved
-pub mod Sent

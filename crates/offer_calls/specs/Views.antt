@@ -1,0 +1,33 @@
+-- What is read of an offer, as the definitions of rows have it.
+use Rattle.std.specs.Prelude.{◌≡◌, ◌<◌, ◌^◌, true, List, All}
+use Rattle.refusals.specs.host_text.Words.{is_keyword}
+use Rattle.refusals.specs.host_data.View.{named_trees}
+use Rattle.call_arguments.specs.Records.{rows_data}
+use Rattle.call_arguments.specs.declared.records.GivenRow.{GivenRow}
+use Rattle.rules.specs.OfferRows as rows
+use Rattle.rules.specs.Proposals as proposed
+use Rattle.offer_calls.specs.Reading as reading
+use Rattle.offer_calls.specs.declared.invited.Invited.{Invited}
+use Rattle.offer_calls.specs.declared.proposing.Given.{Given}
+use Rattle.offer_calls.specs.declared.proposing.Proposed.{Proposed}
+
+abbrev pub invited_view : Invited → rows.Invited
+invited_view by = record { payment = by.payment; invitation = by.invitation }
+
+abbrev pub given_view : Given → reading.Given
+given_view g = record {
+  give = rows_data g.give.items;
+  want = rows_data g.want.items;
+  payments = named_trees g.payments.now;
+}
+
+abbrev pub proposed_view : Proposed → proposed.Proposed
+proposed_view p = record {
+  proposal = record { give = p.give.items; want = p.want.items; exit = p.exit };
+  payments = named_trees p.payments.now;
+}
+
+-- rows of which each is under a keyword, and names a brand by such a number as brands have
+pub record CanBeRows (rows : List GivenRow) : Type 0 where
+  pub named : All (λ r. is_keyword r.keyword.now ≡ true) rows
+  pub small : All (λ r. r.amount.brand < 2 ^ 16) rows

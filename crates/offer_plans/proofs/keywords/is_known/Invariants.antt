@@ -1,6 +1,0 @@
-use Rattle.std.proofs.Common.{◌≡◌, drop}
-use Rattle.service_rows.specs.Proposals.{is_known}
-use Rattle.offer_plans.proofs.keywords.is_known.Given as goal
-
-abbrev pub invariant-loop-issuer : goal.invariant-loop-issuer
-invariant-loop-issuer l = is_known (drop l.issuer-index l.issuers) l.brand ≡ is_known l.issuers l.brand

@@ -1,4 +1,0 @@
-pub mod Added
-pub mod Apart
-pub mod Taken
-pub mod Combining

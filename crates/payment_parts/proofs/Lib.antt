@@ -1,2 +1,0 @@
-pub mod Combined
-pub mod SplitUp

@@ -1,2 +1,0 @@
-pub mod Combinations
-pub mod Splits

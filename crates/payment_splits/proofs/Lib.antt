@@ -1,3 +1,0 @@
-pub mod Papers
-pub mod Parts
-pub mod Splitting

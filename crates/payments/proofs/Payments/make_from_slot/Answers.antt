@@ -1,5 +1,0 @@
-use Rattle.payments.proofs.Books.{papers_long}
-use Rattle.payments.proofs.Payments.make_from_slot.Goals as goal
-
-pub returns-in-Ok-clause-payment : goal.returns-in-Ok-clause-payment
-returns-in-Ok-clause-payment c = rw (← c.self.view_is, papers_long 0 c.self.inside.live c.self.inside.listed.items) c.in-Ok.ensures.payment

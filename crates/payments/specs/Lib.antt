@@ -1,2 +1,0 @@
-pub mod Papers
-pub mod Kept

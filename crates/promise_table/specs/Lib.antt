@@ -1,4 +1,0 @@
-pub mod Books
-pub mod Stores
-pub mod Facts
-pub mod Tables

@@ -1,0 +1,6 @@
+use Rattle.std.proofs.Common.{◌≡◌, map, take}
+use Rattle.proposals.specs.Gains.{raised}
+use Rattle.proposals.proofs.gains.raised_slots.Given as goal
+
+abbrev pub invariant-loop-slot : goal.invariant-loop-slot
+invariant-loop-slot l = l.after.items ≡ map (raised l.gains) (take l.slot-index l.slots)

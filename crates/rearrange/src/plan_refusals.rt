@@ -1,0 +1,62 @@
+//! Why a change of allocations is refused, as calls show it. Its one contract: each fault is the
+//! refusal that its definition says, of the same seats, keys and counts.
+
+pub mod laws;
+
+ghost use Rattle.std.specs.Prelude.{◌≡◌};
+ghost use Rattle.rearrange.specs.Told.{CanShowUnkept, PlanCanShow, plan_told, seats_told, unkept_told};
+
+use crate::plans::PlanFault;
+use crate::seats::SeatsFault;
+use crate::sums as plans;
+use refusals::codes::{BareCode, NumberCode, Refusal, Unkept};
+use refusals::faults::too_much;
+use refusals::stops::Stop;
+
+/// How many slots a seat may have, at most (Zoe's keywords; the number is our own).
+const MOST_SLOTS: u32 = 64;
+
+/// What a change would not keep, with its counts as numbers that data can hold.
+pub fn unkept_told(unkept: plans::Unkept) -> Unkept
+    requires { CanShowUnkept unkept }
+    ensures { result ≡ unkept_told unkept }
+{
+    Unkept {
+        brand: unkept.brand,
+        element: unkept.element,
+        before: unkept.before as i128,
+        after: unkept.after as i128,
+    }
+}
+
+/// Why seats can't take part in a change: it shows the seat, and `OneSeat` nothing.
+pub fn seats_told(fault: SeatsFault) -> Refusal
+    ensures { result ≡ seats_told fault }
+{
+    match fault {
+        SeatsFault::WrongInstance(seat) => Refusal::Numbered(NumberCode::WrongInstance, seat),
+        SeatsFault::OneSeat => Refusal::Bare(BareCode::OneSeat),
+        SeatsFault::RepeatedSeat(seat) => Refusal::Numbered(NumberCode::RepeatedSeat, seat),
+        SeatsFault::SeatExited(seat) => Refusal::Numbered(NumberCode::SeatExited, seat),
+        SeatsFault::StagedLeftOut(seat) => Refusal::Numbered(NumberCode::StagedLeftOut, seat),
+    }
+}
+
+/// Why a change of allocations is refused.
+pub fn plan_told(fault: PlanFault) -> Stop
+    requires { PlanCanShow fault }
+    ensures { result ≡ plan_told fault }
+{
+    match fault {
+        PlanFault::Seats(fault) => Stop::Refused(seats_told(fault)),
+        PlanFault::NotEnough(short) => Stop::Refused(Refusal::NotEnough(short)),
+        PlanFault::Overlap(key) => Stop::Refused(Refusal::Overlap(key)),
+        PlanFault::TooMuch(over) => Stop::Refused(too_much(over)),
+        PlanFault::NotConserved(unkept) => {
+            Stop::Refused(Refusal::NotConserved(unkept_told(unkept)))
+        }
+        PlanFault::NotOfferSafe(seat) => Stop::numbered(NumberCode::NotOfferSafe, seat),
+        PlanFault::Limit => Stop::numbered(NumberCode::Limit, MOST_SLOTS),
+        PlanFault::NoMemory => Stop::NoMemory,
+    }
+}

@@ -1,0 +1,5 @@
+pub mod Met
+pub mod Passed
+pub mod Among
+pub mod Left
+pub mod Steps

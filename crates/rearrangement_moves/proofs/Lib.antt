@@ -1,3 +1,0 @@
-pub mod ByNumber
-pub mod Shaped
-pub mod Slots

@@ -1,6 +1,0 @@
-use Rattle.std.proofs.Common.{◌≡◌, ◌++◌, flat_map, take}
-use Rattle.plan_checks.specs.Moves.{if_some, gained_by, from_hand}
-use Rattle.rearrangement_moves.proofs.moves.add_gains.Given as goal
-
-abbrev pub invariant-loop-row : goal.invariant-loop-row
-invariant-loop-row l = l.moves.items ≡ l.initial.moves.items ++ flat_map (λ r. if_some (from_hand l.touched.seat r (gained_by l.touched.before r))) (take l.row-index l.touched.after)

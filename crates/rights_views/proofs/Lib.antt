@@ -1,4 +1,0 @@
-pub mod Views
-pub mod Together
-pub mod Left
-pub mod Combined

@@ -1,7 +1,0 @@
-use Rattle.std.proofs.Common.{◌≡◌, drop}
-use Rattle.record_arguments.specs.Records.{row_data}
-use Rattle.trade_rows.specs.Given.{is_other}
-use Rattle.row_arguments.proofs.misfits.is_other.Given as goal
-
-abbrev pub invariant-loop-row : goal.invariant-loop-row
-invariant-loop-row l = is_other (drop l.row-index l.rows) (row_data l.given) ≡ is_other l.rows (row_data l.given)

@@ -1,6 +1,0 @@
--- Brands have numbers of 16 bits.
-use Rattle.std.specs.Prelude.{◌<◌, ◌^◌}
-use Rattle.record_arguments.specs.declared.records.GivenRow.{GivenRow}
-
-abbrev pub HasSmallBrand : GivenRow → Type 0
-HasSmallBrand r = r.amount.brand < 2 ^ 16

@@ -1,0 +1,266 @@
+-- What the readers of a contract's arguments give: seats of the instance, rows that fit, room for changes.
+use Rattle.std.specs.Prelude.{IfSome, filter, map, nat_le, not, ◌==◌, ◌||◌, ◌*◌, ◌-◌, ◌^◌}
+use Rattle.std.specs.List.{AllByRecursion}
+use Rattle.std.specs.Option.{option_map_or}
+use Rattle.std.specs.Str.{bytes_eq}
+use Rattle.std.proofs.Common.{◌≡◌, ℕ, ◌+◌, ◌<◌, ◌≤◌, Bool, true, false, cond, List, [], ◌∷◌, length, Option, Some, None, Result, Ok, Err, IfOk, refl, sym, ap, subst, ◌∙◌, arith}
+use Rattle.std.proofs.lemmas.Bool.{and_parts, eqb-true, false≢true, leb-true}
+use Rattle.std.proofs.lemmas.Option.{same_Some}
+use Rattle.rules.specs.proposals.Gains.{raised, with_gains}
+use Rattle.rules.specs.proposals.Losses.{lowered, with_losses}
+use Rattle.rules.specs.proposals.ChangedRows.{further}
+use Rattle.world_laws.specs.amount_math.Content.{Contains, Content, count-nothing, nothing, sum}
+use Rattle.world_laws.specs.amount_math.KindLaws.{value_of_sum}
+use Rattle.world_laws.specs.amount_math.Worth.{Fits, HasFew, IsValue, Worth}
+use Rattle.world_laws.specs.amount_math.declared.Amount.{Amount}
+use Rattle.rules.specs.call_arguments.Arguments.{arg, is_kind, number_of_kind, object_at, object_in, record_at}
+use Rattle.rules.specs.call_arguments.Numbers.{least, least_of}
+use Rattle.world_laws.specs.host_data.Amounts.{read_all}
+use Rattle.world_laws.specs.host_data.Nodes.{EachNode, ObjectIs}
+use Rattle.world_laws.specs.ertp_mint.Stocks.{most_made}
+use Rattle.world_laws.specs.host_data.Tree as trees
+use Rattle.world_laws.specs.host_data.Tree.{Tree, fields_size, items_size, paired, pairs_of, size}
+use Rattle.world_laws.specs.host_data.View.{items_of}
+use Rattle.world_laws.specs.host_data.declared.data.Obj.{Obj}
+use Rattle.world_laws.specs.host_data.declared.data.ObjKind.{ObjKind}
+use Rattle.world_laws.specs.host_data.declared.data.ObjKind.TheVariants as kinds
+use Rattle.rules.specs.rearrange.Slots.{each_passes, fits_slot}
+use Rattle.rules.specs.proposals.OfferSafety.{IsCovered}
+use Rattle.rules.specs.proposals.Rows.{AreRows, amount_under, content_under, most_rows}
+use Rattle.rules.specs.proposals.declared.allocations.Row.{Row}
+use Rattle.rules.specs.call_arguments.Records.{RowData, brands_in, first_ill, keywords, names, row_in, rows_in, amounts_under}
+use Rattle.world_laws.proofs.refusals.Steps.{after_known, after_need, after_none_such, after_step, after_wanted, need_holds, ok_has, wanted_there}
+use Rattle.world_laws.specs.refusals.Outcomes.{◌>>◌, bind}
+use Rattle.world_laws.specs.refusals.declared.codes.Refusal.{Refusal}
+use Rattle.rules.specs.Proposals.{valued, with_values}
+use Rattle.rules.specs.Given.{is_other, own_seat, rows_at}
+use Rattle.rules.specs.States.{has_room, leaves_room, touched_seat}
+use Rattle.rules.proofs.value_tests.Exact.{value_passed}
+use Rattle.world_laws.proofs.Lists.{all_read, length_append, length_map}
+use Rattle.world_laws.specs.world_state.Good.{AreNamed, AreRowsOf, AreRowsValued, IsAmountValued, IsGoodWorld, IsOfKind, open_slots}
+use Rattle.world_laws.specs.world_state.Known.{IsFormed, IsSeatOf, ObjectKnown, known_as}
+use Rattle.world_laws.specs.world_state.Rights.{kind_at}
+use Rattle.world_laws.specs.world_state.Worlds.{IsOpen, State}
+use Rattle.row_laws.proofs.Records.{fields_each, fields_in, fields_ordered}
+use Rattle.row_laws.proofs.RowsRead.{AreRead, IsReadRow, record_read, values_there}
+use Rattle.row_laws.proofs.SlotLists.{CanAddTo, CanTakeFrom, fresh_in, further_many}
+use Rattle.rules.specs.ZseatRows.{allocation_of, is_open, seat_of}
+use Rattle.row_laws.proofs.Zseats.{open_there}
+use Rattle.row_laws.proofs.Sizes.{argument_size, counted_in, record_counts}
+
+pub if_given : {A : Type 0} (P : A → Type 0) (r : Result A Refusal) → ((x : A) → r ≡ Ok x → P x) → IfOk r P
+if_given P (Ok x) h = h x refl
+if_given P (Err e) h = tt
+
+-- of two tests that were passed each was
+pub passed : (r next : Result (Unit {0}) Refusal) → r >> next ≡ Ok tt → (r ≡ Ok tt) × (next ≡ Ok tt)
+unfolding bind
+passed (Ok x) next is = (refl, is)
+passed (Err e) next is = absurd (cc)
+
+-- ---- seats
+
+seat_known : (w : State) (i : ℕ) (k : ObjKind) (n : ℕ) → is_kind kinds.Zseat k ≡ true → known_as i w k n → IsSeatOf w.seats i n
+seat_known w i kinds.Zseat n is known = known
+seat_known w i _ n is known = absurd (false≢true is)
+
+object_seat : (w : State) (i : ℕ) (o : Obj) (n : ℕ) → known_as i w o.kind o.number → number_of_kind kinds.Zseat o ≡ Some n → IsSeatOf w.seats i n
+object_seat w i o n known is = by (is_kind kinds.Zseat o.kind) refl is
+  where
+    by : (b : Bool) → is_kind kinds.Zseat o.kind ≡ b → cond b (Some o.number) None ≡ Some n → IsSeatOf w.seats i n
+    by true e at = subst (IsSeatOf w.seats i) (same_Some o.number n at) (seat_known w i o.kind o.number e known)
+    by false e at = absurd (cc)
+
+pub seat_in : (w : State) (i : ℕ) (t : Tree) (n : ℕ) → EachNode (ObjectIs (ObjectKnown (Some i) w)) 0 t → object_in kinds.Zseat t ≡ Some n → IsSeatOf w.seats i n
+unfolding object_in
+seat_in w i (trees.object o) n known is = object_seat w i o n known is
+seat_in w i trees.null n known is = absurd (cc)
+seat_in w i (trees.boolean b) n known is = absurd (cc)
+seat_in w i (trees.number z) n known is = absurd (cc)
+seat_in w i (trees.text s) n known is = absurd (cc)
+seat_in w i (trees.array ts) n known is = absurd (cc)
+seat_in w i (trees.fields fs) n known is = absurd (cc)
+seat_in w i (trees.function name) n known is = absurd (cc)
+
+pub seat_given : (w : State) (i place : ℕ) (args : List Tree) (n : ℕ) → IsFormed w (Some i) (arg place args) → object_at kinds.Zseat place args ≡ Ok n → IsSeatOf w.seats i n
+unfolding object_at
+seat_given w i place args n formed is = seat_in w i (arg place args) n formed.objects (wanted_there (object_in kinds.Zseat (arg place args)) _ n is)
+
+-- an open seat of the instance
+pub record IsOwn (w : State) (i n : ℕ) : Type 0 where
+  pub own : IsSeatOf w.seats i n
+  pub is_open : IsOpen (seat_of w n)
+
+-- a seat that is read is one of the caller's, which is open
+pub own_is : (w : State) (i j place : ℕ) (args : List Tree) → IsFormed w (Some i) (arg place args) → IfOk (own_seat w j place args) (IsOwn w i)
+unfolding own_seat
+own_is w i j place args formed = after_step _ _ _ (λ n at. after_need _ _ _ _ (λ same. opened n at))
+  where
+    opened : (n : ℕ) → object_at kinds.Zseat place args ≡ Ok n → IfOk (is_open w n >> Ok n) (IsOwn w i)
+    opened n at = after_known _ _ _ (λ stays. record { own = seat_given w i place args n formed at; is_open = open_there w n stays })
+
+-- ---- rows that are read
+
+pub pairs_are : (t : Tree) (given : List (List ℕ × Tree)) → pairs_of t ≡ Some given → paired (fields_in t) ≡ given
+pairs_are (trees.fields fs) given is = same_Some (paired fs) given is
+pairs_are _ given is = absurd (cc)
+
+not_some_least : (n : ℕ) (o : Option ℕ) → least_of (Some n) o ≡ None → ⊥
+not_some_least n None is = cc
+not_some_least n (Some m) is = cc
+
+none_misfits : (misfits : RowData → Bool) (rows : List RowData) → least (brands_in (filter misfits rows)) ≡ None → AllByRecursion (λ r. misfits r ≡ false) rows
+none_misfits misfits [] is = tt
+none_misfits misfits (r ∷ rs) is = by (misfits r) refl (none_misfits misfits rs) is
+  where
+    by : (b : Bool) → misfits r ≡ b → (least (brands_in (filter misfits rs)) ≡ None → AllByRecursion (λ x. misfits x ≡ false) rs) → least (brands_in (cond b (r ∷ filter misfits rs) (filter misfits rs))) ≡ None → AllByRecursion (λ x. misfits x ≡ false) (r ∷ rs)
+    by true e later at = absurd (not_some_least r.amount.brand (least (brands_in (filter misfits rs))) at)
+    by false e later at = (e, later at)
+
+-- rows that are read, whose keywords and brands have a property
+pub record AreGiven (w : State) (args : List Tree) (Q : List ℕ → ℕ → Type 0) (rows : List Row) : Type 0 where
+  pub names_of : List (List ℕ)
+  pub read : AreRead w rows names_of
+  pub counts : counted_in rows ≤ 2 ^ 63 * (1 + items_size (items_of args))
+  pub fit : AllByRecursion (λ (r : Row). Q r.keyword r.amount.brand) rows
+
+valued_fit : (Q : List ℕ → ℕ → Type 0) (give : List RowData) (values : List Worth) → AllByRecursion (λ (r : RowData). Q r.keyword r.amount.brand) give → AllByRecursion (λ (r : Row). Q r.keyword r.amount.brand) (with_values give values)
+valued_fit Q [] values all = tt
+valued_fit Q (r ∷ rs) [] all = tt
+valued_fit Q (r ∷ rs) (v ∷ vs) all = (all.0, valued_fit Q rs vs all.1)
+
+turned : (misfits : RowData → Bool) (Q : List ℕ → ℕ → Type 0) → ((r : RowData) → misfits r ≡ false → Q r.keyword r.amount.brand) → (rows : List RowData) → AllByRecursion (λ r. misfits r ≡ false) rows → AllByRecursion (λ (r : RowData). Q r.keyword r.amount.brand) rows
+turned misfits Q to [] all = tt
+turned misfits Q to (r ∷ rs) all = (to r all.0, turned misfits Q to rs all.1)
+
+rows_in_are : (place : ℕ) (given : List (List ℕ × Tree)) → IfOk (rows_in place given) (λ rows. (read_all row_in given ≡ Some rows) × (first_ill (keywords rows) ≡ None))
+unfolding rows_in amounts_under
+rows_in_are place given = after_wanted _ _ _ _ (λ rows at. after_none_such _ _ _ _ (λ none. (at, none)))
+
+pub record_at_is : (place : ℕ) (args : List Tree) (given : List (List ℕ × Tree)) → record_at place args ≡ Ok given → paired (fields_in (arg place args)) ≡ given
+unfolding record_at
+record_at_is place args given is = pairs_are (arg place args) given (wanted_there (pairs_of (arg place args)) _ given is)
+
+fields_within : (t : Tree) → fields_size (fields_in t) ≤ size t
+fields_within (trees.fields fs) = omega arith
+fields_within _ = omega arith
+
+pub rows_given : (w : State) (h : Option ℕ) (misfits : RowData → Bool) (Q : List ℕ → ℕ → Type 0) → ((r : RowData) → misfits r ≡ false → Q r.keyword r.amount.brand) → (place : ℕ) (args : List Tree) → IsFormed w h (arg place args) → IfOk (rows_at misfits place args) (AreGiven w args Q)
+unfolding rows_at
+rows_given w h misfits Q to place args formed = after_step _ _ _ (λ given at. after_step _ _ _ (λ read reads. after_none_such _ _ _ _ (λ none. if_given (AreGiven w args Q) (valued read) (λ rows is.
+    let t = arg place args in
+    let both = ok_has _ _ read reads (rows_in_are place given) in
+    let same = record_at_is place args given at in
+    let reads_all : read_all row_in (paired (fields_in t)) ≡ Some read = subst (λ fs. read_all row_in fs ≡ Some read) (sym same) both.0 in
+    record {
+      names_of = names (paired (fields_in t));
+      read = record_read w h (fields_in t) read rows (fields_each (ObjectIs (ObjectKnown h w)) t formed.objects) (fields_ordered t formed.ordered) reads_all both.1 is;
+      counts = values_there read rows (λ rs. counted_in rs ≤ 2 ^ 63 * (1 + items_size (items_of args))) is (λ values there. omega (arith, record_counts (fields_in t) read values reads_all there, fields_within t, argument_size place args));
+      fit = values_there read rows (λ rs. AllByRecursion (λ (r : Row). Q r.keyword r.amount.brand) rs) is (λ values there. valued_fit Q read values (turned misfits Q to read (none_misfits misfits read none)));
+    }))))
+
+-- a row isn't of another brand than stands under its keyword
+abbrev pub OfBrand : List Row → List ℕ → ℕ → Type 0
+OfBrand slots k b = IfSome (amount_under k slots) (λ a. a.brand ≡ b)
+
+is_not : (b : Bool) → not b ≡ false → b ≡ true
+is_not true h = refl
+is_not false h = absurd (false≢true (sym h))
+
+pub of_slot : (slots : List Row) (r : RowData) → is_other slots r ≡ false → OfBrand slots r.keyword r.amount.brand
+of_slot slots r is = by (amount_under r.keyword slots) is
+  where
+    by : (o : Option Amount) → option_map_or (λ (a : Amount). not (a.brand == r.amount.brand)) o false ≡ false → IfSome o (λ a. a.brand ≡ r.amount.brand)
+    by None e = tt
+    by (Some a) e = eqb-true a.brand r.amount.brand (is_not (a.brand == r.amount.brand) e)
+
+pub neither : (a b : Bool) → (a || b) ≡ false → (a ≡ false) × (b ≡ false)
+neither false b e = (refl, e)
+neither true b e = absurd (false≢true (sym e))
+
+-- ---- what a seat has
+
+pub record HasSlots (w : State) (slots : List Row) : Type 0 where
+  pub rows : AreRows slots
+  pub named : AreNamed slots
+  pub of_kinds : AreRowsOf w.rights.out slots
+  pub valued : AreRowsValued slots
+
+pub seat_slots : (w : State) → IsGoodWorld w → (i n : ℕ) → IsSeatOf w.seats i n → HasSlots w (allocation_of w n)
+seat_slots w good i n own =
+    let made : n < length w.rights.slots = omega (arith, own.made, good.seats.slotted) in
+    record {
+      rows = all_read AreRows w.rights.slots n [] good.seats.rows made;
+      named = all_read AreNamed w.rights.slots n [] good.seats.named made;
+      of_kinds = all_read (AreRowsOf w.rights.out) w.rights.slots n [] good.slot_kinds made;
+      valued = all_read AreRowsValued w.rights.slots n [] good.valued.slots made;
+    }
+
+-- what stands under a keyword has what all amounts have
+pub under_all : (P : Amount → Type 0) (k : List ℕ) (rs : List Row) → AllByRecursion (λ (r : Row). P r.amount) rs → IfSome (amount_under k rs) P
+under_all P k [] all = tt
+under_all P k (r ∷ rs) all = by (bytes_eq k r.keyword) (under_all P k rs all.1)
+  where
+    by : (b : Bool) → IfSome (amount_under k rs) P → IfSome (cond b (Some r.amount) (amount_under k rs)) P
+    by true later = all.0
+    by false later = later
+
+-- ---- rows that can be added, and that can be taken
+
+pub same_kind : (w : State) → IsGoodWorld w → (r : Row) (a : Amount) → IsReadRow w r → IsOfKind w.rights.out a → a.brand ≡ r.amount.brand → a.value.kind ≡ r.amount.value.kind
+same_kind w good r a read is same = sym is.kind ∙ ap (kind_at w.rights.out) same ∙ good.brands.kinds r.amount.brand ∙ read.brand.kind_is
+
+abbrev content_in : Option Amount → Content
+content_in o = option_map_or (λ (a : Amount). a.value.content) o nothing
+
+module _ (w : State) (good : IsGoodWorld w) (slots : List Row) (are : HasSlots w slots) where
+  adds_to : (r : Row) → IsReadRow w r → OfBrand slots r.keyword r.amount.brand → fits_slot slots r ≡ Ok tt → CanAddTo (amount_under r.keyword slots) r
+  adds_to r read of fits =
+      let both = value_passed r.amount.value.kind (sum (content_under r.keyword slots) r.amount.value.content) fits in
+      by (amount_under r.keyword slots) (under_all (IsOfKind w.rights.out) r.keyword slots are.of_kinds) (under_all IsAmountValued r.keyword slots are.valued) of both.0 both.1
+    where
+      by : (o : Option Amount) → IfSome o (IsOfKind w.rights.out) → IfSome o IsAmountValued → IfSome o (λ a. a.brand ≡ r.amount.brand) → Fits r.amount.value.kind (sum (content_in o) r.amount.value.content) → HasFew r.amount.value.kind (sum (content_in o) r.amount.value.content) → CanAddTo o r
+      by None kind value same fits few = read.value
+      by (Some a) kind value same fits few =
+          let k = same_kind w good r a read kind same in
+          record { brand = same; kind = k; value = value_of_sum r.amount.value.kind a.value.content r.amount.value.content (subst (λ q. IsValue q a.value.content) k value) read.value fits few }
+
+  pub all_add : (rows : List Row) → AllByRecursion (IsReadRow w) rows → AllByRecursion (λ (r : Row). OfBrand slots r.keyword r.amount.brand) rows → each_passes (fits_slot slots) rows ≡ Ok tt → AllByRecursion (λ (r : Row). CanAddTo (amount_under r.keyword slots) r) rows
+  all_add [] read of fits = tt
+  all_add (r ∷ rs) read of fits =
+      let both = passed (fits_slot slots r) (each_passes (fits_slot slots) rs) fits in
+      (adds_to r read.0 of.0 both.0, all_add rs read.1 of.1 both.1)
+
+  takes_from : (r : Row) → IsReadRow w r → OfBrand slots r.keyword r.amount.brand → IsCovered slots r → CanTakeFrom (amount_under r.keyword slots) r
+  takes_from r read of covers = by (amount_under r.keyword slots) (under_all (IsOfKind w.rights.out) r.keyword slots are.of_kinds) of covers
+    where
+      by : (o : Option Amount) → IfSome o (IsOfKind w.rights.out) → IfSome o (λ a. a.brand ≡ r.amount.brand) → Contains (option_map_or (λ (a : Amount). a.value.content) o nothing) r.amount.value.content → CanTakeFrom o r
+      by None kind same has = record { each = λ k. omega (arith, has.each k, count-nothing k) }
+      by (Some a) kind same has = record { brand = same; kind = same_kind w good r a read kind same; has = has }
+
+  pub all_take : (rows : List Row) → AllByRecursion (IsReadRow w) rows → AllByRecursion (λ (r : Row). OfBrand slots r.keyword r.amount.brand) rows → AllByRecursion (IsCovered slots) rows → AllByRecursion (λ (r : Row). CanTakeFrom (amount_under r.keyword slots) r) rows
+  all_take [] read of covers = tt
+  all_take (r ∷ rs) read of covers = (takes_from r read.0 of.0 covers.0, all_take rs read.1 of.1 covers.1)
+
+-- ---- room
+
+pub record IsRoom (w : State) (before after n : ℕ) : Type 0 where
+  pub few : after ≤ most_rows
+  pub left : length w.rights.payments + open_slots w.seats w.rights.slots + (after - before + n) ≤ most_made
+
+pub room_is : (w : State) (seat : ℕ) (before after : List Row) (n : ℕ) → has_room w (touched_seat seat before after ∷ []) n ≡ Ok tt → IsRoom w (length before) (length after) n
+unfolding has_room leaves_room
+room_is w seat before after n is =
+    let both = passed _ _ is in
+    record {
+      few = leb-true (length after) most_rows (and_parts (nat_le (length after) most_rows) true (need_holds _ _ tt both.0)).0;
+      left = omega (arith, leb-true _ most_made (need_holds _ _ tt both.1));
+    }
+
+-- ---- how many rows there are then
+
+pub gains_many : (slots rows : List Row) → length (with_gains slots rows) ≡ length slots + fresh_in slots rows
+gains_many slots rows = length_append (map (raised rows) slots) (further slots rows) ∙ omega (arith, length_map (raised rows) slots, further_many slots rows)
+
+pub losses_many : (slots rows : List Row) → length (with_losses slots rows) ≡ length slots + fresh_in slots rows
+losses_many slots rows = length_append (map (lowered rows) slots) (further slots rows) ∙ omega (arith, length_map (lowered rows) slots, further_many slots rows)

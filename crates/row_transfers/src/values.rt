@@ -1,0 +1,72 @@
+//! The values of what transfers ask for.
+
+ghost use Rattle.std.specs.Prelude.{◌≡◌, All, IfSome, None, map};
+ghost use Rattle.call_arguments.specs.Records.{rows_data};
+ghost use Rattle.refusals.specs.Outcomes.{Gives};
+ghost use Rattle.rules.specs.Rearranging.{transfer_of, transfers_of, valued_or_none};
+ghost use Rattle.row_transfers.specs.Fine.{AreFine, IsFine};
+ghost use Rattle.row_transfers.specs.Views.{asked_view, asked_views, rows_view, transfer_view, transfer_views, values_view};
+
+use crate::rows::GivenTransfer;
+use call_arguments::proposals_lib::allocations::Row;
+use call_arguments::records::GivenRow;
+use contract_reads::rows::valued;
+use refusals::stops::Stop;
+use std::alloc::Global;
+
+/// A transfer with the values of its rows, however many these are.
+#[derive(Drop)]
+pub struct RowTransfer {
+    /// The number of the seat that gives.
+    pub from: Option<u32>,
+    /// The number of the seat that gets.
+    pub to: Option<u32>,
+    /// What is taken.
+    pub losses: Option<Vec<Row>>,
+    /// What is given, where that is not what is taken.
+    pub gains: Option<Vec<Row>>,
+}
+
+/// The values of rows, where there are: else `BadValue`.
+#[tactic(auto, unfolding(rules::specs::Rearranging::valued_or_none, refusals::specs::Outcomes::bind))]
+fn valued_or_none(alloc: Global, rows: &Option<Vec<GivenRow>>) -> Result<Option<Vec<Row>>, Stop>
+    requires { IfSome rows.now (λ rows. AreFine rows.items) }
+    ensures { Gives values_view result (valued_or_none (rows_view rows.now)) }
+{
+    match rows {
+        Some(rows) => {
+            let values = valued(alloc, rows.as_slice())?;
+            Ok(Some(values))
+        }
+        None => Ok(None),
+    }
+}
+
+/// A transfer with the values of its rows: else `BadValue`.
+#[tactic(auto, unfolding(rules::specs::Rearranging::transfer_of, refusals::specs::Outcomes::bind))]
+fn transfer_of(alloc: Global, given: &GivenTransfer) -> Result<RowTransfer, Stop>
+    requires { IsFine given.now }
+    ensures { Gives transfer_view result (transfer_of (asked_view given.now)) }
+{
+    let losses = valued_or_none(alloc, &given.losses)?;
+    let gains = valued_or_none(alloc, &given.gains)?;
+    Ok(RowTransfer {
+        from: given.from,
+        to: given.to,
+        losses,
+        gains,
+    })
+}
+
+/// All transfers with the values of their rows: else `BadValue` (ERTP).
+#[tactic(auto, unfolding(refusals::specs::Outcomes::bind))]
+pub fn transfers_of(alloc: Global, read: &[GivenTransfer]) -> Result<Vec<RowTransfer>, Stop>
+    requires { All IsFine read.now }
+    ensures { Gives (λ list. transfer_views list.items) result (transfers_of (asked_views read.now)) }
+{
+    let mut list = Vec::new(alloc);
+    for given in read {
+        list.push(transfer_of(alloc, given)?)?;
+    }
+    Ok(list)
+}

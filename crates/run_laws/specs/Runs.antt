@@ -1,0 +1,119 @@
+-- A run: from the bytes of an input to its turns, and to the journal.
+use Rattle.std.specs.Prelude.{◌≡◌, ◌≤◌, ◌+◌, ℕ, zero, suc, map, List, [], ◌∷◌, ◌++◌, length, Option}
+use Rattle.std.specs.Io.KnownBytes.{Appends}
+use Rattle.std.specs.List.{flat_map}
+use Rattle.std.specs.Option.{option_map_or}
+use Rattle.fair_laws.specs.delivery_turns.Hosts.{HostState, Step, step_of, with_line}
+use Rattle.message_lines.specs.InputLines.{lines_of}
+use Rattle.message_lines.specs.Meanings.{Meaning, blank, delivered, meaning_of, run}
+use Rattle.fair_laws.specs.rules.ZoeRows.{TextReader}
+use Rattle.message_lines.specs.turn_records.Printed.{printed}
+use Rattle.message_lines.specs.turn_rows.Rows.{close_row, rows_of}
+use Rattle.message_lines.specs.turn_rows.Texts.{journal_text, row_text}
+use Rattle.message_lines.specs.turn_rows.Turns.{Turn}
+use Rattle.fair_laws.specs.world_laws.First.{first_world}
+use Rattle.fair_laws.specs.world_state.Rights.{most_turns}
+
+-- the most that a function may cost
+abbrev pub most_meter : ℕ
+most_meter = 10000000
+
+-- a new host
+abbrev pub first_host : ℕ → HostState
+first_host meter = record { meter = meter; world = first_world; turns = 0 }
+
+-- a host, and the step that it made
+pub record HostTurn : Type 0 where
+  pub before : HostState
+  pub step : Step
+
+-- turns one after another, and the host after them
+pub record Run : Type 0 where
+  pub turns : List HostTurn
+  pub end : HostState
+
+abbrev pub no_turn : HostState → Run
+no_turn s = record { turns = []; end = s }
+
+abbrev pub turn_then : HostState → Step → Run → Run
+turn_then s step r = record {
+  turns = record { before = s; step = step } ∷ r.turns;
+  end = r.end;
+}
+
+abbrev pub run_then : Run → Run → Run
+run_then a b = record { turns = a.turns ++ b.turns; end = b.end }
+
+-- at most n turns, each of the delivery in front
+unfoldable pub drained : TextReader → ℕ → HostState → Run
+drained read zero s = no_turn s
+drained read (suc n) s =
+    option_map_or (λ (t : Step). turn_then s t (drained read n t.next)) (step_of read s) (no_turn s)
+
+-- a line: its delivery waits, or at most so many turns are run
+abbrev pub line_run : TextReader → HostState → Meaning → Run
+line_run read s blank = no_turn s
+line_run read s (delivered d) = no_turn (with_line d s)
+line_run read s (run n) = drained read n s
+
+-- lines, one after another
+abbrev pub lines_run : TextReader → HostState → List Meaning → Run
+lines_run read s [] = no_turn s
+lines_run read s (m ∷ ms) =
+    run_then (line_run read s m) (lines_run read (line_run read s m).end ms)
+
+-- what the lines of an input mean; its end is a run line of so many turns
+abbrev pub meanings_of : ℕ → List ℕ → List Meaning
+meanings_of most input = map meaning_of (lines_of input) ++ run most ∷ []
+
+-- the run on an input, where functions run under the meter, and at most so many turns are run at its end
+abbrev pub run_of : TextReader → ℕ → ℕ → List ℕ → Run
+run_of read meter most input = lines_run read (first_host meter) (meanings_of most input)
+
+-- ---- what is written
+
+-- the turns as they are printed
+abbrev pub turns_in : Run → List Turn
+turns_in r = map (λ (t : HostTurn). printed t.step.turn) r.turns
+
+abbrev pub turns_of : TextReader → ℕ → ℕ → List ℕ → List Turn
+turns_of read meter most input = turns_in (run_of read meter most input)
+
+-- how many deliveries are left
+abbrev pub left_in : HostState → ℕ
+left_in s = length s.world.waiting
+
+abbrev pub left_of : TextReader → ℕ → ℕ → List ℕ → ℕ
+left_of read meter most input = left_in (run_of read meter most input).end
+
+-- the journal of a run
+unfoldable pub journal_of : TextReader → ℕ → ℕ → List ℕ → List ℕ
+journal_of read meter most input =
+    journal_text (turns_of read meter most input) (left_of read meter most input)
+
+-- the rows of a turn, and of turns
+abbrev pub turn_text : Turn → List ℕ
+turn_text t = flat_map row_text (rows_of t)
+
+abbrev pub turns_text : List Turn → List ℕ
+turns_text ts = flat_map turn_text ts
+
+-- the close row of a host: how many deliveries are left, and how many turns it ran
+abbrev pub close_text : HostState → List ℕ
+close_text s = row_text (close_row (left_in s) s.turns)
+
+-- the rows of the first turns were appended, whole, and nothing else
+pub record AppendsTurns (old new : Option (List ℕ)) (turns : List Turn) : Type 0 where
+  pub first : List Turn
+  pub later : List Turn
+  pub whole : turns ≡ first ++ later
+  pub appended : Appends old new (turns_text first)
+
+-- those of the first turns, up to the last that may be run and no further, where another is left
+pub record AppendsToLimit (old new : Option (List ℕ)) (before : ℕ) (turns : List Turn) : Type 0 where
+  pub first : List Turn
+  pub later : List Turn
+  pub whole : turns ≡ first ++ later
+  pub last : before + length first ≡ most_turns
+  pub more : 1 ≤ length later
+  pub appended : Appends old new (turns_text first)

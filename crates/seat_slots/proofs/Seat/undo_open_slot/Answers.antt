@@ -1,8 +1,0 @@
-use Rattle.std.proofs.Common.{List, sym, subst}
-use Rattle.proposals.specs.Rows.{AreRows}
-use Rattle.seat_slots.proofs.Places.{AreRows-take}
-use Rattle.seat_slots.specs.Slots.{SlotView, rows_in}
-use Rattle.seat_slots.proofs.Seat.undo_open_slot.Goals as goal
-
-pub invariant_of-self : goal.invariant_of-self
-invariant_of-self c = subst (λ (xs : List SlotView). AreRows (rows_in xs)) (sym c.truncate.ensures.items) (AreRows-take c.self.inside.slots.items _ c.self.invariant)

@@ -1,4 +1,0 @@
-pub mod Instances
-pub mod Staging
-pub mod Store
-pub mod Undone

@@ -1,0 +1,5 @@
+pub mod Places
+pub mod Changes
+pub mod Undone
+pub mod Listed
+pub mod Changed

@@ -1,0 +1,14 @@
+use Rattle.std.proofs.Common.{◌<◌, length, sym, ap, subst}
+use Rattle.seats.proofs.Listed.{listed-set}
+use Rattle.seats.specs.Seats.{IsOpen, SeatView}
+use Rattle.seats.specs.Store.{SeatsView}
+use Rattle.seats.proofs.seats.Seats.put_within.Goals as goal
+
+pub invariant_of-self : goal.invariant_of-self
+invariant_of-self c =
+    let seats = c.self.inside.seats.items in
+    let within : c.args.seat < length seats = subst (λ (s : SeatsView). c.args.seat < length s.seats) (sym c.self.view_is) c.requires.made in
+    listed-set seats c.self.inside.by_instance c.self.inside.staging c.args.seat c.index_mut-seat.result.now c.put_within.new.self within c.index_mut-seat.ensures.value
+    (ap (λ (s : SeatView). s.instance) c.put_within.ensures.more)
+    (λ open_now. subst IsOpen (sym (c.put_within.ensures.more)) open_now)
+    c.self.invariant

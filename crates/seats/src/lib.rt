@@ -1,0 +1,12 @@
+//! Seats with their slots and what is staged (Zoe): each call gives the whole new list, a closed
+//! seat keeps its last allocation, and each change has one that works it backwards without memory.
+#![tactic(auto)]
+
+mod by_instance;
+pub mod seat_slots;
+pub mod seats;
+mod staging;
+
+pub use ertp_mint::amount_math_lib;
+pub use proposals as proposals_lib;
+pub use proposals::host_text_lib;

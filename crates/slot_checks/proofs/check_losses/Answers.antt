@@ -1,8 +1,0 @@
-use Rattle.std.proofs.Common.{Result, subst}
-use Rattle.refusals.specs.Outcomes.{Gives}
-use Rattle.refusals.specs.declared.codes.Refusal.{Refusal}
-use Rattle.slot_checks.proofs.Taken.{taken_each}
-use Rattle.slot_checks.proofs.check_losses.Goals as goal
-
-pub returns : goal.returns
-returns c = subst (λ (t : Result (Unit {0}) Refusal). Gives (λ _. tt) c.check_covered.result t) (taken_each c.args.slots.now c.args.losses.now) c.check_covered.ensures

@@ -1,6 +1,0 @@
-use Rattle.plan_check_laws.proofs.Slots.{if_safe, safe_if}
-use Rattle.value_checks.proofs.Contents.{same_test}
-use Rattle.slot_checks.proofs.is_safe.Goals as goal
-
-pub returns : goal.returns
-returns c = same_test _ _ (λ h. if_safe c.args.proposal.now c.args.slots.now (c.is_offer_safe.ensures.0 h)) (λ h. c.is_offer_safe.ensures.1 (safe_if c.args.proposal.now c.args.slots.now h))

@@ -1,8 +1,0 @@
-use Rattle.std.proofs.Common.{ℕ, List, ap, sym, ◌∙◌}
-use Rattle.amount_math.specs.Content.{count, count-of_nat}
-use Rattle.amount_math.specs.Entries.{at_key}
-use Rattle.amount_math.specs.Worth.{Worth}
-use Rattle.supply_checks.proofs.counts.so_many.Goals as goal
-
-pub returns-in-Nat-clause-has : goal.returns-in-Nat-clause-has
-returns-in-Nat-clause-has c = λ q. ap (λ (w : Worth). count w.content q) c.nat.ensures ∙ count-of_nat _ q ∙ ap (λ n. at_key q _ n) c.from.ensures ∙ ap (λ (k : List ℕ). at_key q k c.args.number) (sym (rw c.in-Nat.is at c.requires.element))

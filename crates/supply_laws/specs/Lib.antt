@@ -1,3 +1,0 @@
-pub mod Minting
-pub mod Steps
-pub mod Worked

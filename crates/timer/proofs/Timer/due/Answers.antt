@@ -1,8 +1,0 @@
-use Rattle.timer.proofs.Due.{rising}
-use Rattle.timer.proofs.Timer.due.Goals as goal
-
-pub returns-in-Some-clause-by_time : goal.returns-in-Some-clause-by_time
-returns-in-Some-clause-by_time g c = rw (← c.self.view_is) (rising c.self.inside.entries.now c.keeps_order.ensures.now)
-
-pub returns-in-None-clause-by_time : goal.returns-in-None-clause-by_time
-returns-in-None-clause-by_time g c = rw (← c.self.view_is) (rising c.self.inside.entries.now c.keeps_order.ensures.now)

@@ -1,0 +1,70 @@
+-- The turns that were written so far are in form where they can be printed: once those that are left are so too, all
+-- are.
+use Rattle.std.proofs.Common.{◌≡◌, ◌≤◌, ◌<◌, ◌^◌, ℕ, suc, length, arith, List, [], ◌∷◌, ◌++◌, Some, None, map, sym, ap, subst, ◌∙◌, append-nil}
+use Rattle.std.specs.List.{AllByRecursion}
+use Rattle.std.proofs.lemmas.List.{length-map}
+use Rattle.contract_texts.specs.Reader.{reader}
+use Rattle.contract_texts.proofs.Modules.{reads_modules}
+use Rattle.run_laws.specs.delivery_turns.Hosts.{HostState, Step, step_of}
+use Rattle.run_laws.specs.fair_rows.Turns.{IsFairJournal}
+use Rattle.run_laws.specs.Limits.{AreFairToLimit, CanBePrinted}
+use Rattle.run_laws.proofs.RunsFair.{run_fair, run_journal, run_prints}
+use Rattle.run_laws.specs.message_lines.InputLines.{lines_of}
+use Rattle.run_laws.specs.message_lines.Meanings.{Meaning, meaning_of}
+use Rattle.contract_texts.specs.turn_records.Printed.{printed}
+use Rattle.contract_texts.specs.turn_rows.Form.{IsInForm}
+use Rattle.contract_texts.specs.world_state.Rights.{most_turns}
+use Rattle.run_laws.specs.Runs.{HostTurn, Run, drained, first_host, journal_of, left_of, line_run, lines_run, most_meter, run_of, turns_of}
+use Rattle.top_call.specs.Forms.{PrintsInForm}
+use Rattle.top_call.proofs.Drained.{drained_more, drained_none, drained_zero}
+use Rattle.top_call.proofs.RunWritten.{meant, run_parts}
+
+abbrev pub PrintInForm : Run → Type 0
+PrintInForm r = AllByRecursion PrintsInForm r.turns
+
+both_in_form : (xs ys : List HostTurn) → AllByRecursion PrintsInForm xs → AllByRecursion PrintsInForm ys → AllByRecursion PrintsInForm (xs ++ ys)
+both_in_form [] ys p q = q
+both_in_form (x ∷ xs) ys p q = (p.0, both_in_form xs ys p.1 q)
+
+pub form_none : (k : ℕ) (s : HostState) → step_of reader s ≡ None → PrintInForm (drained reader k s)
+form_none k s none = subst PrintInForm (sym (drained_none k s none)) tt
+
+pub form_over : (k : ℕ) (s : HostState) → k ≡ 0 → PrintInForm (drained reader k s)
+form_over k s over = subst (λ n. PrintInForm (drained reader n s)) (sym over) (subst PrintInForm (sym (drained_zero s)) tt)
+
+pub form_turn : (k m : ℕ) (s : HostState) (t : Step) → k ≡ suc m → step_of reader s ≡ Some t → PrintsInForm (record { before = s; step = t }) → PrintInForm (drained reader m t.next) → PrintInForm (drained reader k s)
+form_turn k m s t left made first rest = subst (λ n. PrintInForm (drained reader n s)) (sym left) (subst PrintInForm (sym (drained_more m s t made)) (first, rest))
+
+pub form_line : (s : HostState) (ms : List Meaning) (m : Meaning) (left : List Meaning) → ms ≡ m ∷ left → (v : HostState) → v ≡ (line_run reader s m).end
+    → PrintInForm (line_run reader s m) → PrintInForm (lines_run reader v left) → PrintInForm (lines_run reader s ms)
+form_line s ms m left e v is one rest =
+    subst (λ ls. PrintInForm (lines_run reader s ls)) (sym e)
+    (both_in_form (line_run reader s m).turns (lines_run reader (line_run reader s m).end left).turns one (subst (λ u. PrintInForm (lines_run reader u left)) is rest))
+
+pub form_run : (meter most : ℕ) (input : List ℕ) (s t : HostState) → s ≡ first_host meter → t ≡ (lines_run reader s (map meaning_of (lines_of input))).end
+    → PrintInForm (lines_run reader s (map meaning_of (lines_of input))) → PrintInForm (drained reader most t) → PrintInForm (run_of reader meter most input)
+form_run meter most input s t e is lines last =
+    let there : t ≡ (lines_run reader (first_host meter) (meant input)).end = is ∙ ap (λ u. (lines_run reader u (meant input)).end) e in
+    subst PrintInForm (sym (run_parts meter most input))
+    (both_in_form (lines_run reader (first_host meter) (meant input)).turns ((drained reader most (lines_run reader (first_host meter) (meant input)).end).turns ++ [])
+    (subst (λ u. PrintInForm (lines_run reader u (meant input))) e lines)
+    (subst (AllByRecursion PrintsInForm) (sym (append-nil (drained reader most (lines_run reader (first_host meter) (meant input)).end).turns)) (subst (λ u. PrintInForm (drained reader most u)) there last)))
+
+-- ---- turns that can be printed
+
+turns_in_form : (ts : List HostTurn) → AllByRecursion PrintsInForm ts → AllByRecursion CanBePrinted ts → AllByRecursion IsInForm (map (λ (t : HostTurn). printed t.step.turn) ts)
+turns_in_form [] prints can = tt
+turns_in_form (t ∷ ts) prints can = (prints.0 can.0, turns_in_form ts prints.1 can.1)
+
+-- where the turns of a run were printed, its journal is the text of a fair one
+pub fair_journal : (meter most : ℕ) (input : List ℕ) → meter ≤ most_meter → PrintInForm (run_of reader meter most input) → length (turns_of reader meter most input) ≤ most_turns → left_of reader meter most input < 2 ^ 64
+    → IsFairJournal (journal_of reader meter most input) (turns_of reader meter most input) (left_of reader meter most input)
+fair_journal meter most input few prints short left =
+    let r = run_of reader meter most input in
+    let can = run_prints reader reads_modules meter most input few r.turns [] (sym (append-nil r.turns)) (omega (arith, short, length-map r.turns (λ (t : HostTurn). printed t.step.turn))) in
+    run_journal reader reads_modules meter most input few short (record { turns = turns_in_form r.turns prints can; as_many = omega (arith, short); few = left })
+
+-- ---- whatever the input
+
+pub runs_fair : (meter most : ℕ) (input : List ℕ) → meter ≤ most_meter → AreFairToLimit (turns_of reader meter most input)
+runs_fair meter most input few = run_fair reader reads_modules meter most input few

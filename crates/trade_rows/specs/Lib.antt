@@ -1,9 +1,0 @@
-pub mod States
-pub mod Given
-pub mod Own
-pub mod Issuers
-pub mod Rearranging
-pub mod Escrows
-pub mod Mints
-pub mod Staging
-pub mod Trades

@@ -1,4 +1,0 @@
-pub mod Told
-pub mod Texts
-pub mod Nodes
-pub mod Brought

@@ -1,8 +1,0 @@
-use Rattle.std.proofs.Common.{take}
-use Rattle.std.specs.List.{All}
-use Rattle.turn_events.specs.Views.{event_view}
-use Rattle.turn_form.specs.Typed.{HasEventTypes}
-use Rattle.turn_form.proofs.events.events_have_types.Given as goal
-
-abbrev pub invariant-loop-event : goal.invariant-loop-event
-invariant-loop-event l = All (λ e. HasEventTypes (event_view e)) (take l.event-index l.events)

@@ -1,6 +1,0 @@
-use Rattle.turn_records.proofs.InForm.{in_form}
-use Rattle.turn_form.proofs.Told.{turn_told}
-use Rattle.turn_form.proofs.is_in_form.Goals as goal
-
-pub returns : goal.returns
-returns c f = in_form _ (turn_told _ c.has_types.ensures f)

@@ -1,4 +1,0 @@
-pub mod Written
-pub mod Changes
-pub mod Whole
-pub mod Order

@@ -1,7 +1,0 @@
-use Rattle.std.proofs.Common.{sym, subst}
-use Rattle.amount_math.specs.Entries.{IsRising}
-use Rattle.value_differences.proofs.Differences.{entries_rise}
-use Rattle.value_differences.proofs.entries_of.Goals as goal
-
-pub returns-clause-rising : goal.returns-clause-rising
-returns-clause-rising c = subst IsRising (sym c.in-Some.ensures.entries) (entries_rise c.args.value.now.content)

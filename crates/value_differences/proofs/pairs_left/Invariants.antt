@@ -1,7 +1,0 @@
-use Rattle.std.proofs.Common.{◌≡◌, map, take}
-use Rattle.amount_math.specs.KindData.{signed}
-use Rattle.value_differences.specs.Left.{left_of}
-use Rattle.value_differences.proofs.pairs_left.Given as goal
-
-abbrev pub invariant-loop-entry : goal.invariant-loop-entry
-invariant-loop-entry l = l.pairs.items ≡ map signed (left_of l.others (take l.entry-index l.entries))

@@ -1,0 +1,12 @@
+pub mod Differences
+pub mod Firsts
+pub mod Kept
+pub mod Contents
+pub mod Exact
+pub mod Sums
+pub mod SumParts
+pub mod Alike
+pub mod SupplyParts
+pub mod Probes
+pub mod Read
+pub use Rattle.transit.proofs.lemmas

@@ -1,0 +1,136 @@
+-- When a sum is a value, and what it is refused for else; and when a value may come out.
+use Rattle.std.proofs.Common.{◌≡◌, ◌≢◌, ℕ, ◌<◌, ◌≤◌, ◌^◌, List, true, false, Option, Ok, Err, refl, sym, ap, ◌∙◌, inl, inr, arith}
+use Rattle.std.proofs.lemmas.Bool.{le-leb, lt-leb}
+use Rattle.refusals.specs.amount_math.Content.{Content, count-sum, sum}
+use Rattle.refusals.specs.amount_math.Held.{keys_of-sum}
+use Rattle.refusals.specs.amount_math.Worth.{Fits, IsFirstPast, IsIssueRefusal, IsPutRefusal, IsValue, PassesBound, PassesKeys, bag_bound, bound, fits_from_value, keys_of, most_keys, nat_bound}
+use Rattle.refusals.specs.amount_math.declared.Kind.{Kind}
+use Rattle.refusals.specs.amount_math.declared.Kind.TheVariants.{Nat, Set, Bag}
+use Rattle.refusals.specs.amount_math.declared.PutFault.{PutFault}
+use Rattle.refusals.specs.amount_math.declared.PutFault.TheVariants as put_fault
+use Rattle.refusals.specs.amount_math.declared.TooMuch.{TooMuch}
+use Rattle.refusals.specs.Codes.{too_much}
+use Rattle.refusals.specs.Outcomes.{Fails, bind, need, none_such}
+use Rattle.refusals.specs.Told.{CanShow, PutCanShow, put_told}
+use Rattle.refusals.specs.declared.codes.Refusal.TheVariants.{Overlap}
+use Rattle.value_tests.proofs.Firsts.{find_first, none_past}
+use Rattle.value_tests.specs.Tests.{counts_fit, counts_then_keys, from_first, has_few, keys_fit, overlap_free, value_fits}
+
+-- ---- what passes
+
+pub counts_pass : (kind : Kind) (c : Content) → Fits kind c → counts_fit kind c ≡ Ok tt
+unfolding counts_fit none_such
+counts_pass kind c fits = ap (from_first kind c) (none_past (bound kind) c fits.each)
+
+few : (kind : Kind) (c : Content) → IsValue kind c → has_few kind c ≡ true
+few Nat c v = refl
+few Set c v = le-leb (keys_of c) most_keys v.keyed.few
+few Bag c v = le-leb (keys_of c) most_keys v.keyed.few
+
+pub value_passes : (kind : Kind) (c : Content) → IsValue kind c → value_fits kind c ≡ Ok tt
+unfolding value_fits bind need
+value_passes kind c v = ap (counts_then_keys kind c) (counts_pass kind c (fits_from_value kind c v)) ∙ ap (keys_fit kind c) (few kind c v)
+
+-- ---- what doesn't pass
+
+overlaps : (kind : Kind) (c : Content) (k : List ℕ) → kind ≡ Set → IsFirstPast 1 c k → counts_fit kind c ≡ Err (Overlap k)
+unfolding counts_fit none_such
+overlaps Nat c k e is = cc
+overlaps Set c k e is = ap (from_first Set c) (find_first 1 c k is)
+overlaps Bag c k e is = cc
+
+passes : (kind : Kind) (c : Content) (over : TooMuch) → kind ≢ Set → PassesBound kind c over → counts_fit kind c ≡ Err (too_much over.sum over.bound)
+unfolding counts_fit none_such
+passes Nat c over ne p =
+    ap (from_first Nat c) (find_first nat_bound c p.element (record { passes = p.passes; first = p.first }))
+    ∙ ap (λ n. Err (too_much n nat_bound)) (sym p.counted) ∙ ap (λ n. Err (too_much over.sum n)) (sym p.bounded)
+passes Set c over ne p = absurd (ne refl)
+passes Bag c over ne p =
+    ap (from_first Bag c) (find_first bag_bound c p.element (record { passes = p.passes; first = p.first }))
+    ∙ ap (λ n. Err (too_much n bag_bound)) (sym p.counted) ∙ ap (λ n. Err (too_much over.sum n)) (sym p.bounded)
+
+many : (kind : Kind) (c : Content) → kind ≢ Nat → most_keys < keys_of c → has_few kind c ≡ false
+many Nat c ne h = absurd (ne refl)
+many Set c ne h = lt-leb (keys_of c) most_keys h
+many Bag c ne h = lt-leb (keys_of c) most_keys h
+
+passes_keys : (kind : Kind) (c : Content) (over : TooMuch) → kind ≢ Nat → PassesKeys kind c over → value_fits kind c ≡ Err (too_much over.sum over.bound)
+unfolding value_fits bind need
+passes_keys kind c over ne p =
+    ap (counts_then_keys kind c) (counts_pass kind c p.fits)
+    ∙ ap (keys_fit kind c) (many kind c ne p.passes)
+    ∙ ap (λ n. Err (too_much n most_keys)) (sym p.counted) ∙ ap (λ n. Err (too_much over.sum n)) (sym p.bounded)
+
+-- what fails by its counts fails
+counted_out : (kind : Kind) (c : Content) (r : _) → counts_fit kind c ≡ Err r → value_fits kind c ≡ Err r
+unfolding value_fits bind
+counted_out kind c r e = ap (counts_then_keys kind c) e
+
+pub out_refused : (kind : Kind) (c : Content) (fault : PutFault) → IsIssueRefusal kind c fault → Fails (put_told fault) (counts_fit kind c)
+out_refused kind c (put_fault.Overlap key) h = overlaps kind c key h.0 h.1
+out_refused kind c (put_fault.TooMuch over) h = passes kind c over h.0 h.1
+out_refused kind c put_fault.NoMemory h = tt
+
+pub refused : (kind : Kind) (c : Content) (fault : PutFault) → IsPutRefusal kind c fault → Fails (put_told fault) (value_fits kind c)
+refused kind c (put_fault.Overlap key) h = counted_out kind c _ (overlaps kind c key h.0 h.1)
+refused kind c (put_fault.TooMuch over) h = elim h as (λ _. value_fits kind c ≡ Err (too_much over.sum over.bound)) [
+  | inl p ↦ counted_out kind c _ (passes kind c over p.0 p.1)
+  | inr p ↦ passes_keys kind c over p.0 p.1
+]
+refused kind c put_fault.NoMemory h = tt
+
+-- ---- that no key is in both
+
+pub overlap_none : (kind : Kind) (c : Content) → Fits kind c → overlap_free kind c ≡ Ok tt
+unfolding overlap_free none_such
+overlap_none Nat c fits = refl
+overlap_none Set c fits = ap (λ (o : Option (List ℕ)). none_such o Overlap) (none_past 1 c fits.each)
+overlap_none Bag c fits = refl
+
+pub overlap_there : (kind : Kind) (c : Content) (k : List ℕ) → IsPutRefusal kind c (put_fault.Overlap k) → overlap_free kind c ≡ Err (Overlap k)
+unfolding overlap_free none_such
+overlap_there Nat c k h = let e = h.0 in cc
+overlap_there Set c k h = ap (λ (o : Option (List ℕ)). none_such o Overlap) (find_first 1 c k h.1)
+overlap_there Bag c k h = let e = h.0 in cc
+
+pub overlap_else : (kind : Kind) (c : Content) (over : TooMuch) → IsPutRefusal kind c (put_fault.TooMuch over) → overlap_free kind c ≡ Ok tt
+unfolding overlap_free none_such
+overlap_else Nat c over h = refl
+overlap_else Set c over h = elim h as (λ _. overlap_free Set c ≡ Ok tt) [
+  | inl p ↦ absurd (p.0 refl)
+  | inr p ↦ overlap_none Set c p.1.fits
+]
+overlap_else Bag c over h = refl
+
+-- ---- what is shown has less than 128 bits
+
+bounded : (kind : Kind) → bound kind ≤ 2 ^ 63
+bounded Nat = omega arith
+bounded Set = omega arith
+bounded Bag = omega arith
+
+few_keys : (kind : Kind) (c : Content) → kind ≢ Nat → IsValue kind c → keys_of c ≤ most_keys
+few_keys Nat c ne v = absurd (ne refl)
+few_keys Set c ne v = v.keyed.few
+few_keys Bag c ne v = v.keyed.few
+
+counts_small : (kind : Kind) (a b : Content) (over : TooMuch) → Fits kind a → Fits kind b → PassesBound kind (sum a b) over → CanShow over.sum over.bound
+counts_small kind a b over v w q =
+    let x = v.each q.element in
+    let y = w.each q.element in
+    record { sum_fits = omega (arith, q.counted, count-sum a b q.element, x, y, bounded kind); bound_fits = omega (arith, q.bounded, bounded kind) }
+
+pub out_small : (kind : Kind) (a b : Content) (fault : PutFault) → Fits kind a → Fits kind b → IsIssueRefusal kind (sum a b) fault → PutCanShow fault
+out_small kind a b (put_fault.Overlap key) v w h = tt
+out_small kind a b (put_fault.TooMuch over) v w h = counts_small kind a b over v w h.1
+out_small kind a b put_fault.NoMemory v w h = tt
+
+pub small : (kind : Kind) (a b : Content) (fault : PutFault) → IsValue kind a → IsValue kind b → IsPutRefusal kind (sum a b) fault → PutCanShow fault
+small kind a b (put_fault.Overlap key) v w h = tt
+small kind a b (put_fault.TooMuch over) v w h = elim h as (λ _. CanShow over.sum over.bound) [
+  | inl p ↦ counts_small kind a b over (fits_from_value kind a v) (fits_from_value kind b w) p.1
+  | inr p ↦
+      let q = p.1 in
+      record { sum_fits = omega (arith, q.counted, keys_of-sum a b, few_keys kind a p.0 v, few_keys kind b p.0 w); bound_fits = omega (arith, q.bounded) }
+]
+small kind a b put_fault.NoMemory v w h = tt

@@ -1,0 +1,10 @@
+pub mod Left
+pub mod Firsts
+pub mod Listing
+pub mod Totals
+pub mod Causes
+pub mod Tests
+pub mod Sums
+pub mod Beside
+pub mod Supplies
+pub use Rattle.transit.specs.ertp_mint

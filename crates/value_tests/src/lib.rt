@@ -1,0 +1,16 @@
+//! Tests of values that change nothing, each with the refusal that a call shows where it fails:
+//! each fails exactly where its definition does, and that where the rules of amounts do.
+#![tactic(auto)]
+
+pub mod beside;
+pub mod counts;
+pub mod holding_checks;
+pub mod laws;
+pub mod pairs;
+mod past;
+pub mod value_differences;
+pub mod value_sums;
+pub mod value_totals;
+pub mod wholes;
+
+pub use transit::ertp_mint_lib;

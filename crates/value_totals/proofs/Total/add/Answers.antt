@@ -1,7 +1,0 @@
-use Rattle.std.proofs.Common.{ap, ◌∙◌, arith}
-use Rattle.amount_math.specs.Content.{Content, count}
-use Rattle.value_totals.proofs.Kept.{ok_has, put_more}
-use Rattle.value_totals.proofs.Total.add.Goals as goal
-
-pub returns : goal.returns
-returns c = ok_has c.put.result (λ is q. ap (λ (t : Content). count t q) is ∙ put_more c.args.self.now c.args.element.now _ c.args.more (omega (arith, c.count.ensures, c.from.ensures)) q) c.put.ensures

@@ -1,7 +1,0 @@
-use Rattle.std.proofs.Common.{◌≡◌, ◌+◌, ℕ, List, drop}
-use Rattle.amount_math.specs.Content.{count}
-use Rattle.amount_math.specs.Entries.{tally}
-use Rattle.value_totals.proofs.Total.add_entries.Given as goal
-
-abbrev pub invariant-loop-entry : goal.invariant-loop-entry
-invariant-loop-entry l = (k : List ℕ) → count l.self k + tally (drop l.entry-index l.entries) k ≡ count l.initial.self k + tally l.entries k

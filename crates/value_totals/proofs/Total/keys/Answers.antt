@@ -1,7 +1,0 @@
-use Rattle.std.proofs.Common.{ap, ◌∙◌}
-use Rattle.amount_math.specs.Worth.{keys_of}
-use Rattle.value_totals.proofs.Kept.{keys_listed}
-use Rattle.value_totals.proofs.Total.keys.Goals as goal
-
-pub returns : goal.returns
-returns c = c.len.ensures.len ∙ keys_listed c.self.inside.counts.entries c.self.invariant ∙ ap keys_of c.self.view_is

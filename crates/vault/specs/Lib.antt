@@ -1,0 +1,11 @@
+pub mod Memory
+pub mod Asked
+pub mod Forgetting
+pub mod Drafts
+pub mod Working
+pub mod Transfers
+pub mod Together
+pub mod Combinations
+pub mod Splits
+pub use Rattle.right_steps.specs.holders
+pub use Rattle.seats.specs as seats

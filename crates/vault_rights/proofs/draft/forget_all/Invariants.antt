@@ -1,9 +1,0 @@
-use Rattle.std.proofs.Common.{reverse, vec_len}
-use Rattle.vault_stores.specs.Forgetting.{IsForgetting}
-use Rattle.vault_rights.proofs.draft.forget_all.Given as goal
-
-abbrev pub invariant-loop-movement : goal.invariant-loop-movement
-invariant-loop-movement l = IsForgetting l.initial.stores l.stores (reverse l.movements.items)
-
-abbrev pub decreases-loop-movement : goal.decreases-loop-movement
-decreases-loop-movement l = vec_len l.movements

@@ -1,5 +1,0 @@
-use Rattle.vault_stores.proofs.Opened.{purse_closed}
-use Rattle.vault_stores.proofs.stores.Stores.unopen_purse.Goals as goal
-
-pub returns : goal.returns
-returns c = purse_closed c.args.self.now c.undo_open.new.self c.undo_open.ensures

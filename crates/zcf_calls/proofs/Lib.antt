@@ -1,0 +1,2 @@
+pub mod OpenSeats
+pub mod Strangers

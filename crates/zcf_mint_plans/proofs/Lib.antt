@@ -1,4 +1,0 @@
-pub mod Calls
-pub mod Issued
-pub mod MakersCounted
-pub mod Shapes

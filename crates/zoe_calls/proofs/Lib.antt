@@ -1,0 +1,3 @@
+pub mod InstanceIssuers
+pub mod Placed
+pub mod GivenIssuers

@@ -1,2 +1,0 @@
-pub mod Issuers
-pub mod Placed

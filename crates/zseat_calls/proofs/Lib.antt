@@ -1,0 +1,5 @@
+pub mod Exited
+pub mod SlotAmounts
+pub mod Calls
+pub mod Few
+pub mod Left

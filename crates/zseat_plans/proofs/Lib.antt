@@ -1,2 +1,0 @@
-pub mod Exited
-pub mod SlotAmounts
