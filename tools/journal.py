@@ -2,6 +2,7 @@
 
 A journal is read as far as it goes. Where it ends early, or a row of it can't be read, `fault` says so in
 one line, and `rows` has all that stands before. docs/JOURNAL.md has the rows."""
+import argparse
 import json
 import re
 from typing import NamedTuple, Optional
@@ -138,6 +139,17 @@ class Journal(NamedTuple):
 
 def read_journal(path):
     return journal_of(path, read_file(path))
+
+
+def journal_and_script(tool, text, words):
+    """What the words of a tool of journals give it: the journal, and the path of its script, or None."""
+    parser = argparse.ArgumentParser(
+        prog=f"tools/{tool}", description=text, formatter_class=argparse.RawDescriptionHelpFormatter
+    )
+    parser.add_argument("journal", help="a journal, or - for standard input")
+    parser.add_argument("script", nargs="?", help="the lines that it was written of")
+    chosen = parser.parse_args(words)
+    return read_journal(chosen.journal), chosen.script
 
 
 def journal_of(path, data):

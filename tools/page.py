@@ -9,7 +9,6 @@ what flowed from where to where, and a bar of what purses, payments and slots ha
 ok is red. A click on a turn shows all of it below. At the end stands who holds what.
 
 The exit status is 0, or 2 where the journal isn't whole or none: then it is drawn as far as it goes."""
-import argparse
 import html
 import io
 import os
@@ -429,16 +428,10 @@ def page(journal, script=None):
 
 
 def main(words):
-    parser = argparse.ArgumentParser(
-        prog="tools/page.py", description=__doc__, formatter_class=argparse.RawDescriptionHelpFormatter
-    )
-    parser.add_argument("journal", help="a journal, or - for standard input")
-    parser.add_argument("script", nargs="?", help="the lines that it was written of")
-    chosen = parser.parse_args(words)
-    journal = journals.read_journal(chosen.journal)
-    sys.stdout.write(page(journal, chosen.script))
+    journal, script = journals.journal_and_script("page.py", __doc__, words)
+    sys.stdout.write(page(journal, script))
     if journal.fault:
-        raise BadInput(f"{chosen.journal}: {journal.fault}")
+        raise BadInput(f"{journal.path}: {journal.fault}")
     return 0
 
 

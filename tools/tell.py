@@ -10,7 +10,6 @@ stands who holds what and which seats are open. `-` is standard input.
 
 The exit status is 0 where every turn was ok, 1 where one was refused, threw or was spent, and 2 where the
 journal isn't whole or no journal: it is told as far as it goes."""
-import argparse
 import sys
 
 import contract_text
@@ -269,16 +268,10 @@ def tell(journal, script=None, after=0, out=None, ending=True):
 
 
 def main(words):
-    parser = argparse.ArgumentParser(
-        prog="tools/tell.py", description=__doc__, formatter_class=argparse.RawDescriptionHelpFormatter
-    )
-    parser.add_argument("journal", help="a journal, or - for standard input")
-    parser.add_argument("script", nargs="?", help="the lines that it was written of")
-    chosen = parser.parse_args(words)
-    journal = journals.read_journal(chosen.journal)
-    all_ok = tell(journal, chosen.script)
+    journal, script = journals.journal_and_script("tell.py", __doc__, words)
+    all_ok = tell(journal, script)
     if journal.fault:
-        raise BadInput(f"{chosen.journal}: {journal.fault}")
+        raise BadInput(f"{journal.path}: {journal.fault}")
     return 0 if all_ok else 1
 
 

@@ -3,6 +3,7 @@ import glob
 import os
 import subprocess
 import sys
+import tempfile
 
 TOP = os.path.dirname(os.path.dirname(os.path.dirname(os.path.realpath(__file__))))
 TOOLS = os.path.join(TOP, "tools")
@@ -41,3 +42,13 @@ def call_tool(tool, *words, given=b""):
         [sys.executable, os.path.join(TOOLS, tool), *words], input=given, capture_output=True, check=False
     )
     return done.returncode, done.stdout.decode(), done.stderr.decode()
+
+
+def call_tool_on(tool, name, data, before=(), behind=()):
+    """What a tool comes to on a file with these bytes, which stands between other words and is told as `name`."""
+    with tempfile.TemporaryDirectory() as room:
+        path = os.path.join(room, name)
+        with open(path, "wb") as file:
+            file.write(data)
+        status, out, err = call_tool(tool, *before, path, *behind)
+        return status, out.replace(path, name), err.replace(path, name)

@@ -4,7 +4,6 @@ import json
 import os
 import random
 import re
-import tempfile
 import unittest
 
 from tests import program
@@ -211,12 +210,7 @@ class Alone(unittest.TestCase):
 
 class AsACommand(unittest.TestCase):
     def lint(self, data, *words):
-        with tempfile.TemporaryDirectory() as room:
-            path = os.path.join(room, "c.js")
-            with open(path, "wb") as file:
-                file.write(data)
-            status, out, err = program.call_tool("lint.py", *words, path)
-            return status, out.replace(path, "c.js"), err.replace(path, "c.js")
+        return program.call_tool_on("lint.py", "c.js", data, before=words)
 
     def test_a_refusal_has_line_column_and_caret(self):
         status, out, _ = self.lint(b"const start = (zcf, priv) => {\n  return 1;\n};\n")

@@ -3,7 +3,6 @@ import io
 import json
 import os
 import random
-import tempfile
 import unittest
 
 from tests import program
@@ -62,12 +61,7 @@ class Told(unittest.TestCase):
 
 class BadInput(unittest.TestCase):
     def tell(self, data, *more):
-        with tempfile.TemporaryDirectory() as room:
-            path = os.path.join(room, "j")
-            with open(path, "wb") as file:
-                file.write(data)
-            status, out, err = program.call_tool("tell.py", path, *more)
-            return status, out, err.replace(path, "j")
+        return program.call_tool_on("tell.py", "j", data, behind=more)
 
     def whole(self):
         with open(SWAP[0], "rb") as file:
