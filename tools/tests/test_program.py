@@ -55,6 +55,10 @@ class Vuhklane(unittest.TestCase):
         )
         return done.returncode, done.stdout.decode(), done.stderr.decode()
 
+    def git(self, *words):
+        done = subprocess.run(["git", "-C", self.room, *words], capture_output=True, check=True)
+        return done.stdout.decode()
+
     def compiled(self):
         if not os.path.isfile(f"{self.room}/count"):
             return 0
@@ -76,11 +80,24 @@ class Vuhklane(unittest.TestCase):
     def test_the_proved_program_is_run_where_it_is_newest(self):
         os.makedirs(f"{self.room}/crates/zoe_run/out")
         self.write("crates/zoe_run/out/zoe_run", PRETENDED_PROGRAM.replace("{name}", "proved"), 0o755)
-        self.assertEqual(self.run_it("x"), (7, "proved x\n", ""))
+        self.assertEqual(self.run_it("run", "x"), (7, "proved run x\n", ""))
+        told = "vuhklane: this program is proved: crates/zoe_run/out/zoe_run\n"
+        self.assertEqual(self.run_it("x"), (7, "proved x\n", told))
         os.utime(f"{self.room}/crates/zoe_run/out/zoe_run", (1, 1))
         status, out, err = self.run_it("x")
         self.assertEqual((status, out), (7, "unproved x\n"))
         self.assertIn("is older than the sources", err)
+
+    @unittest.skipUnless(shutil.which("git"), "git isn't here")
+    def test_it_tells_the_commit_and_whether_the_sources_were_changed(self):
+        self.write(".gitignore", "out/\nunproved/\n")
+        told = self.git("init", "--quiet", ".") + self.git("add", "crates", "crates.txt", ".gitignore")
+        told += self.git("-c", "user.name=n", "-c", "user.email=n@n.example", "commit", "--quiet", "-m", "m")
+        self.assertEqual(told, "")
+        commit = self.git("rev-parse", "--short", "HEAD").strip()
+        self.assertTrue(self.run_it("run")[2].endswith(f"(rt ci proves them); commit {commit}\n"))
+        self.write("crates/zoe_run/src/main.rt", "two")
+        self.assertTrue(self.run_it("run")[2].endswith(f"; commit {commit}, changed\n"))
 
     def test_what_it_cannot_compile_ends_with_70(self):
         self.write("made", "#!/bin/sh\nexit 1\n", 0o755)
