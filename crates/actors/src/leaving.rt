@@ -11,6 +11,7 @@ use promise_store::host_data_lib::data::Data;
 pub struct LocalOnly;
 
 /// Lets data leave its instance, but where it holds zcf, a ZCF seat, a ZCF mint or a function, at any depth.
+/// The program doesn't use it.
 pub fn leaves(data: &Data) -> Result<(), LocalOnly>
     ensures { IsErr result ↔ IsTrue (is_local (tree «data».now)) }
 {

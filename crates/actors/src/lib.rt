@@ -7,21 +7,55 @@ pub mod leaving;
 mod name;
 pub mod paths;
 
+/// What `brands` gives to those above.
+pub mod brands_lib {
+    pub use brands::{Brand, Brands, MOST_BRANDS};
+
+    pub mod issuer_record {
+        pub use brands::issuer_record::{Issuer, IssuerFault, IssuerRecord};
+    }
+}
+
+/// What `promise_store` gives to those above.
+pub mod promise_store_lib {
+    pub use promise_store::{Consequence, FollowFault, Promises, Settlement, State};
+}
+
+/// What `turn_stores` gives to those above.
+pub mod turn_stores_lib {
+    pub mod invitations {
+        pub use turn_stores::invitations::{Details, Invitations};
+
+        pub mod element {
+            pub use turn_stores::invitations::element::{element_text, number_of_element};
+        }
+    }
+
+    pub mod timer {
+        pub use turn_stores::timer::{Backwards, Timer};
+    }
+
+    pub mod turn_queue {
+        pub use turn_stores::turn_queue::TurnQueue;
+    }
+
+    pub mod undo_map {
+        pub use turn_stores::undo_map::UndoMap;
+    }
+}
+
 ghost use Rattle.std.specs.Prelude.{◌≡◌, ◌↔◌, ◌++◌, ◌∷◌, [], ℕ, false, List, None, Some, IfErr, IsOk, IsSome, IsTrue, OnErr, OnOk, is_some, length, map, option_map, ◌≤◌};
 ghost use Rattle.promise_store.specs.host_data.Tree.{Tree};
 ghost use Rattle.promise_store.specs.host_data.View.{tree};
 ghost use Rattle.actors.specs.Labels.{Bound, are_labels, binding, bound, bound_to, is_of, label_in, service_of};
 
 use crate::name::Name;
-pub use brands as brands_lib;
 use brands::host_text_lib::label::Label;
 use indexmap::IndexMap;
 pub use jessie_index::jessie_grammar_lib;
-pub use promise_store as promise_store_lib;
 pub use promise_store::host_data_lib;
 use promise_store::host_data_lib::data::{Data, Obj, ObjKind};
 use std::alloc::Global;
-pub use turn_stores as turn_stores_lib;
 
 /// Why no label is bound.
 #[derive(Clone, Copy, PartialEq, Eq)]

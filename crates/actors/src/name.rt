@@ -1,4 +1,4 @@
-// A party's label as the key of a map.
+//! A party's label as the key of a map.
 ghost use Rattle.std.specs.Prelude.{◌≡◌, IsTrue};
 ghost use Rattle.brands.specs.host_text.Words.{is_label};
 

@@ -14,7 +14,7 @@ use Rattle.amount_math.specs.Sparse.{is_something, same_found}
 use Rattle.amount_math.specs.Totals.{first, second, less, equal}
 use Rattle.amount_math.specs.Content.{Content, key_cmp, counts, is_zero, listed, entries, of_entries, of_entries-nil, nothing, count, count_listed, count-of_entries, unit}
 use Rattle.amount_math.specs.Entries.{Entries, IsKey, IsEntry, IsRising, AreEntries, entry_at, at_key, tally, most_of_key}
-use Rattle.amount_math.specs.Worth.{HasKeys}
+use Rattle.amount_math.specs.ValueView.{HasKeys}
 
 pub both : (a b : Bool) → T a → T b → T (a && b)
 both true b p q = q

@@ -17,7 +17,7 @@ use Rattle.std.proofs.lemmas.List.Sums.{sum_by-cons}
 use Rattle.amount_math.specs.Totals.{first, second, less, weighed}
 use Rattle.amount_math.specs.Content.{Content, key_cmp, counts, entries, of_entries, count, count_listed}
 use Rattle.amount_math.specs.Entries.{Entries, IsEntry, IsRising, AreEntries, as_one, entry_at, most_of_key}
-use Rattle.amount_math.specs.Worth.{IsBag, IsSet, most_keys}
+use Rattle.amount_math.specs.ValueView.{IsBag, IsSet, most_keys}
 use Rattle.amount_math.specs.KindData.{IsKeysOf, IsPairsOf, signed}
 use Rattle.amount_math.proofs.Listed.{both, below_rest, rising_rest, entries_are, tied, same_key, listed_at, found, keys_have_form, count_bounded, entries-of_entries}
 use Rattle.amount_math.proofs.Searched.{turned}

@@ -11,7 +11,7 @@ use Rattle.std.specs.FinMap.Entries.{below_all}
 use Rattle.amount_math.specs.Totals.{first, second, weighed}
 use Rattle.amount_math.specs.Content.{Content, Contains, key_cmp, entries, of_entries, of_entries-entries, of_entries-nil, nothing, count, count-difference, difference, sum, same_content}
 use Rattle.amount_math.specs.Entries.{Entries, IsEntry, IsGap, IsRising, AreEntries, entry_at, at_key, tally, most_of_key}
-use Rattle.amount_math.specs.Worth.{keys_of}
+use Rattle.amount_math.specs.ValueView.{keys_of}
 use Rattle.amount_math.proofs.Listed.{both, tally-append, below_rest, rising_rest, count-tally, entries-of_entries, no_entries, read_entry, tied}
 use Rattle.amount_math.proofs.Poured.{emptied}
 use Rattle.amount_math.proofs.Searched.{tally_at}

@@ -17,7 +17,7 @@ use Rattle.amount_math.specs.Counted.{counted}
 use Rattle.amount_math.specs.Entries.{Entries, IsKey, IsEntry, IsRising, AreEntries, entry_at, tally}
 use Rattle.amount_math.specs.declared.TooMuch.{TooMuch}
 use Rattle.amount_math.specs.declared.Kind.TheVariants.{Bag}
-use Rattle.amount_math.specs.Worth.{IsFirstPast, IsSet, PassesBound, bag_bound, keys_of}
+use Rattle.amount_math.specs.ValueView.{IsFirstPast, IsSet, PassesBound, bag_bound, keys_of}
 use Rattle.amount_math.proofs.Listed.{rising_rest, entries-of_entries, count-tally, same_key}
 use Rattle.amount_math.proofs.Searched.{rises, turned, somewhere, tally_at}
 

@@ -3,11 +3,11 @@ use Rattle.std.specs.Prelude.{◌≡◌, ℕ, refl}
 use Rattle.std.specs.Coded.{Coded, code_by, coded×, coded_ℕ}
 use Rattle.amount_math.specs.declared.Amount.{Amount}
 use Rattle.amount_math.specs.Content.{Content}
-use Rattle.amount_math.specs.Worth.{Worth, coded_worth, with_content}
+use Rattle.amount_math.specs.ValueView.{ValueView, coded_value_view, with_content}
 
 -- the numbers that stand for an amount, which a model needs
 abbrev pub coded_amount : Coded Amount
-coded_amount = code_by (ℕ × Worth) (coded× coded_ℕ coded_worth) (λ a. (a.brand, a.value)) (λ p. record { brand = p.0; value = p.1 }) (λ _. refl)
+coded_amount = code_by (ℕ × ValueView) (coded× coded_ℕ coded_value_view) (λ a. (a.brand, a.value)) (λ p. record { brand = p.0; value = p.1 }) (λ _. refl)
 
 -- the same brand and kind with another content
 abbrev pub holding : Amount → Content → Amount

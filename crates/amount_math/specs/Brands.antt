@@ -11,7 +11,7 @@ use Rattle.amount_math.specs.declared.amounts.CoerceFault.{CoerceFault}
 use Rattle.amount_math.specs.declared.amounts.CoerceFault.TheVariants as coerce_fault
 use Rattle.amount_math.specs.Content.{sum}
 use Rattle.amount_math.specs.declared.PutFault.TheVariants as put_fault
-use Rattle.amount_math.specs.Worth.{IsPutRefusal}
+use Rattle.amount_math.specs.ValueView.{IsPutRefusal}
 
 -- the amount given is of another brand, whose number is shown
 pub record IsWrongBrand (brand : ℕ) (given : Amount) (wrong : WrongBrand) : Type 0 where

@@ -8,7 +8,7 @@ use Rattle.amount_math.specs.declared.Kind.TheVariants.{Nat, Set, Bag}
 use Rattle.amount_math.specs.Sparse.{put, put_by}
 use Rattle.amount_math.specs.Content.{Content, coded_content, Contains, combined, count, counts, count-sum, is_zero, sum, difference, difference-sum, sum-difference, entries}
 use Rattle.amount_math.specs.KindLaws.{outstanding_fits}
-use Rattle.amount_math.specs.Worth.{Worth, coded_worth, Fits, IsOutstanding, keys_of, with_content}
+use Rattle.amount_math.specs.ValueView.{ValueView, coded_value_view, Fits, IsOutstanding, keys_of, with_content}
 
 -- keys with their counts, and how many keys there is room for
 pub record Roomed : Type 0 where
@@ -17,7 +17,7 @@ pub record Roomed : Type 0 where
 
 -- a kind's content, and how many keys there is room for
 pub record Held : Type 0 where
-  pub value : Worth
+  pub value : ValueView
   pub room : ℕ
 
 -- the numbers that stand for them, which a model needs
@@ -25,7 +25,7 @@ abbrev pub coded_roomed : Coded Roomed
 coded_roomed = code_by (Content × ℕ) (coded× coded_content coded_ℕ) (λ r. (r.content, r.room)) (λ p. record { content = p.0; room = p.1 }) (λ _. refl)
 
 abbrev pub coded_held : Coded Held
-coded_held = code_by (Worth × ℕ) (coded× coded_worth coded_ℕ) (λ h. (h.value, h.room)) (λ p. record { value = p.0; room = p.1 }) (λ _. refl)
+coded_held = code_by (ValueView × ℕ) (coded× coded_value_view coded_ℕ) (λ h. (h.value, h.room)) (λ p. record { value = p.0; room = p.1 }) (λ _. refl)
 
 -- there is room for so many keys, of which units want none
 abbrev pub HasRoom : Kind → ℕ → ℕ → Type 0
@@ -47,13 +47,13 @@ abbrev pub with_less : Held → Content → Held
 with_less h c = record { value = with_content h.value (difference h.value.content c); room = h.room }
 
 -- a value of the kind goes in: no count passes the kind's bound then, and there is room for its keys
-pub record GoesIn (h : Held) (w : Worth) : Type 0 where
+pub record GoesIn (h : Held) (w : ValueView) : Type 0 where
   pub kind : h.value.kind ≡ w.kind
   pub fits : Fits h.value.kind (sum h.value.content w.content)
   pub room : HasRoom h.value.kind (keys_of (sum h.value.content w.content)) h.room
 
 -- a value of the kind comes out: it is there
-pub record ComesOut (h : Held) (w : Worth) : Type 0 where
+pub record ComesOut (h : Held) (w : ValueView) : Type 0 where
   pub kind : h.value.kind ≡ w.kind
   pub has : Contains h.value.content w.content
 
@@ -71,10 +71,10 @@ pub less_more : (h : Held) (c : Content) → Contains h.value.content c → with
 less_more h c has = ap (λ d. record { value = with_content h.value d; room = h.room }) (sum-difference h.value.content c has)
 
 -- what went in can come out, and what came out can go in
-pub comes_back : (h : Held) (w : Worth) → GoesIn h w → ComesOut (with_more h w.content) w
+pub comes_back : (h : Held) (w : ValueView) → GoesIn h w → ComesOut (with_more h w.content) w
 comes_back h w goes = record { kind = goes.kind; has = record { each = λ k. omega (arith, count-sum h.value.content w.content k) } }
 
-pub goes_back : (h : Held) (w : Worth) → IsHeld h → ComesOut h w → GoesIn (with_less h w.content) w
+pub goes_back : (h : Held) (w : ValueView) → IsHeld h → ComesOut h w → GoesIn (with_less h w.content) w
 goes_back h w held out =
     let whole : sum (difference h.value.content w.content) w.content ≡ h.value.content = sum-difference h.value.content w.content out.has in
     record {

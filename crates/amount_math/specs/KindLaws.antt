@@ -17,7 +17,7 @@ use Rattle.amount_math.specs.Totals.{first, second, less, equal, weighed}
 use Rattle.amount_math.specs.Counted.{counted, counted-of_nat}
 use Rattle.amount_math.specs.Content.{Content, Contains, key_cmp, counts, is_zero, listed, entries, count, count_listed, nothing, count-nothing, sum, count-sum, sum-of_nat, of_nat, count-of_nat, count-of_nat_unit, unit, same_content}
 use Rattle.amount_math.specs.Entries.{Entries, IsRising}
-use Rattle.amount_math.specs.Worth.{IsValue, IsNat, IsSet, IsBag, IsKeyed, HasKeys, HasFew, Fits, IsOutstanding, IsPutRefusal, IsIssueRefusal, keys_of, most_keys, most_counted, bound, bag_bound}
+use Rattle.amount_math.specs.ValueView.{IsValue, IsNat, IsSet, IsBag, IsKeyed, HasKeys, HasFew, Fits, IsOutstanding, IsPutRefusal, IsIssueRefusal, keys_of, most_keys, most_counted, bound, bag_bound}
 use Rattle.amount_math.specs.NatLaws.{nothing_is_nat}
 
 -- ---- how many keys what is contained has

@@ -3,7 +3,7 @@ pub mod Content
 pub mod Totals
 pub mod Entries
 pub mod Counted
-pub mod Worth
+pub mod ValueView
 pub mod Held
 pub mod Amount
 pub mod Shapes

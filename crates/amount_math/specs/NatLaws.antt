@@ -3,7 +3,7 @@ use Rattle.std.specs.Prelude.{ℕ, ◌≤◌, Bool, true, false, cond}
 use Rattle.std.proofs.Common.{ap, sym, subst, arith}
 use Rattle.std.specs.Ordering.{eq_by_cmp}
 use Rattle.amount_math.specs.Content.{nothing, of_nat_zero, key_cmp, unit, of_nat, count-of_nat, count-of_nat_unit}
-use Rattle.amount_math.specs.Worth.{IsNat, nat_bound}
+use Rattle.amount_math.specs.ValueView.{IsNat, nat_bound}
 
 choose_most : (b : Bool) (n m : ℕ) → n ≤ m → cond b n 0 ≤ m
 choose_most true n m h = h

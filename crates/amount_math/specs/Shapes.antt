@@ -5,12 +5,12 @@ use Rattle.amount_math.specs.declared.shape.Shape.{Shape}
 use Rattle.amount_math.specs.declared.shape.Shape.TheVariants.{Nat, Set, Bag}
 use Rattle.amount_math.specs.Content.{of_nat}
 use Rattle.amount_math.specs.Held.{Held}
-use Rattle.amount_math.specs.Worth.{Worth, AreCounted, IsSet, IsBag, nat_bound}
+use Rattle.amount_math.specs.ValueView.{ValueView, AreCounted, IsSet, IsBag, nat_bound}
 
-abbrev pub worth : Shape → Worth
-worth (Nat n) = record { kind = kind.Nat; content = of_nat n }
-worth (Set keyed) = record { kind = kind.Set; content = keyed.content }
-worth (Bag keyed) = record { kind = kind.Bag; content = keyed.content }
+abbrev pub value_view : Shape → ValueView
+value_view (Nat n) = record { kind = kind.Nat; content = of_nat n }
+value_view (Set keyed) = record { kind = kind.Set; content = keyed.content }
+value_view (Bag keyed) = record { kind = kind.Bag; content = keyed.content }
 
 -- how many keys it has room for
 abbrev pub room_in : Shape → ℕ
@@ -20,7 +20,7 @@ room_in (Bag keyed) = keyed.room
 
 -- what it holds, with its room
 abbrev pub held_by : Shape → Held
-held_by s = record { value = worth s; room = room_in s }
+held_by s = record { value = value_view s; room = room_in s }
 
 -- it stands for a value of its kind
 abbrev pub IsShape : Shape → Type 0

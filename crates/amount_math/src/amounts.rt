@@ -2,7 +2,7 @@
 
 ghost use Rattle.std.specs.Prelude.{◌≡◌, ◌≢◌, ◌↔◌, IsTrue, IsOk, IsErr, IfOk, IfErr, OnOk, OnErr};
 ghost use Rattle.amount_math.specs.Content.{Content, Contains, difference, nothing, sum};
-ghost use Rattle.amount_math.specs.Worth.{IsGreatest, IsIncomparable, IsLeast};
+ghost use Rattle.amount_math.specs.ValueView.{IsGreatest, IsIncomparable, IsLeast};
 ghost use Rattle.amount_math.specs.Amount.{OneKind, holding};
 ghost use Rattle.amount_math.specs.Brands.{IsAddRefusal, IsCoerceRefusal, IsCompareRefusal, IsWrongBrand};
 
@@ -39,7 +39,7 @@ pub enum CoerceFault {
 }
 
 /// The brand's amount of the value that the data stands for, or `BadValue` where it stands for none. Keys
-/// take memory.
+/// take memory. The program doesn't use it.
 pub fn make<K: AmountKind>(brand: u16, from: K::Data) -> Result<Amount, K::MakeFault>
     ensures ok { IfOk result (λ amount. (amount.brand ≡ brand) × (amount.value.kind ≡ K.own_kind) × K.stands_for from amount.value.content) }
     ensures value { IfOk result (λ amount. K.is_value amount.value.content) }
@@ -52,6 +52,7 @@ pub fn make<K: AmountKind>(brand: u16, from: K::Data) -> Result<Amount, K::MakeF
 }
 
 /// The alleged amount as one of the brand, whose values are of the kind, or handed back.
+/// The program doesn't use it.
 pub fn coerce(brand: u16, kind: Kind, alleged: Amount) -> Result<Amount, (Amount, CoerceFault)>
     ensures ok { IfOk result (λ own. own ≡ alleged) }
     ensures own { IsOk result → (brand ≡ alleged.brand) × (kind ≡ alleged.value.kind) }
@@ -87,7 +88,7 @@ impl Amount {
         self.value.is_empty()
     }
 
-    /// Whether it has at least what the other has, of each element.
+    /// Whether it has at least what the other has, of each element. The program doesn't use it.
     pub fn is_gte(&self, other: &Amount) -> Result<bool, WrongBrand>
         requires { OneKind self.now other.now }
         ensures ok { IfOk result (λ is. IsTrue is ↔ Contains self.now.value.content other.now.value.content) }
@@ -98,7 +99,7 @@ impl Amount {
         Ok(self.value.is_gte(&other.value))
     }
 
-    /// Whether the two are one value.
+    /// Whether the two are one value. The program doesn't use it.
     pub fn is_equal(&self, other: &Amount) -> Result<bool, WrongBrand>
         requires { OneKind self.now other.now }
         ensures ok { IfOk result (λ is. IsTrue is ↔ (self.now ≡ other.now)) }
@@ -109,7 +110,7 @@ impl Amount {
         Ok(self.value.is_equal(&other.value))
     }
 
-    /// The sum, or both handed back.
+    /// The sum, or both handed back. The program doesn't use it.
     pub fn add(mut self, mut other: Amount) -> Result<Amount, (Amount, Amount, AddFault)>
         requires { OneKind self other }
         ensures ok { IfOk result (λ both. both ≡ holding self (sum self.value.content other.value.content)) }
@@ -140,7 +141,7 @@ impl Amount {
         }
     }
 
-    /// It less the other, or both handed back.
+    /// It less the other, or both handed back. The program doesn't use it.
     pub fn subtract(mut self, other: Amount) -> Result<Amount, (Amount, Amount, CompareFault)>
         requires { OneKind self other }
         ensures ok { IfOk result (λ rest. rest ≡ holding self (difference self.value.content other.value.content)) }
@@ -170,7 +171,7 @@ impl Amount {
         Ok(())
     }
 
-    /// The one of the two that both contain, or both handed back.
+    /// The one of the two that both contain, or both handed back. The program doesn't use it.
     pub fn min(self, other: Amount) -> Result<Amount, (Amount, Amount, CompareFault)>
         requires { OneKind self other }
         ensures ok { IfOk result (λ least. (least.brand ≡ self.brand) × IsLeast self.value other.value least.value) }
@@ -189,7 +190,7 @@ impl Amount {
         }
     }
 
-    /// The one of the two that contains both, or both handed back.
+    /// The one of the two that contains both, or both handed back. The program doesn't use it.
     pub fn max(self, other: Amount) -> Result<Amount, (Amount, Amount, CompareFault)>
         requires { OneKind self other }
         ensures ok { IfOk result (λ greatest. (greatest.brand ≡ self.brand) × IsGreatest self.value other.value greatest.value) }

@@ -5,7 +5,7 @@ ghost use Rattle.std.specs.Prelude.{◌≡◌, ◌+◌, ◌<◌, ◌≤◌, ◌�
 ghost use Rattle.amount_math.specs.Content.{Contains, count, of_entries, sum};
 ghost use Rattle.amount_math.specs.Counted.{counted};
 ghost use Rattle.amount_math.specs.Entries.{AreEntries, IsGap, IsRising, entry_at, most_of_key, tally};
-ghost use Rattle.amount_math.specs.Worth.{IsFirstPast, keys_of};
+ghost use Rattle.amount_math.specs.ValueView.{IsFirstPast, keys_of};
 
 use crate::{Entry, Key};
 

@@ -5,7 +5,7 @@ ghost use Rattle.std.specs.Prelude.{◌≡◌, ◌≢◌, ◌≤◌, ◌+◌, �
 ghost use Rattle.amount_math.specs.Content.{Contains, entries, nothing, of_nat, sum};
 ghost use Rattle.amount_math.specs.Counted.{counted};
 ghost use Rattle.amount_math.specs.Held.{ComesOut, GoesIn, HasRoom, IsHeld, keys_in, with_less, with_more};
-ghost use Rattle.amount_math.specs.Worth.{Fits, HasFew, IsIssueRefusal, IsPutRefusal, keys_of, nat_bound};
+ghost use Rattle.amount_math.specs.ValueView.{Fits, HasFew, IsPutRefusal, keys_of, nat_bound};
 
 use crate::shape::Shape;
 use crate::{Entry, Kind, PutFault, Value};
@@ -130,18 +130,9 @@ impl Holding {
         self.shape.is_gte(&value.shape)
     }
 
-    /// That no count would pass the kind's bound with the value added, or the first that would: for a set
-    /// the least common key. Nothing changes. To show a key takes memory, and nothing else does.
-    pub fn can_fit(&self, value: &Value) -> Result<(), PutFault>
-        requires { self.now.value.kind ≡ value.now.kind }
-        ensures ok { IsOk result → Fits self.now.value.kind (sum self.now.value.content value.now.content) }
-        ensures sure { Fits self.now.value.kind (sum self.now.value.content value.now.content) → IsOk result }
-        ensures refused { IfErr result (IsIssueRefusal self.now.value.kind (sum self.now.value.content value.now.content)) }
-    {
-        self.shape.check_counts(&value.shape)
-    }
-
-    /// `can_fit`, and that there would be few enough keys for a value.
+    /// That the sum with a value would be one, or why it wouldn't: a count that would pass its bound, for a
+    /// set the least common key, before the number of keys. Nothing changes. To show a key takes memory, and
+    /// nothing else does.
     pub fn can_absorb(&self, value: &Value) -> Result<(), PutFault>
         requires { self.now.value.kind ≡ value.now.kind }
         ensures fits { IsOk result → Fits self.now.value.kind (sum self.now.value.content value.now.content) }

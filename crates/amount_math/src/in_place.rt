@@ -4,7 +4,7 @@ ghost use Rattle.std.specs.Prelude.{◌≡◌, ◌≤◌, ◌<◌, ◌+◌, ℕ,
 ghost use Rattle.std.specs.Vec.{vec_capacity};
 ghost use Rattle.amount_math.specs.Content.{count, of_entries, sum};
 ghost use Rattle.amount_math.specs.Entries.{AreEntries, IsEntry, IsGap, at_key, entry_at, most_of_key, tally};
-ghost use Rattle.amount_math.specs.Worth.{keys_of};
+ghost use Rattle.amount_math.specs.ValueView.{keys_of};
 
 use crate::Entry;
 use crate::entries::place_for;

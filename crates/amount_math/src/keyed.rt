@@ -5,7 +5,7 @@ ghost use Rattle.std.specs.List.Sorted.{IsPermutation};
 ghost use Rattle.amount_math.specs.Content.{Contains, Content, count, difference, entries, nothing, of_entries, one_of, sum};
 ghost use Rattle.amount_math.specs.Counted.{counted};
 ghost use Rattle.amount_math.specs.Entries.{AreEntries, IsKey, most_of_key};
-ghost use Rattle.amount_math.specs.Worth.{Fits, IsBag, IsIssueRefusal, PassesBound, keys_of, most_keys};
+ghost use Rattle.amount_math.specs.ValueView.{Fits, IsBag, IsIssueRefusal, PassesBound, keys_of, most_keys};
 ghost use Rattle.amount_math.specs.declared.Kind.{Kind};
 
 use crate::in_place::put_all;

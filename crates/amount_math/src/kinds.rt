@@ -1,8 +1,8 @@
 //! The kinds of value: which contents are values of each, and the laws of their operations.
 
-ghost use Rattle.std.specs.Prelude.{◌≡◌, ◌≢◌, ◌↔◌, IsTrue, IsOk, IsErr, IfOk, IfErr, OnOk, OnErr};
+ghost use Rattle.std.specs.Prelude.{◌≡◌, ◌≢◌, ◌↔◌, IsTrue, IsOk, IsErr, IfOk, IfErr};
 ghost use Rattle.amount_math.specs.Content.{Content, Contains, difference, nothing, sum};
-ghost use Rattle.amount_math.specs.Worth.{IsGreatest, IsIncomparable, IsLeast};
+ghost use Rattle.amount_math.specs.ValueView.{IsGreatest, IsIncomparable, IsLeast};
 ghost use Rattle.amount_math.specs.declared.Kind.{Kind};
 
 use crate::handed::or_both;
@@ -23,7 +23,7 @@ pub enum MakeFault {
     NoMemory,
 }
 
-/// A kind of value (ERTP's AmountMath, a kind at a time).
+/// A kind of value (ERTP's AmountMath, a kind at a time). Of its calls the program uses `make` alone.
 pub trait AmountKind {
     /// What a value is made from.
     type Data;
@@ -159,7 +159,7 @@ impl AmountKind for NatKind {
     type Fault = TooMuch;
 
     ghost use Rattle.amount_math.specs.Content.{sum-comm, sum-assoc, sum-nothing, difference-sum, Contains-refl, Contains-trans, Contains-antisym};
-    ghost use Rattle.amount_math.specs.Worth.{IsNat, IsNumber, PassesBound};
+    ghost use Rattle.amount_math.specs.ValueView.{IsNat, IsNumber, PassesBound};
     ghost use Rattle.amount_math.specs.NatLaws.{nothing_is_nat};
 
     ghost own_kind = { Kind.Nat };
@@ -219,7 +219,7 @@ impl AmountKind for SetKind {
     type Fault = PutFault;
 
     ghost use Rattle.amount_math.specs.Content.{sum-comm, sum-assoc, sum-nothing, difference-sum, Contains-refl, Contains-trans, Contains-antisym};
-    ghost use Rattle.amount_math.specs.Worth.{IsPutRefusal, IsSet};
+    ghost use Rattle.amount_math.specs.ValueView.{IsPutRefusal, IsSet};
     ghost use Rattle.amount_math.specs.declared.kinds.MakeFault.TheVariants.{NoMemory};
     ghost use Rattle.amount_math.specs.KindData.{IsKeysOf};
     ghost use Rattle.amount_math.specs.KindLaws.{nothing_is_set};
@@ -286,7 +286,7 @@ impl AmountKind for BagKind {
     type Fault = PutFault;
 
     ghost use Rattle.amount_math.specs.Content.{sum-comm, sum-assoc, sum-nothing, difference-sum, Contains-refl, Contains-trans, Contains-antisym};
-    ghost use Rattle.amount_math.specs.Worth.{IsBag, IsPutRefusal};
+    ghost use Rattle.amount_math.specs.ValueView.{IsBag, IsPutRefusal};
     ghost use Rattle.amount_math.specs.declared.kinds.MakeFault.TheVariants.{NoMemory};
     ghost use Rattle.amount_math.specs.KindData.{IsPairsOf};
     ghost use Rattle.amount_math.specs.KindLaws.{nothing_is_bag};
@@ -338,30 +338,4 @@ impl AmountKind for BagKind {
         let done = left.put(&mut right);
         or_both(done, left, right)
     }
-}
-
-/// Adds a gain to what is held, or hands both back. The order doesn't count, and to take the gain
-/// away again gives what was held.
-pub fn credit<K: AmountKind>(held: Value, gain: Value) -> Result<Value, (Value, Value, K::Fault)>
-    requires held { (held.kind ≡ K.own_kind) × K.is_value held.content }
-    requires gain { (gain.kind ≡ K.own_kind) × K.is_value gain.content }
-    ensures ok { IfOk result (λ both. both ≡ record held { content = sum held.content gain.content }) }
-    ensures either_order { IfOk result (λ both. both.content ≡ sum gain.content held.content) }
-    ensures undone { IfOk result (λ both. difference both.content gain.content ≡ held.content) }
-    ensures back { IfErr result (λ (back, other, _). (back ≡ held) × (other ≡ gain)) }
-    ensures refused { IfErr result (λ (_, _, fault). K.is_refusal (sum held.content gain.content) fault) }
-{
-    K::add(held, gain)
-}
-
-/// Whether a value has what the low one has, and the high one what it has.
-pub fn is_between<K: AmountKind>(low: &Value, value: &Value, high: &Value) -> bool
-    requires low { (low.now.kind ≡ K.own_kind) × K.is_value low.now.content }
-    requires value { (value.now.kind ≡ K.own_kind) × K.is_value value.now.content }
-    requires high { (high.now.kind ≡ K.own_kind) × K.is_value high.now.content }
-    ensures between { IsTrue result ↔ (Contains value.now.content low.now.content × Contains high.now.content value.now.content) }
-    ensures apart { IsTrue result → Contains high.now.content low.now.content }
-    ensures same { IsTrue result → low.now.content ≡ high.now.content → value.now.content ≡ low.now.content }
-{
-    K::is_gte(value, low) && K::is_gte(high, value)
 }

@@ -7,7 +7,7 @@ ghost use Rattle.amount_math.specs.Content.{Contains, difference, entries, nothi
 ghost use Rattle.amount_math.specs.Counted.{counted};
 ghost use Rattle.amount_math.specs.Entries.{IsKey};
 ghost use Rattle.amount_math.specs.Held.{keys_in};
-ghost use Rattle.amount_math.specs.Worth.{IsGreatest, IsIncomparable, IsLeast, IsNat, IsPutRefusal, IsTakeRefusal, IsValue, PassesBound, most_counted, nat_bound};
+ghost use Rattle.amount_math.specs.ValueView.{IsGreatest, IsIncomparable, IsLeast, IsNat, IsPutRefusal, IsTakeRefusal, IsValue, PassesBound, most_counted, nat_bound};
 
 mod amounts;
 mod entries;
@@ -28,7 +28,7 @@ use handed::{choose, or_back};
 pub use holding::Holding;
 use keyed::Keyed;
 pub use keys::{COUNT_BOUND, Entry, KEY_BYTES, Key};
-pub use kinds::{AmountKind, BadValue, BagKind, MakeFault, NatKind, SetKind, credit, is_between};
+pub use kinds::{AmountKind, BadValue, BagKind, MakeFault, NatKind, SetKind};
 pub use outstanding::Outstanding;
 use shape::{Shape, nat_sum};
 use std::alloc::{AllocError, Global};
@@ -81,14 +81,14 @@ pub struct Value {
 }
 
 impl Model for Value {
-    ghost use Rattle.amount_math.specs.Worth.{Worth, coded_worth};
-    ghost use Rattle.amount_math.specs.Shapes.{worth, IsShape};
+    ghost use Rattle.amount_math.specs.ValueView.{ValueView, coded_value_view};
+    ghost use Rattle.amount_math.specs.Shapes.{value_view, IsShape};
 
-    ghost Value = { Worth };
+    ghost Value = { ValueView };
 
-    ghost coded = { coded_worth };
+    ghost coded = { coded_value_view };
 
-    ghost view = { λ a. worth a.shape };
+    ghost view = { λ a. value_view a.shape };
 
     ghost invariant = { λ a. IsShape a.shape };
 }
@@ -325,16 +325,7 @@ impl Value {
         self.shape.lessen(&part.shape);
     }
 
-    /// Takes all that it has.
-    pub fn take_all(&mut self) -> Value
-        ensures whole { result ≡ self.old }
-        ensures nothing_left { self.new ≡ record self.old { content = nothing } }
-    {
-        let empty = Value::empty(self.kind());
-        std::mem::replace(self, empty)
-    }
-
-    /// It less the part, or itself handed back where it has less.
+    /// It less the part, or itself handed back where it has less. The program doesn't use it.
     pub fn subtract(mut self, part: &Value) -> Result<Value, Value>
         requires { self.kind ≡ part.now.kind }
         ensures ok { IfOk result (λ rest. rest ≡ record self { content = difference self.content part.now.content }) }
@@ -350,6 +341,7 @@ impl Value {
     }
 
     /// The one of the two that both contain, or both handed back where neither contains the other.
+    /// The program doesn't use it.
     pub fn min(self, other: Value) -> Result<Value, (Value, Value)>
         requires { self.kind ≡ other.kind }
         ensures ok { IfOk result (IsLeast self other) }
@@ -360,6 +352,7 @@ impl Value {
     }
 
     /// The one of the two that contains both, or both handed back where neither contains the other.
+    /// The program doesn't use it.
     pub fn max(self, other: Value) -> Result<Value, (Value, Value)>
         requires { self.kind ≡ other.kind }
         ensures ok { IfOk result (IsGreatest self other) }

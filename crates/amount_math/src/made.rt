@@ -6,7 +6,7 @@ ghost use Rattle.std.specs.List.Sorted.{IsPermutation};
 ghost use Rattle.amount_math.specs.Content.{Content, entries, key_cmp};
 ghost use Rattle.amount_math.specs.Entries.{IsEntry, IsRising, as_one, entry_at};
 ghost use Rattle.amount_math.specs.KindData.{IsPairsOf, signed};
-ghost use Rattle.amount_math.specs.Worth.{IsBag, nat_bound};
+ghost use Rattle.amount_math.specs.ValueView.{IsBag, nat_bound};
 ghost use Rattle.std.specs.declared.cmp.Ordering.TheVariants.{Less};
 
 use crate::{Entry, Key, MakeFault, NAT_BOUND};

@@ -2,7 +2,7 @@
 
 ghost use Rattle.std.specs.Prelude.{◌≡◌, ◌≢◌, ◌≤◌, ◌↔◌, IfSome, IfErr, IsNone, IsSome, IsTrue, OnErr, OnOk};
 ghost use Rattle.amount_math.specs.Content.{Contains, entries, nothing, of_nat, sum};
-ghost use Rattle.amount_math.specs.Worth.{Fits, IsIssueRefusal, nat_bound};
+ghost use Rattle.amount_math.specs.ValueView.{Fits, IsIssueRefusal, nat_bound};
 
 use crate::handed::or_back;
 use crate::shape::Shape;
@@ -17,14 +17,14 @@ pub struct Outstanding {
 }
 
 impl Model for Outstanding {
-    ghost use Rattle.amount_math.specs.Worth.{Worth, coded_worth};
-    ghost use Rattle.amount_math.specs.Shapes.{IsCounted, worth};
+    ghost use Rattle.amount_math.specs.ValueView.{ValueView, coded_value_view};
+    ghost use Rattle.amount_math.specs.Shapes.{IsCounted, value_view};
 
-    ghost Value = { Worth };
+    ghost Value = { ValueView };
 
-    ghost coded = { coded_worth };
+    ghost coded = { coded_value_view };
 
-    ghost view = { λ a. worth a.shape };
+    ghost view = { λ a. value_view a.shape };
 
     ghost invariant = { λ a. IsCounted a.shape };
 }

@@ -4,8 +4,8 @@ ghost use Rattle.std.specs.Prelude.{◌≡◌, ◌≢◌, ◌<◌, ◌≤◌, �
 ghost use Rattle.amount_math.specs.Content.{Contains, difference, nothing, of_nat, sum};
 ghost use Rattle.amount_math.specs.Counted.{counted};
 ghost use Rattle.amount_math.specs.Held.{GoesIn, HasRoom, keys_in, with_more};
-ghost use Rattle.amount_math.specs.Shapes.{IsCounted, IsShape, held_by, room_in, worth};
-ghost use Rattle.amount_math.specs.Worth.{Fits, HasFew, IsIssueRefusal, IsNat, IsPutRefusal, IsValue, PassesBound, PassesKeys, keys_of, nat_bound, with_content};
+ghost use Rattle.amount_math.specs.Shapes.{IsCounted, IsShape, held_by, room_in, value_view};
+ghost use Rattle.amount_math.specs.ValueView.{Fits, HasFew, IsIssueRefusal, IsNat, IsPutRefusal, IsValue, PassesBound, PassesKeys, keys_of, nat_bound, with_content};
 
 use crate::keyed::Keyed;
 use crate::{Kind, NAT_BOUND, PutFault, TooMuch};
@@ -49,7 +49,7 @@ fn check_nat(held: u128, more: u128) -> Result<(), PutFault>
 
 impl Shape {
     pub(crate) fn empty(kind: Kind) -> Shape
-        ensures empty { worth result ≡ record { kind = kind; content = nothing } }
+        ensures empty { value_view result ≡ record { kind = kind; content = nothing } }
         ensures room { room_in result ≡ 0 }
     {
         match kind {
@@ -60,7 +60,7 @@ impl Shape {
     }
 
     pub(crate) fn kind(&self) -> Kind
-        ensures { result ≡ (worth self.now).kind }
+        ensures { result ≡ (value_view self.now).kind }
     {
         match self {
             Shape::Nat(_) => Kind::Nat,
@@ -70,7 +70,7 @@ impl Shape {
     }
 
     pub(crate) fn total(&self) -> u128
-        ensures { result ≡ counted (worth self.now).content }
+        ensures { result ≡ counted (value_view self.now).content }
     {
         match self {
             Shape::Nat(number) => *number,
@@ -79,7 +79,7 @@ impl Shape {
     }
 
     pub(crate) fn copy(&self) -> Result<Shape, AllocError>
-        ensures { IfOk result (λ copy. worth copy ≡ worth self.now) }
+        ensures { IfOk result (λ copy. value_view copy ≡ value_view self.now) }
     {
         Ok(match self {
             Shape::Nat(number) => Shape::Nat(*number),
@@ -89,8 +89,8 @@ impl Shape {
     }
 
     pub(crate) fn is_gte(&self, part: &Shape) -> bool
-        requires { (worth self.now).kind ≡ (worth part.now).kind }
-        ensures { IsTrue result ↔ Contains (worth self.now).content (worth part.now).content }
+        requires { (value_view self.now).kind ≡ (value_view part.now).kind }
+        ensures { IsTrue result ↔ Contains (value_view self.now).content (value_view part.now).content }
     {
         match (self, part) {
             (Shape::Nat(held), Shape::Nat(number)) => *held >= *number,
@@ -102,12 +102,12 @@ impl Shape {
 
     /// Whether no count of the sum passes the kind's bound.
     pub(crate) fn check_counts(&self, more: &Shape) -> Result<(), PutFault>
-        requires kinds { (worth self.now).kind ≡ (worth more.now).kind }
+        requires kinds { (value_view self.now).kind ≡ (value_view more.now).kind }
         requires held { IsCounted self.now }
         requires more { IsCounted more.now }
-        ensures ok { IsOk result → Fits (worth self.now).kind (sum (worth self.now).content (worth more.now).content) }
-        ensures sure { Fits (worth self.now).kind (sum (worth self.now).content (worth more.now).content) → IsOk result }
-        ensures refused { IfErr result (IsIssueRefusal (worth self.now).kind (sum (worth self.now).content (worth more.now).content)) }
+        ensures ok { IsOk result → Fits (value_view self.now).kind (sum (value_view self.now).content (value_view more.now).content) }
+        ensures sure { Fits (value_view self.now).kind (sum (value_view self.now).content (value_view more.now).content) → IsOk result }
+        ensures refused { IfErr result (IsIssueRefusal (value_view self.now).kind (sum (value_view self.now).content (value_view more.now).content)) }
     {
         match (self, more) {
             (Shape::Nat(held), Shape::Nat(number)) => check_nat(*held, *number),
@@ -119,12 +119,12 @@ impl Shape {
 
     /// Whether the sum has few enough keys.
     pub(crate) fn check_keys(&self, more: &Shape) -> Result<(), TooMuch>
-        requires kinds { (worth self.now).kind ≡ (worth more.now).kind }
-        requires fits { Fits (worth self.now).kind (sum (worth self.now).content (worth more.now).content) }
-        ensures ok { IsOk result → HasFew (worth self.now).kind (sum (worth self.now).content (worth more.now).content) }
-        ensures too_many { IfErr result (PassesKeys (worth self.now).kind (sum (worth self.now).content (worth more.now).content)) }
-        ensures sure { HasFew (worth self.now).kind (sum (worth self.now).content (worth more.now).content) → IsOk result }
-        ensures keyed { IsErr result → (worth self.now).kind ≢ Kind.Nat }
+        requires kinds { (value_view self.now).kind ≡ (value_view more.now).kind }
+        requires fits { Fits (value_view self.now).kind (sum (value_view self.now).content (value_view more.now).content) }
+        ensures ok { IsOk result → HasFew (value_view self.now).kind (sum (value_view self.now).content (value_view more.now).content) }
+        ensures too_many { IfErr result (PassesKeys (value_view self.now).kind (sum (value_view self.now).content (value_view more.now).content)) }
+        ensures sure { HasFew (value_view self.now).kind (sum (value_view self.now).content (value_view more.now).content) → IsOk result }
+        ensures keyed { IsErr result → (value_view self.now).kind ≢ Kind.Nat }
     {
         match (self, more) {
             (Shape::Nat(_), Shape::Nat(_)) => Ok(()),
@@ -136,13 +136,13 @@ impl Shape {
 
     /// Whether no count of the sum passes the kind's bound, and it has few enough keys.
     pub(crate) fn check_sum(&self, more: &Shape) -> Result<(), PutFault>
-        requires kinds { (worth self.now).kind ≡ (worth more.now).kind }
+        requires kinds { (value_view self.now).kind ≡ (value_view more.now).kind }
         requires held { IsCounted self.now }
         requires more { IsCounted more.now }
-        ensures fits { IsOk result → Fits (worth self.now).kind (sum (worth self.now).content (worth more.now).content) }
-        ensures few { IsOk result → HasFew (worth self.now).kind (sum (worth self.now).content (worth more.now).content) }
-        ensures sure { Fits (worth self.now).kind (sum (worth self.now).content (worth more.now).content) → HasFew (worth self.now).kind (sum (worth self.now).content (worth more.now).content) → IsOk result }
-        ensures refused { IfErr result (IsPutRefusal (worth self.now).kind (sum (worth self.now).content (worth more.now).content)) }
+        ensures fits { IsOk result → Fits (value_view self.now).kind (sum (value_view self.now).content (value_view more.now).content) }
+        ensures few { IsOk result → HasFew (value_view self.now).kind (sum (value_view self.now).content (value_view more.now).content) }
+        ensures sure { Fits (value_view self.now).kind (sum (value_view self.now).content (value_view more.now).content) → HasFew (value_view self.now).kind (sum (value_view self.now).content (value_view more.now).content) → IsOk result }
+        ensures refused { IfErr result (IsPutRefusal (value_view self.now).kind (sum (value_view self.now).content (value_view more.now).content)) }
     {
         self.check_counts(more)?;
         if let Err(over) = self.check_keys(more) {
@@ -153,14 +153,14 @@ impl Shape {
 
     /// Takes over all that the other has, so that it is a value too, or leaves both as they were.
     pub(crate) fn put(&mut self, more: &mut Shape) -> Result<(), PutFault>
-        requires kinds { (worth self.old).kind ≡ (worth more.old).kind }
+        requires kinds { (value_view self.old).kind ≡ (value_view more.old).kind }
         requires held { IsShape self.old }
         requires more { IsShape more.old }
-        ensures ok { OnOk result (worth self.new ≡ with_content (worth self.old) (sum (worth self.old).content (worth more.old).content)) }
-        ensures value { OnOk result (IsValue (worth self.old).kind (sum (worth self.old).content (worth more.old).content)) }
+        ensures ok { OnOk result (value_view self.new ≡ with_content (value_view self.old) (sum (value_view self.old).content (value_view more.old).content)) }
+        ensures value { OnOk result (IsValue (value_view self.old).kind (sum (value_view self.old).content (value_view more.old).content)) }
         ensures shapes { IsShape self.new × IsShape more.new }
         ensures err { OnErr result ((self.new ≡ self.old) × (more.new ≡ more.old)) }
-        ensures refused { IfErr result (IsPutRefusal (worth self.old).kind (sum (worth self.old).content (worth more.old).content)) }
+        ensures refused { IfErr result (IsPutRefusal (value_view self.old).kind (sum (value_view self.old).content (value_view more.old).content)) }
     {
         self.check_sum(more)?;
         match self.add(more) {
@@ -171,14 +171,14 @@ impl Shape {
 
     /// `put` where there may be any number of keys.
     pub(crate) fn issue(&mut self, more: &mut Shape) -> Result<(), PutFault>
-        requires kinds { (worth self.old).kind ≡ (worth more.old).kind }
+        requires kinds { (value_view self.old).kind ≡ (value_view more.old).kind }
         requires held { IsCounted self.old }
         requires more { IsShape more.old }
-        ensures ok { OnOk result (worth self.new ≡ with_content (worth self.old) (sum (worth self.old).content (worth more.old).content)) }
-        ensures fits { OnOk result (Fits (worth self.old).kind (sum (worth self.old).content (worth more.old).content)) }
+        ensures ok { OnOk result (value_view self.new ≡ with_content (value_view self.old) (sum (value_view self.old).content (value_view more.old).content)) }
+        ensures fits { OnOk result (Fits (value_view self.old).kind (sum (value_view self.old).content (value_view more.old).content)) }
         ensures shapes { IsCounted self.new × IsShape more.new }
         ensures err { OnErr result ((self.new ≡ self.old) × (more.new ≡ more.old)) }
-        ensures refused { IfErr result (IsIssueRefusal (worth self.old).kind (sum (worth self.old).content (worth more.old).content)) }
+        ensures refused { IfErr result (IsIssueRefusal (value_view self.old).kind (sum (value_view self.old).content (value_view more.old).content)) }
     {
         self.check_counts(more)?;
         match self.add(more) {
@@ -189,10 +189,10 @@ impl Shape {
 
     /// Takes over all that the other has, or leaves both as they were.
     fn add(&mut self, more: &mut Shape) -> Result<(), AllocError>
-        requires kinds { (worth self.old).kind ≡ (worth more.old).kind }
-        requires fits { Fits (worth self.old).kind (sum (worth self.old).content (worth more.old).content) }
-        ensures ok { OnOk result (worth self.new ≡ with_content (worth self.old) (sum (worth self.old).content (worth more.old).content)) }
-        ensures taken { OnOk result (worth more.new ≡ with_content (worth more.old) nothing) }
+        requires kinds { (value_view self.old).kind ≡ (value_view more.old).kind }
+        requires fits { Fits (value_view self.old).kind (sum (value_view self.old).content (value_view more.old).content) }
+        ensures ok { OnOk result (value_view self.new ≡ with_content (value_view self.old) (sum (value_view self.old).content (value_view more.old).content)) }
+        ensures taken { OnOk result (value_view more.new ≡ with_content (value_view more.old) nothing) }
         ensures err { OnErr result ((self.new ≡ self.old) × (more.new ≡ more.old)) }
     {
         match (self, more) {
@@ -209,9 +209,9 @@ impl Shape {
 
     /// Takes away what it is known to contain. The room stays.
     pub(crate) fn lessen(&mut self, part: &Shape)
-        requires kinds { (worth self.old).kind ≡ (worth part.now).kind }
-        requires enough { Contains (worth self.old).content (worth part.now).content }
-        ensures less { worth self.new ≡ with_content (worth self.old) (difference (worth self.old).content (worth part.now).content) }
+        requires kinds { (value_view self.old).kind ≡ (value_view part.now).kind }
+        requires enough { Contains (value_view self.old).content (value_view part.now).content }
+        ensures less { value_view self.new ≡ with_content (value_view self.old) (difference (value_view self.old).content (value_view part.now).content) }
         ensures room { room_in self.new ≡ room_in self.old }
     {
         match (self, part) {
@@ -226,8 +226,8 @@ impl Shape {
 
     /// How many keys it has; units are none.
     pub(crate) fn keys(&self) -> usize
-        ensures keys { result ≡ keys_in (worth self.now).kind (worth self.now).content }
-        ensures room { HasRoom (worth self.now).kind (keys_of (worth self.now).content) (room_in self.now) }
+        ensures keys { result ≡ keys_in (value_view self.now).kind (value_view self.now).content }
+        ensures room { HasRoom (value_view self.now).kind (keys_of (value_view self.now).content) (room_in self.now) }
     {
         match self {
             Shape::Nat(_) => 0,
@@ -237,10 +237,10 @@ impl Shape {
 
     /// Takes room for so many keys more.
     pub(crate) fn reserve(&mut self, alloc: Global, keys: usize) -> Result<(), AllocError>
-        ensures same { worth self.new ≡ worth self.old }
-        ensures ok { OnOk result (HasRoom (worth self.old).kind (keys_of (worth self.old).content + keys) (room_in self.new)) }
+        ensures same { value_view self.new ≡ value_view self.old }
+        ensures ok { OnOk result (HasRoom (value_view self.old).kind (keys_of (value_view self.old).content + keys) (room_in self.new)) }
         ensures room { room_in self.old ≤ room_in self.new }
-        ensures there { HasRoom (worth self.old).kind (keys_of (worth self.old).content + keys) (room_in self.old) → IsOk result }
+        ensures there { HasRoom (value_view self.old).kind (keys_of (value_view self.old).content + keys) (room_in self.old) → IsOk result }
         ensures err { OnErr result (self.new ≡ self.old) }
     {
         match self {
@@ -252,11 +252,11 @@ impl Shape {
 
     /// Takes room for the other's keys that it hasn't yet.
     pub(crate) fn make_room_for(&mut self, alloc: Global, more: &Shape) -> Result<(), AllocError>
-        requires { (worth self.old).kind ≡ (worth more.now).kind }
-        ensures same { worth self.new ≡ worth self.old }
-        ensures ok { OnOk result (HasRoom (worth self.old).kind (keys_of (sum (worth self.old).content (worth more.now).content)) (room_in self.new)) }
+        requires { (value_view self.old).kind ≡ (value_view more.now).kind }
+        ensures same { value_view self.new ≡ value_view self.old }
+        ensures ok { OnOk result (HasRoom (value_view self.old).kind (keys_of (sum (value_view self.old).content (value_view more.now).content)) (room_in self.new)) }
         ensures room { room_in self.old ≤ room_in self.new }
-        ensures there { HasRoom (worth self.old).kind (keys_of (sum (worth self.old).content (worth more.now).content)) (room_in self.old) → IsOk result }
+        ensures there { HasRoom (value_view self.old).kind (keys_of (sum (value_view self.old).content (value_view more.now).content)) (room_in self.old) → IsOk result }
         ensures err { OnErr result (self.new ≡ self.old) }
     {
         match (self, more) {
@@ -269,8 +269,8 @@ impl Shape {
 
     /// Adds the other within the room, which takes no memory.
     pub(crate) fn put_back(&mut self, more: Shape)
-        requires { GoesIn (held_by self.old) (worth more) }
-        ensures { held_by self.new ≡ with_more (held_by self.old) (worth more).content }
+        requires { GoesIn (held_by self.old) (value_view more) }
+        ensures { held_by self.new ≡ with_more (held_by self.old) (value_view more).content }
     {
         match (self, more) {
             (Shape::Nat(held), Shape::Nat(number)) => {

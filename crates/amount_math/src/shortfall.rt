@@ -3,7 +3,7 @@
 ghost use Rattle.std.specs.Prelude.{◌≡◌};
 ghost use Rattle.amount_math.specs.Content.{Contains};
 ghost use Rattle.amount_math.specs.Shortfalls.{IsLossFault};
-ghost use Rattle.amount_math.specs.Worth.{IsValue};
+ghost use Rattle.amount_math.specs.ValueView.{IsValue};
 
 use crate::{Holding, Value};
 

@@ -4,11 +4,29 @@
 
 pub mod issuer_record;
 
+/// What `host_text` gives to those above.
+pub mod host_text_lib {
+    pub mod keyword {
+        pub use host_text::keyword::Keyword;
+    }
+
+    pub mod label {
+        pub use host_text::label::Label;
+    }
+
+    pub mod number {
+        pub use host_text::number::read_number;
+    }
+
+    pub mod text {
+        pub use host_text::text::Text;
+    }
+}
+
 ghost use Rattle.std.specs.Prelude.{◌≡◌, ◌<◌, ◌≤◌, ◌↔◌, ◌++◌, ◌∷◌, [], length, IfErr, IfOk, IsOk, OnErr, OnOk};
 ghost use Rattle.brands.specs.Brands.{back_at, brand_at, brand_of, kept_at, most_brands, started};
 
 use amount_math::Kind;
-pub use host_text as host_text_lib;
 use host_text::text::Text;
 use std::alloc::{AllocError, Global};
 use std::marker::Model;
@@ -109,6 +127,7 @@ impl Brands {
     }
 
     /// The brand of an issuer. Each brand has one issuer, which goes by its brand's number (own).
+    /// The program doesn't use it.
     pub fn brand_of_issuer(&self, issuer: u16) -> u16
         requires { issuer < length self.now.now }
         ensures { result ≡ issuer }

@@ -4,7 +4,7 @@ use Rattle.std.specs.Str.{bytes_eq}
 use Rattle.std.proofs.lemmas.Bool.{eqb-true, eq-eqb}
 use Rattle.std.proofs.lemmas.Slice.Eq.{bytes_eq-Decides}
 use Rattle.refusals.specs.amount_math.Content.{Content, entries, of_entries, of_entries-entries}
-use Rattle.refusals.specs.amount_math.Worth.{Worth}
+use Rattle.refusals.specs.amount_math.ValueView.{ValueView}
 use Rattle.call_arguments.specs.Amounts.{is_same, same_entries}
 
 both_true : (a b : Bool) → (a && b) ≡ true → (a ≡ true) × (b ≡ true)
@@ -32,15 +32,15 @@ entries_own : (es : List (List ℕ × ℕ)) → same_entries es es ≡ true
 entries_own [] = refl
 entries_own (e ∷ es) = both_hold (bytes_eq e.0 e.0 && eqb e.1 e.1) (same_entries es es) (both_hold (bytes_eq e.0 e.0) (eqb e.1 e.1) ((bytes_eq-Decides e.0 e.0).1 refl) (eq-eqb e.1 e.1 refl)) (entries_own es)
 
-pub same_is : (a b : Worth) → a.kind ≡ b.kind → is_same a b ≡ true → a ≡ b
+pub same_is : (a b : ValueView) → a.kind ≡ b.kind → is_same a b ≡ true → a ≡ b
 unfolding is_same
 same_is a b kind is =
     let content = content_same a.content b.content is in
     λ i. record { kind = kind i; content = content i }
 
-pub same_itself : (a b : Worth) → a ≡ b → is_same a b ≡ true
+pub same_itself : (a b : ValueView) → a ≡ b → is_same a b ≡ true
 unfolding is_same
-same_itself a b is = subst (λ (w : Worth). same_entries (entries a.content) (entries w.content) ≡ true) is (entries_own (entries a.content))
+same_itself a b is = subst (λ (w : ValueView). same_entries (entries a.content) (entries w.content) ≡ true) is (entries_own (entries a.content))
 
 pub decided : (b t : Bool) → (b ≡ true → t ≡ true) → (t ≡ true → b ≡ true) → b ≡ t
 decided true t there back = sym (there refl)

@@ -2,7 +2,7 @@
 use Rattle.std.specs.Prelude.{ℕ, ◌==◌, ◌&&◌, List, [], ◌∷◌, Bool, true, false, Option, Some, None, Result, Ok, Err, if◌then◌else◌}
 use Rattle.std.specs.Str.{bytes_eq}
 use Rattle.refusals.specs.amount_math.Content.{entries}
-use Rattle.refusals.specs.amount_math.Worth.{Worth}
+use Rattle.refusals.specs.amount_math.ValueView.{ValueView}
 use Rattle.refusals.specs.amount_math.declared.Kind.{Kind}
 use Rattle.refusals.specs.host_data.Tree.{Tree, is_null}
 use Rattle.refusals.specs.host_data.Amounts.{amount_fields, value_in}
@@ -19,7 +19,7 @@ given_by (Ok x) = Some x
 given_by (Err e) = None
 
 -- the value of the kind that data stands for, where it does
-unfoldable pub value_of : Kind → Tree → Option Worth
+unfoldable pub value_of : Kind → Tree → Option ValueView
 value_of kind t = given_by (value_in kind t)
 
 -- what the reading of a value ends with
@@ -31,7 +31,7 @@ abbrev pub unread : earlier.Stop → Stop
 unread stop = if is_refused stop then Refused bad_value else NoMemory
 
 -- an amount of the brand, of which the values are of the kind
-unfoldable pub amount_in : ℕ → Kind → ℕ → Tree → Result Worth Refusal
+unfoldable pub amount_in : ℕ → Kind → ℕ → Tree → Result ValueView Refusal
 amount_in brand kind place t = do
   parts ← wanted (amount_fields t) (bad_args place)
   need (parts.brand == brand) (wrong_brand parts.brand)
@@ -45,11 +45,11 @@ same_entries (e ∷ es) [] = false
 same_entries (e ∷ es) (f ∷ fs) = (bytes_eq e.0 f.0 && e.1 == f.1) && same_entries es fs
 
 -- two values of one kind are one
-unfoldable pub is_same : Worth → Worth → Bool
+unfoldable pub is_same : ValueView → ValueView → Bool
 is_same a b = same_entries (entries a.content) (entries b.content)
 
 -- null, or the amount that is held
-unfoldable pub held_in : ℕ → Worth → ℕ → Tree → Result (Unit {0}) Refusal
+unfoldable pub held_in : ℕ → ValueView → ℕ → Tree → Result (Unit {0}) Refusal
 held_in brand held place t = if is_null t then Ok tt else do
   named ← amount_in brand held.kind place t
   need (is_same held named) (wrong_amount held named)

@@ -112,10 +112,6 @@ filled_list_at place args = do
   need (not (is_empty items)) (bad_args place)
   Ok items
 
--- the same, where null is the empty record
-unfoldable pub fields_at : ℕ → List Tree → Result (List (List ℕ × Tree)) Refusal
-fields_at place args = if is_null (arg place args) then Ok [] else record_at place args
-
 -- ---- kinds and keywords
 
 -- the kinds by their words (ERTP)

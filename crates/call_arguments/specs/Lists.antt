@@ -1,6 +1,6 @@
 -- Lists that a call is given: amounts of one brand, and objects of one kind.
 use Rattle.std.specs.Prelude.{ℕ, ◌+◌, ◌==◌, List, [], ◌∷◌, map, Option, Result, Ok}
-use Rattle.refusals.specs.amount_math.Worth.{Worth}
+use Rattle.refusals.specs.amount_math.ValueView.{ValueView}
 use Rattle.refusals.specs.amount_math.declared.Kind.{Kind}
 use Rattle.refusals.specs.host_data.Tree.{Tree}
 use Rattle.refusals.specs.host_data.declared.data.ObjKind.{ObjKind}
@@ -23,14 +23,14 @@ abbrev pub least_other : ℕ → List AmountData → Option ℕ
 least_other brand amounts = least_failing (λ n. n == brand) (map (λ a. a.brand) amounts)
 
 -- the value of the kind that an amount has
-abbrev pub value_in : Kind → AmountData → Option Worth
+abbrev pub value_in : Kind → AmountData → Option ValueView
 value_in kind a = value_of kind a.value
 
-unfoldable pub brand_values : Kind → List AmountData → Result (List Worth) Refusal
+unfoldable pub brand_values : Kind → List AmountData → Result (List ValueView) Refusal
 brand_values kind amounts = wanted (read_all (value_in kind) amounts) bad_value
 
 -- amounts of the brand, of which the values are of the kind; each test over all of them before the next
-unfoldable pub amounts_listed : ℕ → Kind → ℕ → List Tree → Result (List Worth) Refusal
+unfoldable pub amounts_listed : ℕ → Kind → ℕ → List Tree → Result (List ValueView) Refusal
 amounts_listed brand kind place items = do
   amounts ← listed_in place items
   none_such (least_other brand amounts) wrong_brand

@@ -3,7 +3,7 @@ use Rattle.std.specs.Prelude.{ℕ, Bool, List, map, find, not, Option, option_ma
 use Rattle.std.specs.List.{list_any}
 use Rattle.std.specs.Str.{bytes_eq}
 use Rattle.refusals.specs.host_text.Words.{is_keyword}
-use Rattle.refusals.specs.amount_math.Worth.{Worth}
+use Rattle.refusals.specs.amount_math.ValueView.{ValueView}
 use Rattle.refusals.specs.host_data.Tree.{Tree}
 use Rattle.refusals.specs.host_data.declared.data.ObjKind.{ObjKind}
 use Rattle.refusals.specs.host_data.Amounts.{AmountData, amount_data, amount_fields, read_all}
@@ -12,7 +12,7 @@ use Rattle.refusals.specs.Outcomes.{◌>>=◌, ◌>>◌, none_such, wanted}
 use Rattle.refusals.specs.declared.codes.Refusal.{Refusal}
 use Rattle.call_arguments.specs.Amounts.{value_of}
 use Rattle.call_arguments.specs.Arguments.{object_in}
-use Rattle.call_arguments.specs.declared.records.GivenRow.{GivenRow}
+use Rattle.call_arguments.specs.declared.records.GivenShare.{GivenShare}
 
 abbrev pub names : List (List ℕ × Tree) → List (List ℕ)
 names fields = map (λ f. f.0) fields
@@ -27,48 +27,48 @@ has_name wanted ks = list_any (λ k. bytes_eq k wanted) ks
 
 -- ---- amounts under keywords
 
--- a row as it was given: the name of the field, and what stands in its amount
-pub record RowData : Type 0 where
+-- a share as it was given: the name of the field, and what stands in its amount
+pub record ShareData : Type 0 where
   pub keyword : List ℕ
   pub amount : AmountData
 
-abbrev pub row_in : List ℕ × Tree → Option RowData
-row_in f = option_map (λ a. record { keyword = f.0; amount = a }) (amount_fields f.1)
+abbrev pub share_in : List ℕ × Tree → Option ShareData
+share_in f = option_map (λ a. record { keyword = f.0; amount = a }) (amount_fields f.1)
 
--- what a row that was read shows
-abbrev pub row_data : GivenRow → RowData
-row_data r = record { keyword = r.keyword.now; amount = amount_data r.amount }
+-- what a share that was read shows
+abbrev pub share_data : GivenShare → ShareData
+share_data r = record { keyword = r.keyword.now; amount = amount_data r.amount }
 
-abbrev pub rows_data : List GivenRow → List RowData
-rows_data rows = map row_data rows
+abbrev pub shares_data : List GivenShare → List ShareData
+shares_data shares = map share_data shares
 
-abbrev pub keywords : List RowData → List (List ℕ)
-keywords rows = map (λ r. r.keyword) rows
+abbrev pub keywords : List ShareData → List (List ℕ)
+keywords shares = map (λ r. r.keyword) shares
 
-abbrev pub brands_in : List RowData → List ℕ
-brands_in rows = map (λ r. r.amount.brand) rows
+abbrev pub brands_in : List ShareData → List ℕ
+brands_in shares = map (λ r. r.amount.brand) shares
 
 -- the amounts of fields
-unfoldable pub amounts_under : ℕ → List (List ℕ × Tree) → Result (List RowData) Refusal
-amounts_under place fields = wanted (read_all row_in fields) (bad_args place)
+unfoldable pub amounts_under : ℕ → List (List ℕ × Tree) → Result (List ShareData) Refusal
+amounts_under place fields = wanted (read_all share_in fields) (bad_args place)
 
 -- each name is a keyword
 abbrev pub are_keywords : List (List ℕ) → Result (Unit {0}) Refusal
 are_keywords ks = none_such (first_ill ks) bad_keyword
 
--- rows, each under a keyword
-unfoldable pub rows_in : ℕ → List (List ℕ × Tree) → Result (List RowData) Refusal
-rows_in place fields = do
-  rows ← amounts_under place fields
-  are_keywords (keywords rows)
-  Ok rows
+-- shares, each under a keyword
+unfoldable pub shares_in : ℕ → List (List ℕ × Tree) → Result (List ShareData) Refusal
+shares_in place fields = do
+  shares ← amounts_under place fields
+  are_keywords (keywords shares)
+  Ok shares
 
--- the value of a row, of the kind of the brand that it names
-abbrev pub row_value : RowData → Option Worth
-row_value r = value_of r.amount.kind r.amount.value
+-- the value of a share, of the kind of the brand that it names
+abbrev pub share_value : ShareData → Option ValueView
+share_value r = value_of r.amount.kind r.amount.value
 
-unfoldable pub values_in : List RowData → Result (List Worth) Refusal
-values_in rows = wanted (read_all row_value rows) bad_value
+unfoldable pub values_in : List ShareData → Result (List ValueView) Refusal
+values_in shares = wanted (read_all share_value shares) bad_value
 
 -- ---- objects
 

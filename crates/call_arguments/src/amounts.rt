@@ -10,9 +10,9 @@ ghost use Rattle.call_arguments.specs.Amounts.{amount_in, held_in, is_refused, i
 use crate::places::is_missing;
 use refusals::amount_math_lib::{Kind, Value};
 use refusals::codes::{BareCode, NumberCode};
+use refusals::host_data_lib::Stop as DataStop;
 use refusals::host_data_lib::amounts::{GivenAmount, amount_fields, read_value};
 use refusals::host_data_lib::data::Data;
-use refusals::host_data_lib::refusals as earlier;
 use refusals::stops::{Stop, wrong_amount};
 use std::alloc::Global;
 
@@ -31,7 +31,7 @@ pub fn value(alloc: Global, kind: Kind, given: &Data) -> Result<Value, Stop>
 }
 
 /// What the reading of a value ends with, whose one refusal is `BadValue`.
-fn unread(stop: earlier::Stop) -> Stop
+fn unread(stop: DataStop) -> Stop
     ensures { result ≡ unread stop }
 {
     let is_refused = is_refused(&stop);
@@ -43,10 +43,10 @@ fn unread(stop: earlier::Stop) -> Stop
     }
 }
 
-fn is_refused(stop: &earlier::Stop) -> bool
+fn is_refused(stop: &DataStop) -> bool
     ensures { result ≡ is_refused stop.now }
 {
-    matches!(stop, earlier::Stop::Refused(_))
+    matches!(stop, DataStop::Refused(_))
 }
 
 /// What stands in an amount: else `BadArgs` with the place.

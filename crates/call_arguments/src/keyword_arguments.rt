@@ -7,10 +7,10 @@ ghost use Rattle.std.specs.Borrow.{Bor};
 ghost use Rattle.std.specs.BTreeSet.{contains};
 ghost use Rattle.refusals.specs.host_data.View.{named_trees};
 ghost use Rattle.refusals.specs.Outcomes.{Gives};
-ghost use Rattle.call_arguments.specs.Records.{has_name, keywords, names, rows_data};
+ghost use Rattle.call_arguments.specs.Records.{has_name, keywords, names, shares_data};
 ghost use Rattle.call_arguments.specs.Keywords.{are_apart, are_same, by_text, first_alone, first_shared, lesser, text_in, texts};
 
-use crate::records::GivenRow;
+use crate::records::GivenShare;
 use refusals::codes::TextCode;
 use refusals::host_data_lib::data::Data;
 use refusals::host_text_lib::text::Text;
@@ -18,13 +18,13 @@ use refusals::stops::Stop;
 use std::alloc::{AllocError, Global};
 use std::collections::BTreeSet;
 
-/// The keywords of rows, in their order.
-pub fn row_names<'a>(alloc: Global, rows: &[GivenRow<'a>]) -> Result<Vec<&'a str>, AllocError>
-    ensures { IfOk result (λ names. texts names.items ≡ keywords (rows_data rows.now)) }
+/// The keywords of shares, in their order.
+pub fn share_names<'a>(alloc: Global, shares: &[GivenShare<'a>]) -> Result<Vec<&'a str>, AllocError>
+    ensures { IfOk result (λ names. texts names.items ≡ keywords (shares_data shares.now)) }
 {
     let mut names = Vec::new(alloc);
-    for row in rows {
-        names.push(row.keyword.as_str())?;
+    for share in shares {
+        names.push(share.keyword.as_str())?;
     }
     Ok(names)
 }

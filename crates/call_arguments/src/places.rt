@@ -7,7 +7,7 @@ ghost use Rattle.refusals.specs.host_data.Tree.{is_null, text_of};
 ghost use Rattle.refusals.specs.host_data.View.{named_trees, tree, trees};
 ghost use Rattle.refusals.specs.host_data.Amounts.{seen};
 ghost use Rattle.refusals.specs.Outcomes.{Gives};
-ghost use Rattle.call_arguments.specs.Arguments.{IsMade, IsRefusal, arg, fields_at, filled_list_at, function_at, keyword_at, kind_at, kind_in, kind_named, list_at, number_at, number_in, object_at, object_in, place_of, record_at, text_at, text_or_empty};
+ghost use Rattle.call_arguments.specs.Arguments.{IsMade, IsRefusal, arg, filled_list_at, function_at, keyword_at, kind_at, kind_in, kind_named, list_at, number_at, number_in, object_at, object_in, place_of, record_at, text_at};
 
 use refusals::amount_math_lib::Kind;
 use refusals::codes::{NumberCode, TextCode};
@@ -232,20 +232,6 @@ pub fn filled_list_at(place: u32, args: &[Data]) -> Result<&[Data], Stop>
     } else {
         Ok(items)
     }
-}
-
-/// The fields of the record at a place, each with its name; null, or none there, is the empty record: else
-/// `BadArgs` with the place.
-#[tactic(auto, unfolding(crate::specs::Arguments::fields_at, crate::specs::Arguments::record_at))]
-pub fn fields_at(place: u32, args: &[Data]) -> Result<&[(Text, Data)], Stop>
-    requires { 1 ≤ place }
-    ensures gives { Gives (λ fields. named_trees fields.now) result (fields_at place (trees args.now)) }
-    ensures told { IfErr result IsRefusal }
-{
-    if is_missing(argument(args, place)) {
-        return Ok(&[]);
-    }
-    record_at(place, args)
 }
 
 // ---- kinds and keywords

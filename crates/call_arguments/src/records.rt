@@ -3,44 +3,41 @@
 ghost use Rattle.std.specs.Prelude.{◌≡◌, ◌<◌, All, None, IfOk, OnOk, option_map};
 ghost use Rattle.refusals.specs.host_text.Words.{is_keyword};
 ghost use Rattle.refusals.specs.host_data.View.{named_trees, tree};
-ghost use Rattle.refusals.specs.Codes.{bad_value};
 ghost use Rattle.refusals.specs.Outcomes.{Gives, wanted};
 ghost use Rattle.call_arguments.specs.Arguments.{IsMade};
-ghost use Rattle.call_arguments.specs.Records.{amounts_under, are_keywords, brands_in, first_ill, has_name, keywords, names, objects_under, row_data, row_value, rows_data, rows_in, values_in};
+ghost use Rattle.call_arguments.specs.Records.{amounts_under, are_keywords, first_ill, keywords, names, objects_under, shares_data, shares_in};
 
-use crate::amounts::value;
 use crate::places::object_in;
-use refusals::amount_math_lib::Value;
 use refusals::codes::{NumberCode, TextCode};
 use refusals::host_data_lib::amounts::{GivenAmount, amount_fields};
 use refusals::host_data_lib::data::{Data, ObjKind};
 use refusals::host_text_lib::keyword::Keyword;
 use refusals::host_text_lib::text::Text;
 use refusals::stops::Stop;
-use std::alloc::{AllocError, Global};
+use std::alloc::Global;
 
-/// A row as it was given: a keyword, and what stands in the amount under it.
+/// A share as it was given: a keyword, and what stands in the amount under it.
 #[derive(Clone, Copy)]
-pub struct GivenRow<'a> {
+pub struct GivenShare<'a> {
     pub keyword: &'a Text,
     pub amount: GivenAmount<'a>,
 }
 
-/// Whether the row is under a keyword.
-fn is_named(row: &GivenRow) -> bool
-    ensures { result ≡ is_keyword row.now.keyword.now }
+/// Whether the share is under a keyword.
+fn is_named(share: &GivenShare) -> bool
+    ensures { result ≡ is_keyword share.now.keyword.now }
 {
-    Keyword::is_keyword(row.keyword.as_str().as_bytes())
+    Keyword::is_keyword(share.keyword.as_str().as_bytes())
 }
 
-/// The first name of a row that is no keyword.
+/// The first name of a share that is no keyword.
 #[tactic(auto, unfolding(crate::specs::Records::first_ill))]
-fn first_ill<'a>(rows: &[GivenRow<'a>]) -> Option<&'a Text>
-    ensures { option_map (λ name. name.now) result ≡ first_ill (keywords (rows_data rows.now)) }
+fn first_ill<'a>(shares: &[GivenShare<'a>]) -> Option<&'a Text>
+    ensures { option_map (λ name. name.now) result ≡ first_ill (keywords (shares_data shares.now)) }
 {
-    for row in rows {
-        if !is_named(row) {
-            return Some(row.keyword);
+    for share in shares {
+        if !is_named(share) {
+            return Some(share.keyword);
         }
     }
     None
@@ -52,26 +49,26 @@ pub fn amounts<'a>(
     alloc: Global,
     place: u32,
     fields: &'a [(Text, Data)],
-) -> Result<Vec<GivenRow<'a>>, Stop>
-    ensures { Gives (λ rows. rows_data rows.items) result (amounts_under place (named_trees fields.now)) }
+) -> Result<Vec<GivenShare<'a>>, Stop>
+    ensures { Gives (λ shares. shares_data shares.items) result (amounts_under place (named_trees fields.now)) }
 {
-    let mut rows = Vec::new(alloc);
+    let mut shares = Vec::new(alloc);
     for (keyword, data) in fields {
         let Some(amount) = amount_fields(data) else {
             return Err(Stop::numbered(NumberCode::BadArgs, place));
         };
-        rows.push(GivenRow { keyword, amount })?;
+        shares.push(GivenShare { keyword, amount })?;
     }
-    Ok(rows)
+    Ok(shares)
 }
 
-/// That each row is under a keyword: else `BadKeyword` with the first name that is none (Zoe).
+/// That each share is under a keyword: else `BadKeyword` with the first name that is none (Zoe).
 #[tactic(auto, unfolding(refusals::specs::Outcomes::none_such))]
-pub fn check_keywords(alloc: Global, rows: &[GivenRow]) -> Result<(), Stop>
-    ensures gives { Gives (λ _. tt) result (are_keywords (keywords (rows_data rows.now))) }
-    ensures named { OnOk result (first_ill (keywords (rows_data rows.now)) ≡ None) }
+pub fn check_keywords(alloc: Global, shares: &[GivenShare]) -> Result<(), Stop>
+    ensures gives { Gives (λ _. tt) result (are_keywords (keywords (shares_data shares.now))) }
+    ensures named { OnOk result (first_ill (keywords (shares_data shares.now)) ≡ None) }
 {
-    match first_ill(rows) {
+    match first_ill(shares) {
         Some(name) => Err(Stop::worded(alloc, TextCode::BadKeyword, name.as_str())),
         None => Ok(()),
     }
@@ -104,47 +101,18 @@ pub fn check_names(alloc: Global, fields: &[(Text, Data)]) -> Result<(), Stop>
 
 /// The amounts in a record's fields, each under a keyword: `BadArgs` with the place where a field is no
 /// amount, then `BadKeyword` with the first name that is no keyword.
-#[tactic(auto, unfolding(crate::specs::Records::rows_in, refusals::specs::Outcomes::bind, refusals::specs::Outcomes::none_such))]
-pub fn rows<'a>(
+#[tactic(auto, unfolding(crate::specs::Records::shares_in, refusals::specs::Outcomes::bind, refusals::specs::Outcomes::none_such))]
+pub fn shares<'a>(
     alloc: Global,
     place: u32,
     fields: &'a [(Text, Data)],
-) -> Result<Vec<GivenRow<'a>>, Stop>
-    ensures gives { Gives (λ rows. rows_data rows.items) result (rows_in place (named_trees fields.now)) }
-    ensures named { IfOk result (λ rows. first_ill (keywords (rows_data rows.items)) ≡ None) }
+) -> Result<Vec<GivenShare<'a>>, Stop>
+    ensures gives { Gives (λ shares. shares_data shares.items) result (shares_in place (named_trees fields.now)) }
+    ensures named { IfOk result (λ shares. first_ill (keywords (shares_data shares.items)) ≡ None) }
 {
-    let rows = amounts(alloc, place, fields)?;
-    check_keywords(alloc, rows.as_slice())?;
-    Ok(rows)
-}
-
-/// The numbers of the brands that rows name.
-pub fn brands(alloc: Global, rows: &[GivenRow]) -> Result<Vec<u32>, AllocError>
-    ensures { IfOk result (λ brands. brands.items ≡ brands_in (rows_data rows.now)) }
-{
-    let mut brands = Vec::new(alloc);
-    for row in rows {
-        brands.push(row.amount.brand)?;
-    }
-    Ok(brands)
-}
-
-/// The values of rows, of the kinds of the brands that they name: else `BadValue`.
-#[tactic(auto, unfolding(crate::specs::Records::values_in, refusals::specs::Outcomes::wanted))]
-pub fn values(alloc: Global, rows: &[GivenRow]) -> Result<Vec<Value>, Stop>
-    ensures { Gives (λ values. values.items) result (values_in (rows_data rows.now)) }
-{
-    let mut values = Vec::with_capacity(alloc, rows.len())?;
-    for row in rows {
-        values.push_reserved(row_value(alloc, row)?);
-    }
-    Ok(values)
-}
-
-fn row_value(alloc: Global, row: &GivenRow) -> Result<Value, Stop>
-    ensures { Gives (λ value. value) result (wanted (row_value (row_data row.now)) bad_value) }
-{
-    value(alloc, row.amount.kind, row.amount.value)
+    let shares = amounts(alloc, place, fields)?;
+    check_keywords(alloc, shares.as_slice())?;
+    Ok(shares)
 }
 
 // ---- objects
@@ -172,19 +140,4 @@ pub fn objects_under(
         numbers.push(number)?;
     }
     Ok(numbers)
-}
-
-// ---- names
-
-/// Whether a field has the name.
-#[tactic(auto, unfolding(crate::specs::Records::has_name))]
-pub fn has_name(fields: &[(Text, Data)], wanted: &str) -> bool
-    ensures { result ≡ has_name wanted.now (names (named_trees fields.now)) }
-{
-    for (name, _) in fields {
-        if name.as_str() == wanted {
-            return true;
-        }
-    }
-    false
 }

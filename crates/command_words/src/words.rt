@@ -50,10 +50,10 @@ impl From<clap::Error> for WordsFault {
     }
 }
 
-/// What the program's words may be, what it ends with, and where its documents are, to be shown on
+/// What the program's words may be, what it ends with, and the first page to read, to be shown on
 /// standard error.
 pub fn usage() -> &'static str {
-    "usage: zoe_run run [--turns n] [--meter n]\n  \
+    "usage: zoe_run run [--turns n] [--meter n] < FILE\n  \
      run  reads lines from standard input to its end, and then writes the journal to standard output\n    \
      --turns n  how many deliveries are run at the end of the input, 0 to 4000000000;\n               \
      10000 if it is not given\n    \
@@ -62,8 +62,8 @@ pub fn usage() -> &'static str {
      exit status: 0 Done, 2 Usage, 3 ReadFault, 4 WriteFault, 5 NoMemory, 6 TurnLimit, 7 TooLong\n  \
      of each but Done, standard error says what it means; Done says nothing of refusals, which\n  \
      are rows of the journal\n\
-     documents: README.md and docs/ of the repository: TRADER.md for a start, CONTRACTS.md for\n  \
-     writing a contract, OPERATING.md for running, LINES.md and JOURNAL.md for what is read and written"
+     first page to read: README.md of the repository; then docs/TRADER.md, to write a contract\n  \
+     docs/CONTRACTS.md, to run the program docs/OPERATING.md"
 }
 
 /// The option `--name n`, whose number lies from `least` to `most`.
@@ -150,5 +150,33 @@ pub fn read_words(alloc: Global, words: &[String]) -> Result<Options, WordsFault
             meter: number_given(run, "meter"),
         }),
         None => Err(WordsFault::Usage),
+    }
+}
+
+/// What is to be done about a fault of usage.
+fn advice(kind: ErrorKind) -> &'static str {
+    match kind {
+        ErrorKind::InvalidValue | ErrorKind::ValueValidation => {
+            "--turns takes a number from 0 to 4000000000, --meter one from 1 to 10000000"
+        }
+        ErrorKind::ArgumentConflict => "each option is given once at most",
+        ErrorKind::InvalidSubcommand | ErrorKind::MissingSubcommand => {
+            "the first word is run, and a file is given by <: zoe_run run < FILE"
+        }
+        _ => "after run stand --turns and --meter alone; a file is given by <: zoe_run run < FILE",
+    }
+}
+
+/// Which of the words isn't taken and why, in a line, and in another what is to be done; nothing where
+/// the words are taken. To be shown on standard error.
+pub fn word_faults(alloc: Global, words: &[String]) -> Result<String, AllocError> {
+    let commands = command_set(alloc)?;
+    match commands.try_get_matches_from(words) {
+        Ok(_) => Ok(String::new(alloc)),
+        Err(error) => {
+            let told = format!(in alloc; "{error}")?;
+            let line = told.lines().next().unwrap_or("");
+            format!(in alloc; "{line}\n  {}", advice(error.kind()))
+        }
     }
 }

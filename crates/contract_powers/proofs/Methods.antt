@@ -1,6 +1,6 @@
 -- The methods of a facet as fields, each with its function.
 use Rattle.std.proofs.Common.{◌≡◌, ℕ, List, [], ◌∷◌, ◌++◌, map, refl, ap}
-use Rattle.delivery_turns.specs.HostCalls.{method_fields}
+use Rattle.delivery_laws.specs.delivery_turns.HostCalls.{method_fields}
 use Rattle.refusals.proofs.host_data.Views.{tree-Function}
 use Rattle.refusals.specs.host_data.Tree.{Tree, field, function}
 use Rattle.refusals.specs.host_data.View.{fields_of, named_trees, tree}

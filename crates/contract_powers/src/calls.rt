@@ -1,10 +1,10 @@
 //! Calls that an instance makes of the host, each carried out at once on the world.
 
 ghost use Rattle.std.specs.Prelude.{◌<◌, ◌*◌, ◌^◌, IfOk, length};
-ghost use Rattle.world_effects.specs.call_plans.Lists.{IsEachShaped, effects_view};
-ghost use Rattle.world_effects.specs.Carried.{IsInTurn};
-ghost use Rattle.contract_powers.specs.Answered.{IsCallAnswered};
-ghost use Rattle.contract_powers.specs.Planned.{CanCarry, Happened, WasCarried};
+ghost use Rattle.world_effects.specs.call_outcomes.Lists.{IsEachShaped, effects_view};
+ghost use Rattle.world_effects.specs.CarriedEffects.{IsInTurn};
+ghost use Rattle.contract_powers.specs.CallReplies.{IsCallAnswered};
+ghost use Rattle.contract_powers.specs.Admission.{CanCarry, Happened, WasCarried};
 ghost use Rattle.world_effects.specs.host_world.Worlds.{IsUndoable, world_of};
 ghost use Rattle.jessie_machine.specs.Host.{reply_of};
 ghost use Rattle.jessie_machine.specs.jessie_semantics.Play as plays;
@@ -13,10 +13,10 @@ ghost use Rattle.refusals.specs.host_data.View.{tree, trees};
 ghost use Rattle.world_effects.specs.world_state.Good.{AreGood};
 ghost use Rattle.world_effects.specs.world_state.Rights.{IsRoomy};
 
-use crate::host_calls::answered::Answered;
-use crate::planned::{planned_call, planned_far, planned_send, planned_when};
-use crate::rows::ContractRows;
-use jessie_machine::host::Answer;
+use crate::admission::{admit_call, admit_far, admit_send, admit_when};
+use crate::host_calls::answers::Answered;
+use crate::planner::Planner;
+use jessie_machine::host::Reply;
 use refusals::host_data_lib::data::{Data, Obj};
 use refusals::host_text_lib::text::Text;
 use std::alloc::{AllocError, Global};
@@ -25,7 +25,7 @@ use world_effects::host_world_lib::World;
 
 /// A call is told, and has its effects; what is answered comes back. For want of memory some effects may have been
 /// carried out, and the turn is to be undone.
-fn carry_call(alloc: Global, world: &mut World, done: Answered) -> Result<Answer, AllocError>
+fn carry_call(alloc: Global, world: &mut World, done: Answered) -> Result<Reply, AllocError>
     requires turn { IsInTurn world.old }
     requires shaped { IsEachShaped done.effects }
     requires good { AreGood (world_of world.old) (effects_view done.effects) }
@@ -38,8 +38,8 @@ fn carry_call(alloc: Global, world: &mut World, done: Answered) -> Result<Answer
 }
 
 /// What was planned is carried out. Where nothing was, null is thrown.
-#[tactic(auto, using(world_effects::proofs::Carrying::not_moved))]
-fn carry(alloc: Global, world: &mut World, planned: Option<Answered>) -> Result<Answer, AllocError>
+#[tactic(auto, using(world_effects::proofs::EffectSequences::not_moved))]
+fn carry(alloc: Global, world: &mut World, planned: Option<Answered>) -> Result<Reply, AllocError>
     requires turn { IsInTurn world.old }
     requires can { CanCarry (world_of world.old) planned }
     ensures was { IfOk result (WasCarried world.old world.new planned) }
@@ -47,20 +47,20 @@ fn carry(alloc: Global, world: &mut World, planned: Option<Answered>) -> Result<
 {
     match planned {
         Some(done) => carry_call(alloc, world, done),
-        None => Ok(Answer::Refused(Data::Null)),
+        None => Ok(Reply::Refused(Data::Null)),
     }
 }
 
 /// A call of a method of an object (Zoe).
-#[tactic(auto, using(world_effects::proofs::Carrying::not_moved))]
-pub fn call<R: ContractRows>(
+#[tactic(auto, using(world_effects::proofs::EffectSequences::not_moved))]
+pub fn call<P: Planner>(
     alloc: Global,
     world: &mut World,
     instance: u32,
     target: Obj,
     method: &str,
     args: Vec<Data>,
-) -> Result<Answer, AllocError>
+) -> Result<Reply, AllocError>
     requires turn { IsInTurn world.old }
     requires made { instance < length (world_of world.old).tables.instances }
     requires room { IsRoomy (world_of world.old).rights.out
@@ -69,12 +69,12 @@ pub fn call<R: ContractRows>(
         (plays.call target method.now (trees args.items)) (reply_of a)) }
     ensures back { IsUndoable world.old world.new }
 {
-    let planned = planned_call::<R>(alloc, world, instance, target, method, args)?;
+    let planned = admit_call::<P>(alloc, world, instance, target, method, args)?;
     carry(alloc, world, planned)
 }
 
 /// A call of a method of an object, to be delivered later (eventual send).
-#[tactic(auto, using(world_effects::proofs::Carrying::not_moved))]
+#[tactic(auto, using(world_effects::proofs::EffectSequences::not_moved))]
 pub fn send(
     alloc: Global,
     world: &mut World,
@@ -82,7 +82,7 @@ pub fn send(
     target: Obj,
     method: &str,
     args: Vec<Data>,
-) -> Result<Answer, AllocError>
+) -> Result<Reply, AllocError>
     requires turn { IsInTurn world.old }
     requires made { instance < length (world_of world.old).tables.instances }
     requires room { IsRoomy (world_of world.old).rights.out
@@ -91,12 +91,12 @@ pub fn send(
         (plays.send target method.now (trees args.items)) (reply_of a)) }
     ensures back { IsUndoable world.old world.new }
 {
-    let planned = planned_send(alloc, world, instance, target, method, args)?;
+    let planned = admit_send(alloc, world, instance, target, method, args)?;
     carry(alloc, world, planned)
 }
 
 /// A request to be told of a promise (eventual send).
-#[tactic(auto, using(world_effects::proofs::Carrying::not_moved))]
+#[tactic(auto, using(world_effects::proofs::EffectSequences::not_moved))]
 pub fn when(
     alloc: Global,
     world: &mut World,
@@ -104,7 +104,7 @@ pub fn when(
     promise: Obj,
     function: &str,
     held: Data,
-) -> Result<Answer, AllocError>
+) -> Result<Reply, AllocError>
     requires turn { IsInTurn world.old }
     requires made { instance < length (world_of world.old).tables.instances }
     requires room { IsRoomy (world_of world.old).rights.out
@@ -113,12 +113,12 @@ pub fn when(
         (plays.when promise function.now (tree held)) (reply_of a)) }
     ensures back { IsUndoable world.old world.new }
 {
-    let planned = planned_when(alloc, world, instance, promise, function, held)?;
+    let planned = admit_when(alloc, world, instance, promise, function, held)?;
     carry(alloc, world, planned)
 }
 
 /// A facet that is made (Endo's Far).
-#[tactic(auto, using(world_effects::proofs::Carrying::not_moved))]
+#[tactic(auto, using(world_effects::proofs::EffectSequences::not_moved))]
 pub fn far(
     alloc: Global,
     world: &mut World,
@@ -126,7 +126,7 @@ pub fn far(
     name: &str,
     methods: Vec<(Text, Text)>,
     held: Data,
-) -> Result<Answer, AllocError>
+) -> Result<Reply, AllocError>
     requires turn { IsInTurn world.old }
     requires made { instance < length (world_of world.old).tables.instances }
     requires room { IsRoomy (world_of world.old).rights.out
@@ -135,6 +135,6 @@ pub fn far(
         (plays.far name.now methods.items (tree held)) (reply_of a)) }
     ensures back { IsUndoable world.old world.new }
 {
-    let planned = planned_far(alloc, world, instance, name, methods, held)?;
+    let planned = admit_far(alloc, world, instance, name, methods, held)?;
     carry(alloc, world, planned)
 }

@@ -1,8 +1,9 @@
-//! The calls of the host that instances' functions make, but for those of methods, as plans: sends,
-//! requests to be told of a promise, and facets; and what a call comes to, whatever its row plans: it
-//! is told, and then has its effects. Its one contract: each row plans what its definition
-//! (delivery_turns) does, and a call comes to what `call_reply` and `call_effects` say.
+//! The calls of the host that instances' functions make, but for those of methods, as outcomes: sends,
+//! requests to be told of a promise, and facets; and what a call comes to, whatever its rule plans: it
+//! is told, and then has its effects.
 
-pub mod answered;
-pub mod rows;
-pub mod told;
+pub mod answers;
+pub mod facets;
+pub mod requests;
+pub mod sends;
+pub mod told_calls;

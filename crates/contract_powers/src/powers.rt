@@ -1,12 +1,12 @@
 //! The powers of an instance's functions over the world of a turn.
 
-ghost use Rattle.contract_powers.specs.Running.{IsReady, situation};
-ghost use Rattle.contract_powers.specs.Starts.{GoesBackTo};
+ghost use Rattle.contract_powers.specs.Situations.{IsReady, situation};
+ghost use Rattle.contract_powers.specs.TurnStarts.{GoesBackTo};
 
 use crate::calls;
 use crate::costs::{after_call, after_far, after_when};
-use crate::rows::ContractRows;
-use jessie_machine::host::{Answer, NoMemory, Powers};
+use crate::planner::Planner;
+use jessie_machine::host::{NoMemory, Powers, Reply};
 use refusals::host_data_lib::data::{Data, Obj};
 use refusals::host_text_lib::text::Text;
 use std::alloc::{AllocError, Global};
@@ -15,19 +15,19 @@ use world_effects::host_world_lib::World;
 
 /// A turn, by what it goes back to if it is undone.
 pub trait Turn {
-    ghost use Rattle.contract_powers.specs.Starts.{Start};
+    ghost use Rattle.contract_powers.specs.TurnStarts.{Start};
 
     ghost base: { Start };
 }
 
 impl Turn for Brand {
-    ghost use Rattle.contract_powers.specs.Starts.{no_start};
+    ghost use Rattle.contract_powers.specs.TurnStarts.{no_start};
 
     ghost base = { no_start };
 }
 
 /// What an instance's functions can do to the world of a turn. The turn can be undone, whatever happens.
-pub struct ContractPowers<T: Turn, R: ContractRows> {
+pub struct ContractPowers<T: Turn, P: Planner> {
     pub alloc: Global,
     pub world: World,
     /// The instance, by its number.
@@ -38,14 +38,14 @@ pub struct ContractPowers<T: Turn, R: ContractRows> {
     /// more.
     pub failed: bool,
     pub turn: PhantomData<T>,
-    pub rows: PhantomData<R>,
+    pub planner: PhantomData<P>,
     ghost ready: { ∥ IsReady (situation world instance room failed) ∥₁ },
     ghost back: { ∥ GoesBackTo T.base world ∥₁ },
 }
 
-impl<T: Turn, R: ContractRows> Powers for ContractPowers<T, R> {
-    ghost use Rattle.contract_powers.specs.Keeping.{keeps_to_its_side};
-    ghost use Rattle.contract_powers.specs.Running.{IsAnswered, Knows, situation};
+impl<T: Turn, P: Planner> Powers for ContractPowers<T, P> {
+    ghost use Rattle.contract_powers.specs.HostSide.{keeps_to_its_side};
+    ghost use Rattle.contract_powers.specs.Situations.{IsAnswered, Knows, situation};
 
     ghost answers = { λ p x q. IsAnswered (situation p.world p.instance p.room p.failed)
         (situation q.world q.instance q.room q.failed) x };
@@ -54,14 +54,14 @@ impl<T: Turn, R: ContractRows> Powers for ContractPowers<T, R> {
 
     ghost room = { λ p. p.room };
 
-    fn call(&mut self, target: Obj, method: &str, args: Vec<Data>) -> Result<Answer, NoMemory> {
+    fn call(&mut self, target: Obj, method: &str, args: Vec<Data>) -> Result<Reply, NoMemory> {
         if self.failed {
             drop(args);
             return Err(AllocError);
         }
         let left = after_call(self.room, args.as_slice());
         self.failed = true;
-        let answer = calls::call::<R>(
+        let answer = calls::call::<P>(
             self.alloc,
             &mut self.world,
             self.instance,
@@ -74,7 +74,7 @@ impl<T: Turn, R: ContractRows> Powers for ContractPowers<T, R> {
         Ok(answer)
     }
 
-    fn send(&mut self, target: Obj, method: &str, args: Vec<Data>) -> Result<Answer, NoMemory> {
+    fn send(&mut self, target: Obj, method: &str, args: Vec<Data>) -> Result<Reply, NoMemory> {
         if self.failed {
             drop(args);
             return Err(AllocError);
@@ -94,7 +94,7 @@ impl<T: Turn, R: ContractRows> Powers for ContractPowers<T, R> {
         Ok(answer)
     }
 
-    fn when(&mut self, promise: Obj, f: &str, held: Data) -> Result<Answer, NoMemory> {
+    fn when(&mut self, promise: Obj, f: &str, held: Data) -> Result<Reply, NoMemory> {
         if self.failed {
             drop(held);
             return Err(AllocError);
@@ -112,7 +112,7 @@ impl<T: Turn, R: ContractRows> Powers for ContractPowers<T, R> {
         name: &str,
         methods: Vec<(Text, Text)>,
         held: Data,
-    ) -> Result<Answer, NoMemory> {
+    ) -> Result<Reply, NoMemory> {
         if self.failed {
             drop(methods);
             drop(held);

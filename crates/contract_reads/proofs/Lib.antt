@@ -6,3 +6,5 @@ pub mod Values
 pub mod Fresh
 pub mod Fits
 pub mod Lessened
+pub use Rattle.rule_laws.proofs as rule_laws
+pub use Rattle.host_world.proofs.world_laws

@@ -3,7 +3,7 @@
 #![tactic(auto)]
 
 pub mod contract_words;
+pub mod keywords;
 pub mod misfits;
-pub mod rows;
 pub mod seat_changes;
-pub mod texts;
+pub mod shares;

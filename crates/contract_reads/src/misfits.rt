@@ -1,24 +1,24 @@
-//! Tests of rows by the brands that an instance keeps, by that of a mint, and by what stands in slots.
+//! Tests of shares by the brands that an instance keeps, by that of a mint, and by what stands in slots.
 
 ghost use Rattle.std.specs.Prelude.{◌≡◌, ◌<◌, ◌^◌, ◌||◌, Bool, false, IsTrue};
-ghost use Rattle.rules.specs.call_arguments.Records.{RowData, row_data};
+ghost use Rattle.rules.specs.call_arguments.Records.{ShareData, share_data};
 ghost use Rattle.contract_reads.specs.Brands.{HasSmallBrand};
 ghost use Rattle.rules.specs.Proposals.{is_known};
 ghost use Rattle.rules.specs.Given.{is_misfit as is_foreign, is_other};
-ghost use Rattle.rules.specs.Mints.{is_not_of};
+ghost use Rattle.rules.specs.Zmint.{is_not_of};
 
 use rules::brands_lib::issuer_record::Issuer;
-use rules::call_arguments_lib::records::GivenRow;
-use rules::proposals_lib::allocations::Row;
+use rules::call_arguments_lib::records::GivenShare;
+use rules::proposals_lib::allocations::Share;
 
-/// A test of a row by its keyword and its brand.
-pub trait RowTest {
-    ghost is_misfit: { Self → RowData → Bool };
+/// A test of a share by its keyword and its brand.
+pub trait ShareTest {
+    ghost is_misfit: { Self → ShareData → Bool };
 
-    /// Whether a row fails. One that doesn't names a brand of 16 bits.
-    fn fails(&self, row: &GivenRow) -> bool
-        ensures is { result ≡ is_misfit self.now (row_data row.now) }
-        ensures small { result ≡ false → HasSmallBrand row.now };
+    /// Whether a share fails. One that doesn't names a brand of 16 bits.
+    fn fails(&self, share: &GivenShare) -> bool
+        ensures is { result ≡ is_misfit self.now (share_data share.now) }
+        ensures small { result ≡ false → HasSmallBrand share.now };
 }
 
 /// Whether a brand is among those that an instance keeps.
@@ -34,30 +34,30 @@ fn is_known(issuers: &[Issuer], brand: u32) -> bool
     false
 }
 
-/// Whether rows have another brand under the keyword of a row.
-fn is_other(rows: &[Row], given: &GivenRow) -> bool
-    ensures { result ≡ is_other rows.now (row_data given.now) }
+/// Whether shares have another brand under the keyword of a share.
+fn is_other(shares: &[Share], given: &GivenShare) -> bool
+    ensures { result ≡ is_other shares.now (share_data given.now) }
 {
-    for row in rows {
-        if given.keyword.as_str() == row.keyword.as_str() {
-            return u32::from(row.amount.brand) != given.amount.brand;
+    for share in shares {
+        if given.keyword.as_str() == share.keyword.as_str() {
+            return u32::from(share.amount.brand) != given.amount.brand;
         }
     }
     false
 }
 
-/// Rows of brands that an instance doesn't keep, or of others than its seat's slots have (Zoe).
+/// Shares of brands that an instance doesn't keep, or of others than its seat's slots have (Zoe).
 #[derive(Clone, Copy)]
 pub struct Foreign<'a> {
     pub issuers: &'a [Issuer],
-    pub slots: &'a [Row],
+    pub slots: &'a [Share],
 }
 
-impl RowTest for Foreign<'_> {
+impl ShareTest for Foreign<'_> {
     ghost is_misfit = { λ test r. is_foreign test.issuers.now test.slots.now r };
 
-    fn fails(&self, row: &GivenRow) -> bool {
-        !is_known(self.issuers, row.amount.brand) || is_other(self.slots, row)
+    fn fails(&self, share: &GivenShare) -> bool {
+        !is_known(self.issuers, share.amount.brand) || is_other(self.slots, share)
     }
 }
 
@@ -65,29 +65,29 @@ impl RowTest for Foreign<'_> {
 #[derive(Clone, Copy)]
 pub struct ForeignStaged<'a> {
     pub foreign: Foreign<'a>,
-    pub staged: &'a [Row],
+    pub staged: &'a [Share],
 }
 
-impl RowTest for ForeignStaged<'_> {
+impl ShareTest for ForeignStaged<'_> {
     ghost is_misfit = { λ test r.
         is_foreign test.foreign.issuers.now test.foreign.slots.now r || is_other test.staged.now r };
 
-    fn fails(&self, row: &GivenRow) -> bool {
-        self.foreign.fails(row) || is_other(self.staged, row)
+    fn fails(&self, share: &GivenShare) -> bool {
+        self.foreign.fails(share) || is_other(self.staged, share)
     }
 }
 
-/// Rows of other brands than a mint's, or than a seat's slots have (Zoe).
+/// Shares of other brands than a mint's, or than a seat's slots have (Zoe).
 #[derive(Clone, Copy)]
 pub struct NotOf<'a> {
     pub brand: u16,
-    pub slots: &'a [Row],
+    pub slots: &'a [Share],
 }
 
-impl RowTest for NotOf<'_> {
+impl ShareTest for NotOf<'_> {
     ghost is_misfit = { λ test r. is_not_of test.brand test.slots.now r };
 
-    fn fails(&self, row: &GivenRow) -> bool {
-        row.amount.brand != u32::from(self.brand) || is_other(self.slots, row)
+    fn fails(&self, share: &GivenShare) -> bool {
+        share.amount.brand != u32::from(self.brand) || is_other(self.slots, share)
     }
 }

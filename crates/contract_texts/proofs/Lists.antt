@@ -9,7 +9,7 @@ use Rattle.rules.specs.jessie_grammar.Refused.{Lang}
 use Rattle.rules.specs.jessie_grammar.Words.{Found, Named, declared, long, more, ongoing, spotted, words}
 use Rattle.rules.specs.jessie_grammar.declared.jessie_language.fault.Limit.{Limit}
 use Rattle.rules.specs.jessie_grammar.declared.jessie_lexer.token.Kind.TheVariants as k
-use Rattle.rules.specs.jessie_grammar.declared.jessie_scopes.event.Event.{Event}
+use Rattle.rules.specs.jessie_grammar.declared.jessie_scopes.name_use.NameUse.{NameUse}
 use Rattle.contract_texts.proofs.Langs.{Gives, after_gives, iterate_gives, one_gives, or_gives, pure_gives, then_gives}
 
 -- ---- names
@@ -43,7 +43,7 @@ pub push : {A : Type 0} (P : A → Type 0) (xs : List A) (x : A) → AllByRecurs
 push P [] x h i = (i, tt)
 push P (y ∷ ys) x h i = (h.0, push P ys x h.1 i)
 
-module _ {A : Type 0} (P : A → Type 0) (item : List Event → Lang (Found A)) (each : (es : List Event) → Gives (item es) (Holds P)) where
+module _ {A : Type 0} (P : A → Type 0) (item : List NameUse → Lang (Found A)) (each : (es : List NameUse) → Gives (item es) (Holds P)) where
   -- so far
   abbrev AreSoFar : Found (List A) × Bool → Type 0
   AreSoFar s = AllByRecursion P s.0.0
@@ -54,7 +54,7 @@ module _ {A : Type 0} (P : A → Type 0) (item : List Event → Lang (Found A)) 
       (or_gives AreSoFar (pure (s.0, false)) (item s.0.1 >>= λ a. pure (more s.0.0 a, true)) (pure_gives AreSoFar (s.0, false) is)
       (then_gives (item s.0.1) (λ a. pure (more s.0.0 a, true)) (Holds P) AreSoFar (each s.0.1) (λ a here. pure_gives AreSoFar (more s.0.0 a, true) (push P s.0.0 a.0 is here))))
 
-  pub listed_gives : (es : List Event) → Gives (listed item es) (Holds (AllByRecursion P))
+  pub listed_gives : (es : List NameUse) → Gives (listed item es) (Holds (AllByRecursion P))
   listed_gives es =
       or_gives (Holds (AllByRecursion P)) (pure ([], es)) (item es >>= λ a. (iterate ongoing (comma_step item) (more [] a, true) >>= λ s. pure s.0)) (pure_gives (Holds (AllByRecursion P)) ([], es) tt)
       (then_gives (item es) (λ a. (iterate ongoing (comma_step item) (more [] a, true) >>= λ s. pure s.0)) (Holds P) (Holds (AllByRecursion P)) (each es)

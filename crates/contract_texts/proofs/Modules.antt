@@ -17,9 +17,9 @@ use Rattle.rules.specs.jessie_grammar.Tokens.{has}
 use Rattle.rules.specs.jessie_grammar.declared.jessie_lexer.token.Kind.{Kind}
 use Rattle.rules.specs.jessie_grammar.declared.jessie_lexer.token.Kind.TheVariants as k
 use Rattle.rules.specs.jessie_grammar.declared.jessie_lexer.token.Token.{Token}
-use Rattle.rules.specs.jessie_grammar.declared.jessie_scopes.event.Binding.TheVariants as binding
-use Rattle.rules.specs.jessie_grammar.declared.jessie_scopes.event.Event.{Event}
-use Rattle.rules.specs.jessie_grammar.declared.jessie_scopes.event.Event.TheVariants as event
+use Rattle.rules.specs.jessie_grammar.declared.jessie_scopes.name_use.Binding.TheVariants as binding
+use Rattle.rules.specs.jessie_grammar.declared.jessie_scopes.name_use.NameUse.{NameUse}
+use Rattle.rules.specs.jessie_grammar.declared.jessie_scopes.name_use.NameUse.TheVariants as name_use
 use Rattle.rules.specs.jessie_semantics.Naming.{IsFieldName, RoutinesWrite}
 use Rattle.rules.proofs.jessie_grammar.Views.{fixed-Array, fixed-Literal, fixed-Record}
 use Rattle.rules.specs.jessie_grammar.Syntax.{Routine, fixed_view, fixeds_view, named_fixeds_view, routine}
@@ -34,7 +34,7 @@ use Rattle.rules.proofs.jessie_grammar.Answered.{each_comes}
 use Rattle.rules.specs.jessie_grammar.Answers.{read}
 use Rattle.rules.specs.jessie_grammar.Texts.{Answer, Comes, IsText, has_function, most_brackets}
 use Rattle.rules.specs.jessie_values.Literals.{constant_tree}
-use Rattle.rules.specs.ZoeRows.{ReadsModules}
+use Rattle.rules.specs.Zoe.{ReadsModules}
 use Rattle.rules.specs.world_state.Good.{IsModule}
 use Rattle.rules.specs.world_state.Known.{IsNamed, IsPlain}
 use Rattle.contract_texts.proofs.Constants.{AreFixed, AreNamed, IsFixed, IsLiteral, fixed_plain}
@@ -92,13 +92,13 @@ negative_gives = one_gives IsLiteral (k.Number ∷ []) negative_of wide (λ t is
 
 -- ---- constants
 
-module _ (d : ℕ) (inner : List Event → Lang (Found Constant)) (each : (es : List Event) → Gives (inner es) (Holds (IsConstant d))) where
-  constant_field_gives : (es : List Event) → Gives (constant_field inner es) (Holds (IsField d))
+module _ (d : ℕ) (inner : List NameUse → Lang (Found Constant)) (each : (es : List NameUse) → Gives (inner es) (Holds (IsConstant d))) where
+  constant_field_gives : (es : List NameUse) → Gives (constant_field inner es) (Holds (IsField d))
   unfolding constant_field
   constant_field_gives es =
-      then_gives name (λ x. symbol k.Colon >>= λ u. (inner (also es (event.Field x.0 x.1)) >>= λ t. pure (constant_field_of x t))) IsSpotted (Holds (IsField d)) name_gives
-      (λ x is. after_gives (symbol k.Colon) (inner (also es (event.Field x.0 x.1)) >>= λ t. pure (constant_field_of x t)) (Holds (IsField d))
-      (then_gives (inner (also es (event.Field x.0 x.1))) (λ t. pure (constant_field_of x t)) (Holds (IsConstant d)) (Holds (IsField d)) (each (also es (event.Field x.0 x.1)))
+      then_gives name (λ x. symbol k.Colon >>= λ u. (inner (also es (name_use.Field x.0 x.1)) >>= λ t. pure (constant_field_of x t))) IsSpotted (Holds (IsField d)) name_gives
+      (λ x is. after_gives (symbol k.Colon) (inner (also es (name_use.Field x.0 x.1)) >>= λ t. pure (constant_field_of x t)) (Holds (IsField d))
+      (then_gives (inner (also es (name_use.Field x.0 x.1))) (λ t. pure (constant_field_of x t)) (Holds (IsConstant d)) (Holds (IsField d)) (each (also es (name_use.Field x.0 x.1)))
       (λ t here. pure_gives (Holds (IsField d)) (constant_field_of x t) (is, here))))
 
 -- with room for so many brackets inside d others
@@ -113,10 +113,10 @@ fills_inside : (d room : ℕ) → Fills d room → HasRoom room → Fills (d + 1
 fills_inside d zero fills has = absurd has
 fills_inside d (suc n) fills has = omega (arith, fills)
 
-abbrev GivesConstants : ℕ → (List Event → Lang (Found Constant)) → Type 0
-GivesConstants d inner = (es : List Event) → Gives (inner es) (Holds (IsConstant d))
+abbrev GivesConstants : ℕ → (List NameUse → Lang (Found Constant)) → Type 0
+GivesConstants d inner = (es : List NameUse) → Gives (inner es) (Holds (IsConstant d))
 
-array_gives : (d room : ℕ) (inner : List Event → Lang (Found Constant)) (es : List Event) → Fills d room → (HasRoom room → GivesConstants (d + 1) inner) → Gives (constant_array room inner es) (Holds (IsConstant d))
+array_gives : (d room : ℕ) (inner : List NameUse → Lang (Found Constant)) (es : List NameUse) → Fills d room → (HasRoom room → GivesConstants (d + 1) inner) → Gives (constant_array room inner es) (Holds (IsConstant d))
 array_gives d room inner es fills each =
     let all : HasRoom room → Gives (listed inner es) (λ (ts : Found (List Constant)). (d < 32) × AllByRecursion (IsConstant (d + 1)) ts.0) =
     λ has ts a sound given. (low_by d room fills has, listed_gives (IsConstant (d + 1)) inner (each has) es ts a sound given) in
@@ -124,19 +124,19 @@ array_gives d room inner es fills each =
     (bracketed_gives room k.LeftBracket k.RightBracket (listed inner es) (λ (ts : Found (List Constant)). (d < 32) × AllByRecursion (IsConstant (d + 1)) ts.0) all)
     (λ ts is. pure_gives (Holds (IsConstant d)) (constant_array_of ts) (array_constant_is d ts.0 is.0 is.1))
 
-record_gives : (d room : ℕ) (inner : List Event → Lang (Found Constant)) (es : List Event) → Fills d room → (HasRoom room → GivesConstants (d + 1) inner) → Gives (constant_record room inner es) (Holds (IsConstant d))
+record_gives : (d room : ℕ) (inner : List NameUse → Lang (Found Constant)) (es : List NameUse) → Fills d room → (HasRoom room → GivesConstants (d + 1) inner) → Gives (constant_record room inner es) (Holds (IsConstant d))
 record_gives d room inner es fills each =
-    let all : HasRoom room → Gives (listed (constant_field inner) (also es event.Opens)) (λ (ms : Found (List (List ℕ × Constant))). (d < 32) × AllByRecursion (IsField (d + 1)) ms.0) =
-    λ has ts a sound given. (low_by d room fills has, listed_gives (IsField (d + 1)) (constant_field inner) (constant_field_gives (d + 1) inner (each has)) (also es event.Opens) ts a sound given) in
-    then_gives (bracketed room k.LeftBrace k.RightBrace (listed (constant_field inner) (also es event.Opens))) (λ fs. pure (constant_record_of fs)) (λ (ms : Found (List (List ℕ × Constant))). (d < 32) × AllByRecursion (IsField (d + 1)) ms.0) (Holds (IsConstant d))
-    (bracketed_gives room k.LeftBrace k.RightBrace (listed (constant_field inner) (also es event.Opens)) (λ (ms : Found (List (List ℕ × Constant))). (d < 32) × AllByRecursion (IsField (d + 1)) ms.0) all)
+    let all : HasRoom room → Gives (listed (constant_field inner) (also es name_use.Opens)) (λ (ms : Found (List (List ℕ × Constant))). (d < 32) × AllByRecursion (IsField (d + 1)) ms.0) =
+    λ has ts a sound given. (low_by d room fills has, listed_gives (IsField (d + 1)) (constant_field inner) (constant_field_gives (d + 1) inner (each has)) (also es name_use.Opens) ts a sound given) in
+    then_gives (bracketed room k.LeftBrace k.RightBrace (listed (constant_field inner) (also es name_use.Opens))) (λ fs. pure (constant_record_of fs)) (λ (ms : Found (List (List ℕ × Constant))). (d < 32) × AllByRecursion (IsField (d + 1)) ms.0) (Holds (IsConstant d))
+    (bracketed_gives room k.LeftBrace k.RightBrace (listed (constant_field inner) (also es name_use.Opens)) (λ (ms : Found (List (List ℕ × Constant))). (d < 32) × AllByRecursion (IsField (d + 1)) ms.0) all)
     (λ ms is. pure_gives (Holds (IsConstant d)) (constant_record_of ms) (record_constant_is d ms.0 is.0 is.1))
 
 -- a literal
-lone_gives : (d : ℕ) (l : Lang Literal) (es : List Event) → Gives l IsLiteral → Gives (l >>= λ c. pure (literal_constant es c)) (Holds (IsConstant d))
+lone_gives : (d : ℕ) (l : Lang Literal) (es : List NameUse) → Gives l IsLiteral → Gives (l >>= λ c. pure (literal_constant es c)) (Holds (IsConstant d))
 lone_gives d l es h = then_gives l (λ c. pure (literal_constant es c)) IsLiteral (Holds (IsConstant d)) h (λ c is. pure_gives (Holds (IsConstant d)) (literal_constant es c) (literal_constant_is d c is))
 
-constant_in_gives : (d room : ℕ) (inner : List Event → Lang (Found Constant)) (es : List Event) → Fills d room → (HasRoom room → GivesConstants (d + 1) inner) → Gives (constant_in room inner es) (Holds (IsConstant d))
+constant_in_gives : (d room : ℕ) (inner : List NameUse → Lang (Found Constant)) (es : List NameUse) → Fills d room → (HasRoom room → GivesConstants (d + 1) inner) → Gives (constant_in room inner es) (Holds (IsConstant d))
 unfolding constant_in
 constant_in_gives d room inner es fills each =
     let P : Found Constant → Type 0 = Holds (IsConstant d) in
@@ -162,7 +162,7 @@ IsFunction f = (is_field_name f.name ≡ true) × AreStmts f.body
 abbrev IsRead : Found Module → Type 0
 IsRead s = AllByRecursion IsVariable s.0.variables × AllByRecursion IsFunction s.0.functions
 
-value_gives : (inner : List Event → Lang (Found Constant)) → GivesConstants 0 inner → GivesConstants 0 (constant_value inner)
+value_gives : (inner : List NameUse → Lang (Found Constant)) → GivesConstants 0 inner → GivesConstants 0 (constant_value inner)
 unfolding constant_value
 value_gives inner each es =
     let P : Found Constant → Type 0 = Holds (IsConstant 0) in
@@ -188,7 +188,7 @@ heading_gives count =
     (then_gives (one words spotted (declared free)) (λ x. (symbol k.Equals >>= λ v. pure x)) IsSpotted IsSpotted (declared_gives free)
     (λ x is. after_gives (symbol k.Equals) (pure x) IsSpotted (pure_gives IsSpotted x is))))
 
-ending_gives : (block : List Event → Lang (Found (List Stmt))) → ((es : List Event) → Gives (block es) (Holds AreStmts)) → (es : List Event) → Gives (ending_block block es) (Holds AreStmts)
+ending_gives : (block : List NameUse → Lang (Found (List Stmt))) → ((es : List NameUse) → Gives (block es) (Holds AreStmts)) → (es : List NameUse) → Gives (ending_block block es) (Holds AreStmts)
 unfolding ending_block
 ending_gives block stmts es = after_gives _ _ (Holds AreStmts) (then_gives _ _ (Holds AreStmts) (Holds AreStmts) (stmts es) (λ b h. after_gives _ _ (Holds AreStmts) (pure_gives (Holds AreStmts) b h)))
 
@@ -237,7 +237,7 @@ functions_write (f ∷ fs) h = (block_writes f.body h.0.1, functions_write fs h.
 
 text_is : (bytes : List ℕ) (m : Module) → IsText bytes m → IsModule m
 text_is bytes m is =
-    let found : IsRead (m, is.deeds) = text_gives most_brackets refl (clean (cut bytes)) (m, is.deeds) (clean_sound (cut bytes) (all_tokens bytes)) is.written.in_grammar in
+    let found : IsRead (m, is.name_uses) = text_gives most_brackets refl (clean (cut bytes)) (m, is.name_uses) (clean_sound (cut bytes) (all_tokens bytes)) is.written.in_grammar in
     record {
       plain = variables_plain m.variables found.0;
       starts = has_named (codes "start") m.functions is.starts;

@@ -1,18 +1,18 @@
 -- The names that a text gives to the fields of the records that it writes are names.
 use Rattle.std.proofs.Common.{ℕ, zero, suc, Bool, true, false, List, [], ◌∷◌, ◌++◌, Option, None, Some, sym, subst}
 use Rattle.std.specs.List.{AllByRecursion}
-use Rattle.rules.specs.jessie_grammar.Grammar.{after, amount, args, arm, array, assigning, bare, body, braced, branches, call_tail, catching, choice, declaration, dot_step, each, eventually, expr, field, full, giving, initializer, looping, method_call, name, named, op_step, ops, own_value, post_step, post_tail, prim, record_text, running, signed, simple, statements, step_on, steps_from, tails, throwing, trying, unary, walking}
+use Rattle.rules.specs.jessie_grammar.Grammar.{after, amount, args, arm, array, assigning, bare, body, braced, branches, call_tail, catching, choice, declaration, dot_access, each, eventually, expr, field, full, giving, initializer, looping, method_call, name, named, op_step, ops, own_value, post_access, post_tail, prim, record_text, running, signed, simple, statements, access_on, accesses_from, tails, throwing, trying, unary, walking}
 use Rattle.rules.specs.jessie_grammar.Lang.{◌>>=◌, ◌or◌, one}
 use Rattle.rules.specs.jessie_grammar.Refused.{Lang}
 use Rattle.rules.specs.jessie_grammar.StatementList.{else_if, in_order, last, next, whole_if}
-use Rattle.rules.specs.jessie_grammar.Words.{Call, Chained, Found, Handler, Header, Level, Named, Stepped, always, called, closing, declaring, free_words, inside, literal_of, literals, long, ongoing, spotted, table, wide, with_operands, with_steps}
+use Rattle.rules.specs.jessie_grammar.Words.{Call, Chained, Found, Handler, Header, Level, Named, Accessed, always, called, closing, declaring, free_words, inside, literal_of, literals, long, ongoing, spotted, table, wide, with_operands, with_accesses}
 use Rattle.rules.specs.jessie_grammar.declared.jessie_lexer.token.Kind.{Kind}
 use Rattle.rules.specs.jessie_grammar.declared.jessie_lexer.token.Kind.TheVariants as k
-use Rattle.rules.specs.jessie_grammar.declared.jessie_scopes.event.Binding.{Binding}
-use Rattle.rules.specs.jessie_grammar.declared.jessie_scopes.event.Binding.TheVariants as binding
-use Rattle.rules.specs.jessie_grammar.declared.jessie_scopes.event.Event.{Event}
+use Rattle.rules.specs.jessie_grammar.declared.jessie_scopes.name_use.Binding.{Binding}
+use Rattle.rules.specs.jessie_grammar.declared.jessie_scopes.name_use.Binding.TheVariants as binding
+use Rattle.rules.specs.jessie_grammar.declared.jessie_scopes.name_use.NameUse.{NameUse}
 use Rattle.rules.specs.jessie_semantics.Naming.{BlockWrites, BranchesWrite, IsFieldName, LinkWrites, LinksWrite, NamedTermsWrite, OperandsWrite, StatementWrites, TermWrites, TermsWrite}
-use Rattle.rules.proofs.jessie_grammar.Views.{link-Field, link-Index, link-Method, statement-Assign, statement-Const, statement-ForOf, statement-If, statement-Let, statement-Return, statement-Run, statement-Throw, statement-Try, statement-While, term-AmountMath, term-Array, term-BuiltIn, term-Call, term-Chain, term-Choice, term-Literal, term-Name, term-Record, term-Send, term-Steps, term-Unary, way-of}
+use Rattle.rules.proofs.jessie_grammar.Views.{link-Field, link-Index, link-Method, statement-Assign, statement-Const, statement-ForOf, statement-If, statement-Let, statement-Return, statement-Run, statement-Throw, statement-Try, statement-While, term-AmountMath, term-Array, term-BuiltIn, term-Call, term-Chain, term-Choice, term-Literal, term-Name, term-Record, term-Send, term-Accesses, term-Unary, way-of}
 use Rattle.rules.specs.jessie_grammar.Syntax.{Way, block_view, branch, branches_view, link_view, links_view, named_terms_view, operands_view, statement_view, term_view, terms_view}
 use Rattle.rules.specs.jessie_grammar.declared.syntax.Branch.{Branch}
 use Rattle.rules.specs.jessie_grammar.declared.syntax.BuiltIn.{BuiltIn}
@@ -20,8 +20,8 @@ use Rattle.rules.specs.jessie_grammar.declared.syntax.Expr.{Expr}
 use Rattle.rules.specs.jessie_grammar.declared.syntax.Expr as E
 use Rattle.rules.specs.jessie_grammar.declared.syntax.Literal.{Literal}
 use Rattle.rules.specs.jessie_grammar.declared.syntax.Operator.{Operator}
-use Rattle.rules.specs.jessie_grammar.declared.syntax.Step.{Step}
-use Rattle.rules.specs.jessie_grammar.declared.syntax.Step as P
+use Rattle.rules.specs.jessie_grammar.declared.syntax.Access.{Access}
+use Rattle.rules.specs.jessie_grammar.declared.syntax.Access as P
 use Rattle.rules.specs.jessie_grammar.declared.syntax.Stmt.{Stmt}
 use Rattle.rules.specs.jessie_grammar.declared.syntax.Stmt as S
 use Rattle.rules.specs.jessie_grammar.declared.syntax.Unary.{Unary}
@@ -33,8 +33,8 @@ use Rattle.contract_texts.proofs.Lists.{Holds, IsSpotted, listed_gives, name_giv
 abbrev pub IsExpr : Expr → Type 0
 IsExpr e = TermWrites IsFieldName (term_view e)
 
-abbrev pub IsStep : Step → Type 0
-IsStep x = LinkWrites IsFieldName (link_view x)
+abbrev pub IsAccess : Access → Type 0
+IsAccess x = LinkWrites IsFieldName (link_view x)
 
 abbrev pub IsStmt : Stmt → Type 0
 IsStmt x = StatementWrites IsFieldName (statement_view x)
@@ -66,7 +66,7 @@ operands_write : (os : List (Operator × Expr)) → AllByRecursion IsOperand os 
 operands_write [] h = tt
 operands_write (o ∷ os) h = (h.0, operands_write os h.1)
 
-links_write : (xs : List Step) → AllByRecursion IsStep xs → LinksWrite IsFieldName (links_view xs)
+links_write : (xs : List Access) → AllByRecursion IsAccess xs → LinksWrite IsFieldName (links_view xs)
 links_write [] h = tt
 links_write (x ∷ xs) h = (h.0, links_write xs h.1)
 
@@ -104,9 +104,9 @@ array_is es h = subst (TermWrites IsFieldName) (sym (term-Array es)) (terms_writ
 record_is : (fs : List (List ℕ × Expr)) → AllByRecursion IsPair fs → IsExpr (E.Record fs)
 record_is fs h = subst (TermWrites IsFieldName) (sym (term-Record fs)) (named_write fs h)
 
-steps_are : (e : Expr) (xs : List Step) → IsExpr e → AllByRecursion IsStep xs → IsExpr (with_steps e xs)
-steps_are e [] h i = h
-steps_are e (x ∷ xs) h i = subst (TermWrites IsFieldName) (sym (term-Steps e (x ∷ xs))) (h, links_write (x ∷ xs) i)
+accesses_are : (e : Expr) (xs : List Access) → IsExpr e → AllByRecursion IsAccess xs → IsExpr (with_accesses e xs)
+accesses_are e [] h i = h
+accesses_are e (x ∷ xs) h i = subst (TermWrites IsFieldName) (sym (term-Accesses e (x ∷ xs))) (h, links_write (x ∷ xs) i)
 
 unary_is : (u : Unary) (e : Expr) → IsExpr e → IsExpr (E.Unary u e)
 unary_is u e h = subst (TermWrites IsFieldName) (sym (term-Unary u e)) h
@@ -118,14 +118,14 @@ operands_are e (o ∷ os) h i = subst (TermWrites IsFieldName) (sym (term-Chain 
 choice_is : (c a b : Expr) → IsExpr c → IsExpr a → IsExpr b → IsExpr (E.Choice c a b)
 choice_is c a b h i j = subst (TermWrites IsFieldName) (sym (term-Choice c a b)) (h, i, j)
 
-field_step_is : (x : List ℕ) → IsStep (P.Field x)
-field_step_is x = subst (LinkWrites IsFieldName) (sym (link-Field x)) tt
+field_access_is : (x : List ℕ) → IsAccess (P.Field x)
+field_access_is x = subst (LinkWrites IsFieldName) (sym (link-Field x)) tt
 
-method_step_is : (x : List ℕ) (es : List Expr) → AreExprs es → IsStep (P.Method x es)
-method_step_is x es h = subst (LinkWrites IsFieldName) (sym (link-Method x es)) (terms_write es h)
+method_access_is : (x : List ℕ) (es : List Expr) → AreExprs es → IsAccess (P.Method x es)
+method_access_is x es h = subst (LinkWrites IsFieldName) (sym (link-Method x es)) (terms_write es h)
 
-index_step_is : (e : Expr) → IsExpr e → IsStep (P.Index e)
-index_step_is e h = subst (LinkWrites IsFieldName) (sym (link-Index e)) h
+index_access_is : (e : Expr) → IsExpr e → IsAccess (P.Index e)
+index_access_is e h = subst (LinkWrites IsFieldName) (sym (link-Index e)) h
 
 -- ---- statements of their parts
 
@@ -170,8 +170,8 @@ run_is e h = subst (StatementWrites IsFieldName) (sym (statement-Run e)) h
 
 -- ---- the grammar of expressions
 
-abbrev GivesExprs : (List Event → Lang (Found Expr)) → Type 0
-GivesExprs l = (es : List Event) → Gives (l es) (Holds IsExpr)
+abbrev GivesExprs : (List NameUse → Lang (Found Expr)) → Type 0
+GivesExprs l = (es : List NameUse) → Gives (l es) (Holds IsExpr)
 
 abbrev HoldExprs : Found (List Expr) → Type 0
 HoldExprs x = AreExprs x.0
@@ -179,94 +179,94 @@ HoldExprs x = AreExprs x.0
 abbrev HoldsCall : Found Call → Type 0
 HoldsCall m = AreExprs m.0.1
 
-abbrev IsStepped : Stepped → Type 0
-IsStepped s = IsExpr s.0.0 × AllByRecursion IsStep s.0.1
+abbrev IsAccessed : Accessed → Type 0
+IsAccessed s = IsExpr s.0.0 × AllByRecursion IsAccess s.0.1
 
 abbrev IsChained : Chained → Type 0
 IsChained s = IsExpr s.0.0 × AllByRecursion IsOperand s.0.1
 
-module _ (room : ℕ) (inner : List Event → Lang (Found Expr)) (exprs : GivesExprs inner) where
-  args_give : (es : List Event) → Gives (args room inner es) HoldExprs
+module _ (room : ℕ) (inner : List NameUse → Lang (Found Expr)) (exprs : GivesExprs inner) where
+  args_give : (es : List NameUse) → Gives (args room inner es) HoldExprs
   unfolding args
   args_give es = bracketed_gives room k.LeftParen k.RightParen _ HoldExprs (λ has. listed_gives IsExpr inner exprs es)
 
-  own_gives : (es : List Event) (x : Named) → IsSpotted x → Gives (own_value inner es x) (Holds IsPair)
+  own_gives : (es : List NameUse) (x : Named) → IsSpotted x → Gives (own_value inner es x) (Holds IsPair)
   own_gives es x is = after_gives _ _ (Holds IsPair) (then_gives _ _ (Holds IsExpr) (Holds IsPair) (exprs _) (λ t h. pure_gives (Holds IsPair) _ (is, h)))
 
-  field_gives : (es : List Event) → Gives (field inner es) (Holds IsPair)
+  field_gives : (es : List NameUse) → Gives (field inner es) (Holds IsPair)
   unfolding field
   field_gives es = then_gives _ _ IsSpotted (Holds IsPair) name_gives (λ x is. or_gives (Holds IsPair) _ _ (own_gives es x is) (pure_gives (Holds IsPair) _ (is, name_is x.1)))
 
-  tail_gives : (es : List Event) (x : Named) → Gives (call_tail room inner es x) (Holds IsExpr)
+  tail_gives : (es : List NameUse) (x : Named) → Gives (call_tail room inner es x) (Holds IsExpr)
   unfolding call_tail
   tail_gives es x =
       or_gives (Holds IsExpr) _ _ (then_gives _ _ HoldExprs (Holds IsExpr) (args_give _) (λ ts h. pure_gives (Holds IsExpr) _ (called_is _ x.1 ts.0 h)))
       (pure_gives (Holds IsExpr) _ (name_is x.1))
 
-  named_gives : (es : List Event) → Gives (named room inner es) (Holds IsExpr)
+  named_gives : (es : List NameUse) → Gives (named room inner es) (Holds IsExpr)
   unfolding named
   named_gives es = then_gives _ _ Any (Holds IsExpr) (anything (one free_words spotted long)) (λ x h. tail_gives es x)
 
-  method_gives : (es : List Event) → Gives (method_call room inner es) HoldsCall
+  method_gives : (es : List NameUse) → Gives (method_call room inner es) HoldsCall
   unfolding method_call
   method_gives es =
       after_gives _ _ HoldsCall (then_gives _ _ Any HoldsCall (anything name) (λ x h. then_gives _ _ HoldExprs HoldsCall (args_give es) (λ ts i. pure_gives HoldsCall _ i)))
 
-  eventually_gives : (es : List Event) → Gives (eventually room inner es) (Holds IsExpr)
+  eventually_gives : (es : List NameUse) → Gives (eventually room inner es) (Holds IsExpr)
   unfolding eventually
   eventually_gives es =
       after_gives _ _ (Holds IsExpr) (then_gives _ _ (Holds IsExpr) (Holds IsExpr) (bracketed_gives room k.LeftParen k.RightParen _ (Holds IsExpr) (λ has. exprs es))
       (λ t h. then_gives _ _ HoldsCall (Holds IsExpr) (method_gives t.1) (λ m i. pure_gives (Holds IsExpr) _ (send_is t.0 m.0.0 m.0.1 h i))))
 
-  amount_gives : (es : List Event) → Gives (amount room inner es) (Holds IsExpr)
+  amount_gives : (es : List NameUse) → Gives (amount room inner es) (Holds IsExpr)
   unfolding amount
   amount_gives es = after_gives _ _ (Holds IsExpr) (then_gives _ _ HoldsCall (Holds IsExpr) (method_gives es) (λ m i. pure_gives (Holds IsExpr) _ (amount_is m.0.0 m.0.1 i)))
 
-  array_gives : (es : List Event) → Gives (array room inner es) (Holds IsExpr)
+  array_gives : (es : List NameUse) → Gives (array room inner es) (Holds IsExpr)
   array_gives es =
       then_gives _ _ HoldExprs (Holds IsExpr) (bracketed_gives room k.LeftBracket k.RightBracket _ HoldExprs (λ has. listed_gives IsExpr inner exprs es)) (λ ts h. pure_gives (Holds IsExpr) _ (array_is ts.0 h))
 
-  record_gives : (es : List Event) → Gives (record_text room inner es) (Holds IsExpr)
+  record_gives : (es : List NameUse) → Gives (record_text room inner es) (Holds IsExpr)
   record_gives es =
       then_gives _ _ (Holds (AllByRecursion IsPair)) (Holds IsExpr) (bracketed_gives room k.LeftBrace k.RightBrace _ (Holds (AllByRecursion IsPair)) (λ has. listed_gives IsPair (field inner) field_gives _))
       (λ fs h. pure_gives (Holds IsExpr) _ (record_is fs.0 h))
 
-  bare_gives : (es : List Event) → Gives (bare room inner es) (Holds IsExpr)
+  bare_gives : (es : List NameUse) → Gives (bare room inner es) (Holds IsExpr)
   unfolding bare
   bare_gives es =
       or_gives (Holds IsExpr) _ _ (then_gives _ _ Any (Holds IsExpr) (anything (one literals literal_of wide)) (λ c h. pure_gives (Holds IsExpr) _ (literal_is c)))
       (or_gives (Holds IsExpr) _ _ (eventually_gives es) (or_gives (Holds IsExpr) _ _ (amount_gives es)
       (or_gives (Holds IsExpr) _ _ (bracketed_gives room k.LeftParen k.RightParen _ (Holds IsExpr) (λ has. exprs es)) (array_gives es))))
 
-  prim_gives : (es : List Event) → Gives (prim room inner es) (Holds IsExpr)
+  prim_gives : (es : List NameUse) → Gives (prim room inner es) (Holds IsExpr)
   unfolding prim
   prim_gives es = or_gives (Holds IsExpr) _ _ (named_gives es) (or_gives (Holds IsExpr) _ _ (bare_gives es) (record_gives es))
 
-  dot_gives : (es : List Event) → Gives (dot_step room inner es) (Holds IsStep)
+  dot_gives : (es : List NameUse) → Gives (dot_access room inner es) (Holds IsAccess)
   dot_gives es =
-      after_gives _ _ (Holds IsStep) (then_gives _ _ Any (Holds IsStep) (anything name)
-      (λ x h. or_gives (Holds IsStep) _ _ (then_gives _ _ HoldExprs (Holds IsStep) (args_give es) (λ ts i. pure_gives (Holds IsStep) _ (method_step_is x.1 ts.0 i))) (pure_gives (Holds IsStep) _ (field_step_is x.1))))
+      after_gives _ _ (Holds IsAccess) (then_gives _ _ Any (Holds IsAccess) (anything name)
+      (λ x h. or_gives (Holds IsAccess) _ _ (then_gives _ _ HoldExprs (Holds IsAccess) (args_give es) (λ ts i. pure_gives (Holds IsAccess) _ (method_access_is x.1 ts.0 i))) (pure_gives (Holds IsAccess) _ (field_access_is x.1))))
 
-  step_gives : (es : List Event) → Gives (post_step room inner es) (Holds IsStep)
-  unfolding post_step
-  step_gives es =
-      or_gives (Holds IsStep) _ _ (dot_gives es)
-      (then_gives _ _ (Holds IsExpr) (Holds IsStep) (bracketed_gives room k.LeftBracket k.RightBracket _ (Holds IsExpr) (λ has. exprs es)) (λ t h. pure_gives (Holds IsStep) _ (index_step_is t.0 h)))
+  access_gives : (es : List NameUse) → Gives (post_access room inner es) (Holds IsAccess)
+  unfolding post_access
+  access_gives es =
+      or_gives (Holds IsAccess) _ _ (dot_gives es)
+      (then_gives _ _ (Holds IsExpr) (Holds IsAccess) (bracketed_gives room k.LeftBracket k.RightBracket _ (Holds IsExpr) (λ has. exprs es)) (λ t h. pure_gives (Holds IsAccess) _ (index_access_is t.0 h)))
 
-  steps_give : (s : Stepped) → IsStepped s → Gives (steps_from room inner s) IsStepped
-  steps_give s is =
-      iterate_gives IsStepped always (step_on room inner) (λ t h. then_gives _ _ (Holds IsStep) IsStepped (step_gives t.1) (λ x i. pure_gives IsStepped _ (h.0, push IsStep t.0.1 x.0 h.1 i))) s is
+  accesses_give : (s : Accessed) → IsAccessed s → Gives (accesses_from room inner s) IsAccessed
+  accesses_give s is =
+      iterate_gives IsAccessed always (access_on room inner) (λ t h. then_gives _ _ (Holds IsAccess) IsAccessed (access_gives t.1) (λ x i. pure_gives IsAccessed _ (h.0, push IsAccess t.0.1 x.0 h.1 i))) s is
 
   post_gives : (t : Found Expr) → Holds IsExpr t → Gives (post_tail room inner t) (Holds IsExpr)
   unfolding post_tail
-  post_gives t is = then_gives _ _ IsStepped (Holds IsExpr) (steps_give ((t.0, []), t.1) (is, tt)) (λ s h. pure_gives (Holds IsExpr) _ (steps_are s.0.0 s.0.1 h.0 h.1))
+  post_gives t is = then_gives _ _ IsAccessed (Holds IsExpr) (accesses_give ((t.0, []), t.1) (is, tt)) (λ s h. pure_gives (Holds IsExpr) _ (accesses_are s.0.0 s.0.1 h.0 h.1))
 
-  signed_gives : (es : List Event) → Gives (signed room inner es) (Holds IsExpr)
+  signed_gives : (es : List NameUse) → Gives (signed room inner es) (Holds IsExpr)
   signed_gives es =
       then_gives _ _ Any (Holds IsExpr) (anything _) (λ o h. then_gives _ _ (Holds IsExpr) (Holds IsExpr) (prim_gives es)
       (λ t i. then_gives _ _ (Holds IsExpr) (Holds IsExpr) (post_gives t i) (λ u j. pure_gives (Holds IsExpr) _ (unary_is o u.0 j))))
 
-  unary_gives : (first : List Event → Lang (Found Expr)) → GivesExprs first → GivesExprs (unary room inner first)
+  unary_gives : (first : List NameUse → Lang (Found Expr)) → GivesExprs first → GivesExprs (unary room inner first)
   unfolding unary
   unary_gives first firsts es = or_gives (Holds IsExpr) _ _ (signed_gives es) (then_gives _ _ (Holds IsExpr) (Holds IsExpr) (firsts es) (λ t h. post_gives t h))
 
@@ -275,13 +275,13 @@ module _ (room : ℕ) (inner : List Event → Lang (Found Expr)) (exprs : GivesE
 abbrev IsTurn : Chained × Bool → Type 0
 IsTurn z = IsChained z.0
 
-module _ (other : List Event → Lang (Found Expr)) (others : GivesExprs other) where
-  op_gives : (v : Level) (l : List Event → Lang (Found Expr)) → GivesExprs l → (s : Chained × Bool) → IsTurn s → Gives (op_step v l s) IsTurn
+module _ (other : List NameUse → Lang (Found Expr)) (others : GivesExprs other) where
+  op_gives : (v : Level) (l : List NameUse → Lang (Found Expr)) → GivesExprs l → (s : Chained × Bool) → IsTurn s → Gives (op_step v l s) IsTurn
   unfolding op_step
   op_gives v l ls s is =
       then_gives _ _ Any IsTurn (anything _) (λ o h. then_gives _ _ (Holds IsExpr) IsTurn (ls _) (λ u i. pure_gives IsTurn _ (is.0, push IsOperand s.0.0.1 (o, u.0) is.1 i)))
 
-  ops_give : (v : Level) (l : List Event → Lang (Found Expr)) → GivesExprs l → (s : Chained) → IsChained s → Gives (ops v l s) IsChained
+  ops_give : (v : Level) (l : List NameUse → Lang (Found Expr)) → GivesExprs l → (s : Chained) → IsChained s → Gives (ops v l s) IsChained
   ops_give v l ls s is = then_gives _ _ IsTurn IsChained (iterate_gives IsTurn ongoing (op_step v l) (λ t h. op_gives v l ls t h) (s, true) is) (λ z h. pure_gives IsChained _ h)
 
   tails_give : (vs : List Level) (t : Found Expr) → Holds IsExpr t → Gives (tails vs other t) (Holds IsExpr)
@@ -296,8 +296,8 @@ module _ (other : List Event → Lang (Found Expr)) (others : GivesExprs other) 
 abbrev IsTwo : Found (Expr × Expr) → Type 0
 IsTwo c = IsExpr c.0.0 × IsExpr c.0.1
 
-module _ (other : List Event → Lang (Found Expr)) (others : GivesExprs other) where
-  branches_give : (es : List Event) → Gives (branches other es) IsTwo
+module _ (other : List NameUse → Lang (Found Expr)) (others : GivesExprs other) where
+  branches_give : (es : List NameUse) → Gives (branches other es) IsTwo
   unfolding branches
   branches_give es =
       then_gives _ _ (Holds IsExpr) IsTwo (others es) (λ u h. after_gives _ _ IsTwo (then_gives _ _ (Holds IsExpr) IsTwo (others u.1) (λ v i. pure_gives IsTwo _ (h, i))))
@@ -308,11 +308,11 @@ module _ (other : List Event → Lang (Found Expr)) (others : GivesExprs other) 
       or_gives (Holds IsExpr) _ _ (after_gives _ _ (Holds IsExpr) (then_gives _ _ IsTwo (Holds IsExpr) (branches_give t.1) (λ c h. pure_gives (Holds IsExpr) _ (choice_is t.0 c.0.0 c.0.1 is h.0 h.1))))
       (pure_gives (Holds IsExpr) t is)
 
-module _ (room : ℕ) (inner : List Event → Lang (Found Expr)) (exprs : GivesExprs inner) where
+module _ (room : ℕ) (inner : List NameUse → Lang (Found Expr)) (exprs : GivesExprs inner) where
   after_first : (t : Found Expr) → Holds IsExpr t → Gives (after room inner t) (Holds IsExpr)
   unfolding after
   after_first t is =
-      let other : List Event → Lang (Found Expr) = unary room inner (prim room inner) in
+      let other : List NameUse → Lang (Found Expr) = unary room inner (prim room inner) in
       let others : GivesExprs other = unary_gives room inner exprs (prim room inner) (prim_gives room inner exprs) in
       then_gives _ _ (Holds IsExpr) (Holds IsExpr) (tails_give other others table t is)
       (λ u h. choice_gives (λ es. (other es >>= tails table other)) (λ es. then_gives _ _ (Holds IsExpr) (Holds IsExpr) (others es) (λ x i. tails_give other others table x i)) u h)
@@ -328,27 +328,27 @@ exprs_give (suc n) room es = full_gives room (expr n (inside room)) (exprs_give 
 
 -- ---- the grammar of statements
 
-abbrev GivesStmts : (List Event → Lang (Found (List Stmt))) → Type 0
-GivesStmts l = (es : List Event) → Gives (l es) (Holds AreStmts)
+abbrev GivesStmts : (List NameUse → Lang (Found (List Stmt))) → Type 0
+GivesStmts l = (es : List NameUse) → Gives (l es) (Holds AreStmts)
 
-initial_gives : (l : List Event → Lang (Found Expr)) → GivesExprs l → GivesExprs (initializer l)
+initial_gives : (l : List NameUse → Lang (Found Expr)) → GivesExprs l → GivesExprs (initializer l)
 unfolding initializer
 initial_gives l ls es = after_gives _ _ (Holds IsExpr) (then_gives _ _ (Holds IsExpr) (Holds IsExpr) (ls es) (λ t h. after_gives _ _ (Holds IsExpr) (pure_gives (Holds IsExpr) t h)))
 
-module _ (l : List Event → Lang (Found Expr)) (exprs : GivesExprs l) where
-  declaration_gives : (es : List Event) → Gives (declaration l es) (Holds IsStmt)
+module _ (l : List NameUse → Lang (Found Expr)) (exprs : GivesExprs l) where
+  declaration_gives : (es : List NameUse) → Gives (declaration l es) (Holds IsStmt)
   unfolding declaration
   declaration_gives es =
       then_gives _ _ Any (Holds IsStmt) (anything _) (λ b h. then_gives _ _ Any (Holds IsStmt) (anything name)
       (λ x i. then_gives _ _ (Holds IsExpr) (Holds IsStmt) (initial_gives l exprs _) (λ t j. pure_gives (Holds IsStmt) _ (declaring_is b x.1 t.0 j))))
 
-  giving_gives : (es : List Event) → Gives (giving l es) (Holds IsStmt)
+  giving_gives : (es : List NameUse) → Gives (giving l es) (Holds IsStmt)
   unfolding giving
   giving_gives es =
       after_gives _ _ (Holds IsStmt) (or_gives (Holds IsStmt) _ _ (after_gives _ _ (Holds IsStmt) (pure_gives (Holds IsStmt) _ return_nothing_is))
       (then_gives _ _ (Holds IsExpr) (Holds IsStmt) (exprs es) (λ t h. after_gives _ _ (Holds IsStmt) (pure_gives (Holds IsStmt) _ (return_is t.0 h)))))
 
-  throwing_gives : (es : List Event) → Gives (throwing l es) (Holds IsStmt)
+  throwing_gives : (es : List NameUse) → Gives (throwing l es) (Holds IsStmt)
   unfolding throwing
   throwing_gives es = after_gives _ _ (Holds IsStmt) (then_gives _ _ (Holds IsExpr) (Holds IsStmt) (exprs es) (λ t h. after_gives _ _ (Holds IsStmt) (pure_gives (Holds IsStmt) _ (throw_is t.0 h))))
 
@@ -358,52 +358,52 @@ IsHeader h = IsExpr h.0.1
 abbrev IsHandler : Found Handler → Type 0
 IsHandler h = AreStmts h.0.1
 
-module _ (room : ℕ) (inner : List Event → Lang (Found Expr)) (exprs : GivesExprs inner) (block : List Event → Lang (Found (List Stmt))) (stmts : GivesStmts block) where
-  assigning_gives : (names : List Kind) (es : List Event) → Gives (assigning room inner names es) (Holds IsStmt)
+module _ (room : ℕ) (inner : List NameUse → Lang (Found Expr)) (exprs : GivesExprs inner) (block : List NameUse → Lang (Found (List Stmt))) (stmts : GivesStmts block) where
+  assigning_gives : (names : List Kind) (es : List NameUse) → Gives (assigning room inner names es) (Holds IsStmt)
   unfolding assigning
   assigning_gives names es =
       then_gives _ _ Any (Holds IsStmt) (anything _) (λ x h. then_gives _ _ (Holds IsExpr) (Holds IsStmt) (initial_gives (full room inner) (full_gives room inner exprs) _) (λ t i. pure_gives (Holds IsStmt) _ (assign_is x.1 t.0 i)))
 
-  running_gives : (names : List Kind) (es : List Event) → Gives (running room inner names es) (Holds IsStmt)
+  running_gives : (names : List Kind) (es : List NameUse) → Gives (running room inner names es) (Holds IsStmt)
   unfolding running
   running_gives names es =
-      let first : List Event → Lang (Found Expr) = λ es. ((one names spotted long >>= call_tail room inner es) or bare room inner es) in
+      let first : List NameUse → Lang (Found Expr) = λ es. ((one names spotted long >>= call_tail room inner es) or bare room inner es) in
       let firsts : GivesExprs first = λ es. or_gives (Holds IsExpr) _ _ (then_gives _ _ Any (Holds IsExpr) (anything (one names spotted long)) (λ x h. tail_gives room inner exprs es x)) (bare_gives room inner exprs es) in
       then_gives _ _ (Holds IsExpr) (Holds IsStmt) (then_gives _ _ (Holds IsExpr) (Holds IsExpr) (unary_gives room inner exprs first firsts es) (λ t h. after_first room inner exprs t h))
       (λ t h. after_gives _ _ (Holds IsStmt) (pure_gives (Holds IsStmt) _ (run_is t.0 h)))
 
-  arm_gives : (es : List Event) → Gives (arm room inner block es) (Holds IsBranch)
+  arm_gives : (es : List NameUse) → Gives (arm room inner block es) (Holds IsBranch)
   unfolding arm
   arm_gives es =
       then_gives _ _ (Holds IsExpr) (Holds IsBranch) (bracketed_gives room k.LeftParen k.RightParen _ (Holds IsExpr) (λ has. exprs es)) (λ t h. then_gives _ _ (Holds AreStmts) (Holds IsBranch) (stmts t.1) (λ b i. pure_gives (Holds IsBranch) _ (h, i)))
 
-  looping_gives : (es : List Event) → Gives (looping room inner block es) (Holds IsStmt)
+  looping_gives : (es : List NameUse) → Gives (looping room inner block es) (Holds IsStmt)
   unfolding looping
   looping_gives es = after_gives _ _ (Holds IsStmt) (then_gives _ _ (Holds IsBranch) (Holds IsStmt) (arm_gives es) (λ a h. pure_gives (Holds IsStmt) _ (while_is a.0.condition a.0.body h.0 h.1)))
 
-  each_gives : (es : List Event) → Gives (each inner es) IsHeader
+  each_gives : (es : List NameUse) → Gives (each inner es) IsHeader
   unfolding each
   each_gives es =
       after_gives _ _ IsHeader (then_gives _ _ Any IsHeader (anything name) (λ x h. after_gives _ _ IsHeader (then_gives _ _ (Holds IsExpr) IsHeader (exprs _) (λ t i. pure_gives IsHeader _ i))))
 
-  walking_gives : (es : List Event) → Gives (walking room inner block es) (Holds IsStmt)
+  walking_gives : (es : List NameUse) → Gives (walking room inner block es) (Holds IsStmt)
   unfolding walking
   walking_gives es =
       after_gives _ _ (Holds IsStmt) (then_gives _ _ IsHeader (Holds IsStmt) (bracketed_gives room k.LeftParen k.RightParen _ IsHeader (λ has. each_gives es))
       (λ h is. then_gives _ _ (Holds AreStmts) (Holds IsStmt) (stmts h.1) (λ b i. pure_gives (Holds IsStmt) _ (for_is h.0.0 h.0.1 b.0 is i))))
 
-  catching_gives : (es : List Event) → Gives (catching room block es) IsHandler
+  catching_gives : (es : List NameUse) → Gives (catching room block es) IsHandler
   unfolding catching
   catching_gives es =
       after_gives _ _ IsHandler (then_gives _ _ Any IsHandler (anything _) (λ x h. then_gives _ _ (Holds AreStmts) IsHandler (stmts _) (λ b i. pure_gives IsHandler _ i)))
 
-  trying_gives : (es : List Event) → Gives (trying room block es) (Holds IsStmt)
+  trying_gives : (es : List NameUse) → Gives (trying room block es) (Holds IsStmt)
   unfolding trying
   trying_gives es =
       after_gives _ _ (Holds IsStmt) (then_gives _ _ (Holds AreStmts) (Holds IsStmt) (stmts es)
       (λ b h. then_gives _ _ IsHandler (Holds IsStmt) (catching_gives b.1) (λ c i. pure_gives (Holds IsStmt) _ (try_is b.0 c.0.0 c.0.1 h i))))
 
-  simple_gives : (names : List Kind) (es : List Event) → Gives (simple room inner block names es) (Holds IsStmt)
+  simple_gives : (names : List Kind) (es : List NameUse) → Gives (simple room inner block names es) (Holds IsStmt)
   unfolding simple
   simple_gives names es =
       or_gives (Holds IsStmt) _ _ (declaration_gives (full room inner) (full_gives room inner exprs) es)
@@ -426,7 +426,7 @@ IsGoing s = AreStmts s.0.0
 abbrev AreArms : Found (List Branch) → Type 0
 AreArms a = AllByRecursion IsBranch a.0
 
-module _ (armed : List Event → Lang (Found Branch)) (arms : (es : List Event) → Gives (armed es) (Holds IsBranch)) (block : List Event → Lang (Found (List Stmt))) (stmts : GivesStmts block) where
+module _ (armed : List NameUse → Lang (Found Branch)) (arms : (es : List NameUse) → Gives (armed es) (Holds IsBranch)) (block : List NameUse → Lang (Found (List Stmt))) (stmts : GivesStmts block) where
   else_gives : (a : Found (List Branch)) → AreArms a → Gives (else_if armed a) AreArms
   else_gives a is = after_gives _ _ AreArms (after_gives _ _ AreArms (then_gives _ _ (Holds IsBranch) AreArms (arms a.1) (λ b h. pure_gives AreArms _ (push IsBranch a.0 b.0 is h))))
 
@@ -435,26 +435,26 @@ module _ (armed : List Event → Lang (Found Branch)) (arms : (es : List Event) 
       or_gives IsGoing _ _ (after_gives _ _ IsGoing (then_gives _ _ (Holds AreStmts) IsGoing (stmts a.1) (λ b h. pure_gives IsGoing _ (if_is a.0 b.0 is h, tt))))
       (pure_gives IsGoing _ (closing_are a.0 is))
 
-  whole_gives : (es : List Event) → Gives (whole_if armed block es) IsGoing
+  whole_gives : (es : List NameUse) → Gives (whole_if armed block es) IsGoing
   whole_gives es =
       after_gives _ _ IsGoing (then_gives _ _ (Holds IsBranch) IsGoing (arms es)
       (λ a h. then_gives _ _ AreArms IsGoing (iterate_gives AreArms always (else_if armed) else_gives _ (h, tt)) last_gives))
 
-  next_gives : (simples : List Kind → List Event → Lang (Found Stmt)) → ((names : List Kind) (es : List Event) → Gives (simples names es) (Holds IsStmt)) → (s : Found (List Stmt) × Bool) → IsGoing s → Gives (next armed block simples s) IsGoing
+  next_gives : (simples : List Kind → List NameUse → Lang (Found Stmt)) → ((names : List Kind) (es : List NameUse) → Gives (simples names es) (Holds IsStmt)) → (s : Found (List Stmt) × Bool) → IsGoing s → Gives (next armed block simples s) IsGoing
   next_gives simples give s is =
       or_gives IsGoing _ _ (then_gives _ _ IsGoing IsGoing (whole_gives s.0.1) (λ x h. pure_gives IsGoing _ (append s.0.0 x.0.0 is h)))
       (then_gives _ _ (Holds IsStmt) IsGoing (give _ s.0.1) (λ t h. pure_gives IsGoing _ (push IsStmt s.0.0 t.0 is h)))
 
-  ordered_gives : (simples : List Kind → List Event → Lang (Found Stmt)) → ((names : List Kind) (es : List Event) → Gives (simples names es) (Holds IsStmt)) → GivesStmts (in_order armed block simples)
+  ordered_gives : (simples : List Kind → List NameUse → Lang (Found Stmt)) → ((names : List Kind) (es : List NameUse) → Gives (simples names es) (Holds IsStmt)) → GivesStmts (in_order armed block simples)
   ordered_gives simples give es =
       then_gives _ _ IsGoing (Holds AreStmts) (iterate_gives IsGoing always (next armed block simples) (next_gives simples give) (([], es), false) tt) (λ s h. pure_gives (Holds AreStmts) _ h)
 
-statements_give : (room : ℕ) (inner : List Event → Lang (Found Expr)) → GivesExprs inner → (block : List Event → Lang (Found (List Stmt))) → GivesStmts block → GivesStmts (statements room inner block)
+statements_give : (room : ℕ) (inner : List NameUse → Lang (Found Expr)) → GivesExprs inner → (block : List NameUse → Lang (Found (List Stmt))) → GivesStmts block → GivesStmts (statements room inner block)
 unfolding statements
 statements_give room inner exprs block stmts es =
     ordered_gives (arm room inner block) (arm_gives room inner exprs block stmts) block stmts (simple room inner block) (simple_gives room inner exprs block stmts) es
 
-pub braced_gives : (room : ℕ) (l : List Event → Lang (Found (List Stmt))) → GivesStmts l → GivesStmts (braced room l)
+pub braced_gives : (room : ℕ) (l : List NameUse → Lang (Found (List Stmt))) → GivesStmts l → GivesStmts (braced room l)
 unfolding braced
 braced_gives room l ls es =
     then_gives _ _ (Holds AreStmts) (Holds AreStmts) (bracketed_gives room k.LeftBrace k.RightBrace _ (Holds AreStmts) (λ has. ls _)) (λ ss h. pure_gives (Holds AreStmts) _ h)

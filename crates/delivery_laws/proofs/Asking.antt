@@ -4,24 +4,24 @@ use Rattle.std.specs.List.{AllByRecursion}
 use Rattle.std.proofs.Common.{◌≡◌, ◌⊎◌, inl, inr, ℕ, ◌+◌, ◌≤◌, ◌<◌, true, List, [], ◌∷◌, ◌++◌, Option, Some, None, length, refl, ap, subst, arith}
 use Rattle.turn_writer.specs.host_text.Words.{is_field_name}
 use Rattle.delivery_turns.specs.actors.Tables.{instance_at, no_module}
-use Rattle.row_laws.specs.jessie_semantics.Form.{InForm}
-use Rattle.row_laws.specs.jessie_semantics.Keeping.{AllHave, CallHas, EndingHas, FunctionsKnown, NextHas, RepliesHave, ReplyHas, Within, to_function}
-use Rattle.row_laws.specs.jessie_semantics.Naming.{HasFieldNames, IsFieldName, RoutinesNamed, RoutinesWrite}
-use Rattle.row_laws.specs.jessie_semantics.Play.{Asks, Call, Ending, Ends, Play, Reply, Spends, after, call, far, given, refused, returned, send, threw, when}
-use Rattle.row_laws.specs.jessie_semantics.Rules.{play}
-use Rattle.row_laws.proofs.jessie_semantics.FormKept.{closed_form}
-use Rattle.row_laws.proofs.jessie_semantics.NamesKept.{closed_named}
-use Rattle.row_laws.proofs.jessie_semantics.Safe.{play_safe, safe_after}
-use Rattle.row_laws.proofs.jessie_semantics.Within.{closed_within}
-use Rattle.row_laws.proofs.jessie_semantics.Writes.{AnyName, any_names}
-use Rattle.row_laws.specs.jessie_grammar.Syntax.{Routine, routines, variable_names}
-use Rattle.row_laws.specs.jessie_grammar.declared.syntax.Module.{Module}
+use Rattle.rule_laws.specs.jessie_semantics.Form.{InForm}
+use Rattle.rule_laws.specs.jessie_semantics.Keeping.{AllHave, CallHas, EndingHas, FunctionsKnown, NextHas, RepliesHave, ReplyHas, Within, to_function}
+use Rattle.rule_laws.specs.jessie_semantics.Naming.{HasFieldNames, IsFieldName, RoutinesNamed, RoutinesWrite}
+use Rattle.rule_laws.specs.jessie_semantics.Play.{Asks, Call, Ending, Ends, Play, Reply, Spends, after, call, far, given, refused, returned, send, threw, when}
+use Rattle.rule_laws.specs.jessie_semantics.Rules.{play}
+use Rattle.rule_laws.proofs.jessie_semantics.FormKept.{closed_form}
+use Rattle.rule_laws.proofs.jessie_semantics.NamesKept.{closed_named}
+use Rattle.rule_laws.proofs.jessie_semantics.Safe.{play_safe, safe_after}
+use Rattle.rule_laws.proofs.jessie_semantics.Within.{closed_within}
+use Rattle.rule_laws.proofs.jessie_semantics.Writes.{AnyName, any_names}
+use Rattle.rule_laws.specs.jessie_grammar.Syntax.{Routine, routines, variable_names}
+use Rattle.rule_laws.specs.jessie_grammar.declared.syntax.Module.{Module}
 use Rattle.turn_writer.specs.host_data.Tree.{Tree}
 use Rattle.delivery_turns.specs.world_state.Good.{IsGoodWorld, IsModule}
 use Rattle.delivery_turns.specs.world_state.Known.{Grows, HasFunction, IsKnownTo, IsNamed, module_of}
 use Rattle.delivery_turns.specs.world_state.Worlds.{State}
-use Rattle.row_laws.proofs.world_laws.Forms.{formed_grows, function_grows}
-use Rattle.row_laws.proofs.world_laws.Lists.{all_read}
+use Rattle.rule_laws.proofs.world_laws.Forms.{formed_grows, function_grows}
+use Rattle.rule_laws.proofs.world_laws.Lists.{all_read}
 use Rattle.delivery_turns.specs.Functions.{module_play}
 use Rattle.delivery_laws.specs.Works.{Evaluates}
 use Rattle.delivery_laws.proofs.Knowing.{Refers, form_of, known_of, names_of, within_of}

@@ -3,13 +3,13 @@ use Rattle.std.specs.Prelude.{IfOk, cond, is_none, nat_lt}
 use Rattle.std.specs.List.{AllByRecursion}
 use Rattle.std.proofs.Common.{◌≡◌, ℕ, ◌<◌, Bool, true, false, List, [], ◌∷◌, ◌++◌, Option, Some, None, Result, Ok, Err, refl, sym, subst}
 use Rattle.delivery_turns.specs.rules.Acts.{MayAct}
-use Rattle.delivery_turns.specs.rules.Obligations.{IsRow}
-use Rattle.delivery_turns.specs.rules.Rows.{Outcome}
+use Rattle.delivery_turns.specs.rules.Obligations.{IsRule}
+use Rattle.delivery_turns.specs.rules.Outcomes.{Outcome}
 use Rattle.delivery_turns.specs.rules.Traces.{all_open}
 use Rattle.delivery_turns.specs.rules.Words.{has_halted, standing_of}
 use Rattle.delivery_turns.specs.actors.Facets.{FacetView, facet_at}
-use Rattle.row_laws.specs.jessie_semantics.Play as plays
-use Rattle.row_laws.specs.jessie_semantics.Play.{Ending}
+use Rattle.rule_laws.specs.jessie_semantics.Play as plays
+use Rattle.rule_laws.specs.jessie_semantics.Play.{Ending}
 use Rattle.turn_writer.specs.host_data.Tree.{Tree, is_local}
 use Rattle.turn_writer.specs.host_data.declared.data.Obj.{Obj}
 use Rattle.turn_writer.specs.host_data.declared.data.ObjKind.{ObjKind}
@@ -17,8 +17,8 @@ use Rattle.turn_writer.specs.host_data.declared.data.ObjKind.TheVariants as kind
 use Rattle.turn_writer.specs.refusals.Codes.{closed, local_only, no_method, refusal_tree}
 use Rattle.turn_writer.specs.refusals.declared.codes.Refusal.{Refusal}
 use Rattle.turn_writer.specs.refusals.declared.codes.Refusal.TheVariants.{Backwards}
-use Rattle.row_laws.specs.GoodServices.{AreGoodServices}
-use Rattle.delivery_turns.specs.rules.ZoeRows.{TextReader}
+use Rattle.rule_laws.specs.GoodServices.{AreGoodServices}
+use Rattle.delivery_turns.specs.rules.Zoe.{TextReader}
 use Rattle.delivery_turns.specs.turn_records.Ends.{CanTell, IsOfFacet, IsUnspent, RunsFunction}
 use Rattle.delivery_turns.specs.turn_records.Deliveries as deliveries
 use Rattle.delivery_turns.specs.turn_records.Deliveries.{Delivery, Reading, target}
@@ -28,15 +28,15 @@ use Rattle.delivery_turns.specs.turn_rows.Causes as causes
 use Rattle.delivery_turns.specs.world_state.Good.{IsGoodWorld}
 use Rattle.delivery_turns.specs.world_state.Rights.{IsRoomy, most_issued}
 use Rattle.delivery_turns.specs.world_state.Worlds.{Effect, State, exit, halt, in_front, keep_state, note_call, seat_at, set_time}
-use Rattle.row_laws.proofs.world_laws.Fronts.{due_behind, good_behind}
-use Rattle.delivery_turns.specs.rules.Host.{serve as serve_call}
+use Rattle.rule_laws.proofs.world_laws.Fronts.{due_behind, good_behind}
+use Rattle.delivery_turns.specs.rules.Methods.{serve as serve_call}
 use Rattle.delivery_turns.specs.Functions.{FunctionCall, Run, ended, function_run, ran_out}
 use Rattle.delivery_turns.specs.Messages.{Addressed, addressed, gift_of, sent_to}
 use Rattle.delivery_turns.specs.Tasks as tasks
-use Rattle.delivery_turns.specs.Tasks.{Work, answer_of_ending, beginning, call_beginning, do_all, exits_with, facet_task, function_behind, gift_beginning, handler_call, method_task, notice_call, refuse, row_work, run_task, run_work, settlement_of, start_call, task_on, task_work, wakeup_call}
+use Rattle.delivery_turns.specs.Tasks.{Work, answer_of_ending, beginning, call_beginning, do_all, exits_with, facet_task, function_behind, gift_beginning, handler_call, method_task, notice_call, refuse, outcome_work, run_task, run_work, settlement_of, start_call, task_on, task_work, wakeup_call}
 use Rattle.delivery_laws.proofs.Hosts.{IsQuiet, quiet_both, quiet_exits}
 use Rattle.delivery_laws.proofs.Reading.{IsAddressed, IsCalled, addressed_there, sent_there, weaker_ok}
-use Rattle.delivery_laws.proofs.Works.{service_row}
+use Rattle.delivery_laws.proofs.Works.{service_rule}
 use Rattle.delivery_laws.proofs.Growing.{TellsSo}
 
 -- ---- effects
@@ -122,11 +122,11 @@ module _ (read : TextReader) (meter : ℕ) (w : State) (d : Delivery) where
       by true = refused_tells r (closed f.instance)
       by false = method_tells r runs f method args (function_behind method f)
 
-  row_tells : (r : Reading) (o : Obj) (m : List ℕ) (args : List Tree) (row : Outcome) → IfOk row (λ x. IsRow w None o m args x.0 x.1) → TellsWell r (row_work row)
+  row_tells : (r : Reading) (o : Obj) (m : List ℕ) (args : List Tree) (row : Outcome) → IfOk row (λ x. IsRule w None o m args x.0 x.1) → TellsWell r (outcome_work row)
   row_tells r o m args (Ok (answer, es)) is = all_acts_tell d r (given answer) w o m es is.acts
   row_tells r o m args (Err refusal) is = tt
 
-  on_tells : (k : ObjKind) (o : Obj) (m : List ℕ) (args : List Tree) → o.kind ≡ k → (IsOfFacet o.kind → RunsFunction d (target o args)) → IfOk (serve_call read w o m args) (λ x. IsRow w None o m args x.0 x.1)
+  on_tells : (k : ObjKind) (o : Obj) (m : List ℕ) (args : List Tree) → o.kind ≡ k → (IsOfFacet o.kind → RunsFunction d (target o args)) → IfOk (serve_call read w o m args) (λ x. IsRule w None o m args x.0 x.1)
       → TellsWell (target o args) (task_work read meter w (task_on k w o m args))
   unfolding task_work
   on_tells kinds.Facet o m args e runs is = facet_tells (target o args) (runs (subst IsOfFacet (sym e) tt)) (facet_at w.facets o.number) m args
@@ -134,7 +134,7 @@ module _ (read : TextReader) (meter : ℕ) (w : State) (d : Delivery) where
 
   called_tells : (served : AreGoodServices (serve_call read)) (good : IsGoodWorld (in_front d w)) (room : IsRoomy w.rights.out most_issued) (m : List ℕ) (r : Result Addressed Refusal)
       → ((a : Addressed) → IsOfFacet a.target.kind → RunsFunction d (target a.target a.arguments)) → IfOk r (IsAddressed w (good_behind w d good)) → let b = call_beginning w m r in TellsWell b.reading (task_work read meter w b.task)
-  called_tells served good room m (Ok a) runs is = on_tells a.target.kind a.target m a.arguments refl (runs a) (service_row read w d a.target m a.arguments served good room is.target is.arguments)
+  called_tells served good room m (Ok a) runs is = on_tells a.target.kind a.target m a.arguments refl (runs a) (service_rule read w d a.target m a.arguments served good room is.target is.arguments)
   called_tells served good room m (Err refusal) runs is = refused_tells deliveries.nothing refusal
 
   -- ---- what else is delivered

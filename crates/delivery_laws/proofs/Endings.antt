@@ -1,20 +1,20 @@
 -- With which answer the turn of a delivery ends.
 use Rattle.std.specs.Prelude.{cond, nat_lt}
 use Rattle.std.proofs.Common.{◌≡◌, ℕ, Bool, true, false, List, [], ◌∷◌, Result, Ok, Err, refl}
-use Rattle.delivery_turns.specs.rules.Rows.{Outcome}
+use Rattle.delivery_turns.specs.rules.Outcomes.{Outcome}
 use Rattle.turn_writer.specs.host_data.Tree.{Tree}
 use Rattle.turn_writer.specs.host_data.declared.data.Obj.{Obj}
 use Rattle.turn_writer.specs.host_data.declared.data.ObjKind.{ObjKind}
 use Rattle.turn_writer.specs.host_data.declared.data.ObjKind.TheVariants as kinds
 use Rattle.turn_writer.specs.refusals.declared.codes.Refusal.{Refusal}
 use Rattle.turn_writer.specs.refusals.declared.codes.Refusal.TheVariants.{Backwards}
-use Rattle.delivery_turns.specs.rules.ZoeRows.{TextReader}
+use Rattle.delivery_turns.specs.rules.Zoe.{TextReader}
 use Rattle.delivery_turns.specs.turn_records.Ends.{CanEnd, CanEndCall, CanEndGift, CanEndOn, CanEndTick, IsAnswered}
 use Rattle.delivery_turns.specs.turn_records.Deliveries as deliveries
 use Rattle.delivery_turns.specs.turn_records.Deliveries.{Delivery, Reading}
 use Rattle.delivery_turns.specs.turn_records.Messages.{LineGift}
 use Rattle.delivery_turns.specs.world_state.Worlds.{State, set_time}
-use Rattle.delivery_turns.specs.rules.Host.{serve as serve_call}
+use Rattle.delivery_turns.specs.rules.Methods.{serve as serve_call}
 use Rattle.delivery_turns.specs.HostCalls.{answer_of}
 use Rattle.delivery_turns.specs.Messages.{Addressed, addressed, gift_of, sent_to}
 use Rattle.delivery_turns.specs.Tasks.{beginning, call_beginning, do_all, gift_beginning, refuse, task_on, task_work, tick_task}

@@ -6,15 +6,15 @@ use Rattle.std.proofs.Common.{◌≡◌, inl, inr, ℕ, ◌+◌, ◌≤◌, ◌<
 use Rattle.std.proofs.lemmas.Bool.{eq-eqb, eqb-true}
 use Rattle.delivery_turns.specs.actors.Labels.{bound_to}
 use Rattle.delivery_turns.specs.rules.Traces.{all_open}
-use Rattle.row_laws.proofs.Fields.{FormedAt, formed_here, record_formed}
-use Rattle.row_laws.proofs.Forms.{field_formed, got, null_formed}
-use Rattle.row_laws.proofs.OpenSeats.{AreAllOpen, all_are_open, others_are_open}
+use Rattle.rule_laws.proofs.Fields.{FormedAt, formed_here, record_formed}
+use Rattle.rule_laws.proofs.Forms.{field_formed, got, null_formed}
+use Rattle.rule_laws.proofs.OpenSeats.{AreAllOpen, all_are_open, others_are_open}
 use Rattle.turn_writer.specs.host_data.Tree as trees
 use Rattle.turn_writer.specs.host_data.Tree.{Fields, Tree, field, fields, field_of, get, no_fields, null}
 use Rattle.delivery_turns.specs.promise_store.Linked.{IsForest, LeadsTo, here, leader, through}
 use Rattle.delivery_turns.specs.promise_store.States.{SettlementView, broken, ok}
 use Rattle.delivery_turns.specs.promise_store.declared.links.Following.{Following}
-use Rattle.turn_writer.specs.proposals.declared.allocations.Row.{Row}
+use Rattle.turn_writer.specs.proposals.declared.allocations.Share.{Share}
 use Rattle.turn_writer.specs.refusals.Codes.{promise_cycle, refusal_tree}
 use Rattle.turn_writer.specs.refusals.Codes as codes_of
 use Rattle.delivery_turns.specs.turn_records.Settlements.{part, settled_after, start_record}
@@ -28,9 +28,9 @@ use Rattle.delivery_turns.specs.world_state.Known.{IsFormed, IsHanded}
 use Rattle.delivery_turns.specs.world_state.Promises.{target_of}
 use Rattle.delivery_turns.specs.world_state.Rights.{slots_at}
 use Rattle.delivery_turns.specs.world_state.Worlds.{Effect, IsOpen, State, after, after_all, bind_label, end_staging, exit, halt, in_front, publish, resolve, seat_at}
-use Rattle.row_laws.proofs.world_laws.Forms.{formed_grows}
-use Rattle.row_laws.proofs.world_laws.Growing.{grows-after}
-use Rattle.row_laws.proofs.world_laws.Fronts.{due_behind, front-after, good_behind, in_hand}
+use Rattle.rule_laws.proofs.world_laws.Forms.{formed_grows}
+use Rattle.rule_laws.proofs.world_laws.Growing.{grows-after}
+use Rattle.rule_laws.proofs.world_laws.Fronts.{due_behind, front-after, good_behind, in_hand}
 use Rattle.delivery_turns.specs.Endings.{binds, binds_to, departs, ending, last_followed, leads_back, publishes, settles, without_cycle}
 use Rattle.delivery_turns.specs.Tasks.{exit_if_open, exits_with, halt_with}
 use Rattle.delivery_laws.specs.Works.{IsOut, LabelIsFree}
@@ -164,7 +164,7 @@ settles_out w d (spent meter) good out = refusal_formed w None (codes_of.spent m
 
 -- ---- seats that are left
 
-pub open_there : (o : Option (List Row)) → is_none o ≡ true → o ≡ None
+pub open_there : (o : Option (List Share)) → is_none o ≡ true → o ≡ None
 open_there None e = refl
 open_there (Some rows) e = cc
 

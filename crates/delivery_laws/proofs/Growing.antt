@@ -12,15 +12,15 @@ use Rattle.turn_writer.specs.Printing.{CanPrintOpening, CanPrintSettlement}
 use Rattle.delivery_turns.specs.turn_records.Deliveries.{Delivery}
 use Rattle.delivery_turns.specs.turn_records.Events.{Event, Leaving, Opening, called, exited, moved, opened, settled}
 use Rattle.delivery_turns.specs.turn_records.Tellable.{IsTellableRule}
-use Rattle.turn_writer.specs.proposals.Rows.{AreRows}
+use Rattle.turn_writer.specs.proposals.Shares.{AreShares}
 use Rattle.delivery_turns.specs.world_state.Good.{AreGood, AreNamed, IsGoodEffect, IsGoodWorld, IsRule, IsSettled, IsSettling}
 use Rattle.delivery_turns.specs.world_state.Known.{IsHanded}
 use Rattle.delivery_turns.specs.world_state.Promises.{CascadeStep, Flow, PromiseBook, all_stepped, cascade, flowing, following, no_promise, notifies, resolving, resolving_to, settlement_at, settles, settling, stepped, target_of}
 use Rattle.delivery_turns.specs.world_state.Rights.{slots_at}
 use Rattle.delivery_turns.specs.world_state.Worlds.{Effect, State, after, after_all, burn_and_escrows, empty_seat, exit, invitation_move, invite, leaving_events, moves, moves_out, note_call, offer, offer_events, of_own, opening_of, paid_out, payouts_tree, promises_made, resolve}
-use Rattle.row_laws.proofs.world_laws.Kept.{good-after}
-use Rattle.row_laws.proofs.world_laws.Lists.{all_append, all_map, all_read_or, length_append, length_map}
-use Rattle.row_laws.proofs.world_laws.Payouts.{payouts_handed}
+use Rattle.rule_laws.proofs.world_laws.Kept.{good-after}
+use Rattle.rule_laws.proofs.world_laws.Lists.{all_append, all_map, all_read_or, length_append, length_map}
+use Rattle.rule_laws.proofs.world_laws.Payouts.{payouts_handed}
 use Rattle.delivery_laws.proofs.Printing.{formed_prints}
 
 pub settling_prints : (w : State) → IsGoodWorld w → (s : SettlementView) → IsSettling w s → CanPrintSettlement s
@@ -43,7 +43,7 @@ payouts_print w seat v good then is = formed_prints v then None (payouts_tree w 
 payouts_are_handed : (w : State) (seat : ℕ) (v : State) → IsGoodWorld w → v.rights.payments ≡ w.rights.payments ++ map paid_out (slots_at w.rights.slots seat) → IsHanded v (payouts_tree w seat)
 payouts_are_handed w seat v good paid =
     let rows = slots_at w.rights.slots seat in
-    let apart = all_read_or AreRows w.rights.slots seat [] good.seats.rows (record { few = omega arith; apart = tt }) in
+    let apart = all_read_or AreShares w.rights.slots seat [] good.seats.shares (record { few = omega arith; apart = tt }) in
     let named = all_read_or AreNamed w.rights.slots seat [] good.seats.named tt in
     payouts_handed v (length w.rights.payments) rows apart.apart named
     (omega (arith, ap length paid, length_append w.rights.payments (map paid_out rows), length_map paid_out rows))

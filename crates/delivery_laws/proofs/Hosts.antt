@@ -7,8 +7,8 @@ use Rattle.delivery_turns.specs.actors.Tables.{instance_at}
 use Rattle.delivery_turns.specs.promise_store.States.{SettlementView}
 use Rattle.delivery_turns.specs.promise_store.declared.links.Following.{Following}
 use Rattle.turn_writer.specs.host_data.Tree.{Tree}
-use Rattle.row_laws.specs.GoodServices.{AreGoodServices}
-use Rattle.delivery_turns.specs.rules.ZoeRows.{TextReader}
+use Rattle.rule_laws.specs.GoodServices.{AreGoodServices}
+use Rattle.delivery_turns.specs.rules.Zoe.{TextReader}
 use Rattle.delivery_turns.specs.turn_records.Settlements.{settled_after}
 use Rattle.delivery_turns.specs.turn_records.Deliveries as deliveries
 use Rattle.delivery_turns.specs.turn_records.Deliveries.{Delivery, promise_of}
@@ -17,12 +17,12 @@ use Rattle.delivery_turns.specs.turn_rows.Causes.{Cause}
 use Rattle.delivery_turns.specs.world_state.Good.{IsDue, IsFacet, IsGoodWorld, IsInvitation, IsLabel, IsNotice, IsSettled, IsTimedEntry}
 use Rattle.delivery_turns.specs.world_state.Rights.{IsRoomy, most_issued, most_turns}
 use Rattle.delivery_turns.specs.world_state.Worlds.{Effect, State, after, after_all, behind, end_staging, halt, in_front, invite, issued_by, issued_by_all, moves, note_call, offer, seat_at}
-use Rattle.row_laws.proofs.world_laws.Forms.{due_grows, facet_grows, instance_grows, invitation_grows, label_grows, notice_grows, settled_grows, timed_grows}
-use Rattle.row_laws.proofs.world_laws.Fronts.{begins, good_behind}
-use Rattle.row_laws.proofs.world_laws.Kept.{good-after_all}
-use Rattle.row_laws.proofs.world_laws.Lists.{all_map}
-use Rattle.row_laws.proofs.world_laws.Roomy.{roomy-after_all}
-use Rattle.delivery_turns.specs.rules.Host.{serve as serve_call}
+use Rattle.rule_laws.proofs.world_laws.Forms.{due_grows, facet_grows, instance_grows, invitation_grows, label_grows, notice_grows, settled_grows, timed_grows}
+use Rattle.rule_laws.proofs.world_laws.Fronts.{begins, good_behind}
+use Rattle.rule_laws.proofs.world_laws.Kept.{good-after_all}
+use Rattle.rule_laws.proofs.world_laws.Lists.{all_map}
+use Rattle.rule_laws.proofs.world_laws.Roomy.{roomy-after_all}
+use Rattle.delivery_turns.specs.rules.Methods.{serve as serve_call}
 use Rattle.delivery_turns.specs.Endings.{binds, binds_to, departs, ending, publishes, settles}
 use Rattle.delivery_turns.specs.Hosts.{HostState, step_after, step_from, step_of, untold}
 use Rattle.delivery_turns.specs.Tasks.{beginning, exits_with, task_work}

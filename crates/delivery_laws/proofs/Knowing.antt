@@ -5,9 +5,9 @@ use Rattle.std.proofs.Common.{◌≡◌, ℕ, ◌+◌, ◌≤◌, ◌<◌, true,
 use Rattle.turn_writer.specs.host_data.Nodes.{Both, EachField, EachItem, EachNode, FunctionIs, HasFieldsInOrder, IsFree, IsShallow, ObjectIs}
 use Rattle.turn_writer.proofs.host_data.Nodes.{both, free, in_order_throughout, nested, ordered, shallow, weaker}
 use Rattle.delivery_turns.specs.turn_records.Printable.{HaveFieldNames}
-use Rattle.row_laws.specs.jessie_semantics.Form.{InForm}
-use Rattle.row_laws.specs.jessie_semantics.Keeping.{AllHave, FieldsWithin, ItemsWithin, Known, Reference, Within, to_function, to_object}
-use Rattle.row_laws.specs.jessie_semantics.Naming.{FieldNamesAre, HasFieldNames, IsFieldName, ItemNamesAre, NamesAre}
+use Rattle.rule_laws.specs.jessie_semantics.Form.{InForm}
+use Rattle.rule_laws.specs.jessie_semantics.Keeping.{AllHave, FieldsWithin, ItemsWithin, Known, Reference, Within, to_function, to_object}
+use Rattle.rule_laws.specs.jessie_semantics.Naming.{FieldNamesAre, HasFieldNames, IsFieldName, ItemNamesAre, NamesAre}
 use Rattle.turn_writer.specs.host_data.Tree.{Tree, null, boolean, number, text, array, fields, object, function, Items, no_items, item, Fields, no_fields, field, is_local, nesting, stays}
 use Rattle.turn_writer.specs.host_data.declared.data.Obj.{Obj}
 use Rattle.turn_writer.specs.host_data.declared.data.ObjKind.{ObjKind}

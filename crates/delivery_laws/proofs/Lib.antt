@@ -13,11 +13,11 @@ pub mod ReadingForms
 pub mod Endings
 pub mod Calls
 pub mod Steps
-pub use Rattle.row_laws.proofs.jessie_semantics
-pub use Rattle.row_laws.proofs.lemmas
+pub use Rattle.rule_laws.proofs.jessie_semantics
+pub use Rattle.rule_laws.proofs.lemmas
 pub use Rattle.turn_writer.proofs.proposals
 pub use Rattle.turn_writer.proofs.refusals
-pub use Rattle.delivery_turns.proofs.right_steps
-pub use Rattle.row_laws.proofs as row_laws
+pub use Rattle.delivery_turns.proofs.vault_model
+pub use Rattle.rule_laws.proofs as rule_laws
 pub use Rattle.delivery_turns.proofs.turn_records
-pub use Rattle.row_laws.proofs.world_laws
+pub use Rattle.rule_laws.proofs.world_laws

@@ -11,7 +11,7 @@ use Rattle.delivery_turns.specs.world_state.Known.{Extends, Grows, Keeps}
 use Rattle.delivery_turns.specs.world_state.Promises.{CascadeStep, Flow, PromiseBook, Resolved, all_stepped, as_resolved, cascade, flowing, following, notifies, resolving, resolving_to, settlement_at, settles, settling, stepped, target_of}
 use Rattle.delivery_turns.specs.world_state.Rights.{slots_at}
 use Rattle.delivery_turns.specs.world_state.Worlds.{Effect, Maker, State, add_issuer, after, after_all, arrive, bind_label, empty_payment, empty_seat, end_staging, exit, halt, install, invite, issued_by, issued_by_all, keep_state, leaving_events, make_facet, moves, new_brand, new_purse, note_call, of_host, of_instance, of_kit, offer, payouts_tree, publish, resolve, rights_left, seats_left, send, set_time, stage, start, stop, unstage, wake, when}
-use Rattle.row_laws.proofs.world_laws.Forms.{facet_grows, formed_grows, handed_all_grow, invitation_grows, issuer_grows, issuers_all_grow, known_all_grow, settling_grows, wakeup_grows}
+use Rattle.rule_laws.proofs.world_laws.Forms.{facet_grows, formed_grows, handed_all_grow, invitation_grows, issuer_grows, issuers_all_grow, known_all_grow, settling_grows, wakeup_grows}
 use Rattle.delivery_laws.specs.Told.{with_log}
 
 -- ---- settling

@@ -9,7 +9,7 @@ use Rattle.delivery_turns.specs.actors.Labels.{Bound, bound_to, is_of, label_in,
 use Rattle.delivery_turns.specs.actors.Paths.{Found, and_then, followed, fulfilled, item_at, part_at, part_met, stands_at, steps_of, walked, walked_from}
 use Rattle.delivery_turns.specs.actors.declared.paths.ResolveFault.{ResolveFault}
 use Rattle.delivery_turns.specs.actors.declared.paths.ResolveFault.TheVariants.{UnknownName}
-use Rattle.row_laws.proofs.Forms.{field_formed, object_formed, raised}
+use Rattle.rule_laws.proofs.Forms.{field_formed, object_formed, raised}
 use Rattle.turn_writer.specs.host_data.Nodes.{AreInOrder, EachField, EachItem, EachNode, FunctionIs, HasFieldsInOrder, IsShallow, NodeFact, ObjectIs}
 use Rattle.turn_writer.proofs.host_data.Nodes.{shallow}
 use Rattle.delivery_turns.specs.turn_records.Printable.{HaveFieldNames, most_nested}
@@ -30,7 +30,7 @@ use Rattle.delivery_turns.specs.world_state.Known.{FunctionKnown, HasNames, IsFo
 use Rattle.delivery_turns.specs.world_state.Lines.{AreFormedFields, AreFormedParts, IsBefore, IsFormedCall, IsFormedPart}
 use Rattle.delivery_turns.specs.world_state.Promises.{no_promise, settlement_at, state_by}
 use Rattle.delivery_turns.specs.world_state.Worlds.{State, promises_made}
-use Rattle.row_laws.proofs.world_laws.Lists.{all_read}
+use Rattle.rule_laws.proofs.world_laws.Lists.{all_read}
 use Rattle.delivery_turns.specs.Messages.{Addressed, addressed, found_or_refused, gift_of, label_is_free, promise_states, resolved, resolved_all, resolved_fields, sent_to, value_at}
 
 -- ---- results

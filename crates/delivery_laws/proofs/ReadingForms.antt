@@ -11,8 +11,8 @@ use Rattle.delivery_turns.specs.turn_records.Messages.{LineCall, LineGift}
 use Rattle.delivery_turns.specs.turn_records.Printed.{trees_of}
 use Rattle.delivery_turns.specs.world_state.Good.{IsGoodWorld}
 use Rattle.delivery_turns.specs.world_state.Worlds.{State, in_front}
-use Rattle.row_laws.proofs.world_laws.Fronts.{due_behind, good_behind}
-use Rattle.row_laws.proofs.world_laws.Printables.{function_named}
+use Rattle.rule_laws.proofs.world_laws.Fronts.{due_behind, good_behind}
+use Rattle.rule_laws.proofs.world_laws.Printables.{function_named}
 use Rattle.delivery_turns.specs.Messages.{Addressed, addressed, gift_of, sent_to}
 use Rattle.delivery_turns.specs.Tasks.{beginning, call_beginning, gift_beginning, settlement_of}
 use Rattle.delivery_laws.proofs.Printing.{all_print, below, formed_prints}

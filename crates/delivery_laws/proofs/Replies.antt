@@ -4,30 +4,30 @@ use Rattle.std.specs.Prelude.{IfOk, IfSome, nat_lt}
 use Rattle.std.specs.List.{AllByRecursion}
 use Rattle.std.proofs.Common.{◌≡◌, ℕ, ◌+◌, ◌*◌, ◌^◌, ◌-◌, ◌≤◌, ◌<◌, Bool, true, false, not, ◌||◌, List, [], ◌∷◌, ◌++◌, Option, Some, None, Result, Ok, Err, length, refl, sym, ap, subst, arith}
 use Rattle.std.specs.Prelude.{slice_index_or}
-use Rattle.row_laws.specs.call_arguments.Arguments.{arg}
+use Rattle.rule_laws.specs.call_arguments.Arguments.{arg}
 use Rattle.delivery_turns.specs.rules.Acts.{MayAct}
-use Rattle.delivery_turns.specs.rules.Obligations.{CanCall, IsRow, most_issued_by}
-use Rattle.delivery_turns.specs.rules.Rows.{Outcome}
-use Rattle.row_laws.proofs.Forms.{null_formed, object_formed}
-use Rattle.row_laws.proofs.Next.{after_next_of}
+use Rattle.delivery_turns.specs.rules.Obligations.{CanCall, IsRule, most_issued_by}
+use Rattle.delivery_turns.specs.rules.Outcomes.{Outcome}
+use Rattle.rule_laws.proofs.Forms.{null_formed, object_formed}
+use Rattle.rule_laws.proofs.Next.{after_next_of}
 use Rattle.turn_writer.specs.host_data.Nodes.{EachField, FunctionIs, ObjectIs, IsShallow}
 use Rattle.turn_writer.proofs.host_data.Nodes.{weaker}
-use Rattle.row_laws.specs.ertp_mint.Stocks.{most_made}
-use Rattle.row_laws.specs.jessie_semantics.Keeping.{AllHave, CallHas, ReplyHas, method_fields}
-use Rattle.row_laws.specs.jessie_semantics.Play.{Call, call, cost, far, send, when}
+use Rattle.rule_laws.specs.ertp_mint.Stocks.{most_made}
+use Rattle.rule_laws.specs.jessie_semantics.Keeping.{AllHave, CallHas, ReplyHas, method_fields}
+use Rattle.rule_laws.specs.jessie_semantics.Play.{Call, call, cost, far, send, when}
 use Rattle.turn_writer.specs.host_data.Tree as trees
 use Rattle.turn_writer.specs.host_data.Tree.{Tree, is_local, object, some_local, stays}
 use Rattle.turn_writer.specs.host_data.View.{items_of}
 use Rattle.turn_writer.specs.host_data.declared.data.Obj.{Obj}
 use Rattle.turn_writer.specs.host_data.declared.data.ObjKind.{ObjKind}
 use Rattle.turn_writer.specs.host_data.declared.data.ObjKind.TheVariants as kinds
-use Rattle.row_laws.specs.jessie_values.Requests.{is_promise}
+use Rattle.rule_laws.specs.jessie_values.Requests.{is_promise}
 use Rattle.turn_writer.specs.refusals.Codes.{refusal_tree}
 use Rattle.turn_writer.specs.refusals.Plain.{IsPlain}
 use Rattle.turn_writer.specs.refusals.declared.codes.Refusal.{Refusal}
 use Rattle.turn_writer.proofs.refusals.Plainly.{in_order, plain, shallow}
 use Rattle.turn_writer.proofs.refusals.Steps.{after_need}
-use Rattle.delivery_turns.specs.rules.Trades.{serve}
+use Rattle.delivery_turns.specs.rules.Methods.{serve_own}
 use Rattle.turn_writer.specs.Printing.{CanPrintAll, CanPrintAnswer, CanPrintCall, CanPrintData, CanPrintNode, CanPrintObject}
 use Rattle.turn_writer.proofs.Brought.{refusal_prints}
 use Rattle.delivery_turns.specs.promise_store.States.{SettlementView}
@@ -41,11 +41,12 @@ use Rattle.delivery_turns.specs.world_state.Known.{FunctionKnown, HasNames, IsFo
 use Rattle.delivery_turns.specs.world_state.Rights.{IsRoomy}
 use Rattle.delivery_turns.specs.world_state.Worlds as worlds
 use Rattle.delivery_turns.specs.world_state.Worlds.{Effect, State, after, after_all, bind_label, issued_by_all, note_call, promises_made, request_of, resolve}
-use Rattle.row_laws.proofs.world_laws.Forms.{formed_grows}
-use Rattle.row_laws.proofs.world_laws.Kept.{good-after_all}
-use Rattle.row_laws.proofs.world_laws.Lists.{all_read_or, length_append}
+use Rattle.rule_laws.proofs.world_laws.Forms.{formed_grows}
+use Rattle.rule_laws.proofs.world_laws.Kept.{good-after_all}
+use Rattle.rule_laws.proofs.world_laws.Lists.{all_read_or, length_append}
 use Rattle.delivery_turns.specs.HostCalls.{method_fields as told_fields}
-use Rattle.delivery_turns.specs.HostCalls.{answer_of, call_effects, call_reply, call_row, effects_of, far_row, reply_of, send_row, told_call, told_effects, when_row}
+use Rattle.delivery_turns.specs.HostCalls.{answer_of, call_effects, call_reply, effects_of, reply_of, told_call, told_effects}
+use Rattle.delivery_turns.specs.rules.PromisesAndFacets.{call_rule, far_rule, send_rule, when_rule}
 use Rattle.delivery_laws.specs.Told.{with_log}
 use Rattle.delivery_laws.specs.Works.{AreGoodHostCalls, IsCallWork, IsOfCall}
 use Rattle.delivery_laws.proofs.Asking.{all_have, have_all}
@@ -95,7 +96,7 @@ pub calm_acts : (w : State) (caller : Option ℕ) (o : Obj) (m : List ℕ) (es :
 calm_acts w caller o m [] is = tt
 calm_acts w caller o m (e ∷ es) is = (calm_act w caller o m e is.0, calm_acts w caller o m es is.1)
 
--- ---- what a row is for an instance
+-- ---- what a rule is for an instance
 
 pub record IsWork (w : State) (i n : ℕ) (answer : Tree) (es : List Effect) : Type 0 where
   pub good : AreGood w es
@@ -182,9 +183,9 @@ call_can w i o args good made target known room = record {
   room = room;
 }
 
-row_work : (w : State) (i n : ℕ) (o : Obj) (m : List ℕ) (args : List Tree) (row : Outcome) → most_issued_by (Some i) args ≤ n → IfOk row (λ d. IsRow w (Some i) o m args d.0 d.1) → IsWorkOf w i n row
-row_work w i n o m args (Err r) le is = tt
-row_work w i n o m args (Ok (answer, es)) le is = record { good = is.good; known = is.known; calm = calm_acts w (Some i) o m es is.acts; issues = omega (arith, is.issues, le) }
+outcome_work : (w : State) (i n : ℕ) (o : Obj) (m : List ℕ) (args : List Tree) (row : Outcome) → most_issued_by (Some i) args ≤ n → IfOk row (λ d. IsRule w (Some i) o m args d.0 d.1) → IsWorkOf w i n row
+outcome_work w i n o m args (Err r) le is = tt
+outcome_work w i n o m args (Ok (answer, es)) le is = record { good = is.good; known = is.known; calm = calm_acts w (Some i) o m es is.acts; issues = omega (arith, is.issues, le) }
 
 -- ---- sends
 
@@ -204,8 +205,8 @@ handed_all : (w : State) (i : ℕ) (vs : List Tree) → some_local (items_of vs)
 handed_all w i [] e h = tt
 handed_all w i (v ∷ vs) e h = (handed_of w i v (or_left _ _ e) h.0, handed_all w i vs (or_right (is_local v) _ e) h.1)
 
-send_is : (w : State) (i n : ℕ) (target : Obj) (m : List ℕ) (args : List Tree) → i < length w.tables.instances → IsKnownTo w i (object target) → AllHave (IsKnownTo w i) args → IsWorkOf w i n (send_row w i target m args)
-unfolding send_row
+send_is : (w : State) (i n : ℕ) (target : Obj) (m : List ℕ) (args : List Tree) → i < length w.tables.instances → IsKnownTo w i (object target) → AllHave (IsKnownTo w i) args → IsWorkOf w i n (send_rule w i target m args)
+unfolding send_rule
 send_is w i n target m args made known all =
     after_need (λ d. IsWork w i n d.0 d.1) (not (stays target.kind || some_local (items_of args))) _ _
     (λ e. after_next_of (λ d. IsWork w i n d.0 d.1) (promises_made w) most_made _ (λ room.
@@ -233,8 +234,8 @@ asked_made w i p f held =
     let more = length_append w.promises.settled (None ∷ []) in
     omega (arith, same, more)
 
-when_is : (w : State) (i n : ℕ) (promise : Obj) (f : List ℕ) (held : Tree) → i < length w.tables.instances → is_promise promise.kind ≡ true → IsKnownTo w i (object promise) → IsKnownTo w i (trees.function f) → IsKnownTo w i held → IsWorkOf w i n (when_row w i promise f held)
-unfolding when_row
+when_is : (w : State) (i n : ℕ) (promise : Obj) (f : List ℕ) (held : Tree) → i < length w.tables.instances → is_promise promise.kind ≡ true → IsKnownTo w i (object promise) → IsKnownTo w i (trees.function f) → IsKnownTo w i held → IsWorkOf w i n (when_rule w i promise f held)
+unfolding when_rule
 when_is w i n promise f held made is known named kept =
     after_next_of (λ d. IsWork w i n d.0 d.1) (promises_made w) most_made _ (λ room. record {
       good = (record { made = promise_there w i promise.kind promise.number is known.objects; function = named.functions; held = kept; room = room }, tt);
@@ -249,8 +250,8 @@ methods_there : (w : State) (i n : ℕ) (ms : List (List ℕ × List ℕ)) → E
 methods_there w i n [] h = tt
 methods_there w i n (m ∷ ms) h = (h.0, methods_there w i n ms h.1)
 
-far_is : (w : State) (i n : ℕ) (ms : List (List ℕ × List ℕ)) (held : Tree) → i < length w.tables.instances → IsKnownTo w i (trees.fields (method_fields ms)) → IsKnownTo w i held → IsWorkOf w i n (far_row w i ms held)
-unfolding far_row
+far_is : (w : State) (i n : ℕ) (ms : List (List ℕ × List ℕ)) (held : Tree) → i < length w.tables.instances → IsKnownTo w i (trees.fields (method_fields ms)) → IsKnownTo w i held → IsWorkOf w i n (far_rule w i ms held)
+unfolding far_rule
 far_is w i n ms held made named kept =
     after_next_of (λ d. IsWork w i n d.0 d.1) (length w.facets) most_made _ (λ room. record {
       good = (record { facet = record { made = made; methods = methods_there w i 1 ms named.functions.1; held = kept }; room = room }, tt);
@@ -262,15 +263,15 @@ far_is w i n ms held made named kept =
 -- ---- any call
 
 module _ (served : AreGoodHostCalls) (w : State) (i : ℕ) (good : IsGoodWorld w) (made : i < length w.tables.instances) where
-  row_is : (c : Call) → CallHas (IsKnownTo w i) c → IsRoomy w.rights.out (2 ^ 63 * cost c) → IsWorkOf w i (2 ^ 63 * cost c) (call_row w i c)
-  row_is (call o m args) known room = row_work w i _ o m args (serve w o m args) (omega arith) (served w i o m args (call_can w i o args good made known.0 known.1 room))
+  row_is : (c : Call) → CallHas (IsKnownTo w i) c → IsRoomy w.rights.out (2 ^ 63 * cost c) → IsWorkOf w i (2 ^ 63 * cost c) (call_rule w i c)
+  row_is (call o m args) known room = outcome_work w i _ o m args (serve_own w o m args) (omega arith) (served w i o m args (call_can w i o args good made known.0 known.1 room))
   row_is (send o m args) known room = send_is w i _ o m args made known.0 known.1
   row_is (when o f held) known room = when_is w i _ o f held made known.0 known.1 known.2 known.3
   row_is (far x ms held) known room = far_is w i _ ms held made known.0 known.1
 
   pub call_is : (c : Call) → CallHas (IsKnownTo w i) c → IsRoomy w.rights.out (2 ^ 63 * cost c) → IsCallWork w i (2 ^ 63 * cost c) c
   call_is c known room =
-      let row = call_row w i c in
+      let row = call_rule w i c in
       let work = row_is c known room in
       let prints = told_prints w i good c row known (answer_prints w i good (2 ^ 63 * cost c) row work) in
       let is = told_is w i (2 ^ 63 * cost c) c row work prints in

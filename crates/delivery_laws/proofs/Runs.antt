@@ -3,19 +3,19 @@
 use Rattle.std.specs.List.{AllByRecursion}
 use Rattle.std.proofs.Math.Nat.{mul-add, mul-le-mul_left}
 use Rattle.std.proofs.Common.{◌≡◌, ℕ, ◌+◌, ◌*◌, ◌^◌, ◌-◌, ◌≤◌, ◌<◌, List, [], ◌∷◌, ◌++◌, Some, length, refl, sym, ap, ◌∙◌, subst, arith}
-use Rattle.row_laws.specs.jessie_semantics.Keeping.{AllHave, CallHas, EndingHas, Fits, NextHas, RepliesHave, ReplyHas}
-use Rattle.row_laws.specs.jessie_semantics.Play.{Asks, Call, Ending, Ends, Play, Reply, Spends, after, cost, reply_size}
+use Rattle.rule_laws.specs.jessie_semantics.Keeping.{AllHave, CallHas, EndingHas, Fits, NextHas, RepliesHave, ReplyHas}
+use Rattle.rule_laws.specs.jessie_semantics.Play.{Asks, Call, Ending, Ends, Play, Reply, Spends, after, cost, reply_size}
 use Rattle.turn_writer.specs.host_data.Tree.{Tree}
 use Rattle.delivery_turns.specs.world_state.Good.{AreGood, IsGoodWorld}
 use Rattle.delivery_turns.specs.world_state.Known.{Extends, Grows, IsKnownTo, Keeps}
 use Rattle.delivery_turns.specs.world_state.Rights.{IsRoomy}
 use Rattle.delivery_turns.specs.world_state.Worlds.{Effect, State, after_all, issued_by_all}
 use Rattle.delivery_turns.specs.world_state.Worlds as worlds
-use Rattle.row_laws.proofs.world_laws.Forms.{formed_grows}
-use Rattle.row_laws.proofs.world_laws.Growing.{grows-after}
-use Rattle.row_laws.proofs.world_laws.Kept.{good-after_all}
-use Rattle.row_laws.proofs.world_laws.Lists.{extends_refl, extends_trans, keeps_refl, keeps_trans}
-use Rattle.row_laws.proofs.world_laws.Roomy.{roomy-after_all}
+use Rattle.rule_laws.proofs.world_laws.Forms.{formed_grows}
+use Rattle.rule_laws.proofs.world_laws.Growing.{grows-after}
+use Rattle.rule_laws.proofs.world_laws.Kept.{good-after_all}
+use Rattle.rule_laws.proofs.world_laws.Lists.{extends_refl, extends_trans, keeps_refl, keeps_trans}
+use Rattle.rule_laws.proofs.world_laws.Roomy.{roomy-after_all}
 use Rattle.delivery_turns.specs.Functions.{Run, ended, ran_out, run, run_after}
 use Rattle.delivery_turns.specs.HostCalls.{call_effects, call_reply}
 use Rattle.delivery_laws.specs.Works.{AreGoodHostCalls, Evaluates, IsCallWork, IsEnded, IsOfCall, IsRun}

@@ -2,8 +2,8 @@
 use Rattle.std.specs.Prelude.{IfSome}
 use Rattle.std.specs.List.{AllByRecursion}
 use Rattle.std.proofs.Common.{◌≡◌, ℕ, ◌+◌, ◌≤◌, ◌<◌, List, [], ◌∷◌, ◌++◌, Option, Some, None, refl, sym, subst}
-use Rattle.row_laws.specs.GoodServices.{AreGoodServices}
-use Rattle.delivery_turns.specs.rules.ZoeRows.{TextReader}
+use Rattle.rule_laws.specs.GoodServices.{AreGoodServices}
+use Rattle.delivery_turns.specs.rules.Zoe.{TextReader}
 use Rattle.delivery_turns.specs.turn_records.Ends.{CanTell, StandsIn}
 use Rattle.delivery_turns.proofs.turn_records.Ending.{ends as fits_kind, tells as stands_in}
 use Rattle.turn_writer.specs.Printing.{CanPrint, CanPrintAnswer, CanPrintEvent}
@@ -12,9 +12,9 @@ use Rattle.delivery_turns.specs.turn_records.Events.{Answer, given, refused, spe
 use Rattle.delivery_turns.specs.world_state.Good.{IsGoodWorld}
 use Rattle.delivery_turns.specs.world_state.Rights.{IsRoomy, most_issued, most_turns}
 use Rattle.delivery_turns.specs.world_state.Worlds.{Effect, State, after_all, behind, in_front, note_call}
-use Rattle.row_laws.proofs.world_laws.Fronts.{begins, good_behind}
-use Rattle.row_laws.proofs.world_laws.Lists.{all_append, all_map}
-use Rattle.delivery_turns.specs.rules.Host.{serve as serve_call}
+use Rattle.rule_laws.proofs.world_laws.Fronts.{begins, good_behind}
+use Rattle.rule_laws.proofs.world_laws.Lists.{all_append, all_map}
+use Rattle.delivery_turns.specs.rules.Methods.{serve as serve_call}
 use Rattle.delivery_turns.specs.Endings.{ending}
 use Rattle.delivery_turns.specs.Hosts.{HostState, step_after, step_from, step_of, told_turn}
 use Rattle.delivery_turns.specs.Tasks.{beginning, task_work}

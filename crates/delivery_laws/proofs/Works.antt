@@ -8,24 +8,24 @@ use Rattle.std.proofs.Common.{◌≡◌, ℕ, ◌+◌, ◌*◌, ◌^◌, ◌-◌
 use Rattle.std.proofs.Math.Nat.{mul-le-mul_left}
 use Rattle.std.proofs.lemmas.Bool.{ltb-false, ltb-true}
 use Rattle.delivery_turns.specs.actors.Labels.{bound_to}
-use Rattle.row_laws.specs.call_arguments.Arguments.{arg}
+use Rattle.rule_laws.specs.call_arguments.Arguments.{arg}
 use Rattle.turn_writer.specs.host_data.Values.{number_tree, object_tree}
-use Rattle.delivery_turns.specs.rules.Obligations.{CanCall, IsRow}
-use Rattle.delivery_turns.specs.rules.Rows.{Outcome}
+use Rattle.delivery_turns.specs.rules.Obligations.{CanCall, IsRule}
+use Rattle.delivery_turns.specs.rules.Outcomes.{Outcome}
 use Rattle.delivery_turns.specs.rules.Traces.{all_open}
 use Rattle.delivery_turns.specs.rules.Words.{has_halted, standing_of}
-use Rattle.row_laws.proofs.Fields.{FormedAt, formed_here, record_formed}
-use Rattle.row_laws.proofs.Forms.{null_formed, object_formed}
-use Rattle.row_laws.proofs.Shown.{handed_held}
-use Rattle.row_laws.proofs.OpenSeats.{AreAllOpen, all_are_open, others_are_open}
+use Rattle.rule_laws.proofs.Fields.{FormedAt, formed_here, record_formed}
+use Rattle.rule_laws.proofs.Forms.{null_formed, object_formed}
+use Rattle.rule_laws.proofs.Shown.{handed_held}
+use Rattle.rule_laws.proofs.OpenSeats.{AreAllOpen, all_are_open, others_are_open}
 use Rattle.delivery_turns.specs.actors.Facets.{FacetView, facet_at, no_facet}
 use Rattle.delivery_turns.specs.actors.Tables.{InstanceView, instance_at}
-use Rattle.row_laws.specs.jessie_semantics.Keeping.{AllHave, EndingHas}
-use Rattle.row_laws.specs.jessie_semantics.Play as plays
-use Rattle.row_laws.specs.jessie_semantics.Play.{Ending}
-use Rattle.row_laws.proofs.jessie_semantics.Licence.{room_fits}
-use Rattle.row_laws.specs.jessie_grammar.Syntax.{routines, variable_names}
-use Rattle.row_laws.specs.jessie_grammar.declared.syntax.Module.{Module}
+use Rattle.rule_laws.specs.jessie_semantics.Keeping.{AllHave, EndingHas}
+use Rattle.rule_laws.specs.jessie_semantics.Play as plays
+use Rattle.rule_laws.specs.jessie_semantics.Play.{Ending}
+use Rattle.rule_laws.proofs.jessie_semantics.Licence.{room_fits}
+use Rattle.rule_laws.specs.jessie_grammar.Syntax.{routines, variable_names}
+use Rattle.rule_laws.specs.jessie_grammar.declared.syntax.Module.{Module}
 use Rattle.turn_writer.specs.host_data.Tree as trees
 use Rattle.turn_writer.proofs.host_data.Nodes.{shallow}
 use Rattle.delivery_turns.specs.turn_records.Printable.{most_nested}
@@ -34,12 +34,12 @@ use Rattle.turn_writer.specs.host_data.declared.data.Obj.{Obj}
 use Rattle.turn_writer.specs.host_data.declared.data.ObjKind.{ObjKind}
 use Rattle.turn_writer.specs.host_data.declared.data.ObjKind.TheVariants as kinds
 use Rattle.delivery_turns.specs.promise_store.States.{SettlementView, broken, ok}
-use Rattle.turn_writer.specs.proposals.declared.allocations.Row.{Row}
+use Rattle.turn_writer.specs.proposals.declared.allocations.Share.{Share}
 use Rattle.turn_writer.specs.refusals.Codes.{closed, local_only, no_method, refusal_tree}
 use Rattle.turn_writer.specs.refusals.declared.codes.Refusal.{Refusal}
 use Rattle.turn_writer.specs.refusals.declared.codes.Refusal.TheVariants.{Backwards}
-use Rattle.delivery_turns.specs.rules.ZoeRows.{TextReader}
-use Rattle.row_laws.specs.GoodServices.{AreGoodServices}
+use Rattle.delivery_turns.specs.rules.Zoe.{TextReader}
+use Rattle.rule_laws.specs.GoodServices.{AreGoodServices}
 use Rattle.delivery_turns.specs.turn_records.Deliveries as deliveries
 use Rattle.delivery_turns.specs.turn_records.Deliveries.{Delivery}
 use Rattle.delivery_turns.specs.turn_records.Events.{Answer, given, refused, spent, threw}
@@ -53,17 +53,17 @@ use Rattle.delivery_turns.specs.turn_rows.Form.{times_end}
 use Rattle.delivery_turns.specs.world_state.Promises.{no_promise, settlement_at}
 use Rattle.delivery_turns.specs.world_state.Rights.{IsRoomy, most_issued}
 use Rattle.delivery_turns.specs.world_state.Worlds.{Effect, State, after, after_all, bind_label, end_staging, exit, halt, in_front, issued_by_all, keep_state, note_call, resolve, seat_at, set_time}
-use Rattle.row_laws.proofs.world_laws.Forms.{formed_grows, module_stays}
-use Rattle.row_laws.proofs.world_laws.Fronts.{due_behind, front-after_all, good_behind}
-use Rattle.row_laws.proofs.world_laws.Growing.{grows-after}
-use Rattle.row_laws.proofs.world_laws.Kept.{good-after_all}
-use Rattle.row_laws.proofs.world_laws.Lists.{all_read, all_read_or, length_map}
-use Rattle.delivery_turns.specs.rules.Host.{serve as serve_call}
+use Rattle.rule_laws.proofs.world_laws.Forms.{formed_grows, module_stays}
+use Rattle.rule_laws.proofs.world_laws.Fronts.{due_behind, front-after_all, good_behind}
+use Rattle.rule_laws.proofs.world_laws.Growing.{grows-after}
+use Rattle.rule_laws.proofs.world_laws.Kept.{good-after_all}
+use Rattle.rule_laws.proofs.world_laws.Lists.{all_read, all_read_or, length_map}
+use Rattle.delivery_turns.specs.rules.Methods.{serve as serve_call}
 use Rattle.delivery_turns.specs.Functions.{FunctionCall, Run, ended, function_run, module_play, ran_out, run}
 use Rattle.delivery_turns.specs.HostCalls.{answer_of, effects_of}
 use Rattle.delivery_turns.specs.Endings.{ending}
 use Rattle.delivery_turns.specs.Messages.{Addressed, addressed, gift_of, sent_to}
-use Rattle.delivery_turns.specs.Tasks.{Task, Work, answer_of_ending, beginning, call_beginning, do_all, exit_if_open, exits_with, facet_task, function_behind, gift_beginning, halt_with, handler_call, method_task, notice_call, refuse, row_work, run_task, run_work, serve, settlement_of, start_call, task_on, task_work, tick_task, wakeup_call}
+use Rattle.delivery_turns.specs.Tasks.{Task, Work, answer_of_ending, beginning, call_beginning, do_all, exit_if_open, exits_with, facet_task, function_behind, gift_beginning, halt_with, handler_call, method_task, notice_call, refuse, outcome_work, run_task, run_work, serve, settlement_of, start_call, task_on, task_work, tick_task, wakeup_call}
 use Rattle.delivery_turns.specs.Turns.{delivery_turn}
 use Rattle.delivery_turns.specs.Tasks as tasks
 use Rattle.delivery_laws.specs.Works.{AreGoodHostCalls, CanPrintNote, IsEnded, IsOfCall, IsOut, IsRun, IsTurnWork, LabelIsFree, most_meter}
@@ -127,14 +127,14 @@ calm_work w d a es good free are calm out issues = record {
 
 -- ---- the host's own objects
 
-served_work : (w : State) (d : Delivery) (o : Obj) (m : List ℕ) (args : List Tree) (row : Outcome) → IsGoodWorld (in_front d w) → WantsFree w d → IfOk row (λ x. IsRow w None o m args x.0 x.1) → IsTurnWork w d (row_work row)
+served_work : (w : State) (d : Delivery) (o : Obj) (m : List ℕ) (args : List Tree) (row : Outcome) → IsGoodWorld (in_front d w) → WantsFree w d → IfOk row (λ x. IsRule w None o m args x.0 x.1) → IsTurnWork w d (outcome_work row)
 served_work w d o m args (Err r) good free is = calm_work w d (refused r) [] good free tt tt tt (omega arith)
 served_work w d o m args (Ok (answer, es)) good free is =
     calm_work w d (given answer) es good free is.good (calm_acts w None o m es is.acts) is.known (let n = is.issues in omega (arith, n))
 
-pub service_row : (read : TextReader) (w : State) (d : Delivery) (o : Obj) (m : List ℕ) (args : List Tree) → AreGoodServices (serve_call read) → IsGoodWorld (in_front d w) → IsRoomy w.rights.out most_issued
-    → IsHanded w (trees.object o) → AllByRecursion (IsHanded w) args → IfOk (serve_call read w o m args) (λ x. IsRow w None o m args x.0 x.1)
-service_row read w d o m args served good room target handed =
+pub service_rule : (read : TextReader) (w : State) (d : Delivery) (o : Obj) (m : List ℕ) (args : List Tree) → AreGoodServices (serve_call read) → IsGoodWorld (in_front d w) → IsRoomy w.rights.out most_issued
+    → IsHanded w (trees.object o) → AllByRecursion (IsHanded w) args → IfOk (serve_call read w o m args) (λ x. IsRule w None o m args x.0 x.1)
+service_rule read w d o m args served good room target handed =
     served w o m args (record {
       good = good_behind w d good;
       hosted = tt;
@@ -144,9 +144,9 @@ service_row read w d o m args served good room target handed =
     })
 
 pub service_work : (read : TextReader) (w : State) (d : Delivery) (o : Obj) (m : List ℕ) (args : List Tree) → AreGoodServices (serve_call read) → IsGoodWorld (in_front d w) → WantsFree w d → IsRoomy w.rights.out most_issued
-    → IsHanded w (trees.object o) → AllByRecursion (IsHanded w) args → IsTurnWork w d (row_work (serve_call read w o m args))
+    → IsHanded w (trees.object o) → AllByRecursion (IsHanded w) args → IsTurnWork w d (outcome_work (serve_call read w o m args))
 service_work read w d o m args served good free room target handed =
-    served_work w d o m args (serve_call read w o m args) good free (service_row read w d o m args served good room target handed)
+    served_work w d o m args (serve_call read w o m args) good free (service_rule read w d o m args served good room target handed)
 
 -- ---- functions
 

@@ -3,11 +3,11 @@ use Rattle.std.specs.Prelude.{◌≡◌, ℕ, ◌≤◌, ◌*◌, ◌^◌, List,
 use Rattle.std.specs.List.{AllByRecursion}
 use Rattle.delivery_turns.specs.actors.Labels.{bound_to}
 use Rattle.delivery_turns.specs.rules.Obligations.{CanCall, IsGoodOutcome}
-use Rattle.row_laws.specs.jessie_semantics.Keeping.{AllHave, EndingHas, NextHas, RepliesHave, ReplyHas}
-use Rattle.row_laws.specs.jessie_semantics.Play.{Call, Ending, Play, Reply, after}
+use Rattle.rule_laws.specs.jessie_semantics.Keeping.{AllHave, EndingHas, NextHas, RepliesHave, ReplyHas}
+use Rattle.rule_laws.specs.jessie_semantics.Play.{Call, Ending, Play, Reply, after}
 use Rattle.turn_writer.specs.host_data.Tree.{Tree}
 use Rattle.turn_writer.specs.host_data.declared.data.Obj.{Obj}
-use Rattle.delivery_turns.specs.rules.Trades.{serve}
+use Rattle.delivery_turns.specs.rules.Methods.{serve_own}
 use Rattle.turn_writer.specs.Printing.{CanPrintCall}
 use Rattle.delivery_turns.specs.turn_records.Deliveries.{Delivery, call}
 use Rattle.delivery_turns.specs.turn_records.Events.{Answer, given, refused, spent, threw}
@@ -20,11 +20,11 @@ use Rattle.delivery_turns.specs.world_state.Rights.{most_issued}
 use Rattle.delivery_turns.specs.world_state.Worlds.{Effect, State, after_all, bind_label, in_front, issued_by_all}
 use Rattle.delivery_turns.specs.world_state.Worlds.{note_call, resolve}
 
--- each call that a function of an instance makes is a good row
+-- each call that a function of an instance makes has a good rule
 abbrev pub AreGoodHostCalls : Type 0
 AreGoodHostCalls =
     (w : State) (i : ℕ) (o : Obj) (m : List ℕ) (args : List Tree) →
-    CanCall w (Some i) o args → IsGoodOutcome w (Some i) o m args (serve w o m args)
+    CanCall w (Some i) o args → IsGoodOutcome w (Some i) o m args (serve_own w o m args)
 
 -- a call that is told can be printed
 abbrev pub CanPrintNote : Effect → Type 0

@@ -3,7 +3,7 @@
 ghost use Rattle.std.specs.Prelude.{IfSome, ◌<◌};
 ghost use Rattle.delivery_laws.specs.Hosts.{IsGoodHost};
 ghost use Rattle.delivery_turns.specs.Hosts.{HostState, step_of};
-ghost use Rattle.delivery_turns.specs.rules.ZoeRows.{ReadsModules, TextReader};
+ghost use Rattle.delivery_turns.specs.rules.Zoe.{ReadsModules, TextReader};
 ghost use Rattle.turn_writer.specs.Printing.{CanPrint};
 ghost use Rattle.delivery_turns.specs.world_state.Rights.{most_turns};
 

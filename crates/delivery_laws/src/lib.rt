@@ -5,4 +5,11 @@
 pub mod delivery_forms;
 pub mod laws;
 
-pub use turn_writer as turn_writer_lib;
+/// What `turn_writer` gives to those above.
+pub mod turn_writer_lib {
+    pub use turn_writer::{write_close, write_turn};
+
+    pub mod turn_form {
+        pub use turn_writer::turn_form::is_in_form;
+    }
+}

@@ -1,7 +1,7 @@
 -- How a turn ends moves nothing but what leaving seats pays out.
 use Rattle.std.proofs.Common.{◌≡◌, ℕ, List, [], ◌∷◌, Option, Some, None, subst, sym}
-use Rattle.world_reads.specs.call_plans.Views.{AreShaped, effect_views}
-use Rattle.world_reads.specs.call_plans.declared.effects.Effect.{Effect}
+use Rattle.world_reads.specs.call_outcomes.Views.{AreShaped, effect_views}
+use Rattle.world_reads.specs.call_outcomes.declared.effects.Effect.{Effect}
 use Rattle.delivery_turns.specs.Endings.{binds, binds_to, departs, ending, publishes, settles}
 use Rattle.host_data.specs.Tree.{Tree}
 use Rattle.delivery_turns.specs.promise_store.States.{SettlementView}

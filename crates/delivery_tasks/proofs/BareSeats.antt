@@ -2,10 +2,10 @@
 use Rattle.std.specs.Prelude.{cond, is_none}
 use Rattle.std.specs.List.{AllByRecursion}
 use Rattle.std.proofs.Common.{◌≡◌, ℕ, Bool, true, false, List, [], ◌∷◌, ◌++◌, sym, subst}
-use Rattle.world_reads.specs.call_plans.Views.{AreShaped, IsShaped, effect_view, effect_views}
-use Rattle.world_reads.specs.call_plans.declared.effects.Effect.{Effect}
-use Rattle.world_reads.specs.call_plans.declared.effects.Effect.TheVariants as effects
-use Rattle.world_reads.specs.call_plans.declared.effects.RightsEffect.TheVariants as rights
+use Rattle.world_reads.specs.call_outcomes.Views.{AreShaped, IsShaped, effect_view, effect_views}
+use Rattle.world_reads.specs.call_outcomes.declared.effects.Effect.{Effect}
+use Rattle.world_reads.specs.call_outcomes.declared.effects.Effect.TheVariants as effects
+use Rattle.world_reads.specs.call_outcomes.declared.effects.RightsEffect.TheVariants as rights
 use Rattle.delivery_turns.specs.rules.Traces.{all_open}
 use Rattle.delivery_turns.specs.Tasks.{exit_if_open, exits_with, halt_with}
 use Rattle.delivery_turns.specs.turn_rows.Causes.{Cause}

@@ -1,11 +1,10 @@
-pub mod StatesMet
-pub mod PartsResolved
-pub mod Sent
+pub mod PathStates
+pub mod PartLists
+pub mod SentCalls
 pub mod BareSeats
-pub mod OpenSeats
-pub mod Due
-pub mod Settled
+pub mod DueDeliveries
+pub mod Settlements
 pub mod BareEndings
 pub mod Chains
-pub mod Outs
+pub mod AnswerPromises
 pub use Rattle.host_data.proofs as host_data

@@ -1,5 +1,5 @@
 -- What the code's tasks are in the definitions.
-use Rattle.world_reads.specs.call_plans.Lists.{IsEachShaped, effects_view}
+use Rattle.world_reads.specs.call_outcomes.Lists.{IsEachShaped, effects_view}
 use Rattle.delivery_turns.specs.Functions as functions
 use Rattle.delivery_turns.specs.Tasks as definitions
 use Rattle.delivery_turns.specs.Tasks.{unread}

@@ -1,7 +1,7 @@
 //! What is read for a delivery, and what is then to be done: all kinds of deliveries.
 
 ghost use Rattle.std.specs.Prelude.{◌≡◌, ◌<◌, ◌∷◌, [], Ok, IfOk, length};
-ghost use Rattle.world_reads.specs.call_plans.Lists.{IsEachShaped, effects_view};
+ghost use Rattle.world_reads.specs.call_outcomes.Lists.{IsEachShaped, effects_view};
 ghost use Rattle.delivery_turns.specs.Tasks as tasks;
 ghost use Rattle.delivery_turns.specs.Tasks.{beginning, gift_beginning, notice_beginning, run_task, unread};
 ghost use Rattle.world_reads.specs.host_world.Worlds.{world_of};
@@ -13,7 +13,7 @@ ghost use Rattle.delivery_turns.specs.world_state.Good.{IsGoodWorld};
 ghost use Rattle.delivery_turns.specs.world_state.Worlds.{bind_label, in_front};
 ghost use Rattle.delivery_tasks.specs.Views.{IsTaskShaped, RefusedBy, beginning_view, function_call_view, task_view};
 
-use crate::calls::called;
+use crate::calls::method_beginning;
 use crate::effects::{binding, exit_if_open, one_effect};
 use crate::functions::{handler_call, notice_call, run_task, start_call, wakeup_call};
 use crate::messages::{addressed_call, gift_of, sent_to};
@@ -29,12 +29,12 @@ use host_data::data::Data;
 use refusals::codes::Refusal;
 use refusals::stops::Stop;
 use std::alloc::{AllocError, Global};
-use world_reads::call_plans_lib::effects::{Effect, PromisesEffect};
-use world_reads::call_plans_lib::lists::Effects;
+use world_reads::call_outcomes_lib::effects::{Effect, PromisesEffect};
+use world_reads::call_outcomes_lib::lists::Effects;
 use world_reads::host_world_lib::World;
 
 /// What is read, and what is then to be done.
-pub(crate) fn read(reading: Reading, task: Task) -> Beginning
+pub(crate) fn with_reading(reading: Reading, task: Task) -> Beginning
     ensures reading { result.reading ≡ reading }
     ensures task { result.task ≡ task }
 {
@@ -42,20 +42,20 @@ pub(crate) fn read(reading: Reading, task: Task) -> Beginning
 }
 
 /// Nothing is read.
-fn unread(task: Task) -> Beginning
+fn without_reading(task: Task) -> Beginning
     ensures view { beginning_view result ≡ unread (task_view task) }
     ensures task { result.task ≡ task }
 {
-    read(Reading::Nothing, task)
+    with_reading(Reading::Nothing, task)
 }
 
 /// What is refused, if it is.
-fn refused_by(stop: Stop) -> Result<Beginning, AllocError>
+fn refuse(stop: Stop) -> Result<Beginning, AllocError>
     ensures refused { IfOk result (λ b. RefusedBy stop (beginning_view b)) }
     ensures shaped { IfOk result (λ b. IsTaskShaped b.task) }
 {
     match stop {
-        Stop::Refused(refusal) => Ok(unread(Task::Refuse(refusal))),
+        Stop::Refused(refusal) => Ok(without_reading(Task::Refuse(refusal))),
         Stop::NoMemory => Err(AllocError),
     }
 }
@@ -71,8 +71,8 @@ fn call_beginning(alloc: Global, world: &World, call: &LineCall) -> Result<Begin
     ensures shaped { IfOk result (λ b. IsTaskShaped b.task) }
 {
     match addressed_call(alloc, world, call) {
-        Ok(to) => called(alloc, world, &call.method, to),
-        Err(stop) => refused_by(stop),
+        Ok(to) => method_beginning(alloc, world, &call.method, to),
+        Err(stop) => refuse(stop),
     }
 }
 
@@ -85,8 +85,8 @@ fn send_beginning(alloc: Global, world: &World, send: &Send) -> Result<Beginning
     ensures shaped { IfOk result (λ b. IsTaskShaped b.task) }
 {
     match sent_to(alloc, world, send) {
-        Ok(to) => called(alloc, world, &send.method, to),
-        Err(stop) => refused_by(stop),
+        Ok(to) => method_beginning(alloc, world, &send.method, to),
+        Err(stop) => refuse(stop),
     }
 }
 
@@ -101,13 +101,13 @@ fn gift_effects(alloc: Global, gift: &LineGift, given: &Data) -> Result<Effects,
 }
 
 /// What is given is under the receiver's label.
-fn given(alloc: Global, gift: &LineGift, given: Data) -> Result<Beginning, AllocError>
+fn bind_gift(alloc: Global, gift: &LineGift, given: Data) -> Result<Beginning, AllocError>
     ensures begins { IfOk result (λ b. beginning_view b
         ≡ gift_beginning (line_gift_view gift.now) (Ok (tree given))) }
     ensures shaped { IfOk result (λ b. IsTaskShaped b.task) }
 {
     let effects = gift_effects(alloc, gift, &given)?;
-    Ok(read(Reading::Gift(given), Task::DoAll(effects)))
+    Ok(with_reading(Reading::Gift(given), Task::DoAll(effects)))
 }
 
 /// What a party gives.
@@ -118,8 +118,8 @@ fn give_beginning(alloc: Global, world: &World, gift: &LineGift) -> Result<Begin
     ensures shaped { IfOk result (λ b. IsTaskShaped b.task) }
 {
     match gift_of(alloc, world, gift) {
-        Ok(found) => given(alloc, gift, found),
-        Err(stop) => refused_by(stop),
+        Ok(found) => bind_gift(alloc, gift, found),
+        Err(stop) => refuse(stop),
     }
 }
 
@@ -130,12 +130,12 @@ fn tick_beginning(alloc: Global, world: &World, time: u64) -> Result<Beginning, 
         ≡ beginning (world_of world.now) (deliveries.tick time)) }
     ensures shaped { IfOk result (λ b. IsTaskShaped b.task) }
 {
-    let now = world.plain.timer.now();
+    let now = world.registers.timer.now();
     if time < now {
-        return Ok(unread(Task::Refuse(Refusal::Backwards(now, time))));
+        return Ok(without_reading(Task::Refuse(Refusal::Backwards(now, time))));
     }
     let set = Effect::Promises(PromisesEffect::SetTime(time));
-    Ok(unread(Task::DoAll(one_effect(alloc, set)?)))
+    Ok(without_reading(Task::DoAll(one_effect(alloc, set)?)))
 }
 
 /// A line that is refused.
@@ -144,7 +144,7 @@ fn bad_beginning(alloc: Global, refusal: &Refusal) -> Result<Beginning, AllocErr
     ensures begins { IfOk result (λ b. beginning_view b ≡ unread (tasks.refuse refusal.now)) }
     ensures shaped { IfOk result (λ b. IsTaskShaped b.task) }
 {
-    Ok(unread(Task::Refuse(refusal.copy(alloc)?)))
+    Ok(without_reading(Task::Refuse(refusal.copy(alloc)?)))
 }
 
 // ---- functions
@@ -156,7 +156,7 @@ fn read_and_run(world: &World, reading: Reading, call: FunctionCall) -> Beginnin
     ensures task { task_view result.task ≡ run_task (world_of world.now) (function_call_view call) }
     ensures shaped { IsTaskShaped result.task }
 {
-    read(reading, run_task(world, call))
+    with_reading(reading, run_task(world, call))
 }
 
 /// An instance starts.
@@ -168,7 +168,7 @@ fn start_beginning(alloc: Global, world: &World, start: &Start) -> Result<Beginn
     ensures shaped { IfOk result (λ b. IsTaskShaped b.task) }
 {
     let call = start_call(alloc, start)?;
-    Ok(unread(run_task(world, call)))
+    Ok(without_reading(run_task(world, call)))
 }
 
 /// An offer comes to its handler.
@@ -180,7 +180,7 @@ fn offer_beginning(alloc: Global, world: &World, offer: &Offer) -> Result<Beginn
     ensures shaped { IfOk result (λ b. IsTaskShaped b.task) }
 {
     let call = handler_call(alloc, offer)?;
-    Ok(unread(run_task(world, call)))
+    Ok(without_reading(run_task(world, call)))
 }
 
 /// A function is woken.
@@ -191,13 +191,13 @@ fn wake_beginning(alloc: Global, world: &World, wakeup: &Wakeup) -> Result<Begin
         ≡ beginning (world_of world.now) (deliveries.wake (wakeup_view wakeup.now))) }
     ensures shaped { IfOk result (λ b. IsTaskShaped b.task) }
 {
-    let now = world.plain.timer.now();
+    let now = world.registers.timer.now();
     let call = wakeup_call(alloc, wakeup, now)?;
     Ok(read_and_run(world, Reading::Time(now), call))
 }
 
 /// A function is notified of what a promise was settled with.
-fn notified(
+fn notice_beginning(
     alloc: Global,
     world: &World,
     notice: &Notice,
@@ -221,7 +221,7 @@ fn notify_beginning(alloc: Global, world: &World, notice: &Notice) -> Result<Beg
     ensures shaped { IfOk result (λ b. IsTaskShaped b.task) }
 {
     let settlement = settlement_of(alloc, world, notice.promise)?;
-    notified(alloc, world, notice, settlement)
+    notice_beginning(alloc, world, notice, settlement)
 }
 
 /// The deadline of a seat has come: it is left, if it is still open.
@@ -233,7 +233,7 @@ fn deadline_beginning(alloc: Global, world: &World, seat: u32) -> Result<Beginni
     ensures shaped { IfOk result (λ b. IsTaskShaped b.task) }
 {
     let exits = exit_if_open(alloc, world, seat, Cause::Deadline)?;
-    Ok(unread(Task::DoAll(exits)))
+    Ok(without_reading(Task::DoAll(exits)))
 }
 
 // ---- all

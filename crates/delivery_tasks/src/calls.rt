@@ -133,7 +133,7 @@ fn task_on(
 {
     match target.kind {
         ObjKind::Facet => {
-            let facet = world.plain.facets.facet(target.number);
+            let facet = world.registers.facets.facet(target.number);
             facet_task(alloc, world, facet, method, args)
         }
         _ => serve_task(alloc, target, method, args),
@@ -141,7 +141,7 @@ fn task_on(
 }
 
 /// What is read for a call, once its paths are resolved, and what is then to be done.
-pub(crate) fn called(
+pub(crate) fn method_beginning(
     alloc: Global,
     world: &World,
     method: &Text,

@@ -1,8 +1,8 @@
 //! Effects that deliveries have by themselves.
 
 ghost use Rattle.std.specs.Prelude.{◌≡◌, ◌<◌, ◌∷◌, [], IfOk, length};
-ghost use Rattle.world_reads.specs.call_plans.Lists.{IsEachShaped, effects_view};
-ghost use Rattle.world_reads.specs.call_plans.Views.{IsShaped, effect_view};
+ghost use Rattle.world_reads.specs.call_outcomes.Lists.{IsEachShaped, effects_view};
+ghost use Rattle.world_reads.specs.call_outcomes.Views.{IsShaped, effect_view};
 ghost use Rattle.delivery_turns.specs.Tasks.{exit_if_open};
 ghost use Rattle.world_reads.specs.host_world.Worlds.{world_of};
 ghost use Rattle.host_data.specs.View.{tree};
@@ -14,8 +14,8 @@ use delivery_turns::turn_records_lib::events::Cause;
 use host_data::data::Data;
 use refusals::host_text_lib::label::Label;
 use std::alloc::{AllocError, Global};
-use world_reads::call_plans_lib::effects::{Effect, LabelsEffect};
-use world_reads::call_plans_lib::lists::Effects;
+use world_reads::call_outcomes_lib::effects::{Effect, LabelsEffect};
+use world_reads::call_outcomes_lib::lists::Effects;
 use world_reads::host_world_lib::World;
 
 /// Effects, of which there is one.

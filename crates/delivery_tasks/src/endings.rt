@@ -1,7 +1,7 @@
 //! The parts of a turn's end, in their order.
 
 ghost use Rattle.std.specs.Prelude.{◌≡◌, ◌++◌, ◌∷◌, [], IfOk, OnOk, codes};
-ghost use Rattle.world_reads.specs.call_plans.Lists.{IsEachShaped, effects_view};
+ghost use Rattle.world_reads.specs.call_outcomes.Lists.{IsEachShaped, effects_view};
 ghost use Rattle.delivery_laws.specs.Works.{IsOut};
 ghost use Rattle.delivery_turns.specs.Endings.{binds, binds_to, ending, publishes, settles};
 ghost use Rattle.world_reads.specs.host_world.Worlds.{world_of};
@@ -20,8 +20,8 @@ use delivery_turns::turn_records_lib::events::Answer;
 use delivery_turns::turn_records_lib::messages::LineCall;
 use host_data::data::Data;
 use std::alloc::{AllocError, Global};
-use world_reads::call_plans_lib::effects::{Effect, InstancesEffect, RightsEffect};
-use world_reads::call_plans_lib::lists::Effects;
+use world_reads::call_outcomes_lib::effects::{Effect, InstancesEffect, RightsEffect};
+use world_reads::call_outcomes_lib::lists::Effects;
 use world_reads::host_world_lib::World;
 
 // ---- what a start gives

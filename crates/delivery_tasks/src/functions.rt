@@ -26,7 +26,7 @@ pub(crate) fn has_halted(world: &World, instance: u32) -> bool
     requires { instance < length (world_of world.now).tables.instances }
     ensures { result ≡ has_halted (standing_of (world_of world.now) instance) }
 {
-    match world.plain.instances.standing(instance) {
+    match world.registers.instances.standing(instance) {
         Standing::Halted => true,
         Standing::Stopped => false,
         Standing::Accepting => false,

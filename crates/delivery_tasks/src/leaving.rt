@@ -1,7 +1,7 @@
 //! Seats that are left because a function threw, and instances that halt because their start did (Zoe).
 
 ghost use Rattle.std.specs.Prelude.{◌≡◌, ◌++◌, OnOk};
-ghost use Rattle.world_reads.specs.call_plans.Lists.{effects_view};
+ghost use Rattle.world_reads.specs.call_outcomes.Lists.{effects_view};
 ghost use Rattle.delivery_turns.specs.Endings.{departs};
 ghost use Rattle.world_reads.specs.host_world.Worlds.{world_of};
 ghost use Rattle.host_data.specs.Tree.{Tree};
@@ -14,7 +14,7 @@ use crate::open_seats::{add_exit, add_halt};
 use delivery_turns::turn_records_lib::deliveries::Delivery;
 use delivery_turns::turn_records_lib::events::{Answer, Cause};
 use std::alloc::AllocError;
-use world_reads::call_plans_lib::lists::Effects;
+use world_reads::call_outcomes_lib::lists::Effects;
 use world_reads::host_world_lib::World;
 
 /// Adds what leaves because the function of a delivery threw.

@@ -16,4 +16,9 @@ pub mod paths;
 mod settling;
 pub mod tasks;
 
-pub use host_data as host_data_lib;
+/// What `host_data` gives to those above.
+pub mod host_data_lib {
+    pub mod data {
+        pub use host_data::data::{Data, Obj, copy_items};
+    }
+}

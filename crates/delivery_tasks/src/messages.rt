@@ -12,7 +12,7 @@ ghost use Rattle.delivery_turns.specs.turn_records.Views.{line_call_view, line_g
 ghost use Rattle.delivery_tasks.specs.Reads.{object_met, object_of_promise};
 ghost use Rattle.delivery_tasks.specs.MessageViews.{addressed_view};
 
-use crate::parts::resolved_all;
+use crate::parts::resolve_parts;
 use crate::paths::{stands_at, value_at};
 use delivery_turns::actors_lib::paths::Stands;
 use delivery_turns::promise_store_lib::{Settlement, State};
@@ -42,7 +42,7 @@ pub struct Addressed {
 fn check_label(alloc: Global, world: &World, party: &Label, label: &Label) -> Result<(), Stop>
     ensures { Gives (λ _. tt) result (label_is_free (world_of world.now) party.now (Some label.now)) }
 {
-    if world.plain.parties.is_bound(party, label) {
+    if world.registers.parties.is_bound(party, label) {
         return Err(Stop::worded(alloc, TextCode::NameTaken, label.as_str()));
     }
     Ok(())
@@ -80,7 +80,7 @@ pub fn addressed_call(alloc: Global, world: &World, call: &LineCall) -> Result<A
 {
     check_wanted(alloc, world, call)?;
     let on = stands_at(alloc, world, &call.by, &call.on)?;
-    let arguments = resolved_all(alloc, world, &call.by, call.arguments.as_slice())?;
+    let arguments = resolve_parts(alloc, world, &call.by, call.arguments.as_slice())?;
     if !all_within(MOST_NESTED, arguments.as_slice()) {
         return Err(Stop::worded(alloc, TextCode::BadField, "args"));
     }
@@ -102,14 +102,14 @@ pub fn gift_of(alloc: Global, world: &World, gift: &LineGift) -> Result<Data, St
 // ---- calls that were sent
 
 /// What a promise is. One that wasn't made is pending.
-#[tactic(auto, using(crate::proofs::StatesMet::not_made, crate::proofs::StatesMet::is_made))]
+#[tactic(auto, using(crate::proofs::PathStates::not_made, crate::proofs::PathStates::is_made))]
 fn state_of(world: &World, promise: u32) -> State<'_>
     ensures { state_view result ≡ promise_states (world_of world.now) promise }
 {
-    if world.plain.promises.made() <= promise {
+    if world.registers.promises.made() <= promise {
         return State::Pending;
     }
-    world.plain.promises.state(promise)
+    world.registers.promises.state(promise)
 }
 
 /// The object that a promise was fulfilled with.
@@ -141,7 +141,7 @@ fn object_met(world: &World, target: Obj) -> Result<Obj, Stop>
 
 /// The target of a call that was sent, with its arguments: a promise is followed to the object that it was fulfilled
 /// with. Else `Pending`, `Broken` with the promise, or `WrongObject` with 0.
-#[tactic(auto, using(crate::proofs::Sent::sent_by), unfolding(refusals::specs::Outcomes::bind))]
+#[tactic(auto, using(crate::proofs::SentCalls::sent_by), unfolding(refusals::specs::Outcomes::bind))]
 pub fn sent_to(alloc: Global, world: &World, send: &Send) -> Result<Addressed, Stop>
     ensures { Gives addressed_view result (sent_to (world_of world.now) (send_view send.now)) }
 {

@@ -40,7 +40,7 @@ fn put_value(alloc: Global, fields: &mut Vec<(Text, Data)>, value: &Data) -> Res
 }
 
 /// The record `{ok, value}`.
-fn told(alloc: Global, is_ok: bool, value: &Data) -> Result<Data, AllocError>
+fn ok_record(alloc: Global, is_ok: bool, value: &Data) -> Result<Data, AllocError>
     ensures { IfOk result (λ told. tree told ≡ fields (field (codes "ok") (boolean is_ok)
         (field (codes "value") (told_value (tree value.now)) no_fields))) }
 {
@@ -55,8 +55,8 @@ pub fn notice_data(alloc: Global, settlement: &Settlement) -> Result<Data, Alloc
     ensures { IfOk result (λ told. tree told ≡ notice_tree (settlement_view settlement.now)) }
 {
     match settlement {
-        Settlement::Ok(value) => told(alloc, true, value),
-        Settlement::Broken(reason) => told(alloc, false, reason),
+        Settlement::Ok(value) => ok_record(alloc, true, value),
+        Settlement::Broken(reason) => ok_record(alloc, false, reason),
     }
 }
 
@@ -70,13 +70,13 @@ fn copy_settlement(alloc: Global, settlement: &Settlement) -> Result<Settlement,
 }
 
 /// A copy of what a promise was settled with. One that isn't settled counts as broken with null.
-#[tactic(auto, using(crate::proofs::Settled::settlement_is))]
+#[tactic(auto, using(crate::proofs::Settlements::settlement_is))]
 pub fn settlement_of(alloc: Global, world: &World, promise: u32) -> Result<Settlement, AllocError>
     requires { promise < promises_made (world_of world.now) }
     ensures { IfOk result (λ copy. settlement_view copy
         ≡ settlement_of (world_of world.now) promise) }
 {
-    match world.plain.promises.state(promise) {
+    match world.registers.promises.state(promise) {
         State::Settled(settlement) => copy_settlement(alloc, settlement),
         State::Pending => Ok(Settlement::Broken(Data::Null)),
         State::Follows(_) => Ok(Settlement::Broken(Data::Null)),

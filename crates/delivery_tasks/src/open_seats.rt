@@ -3,7 +3,7 @@
 //! instance halts, that comes last.
 
 ghost use Rattle.std.specs.Prelude.{◌≡◌, ◌++◌, ◌<◌, IfOk, OnOk, length};
-ghost use Rattle.world_reads.specs.call_plans.Lists.{IsEachShaped, effects_view};
+ghost use Rattle.world_reads.specs.call_outcomes.Lists.{IsEachShaped, effects_view};
 ghost use Rattle.delivery_turns.specs.rules.Traces.{all_open};
 ghost use Rattle.delivery_turns.specs.Tasks.{exit_if_open, exits_with, halt_with};
 ghost use Rattle.world_reads.specs.host_world.Worlds.{world_of};
@@ -11,8 +11,8 @@ ghost use Rattle.delivery_turns.specs.turn_records.Views.{cause_view};
 
 use delivery_turns::turn_records_lib::events::Cause;
 use std::alloc::{AllocError, Global};
-use world_reads::call_plans_lib::effects::{Effect, InstancesEffect, SeatsEffect};
-use world_reads::call_plans_lib::lists::Effects;
+use world_reads::call_outcomes_lib::effects::{Effect, InstancesEffect, SeatsEffect};
+use world_reads::call_outcomes_lib::lists::Effects;
 use world_reads::draft_reads_lib::seat_reads::is_open;
 use world_reads::host_world_lib::World;
 

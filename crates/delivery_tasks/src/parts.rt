@@ -34,7 +34,7 @@ fn push_field(
 /// A part of a message with what stands at the party's paths in their place. The first path at which nothing stands is
 /// refused.
 #[cycle(resolve)]
-pub fn resolved(alloc: Global, world: &World, party: &Label, part: &Part) -> Result<Data, Stop>
+pub fn resolve_part(alloc: Global, world: &World, party: &Label, part: &Part) -> Result<Data, Stop>
     ensures { Gives tree result (resolved (world_of world.now) party.now (part_view part.now)) }
 {
     match part {
@@ -42,8 +42,13 @@ pub fn resolved(alloc: Global, world: &World, party: &Label, part: &Part) -> Res
         Part::Bool(truth) => Ok(Data::Bool(*truth)),
         Part::Number(number) => Ok(Data::Number(*number)),
         Part::Text(text) => Ok(Data::Text(text.copy(alloc)?)),
-        Part::Array(parts) => Ok(Data::Array(resolved_all(alloc, world, party, parts.as_slice())?)),
-        Part::Record(fields) => Ok(Data::Record(resolved_fields(
+        Part::Array(parts) => Ok(Data::Array(resolve_parts(
+            alloc,
+            world,
+            party,
+            parts.as_slice(),
+        )?)),
+        Part::Record(fields) => Ok(Data::Record(resolve_fields(
             alloc,
             world,
             party,
@@ -55,7 +60,7 @@ pub fn resolved(alloc: Global, world: &World, party: &Label, part: &Part) -> Res
 
 /// Each of them, in their order.
 #[cycle(resolve)]
-pub fn resolved_all(
+pub fn resolve_parts(
     alloc: Global,
     world: &World,
     party: &Label,
@@ -66,14 +71,14 @@ pub fn resolved_all(
 {
     let mut made = Vec::new(alloc);
     for part in parts {
-        made.push(resolved(alloc, world, party, part)?)?;
+        made.push(resolve_part(alloc, world, party, part)?)?;
     }
     Ok(made)
 }
 
 /// Each field, in their order.
 #[cycle(resolve)]
-fn resolved_fields(
+fn resolve_fields(
     alloc: Global,
     world: &World,
     party: &Label,
@@ -84,7 +89,7 @@ fn resolved_fields(
 {
     let mut made = Vec::new(alloc);
     for (name, part) in fields {
-        let data = resolved(alloc, world, party, part)?;
+        let data = resolve_part(alloc, world, party, part)?;
         push_field(alloc, &mut made, name, data)?;
     }
     Ok(made)

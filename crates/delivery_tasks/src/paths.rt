@@ -16,7 +16,7 @@ use std::alloc::Global;
 use world_reads::host_world_lib::World;
 
 /// Why nothing stands at a path, as the refusal that shows it. The path takes memory.
-fn path_refused(alloc: Global, path: &Text, fault: ResolveFault) -> Stop
+fn refuse_path(alloc: Global, path: &Text, fault: ResolveFault) -> Stop
     ensures { Refuses result (path_refusal path.now fault) }
 {
     match fault {
@@ -35,10 +35,10 @@ pub(crate) fn stands_at<'a>(
 ) -> Result<Stands<'a>, Stop>
     ensures { Gives stands result (value_at (world_of world.now) party.now path.now) }
 {
-    let promises = world.plain.promises.promises();
-    match world.plain.parties.resolve(party, path, promises) {
+    let promises = world.registers.promises.promises();
+    match world.registers.parties.resolve(party, path, promises) {
         Ok(there) => Ok(there),
-        Err(fault) => Err(path_refused(alloc, path, fault)),
+        Err(fault) => Err(refuse_path(alloc, path, fault)),
     }
 }
 

@@ -2,7 +2,7 @@
 //! our own).
 
 ghost use Rattle.std.specs.Prelude.{◌≡◌, ◌==◌, ◌<◌, ◌++◌, IfOk, IfSome, OnOk, length};
-ghost use Rattle.world_reads.specs.call_plans.Lists.{effects_view};
+ghost use Rattle.world_reads.specs.call_outcomes.Lists.{effects_view};
 ghost use Rattle.delivery_laws.specs.Works.{IsOut};
 ghost use Rattle.delivery_turns.specs.Endings.{last_followed, leads_back, settles, without_cycle};
 ghost use Rattle.world_reads.specs.host_world.Worlds.{world_of};
@@ -23,8 +23,8 @@ use delivery_turns::turn_records_lib::turn_answers::settlements::settlement_of;
 use host_data::data::{Data, ObjKind};
 use refusals::codes::{NumberCode, Refusal};
 use std::alloc::{AllocError, Global};
-use world_reads::call_plans_lib::effects::{Effect, PromisesEffect};
-use world_reads::call_plans_lib::lists::Effects;
+use world_reads::call_outcomes_lib::effects::{Effect, PromisesEffect};
+use world_reads::call_outcomes_lib::lists::Effects;
 use world_reads::host_world_lib::World;
 
 /// The promise that a settlement names: it is followed.
@@ -41,11 +41,11 @@ fn target_of(settlement: &Settlement) -> Option<u32>
 }
 
 /// The promise that one which isn't settled follows.
-fn followed(world: &World, promise: u32) -> Option<u32>
+fn leader_of(world: &World, promise: u32) -> Option<u32>
     requires { promise < promises_made (world_of world.now) }
     ensures { result ≡ followed_in (state_of (world_of world.now).promises promise) }
 {
-    match world.plain.promises.state(promise) {
+    match world.registers.promises.state(promise) {
         State::Follows(target) => Some(target),
         State::Pending => None,
         State::Settled(_) => None,
@@ -60,7 +60,7 @@ fn leads_back(world: &World, promise: u32, target: u32) -> bool
     ensures { result ≡ (last_followed (world_of world.now).promises.follows target == promise) }
 {
     let mut at = target;
-    while let Some(next) = followed(world, at) {
+    while let Some(next) = leader_of(world, at) {
         at = next;
     }
     at == promise
@@ -114,7 +114,7 @@ fn without_cycle(
 }
 
 /// What the promise of a delivery is resolved to.
-fn settled(
+fn delivery_settlement(
     alloc: Global,
     world: &World,
     promise: u32,
@@ -147,7 +147,7 @@ pub(crate) fn add_settling(
         (settled_after (delivery_view delivery.now) (answer_view answer.now))) }
 {
     if let Some(promise) = delivery.promise() {
-        let settlement = settled(alloc, world, promise, delivery, answer)?;
+        let settlement = delivery_settlement(alloc, world, promise, delivery, answer)?;
         effects.push(Effect::Promises(PromisesEffect::Resolve(promise, settlement)))?;
     }
     Ok(())

@@ -4,7 +4,7 @@ use delivery_turns::turn_records_lib::deliveries::Reading;
 use host_data::data::{Data, Obj};
 use refusals::codes::Refusal;
 use refusals::host_text_lib::text::Text;
-use world_reads::call_plans_lib::lists::Effects;
+use world_reads::call_outcomes_lib::lists::Effects;
 
 /// A function of an instance that is called.
 #[derive(Drop)]

@@ -1,5 +1,5 @@
 -- What the function of an instance comes to that is run over the host: what it asks is answered from the world so
--- far (Zoe; the meter is our own).
+-- far (Zoe). What a spent meter leaves stands in Tasks.
 use Rattle.std.specs.Prelude.{ℕ, List, [], ◌++◌}
 use Rattle.world_laws.specs.actors.Tables.{instance_at}
 use Rattle.rules.specs.jessie_semantics.Play.{Asks, Ending, Ends, Play, Spends}

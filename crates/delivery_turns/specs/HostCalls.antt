@@ -1,52 +1,14 @@
--- What the host answers to the calls of an instance's functions: rows of sends, of `when` and of Far beside those
--- of methods; each call is told, and then has its effects (eventual send; Endo's Far; Zoe).
-use Rattle.std.specs.Prelude.{ℕ, ◌||◌, not, List, [], ◌∷◌, length, Option, Some, None, Result, Ok, Err}
-use Rattle.world_laws.specs.host_data.Values.{object_tree}
-use Rattle.rules.specs.Rows.{Outcome}
-use Rattle.rules.specs.Words.{next_of}
-use Rattle.world_laws.specs.ertp_mint.Stocks.{most_made}
+-- What the host answers to the calls of an instance's functions: each call is told, and then has its effects.
+use Rattle.std.specs.Prelude.{ℕ, List, [], ◌∷◌, Some, None, Ok, Err}
+use Rattle.rules.specs.Outcomes.{Outcome}
 use Rattle.rules.specs.jessie_semantics.Play.{Call, Reply, call, far, send, when}
 use Rattle.rules.specs.jessie_semantics.Play as plays
-use Rattle.world_laws.specs.host_data.Tree.{Fields, Tree, field, fields, function, no_fields, some_local, stays}
-use Rattle.world_laws.specs.host_data.View.{items_of}
-use Rattle.world_laws.specs.host_data.declared.data.Obj.{Obj}
-use Rattle.world_laws.specs.host_data.declared.data.ObjKind.TheVariants as kinds
-use Rattle.world_laws.specs.refusals.Codes.{local_only, refusal_tree}
-use Rattle.world_laws.specs.refusals.Outcomes.{◌>>=◌, ◌>>◌, need}
-use Rattle.rules.specs.Trades.{serve}
+use Rattle.world_laws.specs.host_data.Tree.{Fields, field, fields, function, no_fields}
+use Rattle.world_laws.specs.refusals.Codes.{refusal_tree}
 use Rattle.world_laws.specs.turn_records.Events as told
 use Rattle.world_laws.specs.turn_rows.Kinds as hows
-use Rattle.world_laws.specs.world_state.Worlds as worlds
-use Rattle.world_laws.specs.world_state.Worlds.{Effect, State, make_facet, note_call, promises_made}
-
--- ---- sends, requests and facets
-
--- E(target).method(args): what stays with its instance can't be sent, nor be sent to
-unfoldable pub send_row : State → ℕ → Obj → List ℕ → List Tree → Outcome
-send_row w i target method args = do
-  need (not (stays target.kind || some_local (items_of args))) local_only
-  promise ← next_of (promises_made w) most_made
-  Ok (object_tree kinds.Promise promise, worlds.send i target method args ∷ [])
-
--- when(promise, function, held)
-unfoldable pub when_row : State → ℕ → Obj → List ℕ → Tree → Outcome
-when_row w i promise f held = do
-  answer ← next_of (promises_made w) most_made
-  Ok (object_tree kinds.Promise answer, worlds.when i promise.number f held ∷ [])
-
--- Far(name, methods, held)
-unfoldable pub far_row : State → ℕ → List (List ℕ × List ℕ) → Tree → Outcome
-far_row w i methods held = do
-  facet ← next_of (length w.facets) most_made
-  let made = make_facet (record { instance = i; methods = methods; held = held })
-  Ok (object_tree kinds.Facet facet, made ∷ [])
-
--- what a call of an instance's function comes to
-abbrev pub call_row : State → ℕ → Call → Outcome
-call_row w i (call target method args) = serve w target method args
-call_row w i (send target method args) = send_row w i target method args
-call_row w i (when promise f held) = when_row w i promise f held
-call_row w i (far name methods held) = far_row w i methods held
+use Rattle.world_laws.specs.world_state.Worlds.{Effect, State, note_call}
+use Rattle.rules.specs.PromisesAndFacets.{call_rule}
 
 -- ---- how a call is told
 
@@ -86,7 +48,7 @@ told_call (far name methods held) answer = record {
   answer = answer;
 }
 
--- ---- what a row answers, and does
+-- ---- what a rule answers, and does
 
 abbrev pub answer_of : Outcome → told.Answer
 answer_of (Ok (answer, effects)) = told.given answer
@@ -107,7 +69,7 @@ told_effects c row = note_call (told_call c (answer_of row)) ∷ effects_of row
 
 -- what the host answers to a call of the instance's, and what is done
 abbrev pub call_reply : State → ℕ → Call → Reply
-call_reply w i c = reply_of (call_row w i c)
+call_reply w i c = reply_of (call_rule w i c)
 
 abbrev pub call_effects : State → ℕ → Call → List Effect
-call_effects w i c = told_effects c (call_row w i c)
+call_effects w i c = told_effects c (call_rule w i c)

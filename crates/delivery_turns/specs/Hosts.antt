@@ -4,7 +4,7 @@ use Rattle.world_laws.specs.rights_model.Totals.{brands_of}
 use Rattle.world_laws.specs.rights_model.declared.Movement.{Movement}
 use Rattle.world_laws.specs.rights_model.declared.Sum.{Sum}
 use Rattle.world_laws.specs.Tables.{sum_of}
-use Rattle.rules.specs.ZoeRows.{TextReader}
+use Rattle.rules.specs.Zoe.{TextReader}
 use Rattle.world_laws.specs.turn_records.Deliveries.{Delivery}
 use Rattle.world_laws.specs.turn_records.Events.{moves_in}
 use Rattle.world_laws.specs.turn_records.Turns.{Turn}

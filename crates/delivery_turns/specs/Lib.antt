@@ -7,7 +7,7 @@ pub mod Turns
 pub mod Hosts
 pub use Rattle.world_laws.specs.actors
 pub use Rattle.world_laws.specs.promise_store
-pub use Rattle.world_laws.specs.right_steps
+pub use Rattle.world_laws.specs.vault_model
 pub use Rattle.rules.specs as rules
 pub use Rattle.world_laws.specs.turn_records
 pub use Rattle.world_laws.specs.turn_rows

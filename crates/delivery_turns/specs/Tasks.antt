@@ -1,11 +1,11 @@
--- What is read for a delivery when its turn comes, what is then to be done for it, and what that comes to (Zoe;
--- eventual send).
+-- What is read for a delivery when its turn comes, what is then to be done for it, and what that comes to: where the
+-- meter is spent, what a spent turn leaves (Zoe; eventual send; the meter is our own).
 use Rattle.std.specs.Prelude.{ℕ, nat_lt, is_none, List, [], ◌∷◌, ◌++◌, map, Option, Some, None}
 use Rattle.std.specs.Prelude.{Result, Ok, Err, if◌then◌else◌, codes, unwrap_or}
 use Rattle.std.specs.Map.{lookup}
 use Rattle.std.specs.Str.{bytes_eq}
 use Rattle.world_laws.specs.host_data.Values.{number_tree, object_tree}
-use Rattle.rules.specs.Rows.{Outcome}
+use Rattle.rules.specs.Outcomes.{Outcome}
 use Rattle.rules.specs.Traces.{all_open}
 use Rattle.rules.specs.Words.{has_halted, standing_of}
 use Rattle.world_laws.specs.actors.Facets.{FacetView, facet_at}
@@ -19,7 +19,7 @@ use Rattle.world_laws.specs.promise_store.States.{SettlementView, broken}
 use Rattle.world_laws.specs.refusals.Codes.{closed, local_only, no_method, refusal_tree}
 use Rattle.world_laws.specs.refusals.declared.codes.Refusal.{Refusal}
 use Rattle.world_laws.specs.refusals.declared.codes.Refusal.TheVariants.{Backwards}
-use Rattle.rules.specs.ZoeRows.{TextReader}
+use Rattle.rules.specs.Zoe.{TextReader}
 use Rattle.world_laws.specs.turn_records.Deliveries as deliveries
 use Rattle.world_laws.specs.turn_records.Deliveries.{Delivery, Notice, Offer, Reading, Start, Wakeup}
 use Rattle.world_laws.specs.turn_records.Events.{Answer, given, refused, spent, threw}
@@ -30,7 +30,7 @@ use Rattle.world_laws.specs.turn_rows.Causes.{Cause}
 use Rattle.world_laws.specs.world_state.Promises.{settlement_at}
 use Rattle.world_laws.specs.world_state.Worlds.{Effect, State, bind_label, exit, halt, keep_state, seat_at}
 use Rattle.world_laws.specs.world_state.Worlds.{set_time}
-use Rattle.rules.specs.Host.{serve as serve_call}
+use Rattle.rules.specs.Methods.{serve as serve_call}
 use Rattle.delivery_turns.specs.Functions.{FunctionCall, Run, ended, function_run, ran_out}
 use Rattle.delivery_turns.specs.HostCalls.{answer_of, effects_of}
 use Rattle.delivery_turns.specs.Messages.{Addressed, addressed, gift_of, sent_to}
@@ -173,8 +173,8 @@ pub record Work : Type 0 where
   pub answer : Answer
   pub effects : List Effect
 
-abbrev pub row_work : Outcome → Work
-row_work row = record { answer = answer_of row; effects = effects_of row }
+abbrev pub outcome_work : Outcome → Work
+outcome_work row = record { answer = answer_of row; effects = effects_of row }
 
 -- all open seats of an instance are left with a cause, by number, then it has halted
 abbrev pub exits_with : Cause → List ℕ → List Effect
@@ -204,5 +204,5 @@ run_work meter w i ran_out = record {
 unfoldable pub task_work : TextReader → ℕ → State → Task → Work
 task_work read meter w (refuse r) = record { answer = refused r; effects = [] }
 task_work read meter w (do_all es) = record { answer = given null; effects = es }
-task_work read meter w (serve o method args) = row_work (serve_call read w o method args)
+task_work read meter w (serve o method args) = outcome_work (serve_call read w o method args)
 task_work read meter w (run c) = run_work meter w c.instance (function_run meter w c)

@@ -1,6 +1,6 @@
 -- What a delivery comes to: what is read for it, its answer, and its effects, from the world behind it.
 use Rattle.std.specs.Prelude.{ℕ, List, ◌++◌}
-use Rattle.rules.specs.ZoeRows.{TextReader}
+use Rattle.rules.specs.Zoe.{TextReader}
 use Rattle.world_laws.specs.turn_records.Deliveries.{Delivery, Reading}
 use Rattle.world_laws.specs.turn_records.Events.{Answer}
 use Rattle.world_laws.specs.world_state.Worlds.{Effect, State, after_all}

@@ -1,7 +1,7 @@
 -- A movement to the hand, or from it, and movements one after another.
 use Rattle.std.proofs.Common.{◌≡◌, ◌≢◌, ℕ, suc, ◌+◌, ◌<◌, List, [], ◌∷◌, add-one, drop, drop-cons, get_or, length, map, refl, sym, ◌∙◌, ap, subst}
 use Rattle.draft_reads.specs.amount_math.Content.{Content}
-use Rattle.draft_reads.specs.amount_math.Worth.{Worth}
+use Rattle.draft_reads.specs.amount_math.ValueView.{ValueView}
 use Rattle.draft_reads.specs.amount_math.declared.Amount.{Amount}
 use Rattle.draft_effects.specs.Steps.{moved_amount}
 use Rattle.draft_reads.specs.Views.{CanGoBack}
@@ -9,13 +9,13 @@ use Rattle.draft_reads.specs.rights_model.declared.Holder.{Holder}
 use Rattle.draft_reads.specs.rights_model.declared.Holder.TheVariants.{Purse, Payment, Slot, Hand, Outside}
 use Rattle.draft_reads.specs.rights_model.declared.Movement.{Movement}
 use Rattle.draft_reads.specs.rights_model.Table.{movement}
-use Rattle.draft_reads.specs.right_steps.Lists.{Lists, taken}
-use Rattle.draft_reads.specs.right_steps.Tables.{hand_minus, hand_plus}
+use Rattle.draft_reads.specs.vault_model.Lists.{Lists, taken}
+use Rattle.draft_reads.specs.vault_model.Tables.{hand_minus, hand_plus}
 use Rattle.draft_reads.specs.world_laws.Views.{put_to}
 use Rattle.draft_reads.specs.vault.Drafts.{DraftState, MayPut, hand_now}
 use Rattle.draft_reads.specs.vault.Asked.{IsSource, brand_of}
 use Rattle.draft_reads.specs.world_state.Rights.{hand_after, hand_in, hand_out}
-use Rattle.draft_effects.specs.Storing.{CanCarryAll, CanCarryFrom, CanGain, CanLose, IsCarrying, IsStoring, StoresAll, all_carried, carried, hand_after_all}
+use Rattle.draft_effects.specs.HandStore.{CanCarryAll, CanCarryFrom, CanGain, CanLose, IsCarrying, IsStoring, StoresAll, all_carried, carried, hand_after_all}
 
 storing_as : (old new : DraftState) (s t : Lists) (h g : ℕ → Content) → s ≡ t → h ≡ g → IsStoring old new s h → IsStoring old new t g
 storing_as old new s t h g lists hands is = record { now = is.now ∙ lists; kept = is.kept; staging = is.staging; stores = is.stores; hand = is.hand ∙ hands }
@@ -29,7 +29,7 @@ loses (Slot n k) s h m apart can = can
 loses Hand s h m apart can = absurd (apart refl)
 loses Outside s h m apart can = absurd can
 
-not_out : (s : Lists) (from : Holder) (w : Worth) (h : ℕ → Content) (b : ℕ) (c : Content) → IsSource s from w → h ≡ hand_out h from b c
+not_out : (s : Lists) (from : Holder) (w : ValueView) (h : ℕ → Content) (b : ℕ) (c : Content) → IsSource s from w → h ≡ hand_out h from b c
 not_out s (Purse n) w h b c source = refl
 not_out s (Payment n) w h b c source = refl
 not_out s (Slot n k) w h b c source = refl
@@ -96,7 +96,7 @@ carry_back old d e ms left is back = record { kept = back.kept ∙ is.kept; goes
 
 -- ---- halves of movements
 
-pub goes_in : (from : Holder) (s : Lists) (h : ℕ → Content) (b : ℕ) (w : Worth) → CanCarryFrom from s h (movement b from Hand w) → CanLose s (movement b from Hand w)
+pub goes_in : (from : Holder) (s : Lists) (h : ℕ → Content) (b : ℕ) (w : ValueView) → CanCarryFrom from s h (movement b from Hand w) → CanLose s (movement b from Hand w)
 goes_in (Purse n) s h b w can = can
 goes_in (Payment n) s h b w can = can
 goes_in (Slot n k) s h b w can = can

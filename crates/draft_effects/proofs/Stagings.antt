@@ -1,10 +1,10 @@
--- A draft of which rows are staged, or let go, in the world's words.
+-- A draft of which shares are staged, or let go, in the world's words.
 use Rattle.std.specs.Prelude.{◌↔◌, Err, IsErr, IsNone, IsSome, Ok, OnOk, Result, is_none, is_some, slice_set}
 use Rattle.std.proofs.Common.{◌≡◌, ◌≢◌, ℕ, zero, suc, ◌<◌, ◌≤◌, ◌==◌, Bool, true, false, cond, List, [], ◌∷◌, None, Option, Some, length, map, refl, sym, ◌∙◌, ap, subst, arith}
 use Rattle.std.proofs.lemmas.Bool.{eq-eqb, ne_eqb}
 use Rattle.draft_reads.proofs.lemmas.ListEdits.{length_map, read_past, set_same}
-use Rattle.draft_reads.specs.proposals.declared.allocations.Row.{Row}
-use Rattle.draft_reads.specs.right_steps.Seats.{IsOpenSeat, KeptSeat, kept_seat_at}
+use Rattle.draft_reads.specs.proposals.declared.allocations.Share.{Share}
+use Rattle.draft_reads.specs.vault_model.Seats.{IsOpenSeat, KeptSeat, kept_seat_at}
 use Rattle.draft_reads.specs.world_laws.Views.{seat_of}
 use Rattle.draft_reads.specs.seats.Seats.{SeatView}
 use Rattle.draft_reads.specs.seats.Staging.{staged_at, with_staged, without_staged}
@@ -14,7 +14,7 @@ use Rattle.draft_reads.specs.seats.declared.seats.StageFault.TheVariants.{NoMemo
 use Rattle.draft_reads.specs.vault.Drafts.{DraftState, IsClean, IsValid, with_staging}
 use Rattle.draft_reads.specs.vault.Memory.{kept_seat}
 use Rattle.draft_reads.proofs.vault.SeatReads.{seat_read}
-use Rattle.draft_reads.specs.world_state.Worlds.{IsOpen, Seat, no_rows, seat_at}
+use Rattle.draft_reads.specs.world_state.Worlds.{IsOpen, Seat, no_shares, seat_at}
 use Rattle.draft_reads.specs.Views.{CanGoBack, HasNow, rights_in, seats_in, staging_in}
 use Rattle.draft_reads.proofs.Staged.{let_go_apart, staged_ended, staged_set, staged_with}
 use Rattle.draft_reads.proofs.Undoing.{none_given}
@@ -37,17 +37,17 @@ open_here d n is = there d.now.seats n (made_here d n is) is
     there (x ∷ xs) (suc n) lt is = there xs n (omega (arith, lt)) is
 
 module _ (d : DraftState) (clean : IsClean d) where
-  pub staged_back : IsValid d → (staging : List (ℕ × List Row)) → CanGoBack d (with_staging d staging)
+  pub staged_back : IsValid d → (staging : List (ℕ × List Share)) → CanGoBack d (with_staging d staging)
   staged_back valid staging = record { kept = refl; goes = record { each = λ b lt. none_given d valid clean b ∙ sym (clean.hand b) } }
 
   -- this is staged
-  shown : (staging : List (ℕ × List Row)) (rows : List (Option (List Row))) → staging_in (with_staging d staging) ≡ rows → HasNow (with_staging d staging) (rights_in d) (seats_in d) rows
-  shown staging rows is = record { rights = refl; seated = refl; staged = is; clean = record { sound = clean.sound; hand = clean.hand } }
+  shown : (staging : List (ℕ × List Share)) (shares : List (Option (List Share))) → staging_in (with_staging d staging) ≡ shares → HasNow (with_staging d staging) (rights_in d) (seats_in d) shares
+  shown staging shares is = record { rights = refl; seated = refl; staged = is; clean = record { sound = clean.sound; hand = clean.hand } }
 
-  pub staged_now : (n : ℕ) (rows : List Row) → HasNow (with_staging d (with_staged n rows d.staging)) (rights_in d) (seats_in d) (slice_set (staging_in d) n (Some rows))
-  staged_now n rows = shown (with_staged n rows d.staging) _ (staged_with d.now.seats n rows d.staging)
+  pub staged_now : (n : ℕ) (shares : List Share) → HasNow (with_staging d (with_staged n shares d.staging)) (rights_in d) (seats_in d) (slice_set (staging_in d) n (Some shares))
+  staged_now n shares = shown (with_staged n shares d.staging) _ (staged_with d.now.seats n shares d.staging)
 
-  pub ended_now : HasNow (with_staging d []) (rights_in d) (seats_in d) (map no_rows (staging_in d))
+  pub ended_now : HasNow (with_staging d []) (rights_in d) (seats_in d) (map no_shares (staging_in d))
   ended_now = shown [] _ (staged_ended d.now.seats d.staging)
 
   -- what is staged of a seat is let go
@@ -69,14 +69,14 @@ module _ (d : DraftState) (clean : IsClean d) where
         clash : true ≡ false → ⊥
         clash e = cc
 
-        closed : (o : Option (List Row)) → is_some o ≡ false → is_none o ≡ true
+        closed : (o : Option (List Share)) → is_some o ≡ false → is_none o ≡ true
         closed None none = refl
         closed (Some x) none = absurd cc
 
         made : IsSome (staged_at n d.staging) → n < length d.now.seats
         made is = omega (arith, are.made n is, ap length listed, length_map kept_seat seats)
 
-        by : (o : Option (List Row)) → staged_at n d.staging ≡ o → o ≡ None
+        by : (o : Option (List Share)) → staged_at n d.staging ≡ o → o ≡ None
         by None is = refl
         by (Some x) is = absurd (clash (sym (closed (kept_seat_at d.now.seats n).last (ap is_some (last_read n) ∙ are.is_open n (ap is_some is))) ∙ left (made (ap is_some is))))
 
@@ -86,7 +86,7 @@ ok_of (Ok x) never ok = ok
 ok_of (Err e) never ok = absurd (never refl)
 
 -- an open seat is staged, but for want of memory
-pub stage_memory : (fault : StageFault) (last : Option (List Row)) → (fault ≡ SeatExited ↔ IsSome last) → IsNone last → fault ≡ NoMemory
+pub stage_memory : (fault : StageFault) (last : Option (List Share)) → (fault ≡ SeatExited ↔ IsSome last) → IsNone last → fault ≡ NoMemory
 stage_memory SeatExited last exited is = absurd (clash (sym (exited.0 refl) ∙ is))
   where
     clash : true ≡ false → ⊥
@@ -98,6 +98,6 @@ pub let_go_so : (d new : DraftState) (n : ℕ) → IsClean d → new ≡ with_st
 let_go_so d new n clean is looks = subst (λ (x : DraftState). HasNow x (rights_in d) (seats_in d) (slice_set (staging_in d) n None)) (sym is) (let_go_now d clean n (λ q. ap (λ (x : DraftState). staged_at q x.staging) (sym is) ∙ looks q))
 
 -- a last allocation isn't there and missing
-pub not_both : (o : Option (List Row)) → is_none o ≡ true → IsSome o → ⊥
+pub not_both : (o : Option (List Share)) → is_none o ≡ true → IsSome o → ⊥
 not_both None none some = absurd cc
 not_both (Some x) none some = absurd cc

@@ -1,4 +1,4 @@
 pub mod Steps
-pub mod Storing
+pub mod HandStore
 pub mod Sums
 pub mod Offers

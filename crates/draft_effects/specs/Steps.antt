@@ -2,16 +2,16 @@
 use Rattle.std.specs.Prelude.{◌≡◌, ◌+◌, ◌<◌, ◌^◌, ℕ, List, [], ◌∷◌, IsNone, false, length}
 use Rattle.draft_reads.specs.amount_math.Content.{nothing}
 use Rattle.draft_reads.specs.amount_math.Counted.{counted}
-use Rattle.draft_reads.specs.amount_math.Worth.{Worth}
+use Rattle.draft_reads.specs.amount_math.ValueView.{ValueView}
 use Rattle.draft_reads.specs.amount_math.declared.Amount.{Amount}
 use Rattle.draft_reads.specs.vault.Together.{only}
 use Rattle.draft_reads.specs.ertp_mint.BrandSupply.{supply_at}
-use Rattle.draft_reads.specs.proposals.Rows.{amount_under}
+use Rattle.draft_reads.specs.proposals.Shares.{amount_under}
 use Rattle.draft_reads.specs.rights_model.declared.Holder.{Holder}
 use Rattle.draft_reads.specs.rights_model.declared.Holder.TheVariants.{Purse, Payment, Slot, Hand, Outside}
 use Rattle.draft_reads.specs.rights_model.declared.Movement.{Movement}
-use Rattle.draft_reads.specs.right_steps.Lists.{CanTake, Lists, amount_of}
-use Rattle.draft_reads.specs.right_steps.Seats.{kept_seat_at}
+use Rattle.draft_reads.specs.vault_model.Lists.{CanTake, Lists, amount_of}
+use Rattle.draft_reads.specs.vault_model.Seats.{kept_seat_at}
 use Rattle.draft_reads.specs.world_laws.Views.{all_by_hand, by_hand, source_of, taken_by_hand}
 use Rattle.draft_reads.specs.vault.Drafts.{DraftState, HandGoes, IsClean, IsOfBrand, MayPut, given_at, hand_now}
 use Rattle.draft_reads.specs.vault.Asked.{MayOpenSlot, TakesIn}
@@ -21,20 +21,20 @@ abbrev pub moved_amount : Movement → Amount
 moved_amount m = amount_of m.brand m.value
 
 -- of a slot that isn't there nothing is taken, and it may be opened
-pub record MayOpenEmpty (s : Lists) (n : ℕ) (keyword : List ℕ) (w : Worth) : Type 0 where
+pub record MayOpenEmpty (s : Lists) (n : ℕ) (keyword : List ℕ) (w : ValueView) : Type 0 where
   pub empty : w.content ≡ nothing
   pub slot : MayOpenSlot s n keyword
 
-pub record SlotLeaves (s : Lists) (n : ℕ) (keyword : List ℕ) (w : Worth) : Type 0 where
+pub record SlotLeaves (s : Lists) (n : ℕ) (keyword : List ℕ) (w : ValueView) : Type 0 where
   pub made : n < length s.seats
   pub opens : IsNone (amount_under keyword (kept_seat_at s.seats n).slots)
       → MayOpenEmpty s n keyword w
 
 -- so much was ever issued of a brand as can be told
-pub record IsIssuable (s : Lists) (b : ℕ) (w : Worth) : Type 0 where
+pub record IsIssuable (s : Lists) (b : ℕ) (w : ValueView) : Type 0 where
   pub small : (supply_at s.out b).minted + counted w.content < 2 ^ 128
 
-abbrev pub MayLeave : Lists → Holder → ℕ → Worth → Type 0
+abbrev pub MayLeave : Lists → Holder → ℕ → ValueView → Type 0
 MayLeave s (Purse n) b w = Unit {0}
 MayLeave s (Payment n) b w = Unit {0}
 MayLeave s (Slot n keyword) b w = SlotLeaves s n keyword w
@@ -53,16 +53,16 @@ MayArrive s (Slot n keyword) a = MayReach s (Slot n keyword) a
 MayArrive s Hand a = ⊥
 MayArrive s Outside a = Unit {0}
 
-pub record CanTransfer (s : Lists) (m : Movement) : Type 0 where
+pub record CanMoveByHand (s : Lists) (m : Movement) : Type 0 where
   pub brand : IsOfBrand s m.brand m.value
   pub leaves : MayLeave s m.from m.brand m.value
   pub take : CanTake (source_of s m) m.from m.brand m.value
   pub arrives : MayArrive (taken_by_hand s m) m.to (moved_amount m)
 
 -- each, after those before it
-abbrev pub CanTransferEach : Lists → List Movement → Type 0
-CanTransferEach s [] = Unit {0}
-CanTransferEach s (m ∷ ms) = CanTransfer s m × CanTransferEach (by_hand s m) ms
+abbrev pub CanMoveEach : Lists → List Movement → Type 0
+CanMoveEach s [] = Unit {0}
+CanMoveEach s (m ∷ ms) = CanMoveByHand s m × CanMoveEach (by_hand s m) ms
 
 -- ---- the draft between a movement's halves, and after it
 
@@ -87,8 +87,8 @@ pub record IsAfter (old new : DraftState) (s : Lists) : Type 0 where
   pub clean : IsClean new
 
 -- of movements so many are left, which can be made, and make with those that were made what all make
-pub record IsTransferring (old new : DraftState) (moves left : List Movement) : Type 0 where
-  pub can : CanTransferEach new.now left
+pub record IsMoving (old new : DraftState) (moves left : List Movement) : Type 0 where
+  pub can : CanMoveEach new.now left
   pub done : all_by_hand new.now left ≡ all_by_hand old.now moves
   pub kept : new.kept ≡ old.kept
   pub staging : new.staging ≡ old.staging

@@ -9,19 +9,19 @@ ghost use Rattle.draft_reads.specs.ertp_mint.Stocks.{empty_amount, most_made};
 ghost use Rattle.draft_reads.specs.proposals.Slots.{FitsSeat};
 ghost use Rattle.draft_reads.specs.vault.Drafts.{IsClean};
 ghost use Rattle.draft_reads.specs.world_state.Good.{open_slots};
-ghost use Rattle.draft_reads.specs.right_steps.Tables.{no_hand};
+ghost use Rattle.draft_reads.specs.vault_model.Tables.{no_hand};
 ghost use Rattle.draft_reads.specs.world_state.Rights.{CanMoveAll, kind_at, moved_together, with_payment};
 ghost use Rattle.draft_reads.specs.world_state.Rights.{with_purse, with_slots, with_supply};
 ghost use Rattle.draft_reads.specs.world_state.Worlds.{empty_slots, new_seat, of_own};
 
-use crate::draft_transfers::halves::{issue, put_in};
-use crate::draft_transfers::transfer;
+use crate::movements::halves::{issue, put};
+use crate::movements::move_rights;
 use draft_reads::amount_math_lib::{Kind, Value};
 use draft_reads::holders_lib::purses::OpenFault;
 use draft_reads::proposals_lib::allocations::Allocation;
 use draft_reads::proposals_lib::offers::{Exit, Proposal};
 use draft_reads::rights_model_lib::{Holder, Movement};
-use draft_reads::seats_lib::seats::OpenFault as SeatFault;
+use draft_reads::seats_lib::OpenFault as SeatFault;
 use draft_reads::vault_lib::draft::Draft;
 use std::alloc::{AllocError, Global};
 
@@ -64,7 +64,7 @@ pub fn empty_payment(draft: &mut Draft, brand: u16, kind: Kind) -> Result<u32, A
     let _minted = draft.supply().minted(brand);
     let _fits = draft.supply().kind(brand);
     let parcel = issue(draft, brand, Value::empty(kind))?;
-    put_in(draft, &Holder::Payment(payment), parcel)?;
+    put(draft, &Holder::Payment(payment), parcel)?;
     Ok(payment)
 }
 
@@ -82,7 +82,7 @@ pub fn issue_payment(draft: &mut Draft, movement: &Movement) -> Result<(), Alloc
     ensures back { CanGoBack draft.old draft.new }
 {
     draft.valid();
-    transfer(draft, movement)
+    move_rights(draft, movement)
 }
 
 /// Takes in a brand, with the next number, of which nothing was issued.
@@ -96,7 +96,7 @@ pub fn add_brand(draft: &mut Draft, kind: Kind) -> Result<(), AllocError>
     draft.add_brand(kind)
 }
 
-/// Opens a seat of an instance, with a slot for each row of a proposal and nothing in them, and answers its
+/// Opens a seat of an instance, with a slot for each share of a proposal and nothing in them, and answers its
 /// number.
 pub fn open_seat(draft: &mut Draft, instance: u32, proposal: Proposal) -> Result<u32, AllocError>
     requires clean { IsClean draft.old }

@@ -6,12 +6,12 @@
 ghost use Rattle.std.specs.Prelude.{List, OnOk, Option};
 ghost use Rattle.draft_reads.specs.Views.{CanGoBack, HasNow, rights_in, seats_in, staging_in};
 ghost use Rattle.draft_reads.specs.world_state.Shapes.{IsRearrangement};
-ghost use Rattle.draft_reads.specs.proposals.declared.allocations.Row.{Row};
+ghost use Rattle.draft_reads.specs.proposals.declared.allocations.Share.{Share};
 ghost use Rattle.draft_reads.specs.vault.Drafts.{IsClean};
 ghost use Rattle.draft_reads.specs.world_state.Good.{CanMoveTogether};
 ghost use Rattle.draft_reads.specs.world_state.Rights.{moved_together};
 
-use crate::stored_parts::carry_all;
+use crate::stored_parts::move_parts;
 use draft_reads::rights_model_lib::Movement;
 use draft_reads::vault_lib::draft::Draft;
 use std::alloc::AllocError;
@@ -21,7 +21,7 @@ use std::alloc::AllocError;
 pub fn rearrange(draft: &mut Draft, moves: &[Movement]) -> Result<(), AllocError>
     requires clean { IsClean draft.old }
     requires shape { IsRearrangement moves.now }
-    requires can { (staging : List (Option (List Row)))
+    requires can { (staging : List (Option (List Share)))
         × CanMoveTogether (rights_in draft.old) (seats_in draft.old) staging moves.now }
     ensures ok { OnOk result (HasNow draft.new (moved_together (rights_in draft.old) moves.now)
         (seats_in draft.old) (staging_in draft.old)) }
@@ -29,5 +29,5 @@ pub fn rearrange(draft: &mut Draft, moves: &[Movement]) -> Result<(), AllocError
 {
     draft.valid();
     draft.count_anew();
-    carry_all(draft, moves)
+    move_parts(draft, moves)
 }

@@ -5,23 +5,23 @@
 ghost use Rattle.std.specs.Prelude.{◌≡◌, None, Some, map, slice_set, OnOk};
 ghost use Rattle.draft_reads.specs.Views.{CanGoBack, HasNow, rights_in, seats_in, staging_in};
 ghost use Rattle.draft_reads.specs.vault.Drafts.{IsClean};
-ghost use Rattle.draft_reads.specs.world_state.Worlds.{IsOpen, no_rows, seat_at};
+ghost use Rattle.draft_reads.specs.world_state.Worlds.{IsOpen, no_shares, seat_at};
 
 use draft_reads::proposals_lib::allocations::Allocation;
-use draft_reads::seats_lib::seats::StageFault;
+use draft_reads::seats_lib::StageFault;
 use draft_reads::vault_lib::draft::Draft;
 use std::alloc::AllocError;
 
-/// Stages rows of an open seat, in place of what was.
-pub fn stage(draft: &mut Draft, seat: u32, rows: Allocation) -> Result<(), AllocError>
+/// Stages shares of an open seat, in place of what was.
+pub fn stage(draft: &mut Draft, seat: u32, shares: Allocation) -> Result<(), AllocError>
     requires clean { IsClean draft.old }
     requires is_open { IsOpen (seat_at (seats_in draft.old) seat) }
     ensures ok { OnOk result (HasNow draft.new (rights_in draft.old) (seats_in draft.old)
-        (slice_set (staging_in draft.old) seat (Some rows))) }
+        (slice_set (staging_in draft.old) seat (Some shares))) }
     ensures back { CanGoBack draft.old draft.new }
 {
     draft.valid();
-    match draft.stage(seat, rows) {
+    match draft.stage(seat, shares) {
         Ok(()) => return Ok(()),
         Err((_, fault)) => return Err(want_of_memory(fault)),
     }
@@ -55,7 +55,7 @@ pub fn unstage(draft: &mut Draft, seat: u32)
 pub fn end_staging(draft: &mut Draft)
     requires clean { IsClean draft.old }
     ensures now { HasNow draft.new (rights_in draft.old) (seats_in draft.old)
-        (map no_rows (staging_in draft.old)) }
+        (map no_shares (staging_in draft.old)) }
     ensures back { CanGoBack draft.old draft.new }
 {
     draft.valid();

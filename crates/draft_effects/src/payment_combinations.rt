@@ -5,21 +5,21 @@
 
 ghost use Rattle.std.specs.Prelude.{◌≡◌, List, OnOk, Option, IfOk};
 ghost use Rattle.draft_reads.specs.amount_math.Content.{Contains, sum};
-ghost use Rattle.draft_reads.specs.amount_math.Worth.{IsValue, with_content};
+ghost use Rattle.draft_reads.specs.amount_math.ValueView.{IsValue, with_content};
 ghost use Rattle.draft_effects.specs.Steps.{MayReach};
 ghost use Rattle.draft_reads.specs.Views.{CanGoBack, HasNow, rights_in, seats_in, staging_in};
 ghost use Rattle.draft_reads.specs.world_state.Shapes.{IsCombination};
 ghost use Rattle.draft_effects.specs.Sums.{HaveSum, whole_moved};
-ghost use Rattle.draft_reads.specs.proposals.declared.allocations.Row.{Row};
-ghost use Rattle.draft_reads.specs.right_steps.Lists.{amount_of};
-ghost use Rattle.draft_reads.specs.right_steps.Tables.{hand_minus};
+ghost use Rattle.draft_reads.specs.proposals.declared.allocations.Share.{Share};
+ghost use Rattle.draft_reads.specs.vault_model.Lists.{amount_of};
+ghost use Rattle.draft_reads.specs.vault_model.Tables.{hand_minus};
 ghost use Rattle.draft_reads.specs.world_laws.Views.{put_to};
-ghost use Rattle.draft_effects.specs.Storing.{IsStoring, StoresAll};
+ghost use Rattle.draft_effects.specs.HandStore.{IsStoring, StoresAll};
 ghost use Rattle.draft_reads.specs.vault.Drafts.{IsClean, IsOfBrand, hand_now};
 ghost use Rattle.draft_reads.specs.world_state.Good.{CanMoveTogether};
 ghost use Rattle.draft_reads.specs.world_state.Rights.{moved_together};
 
-use crate::stored_parts::{put_stored, store_all};
+use crate::stored_parts::{put_part, store_parts};
 use draft_reads::amount_math_lib::{PutFault, Value};
 use draft_reads::rights_model_lib::Movement;
 use draft_reads::vault_lib::draft::Draft;
@@ -30,7 +30,7 @@ use std::alloc::AllocError;
 pub fn combine(draft: &mut Draft, moves: &[Movement]) -> Result<(), AllocError>
     requires clean { IsClean draft.old }
     requires shape { IsCombination moves.now }
-    requires can { (staging : List (Option (List Row)))
+    requires can { (staging : List (Option (List Share)))
         × CanMoveTogether (rights_in draft.old) (seats_in draft.old) staging moves.now }
     ensures ok { OnOk result (HasNow draft.new (moved_together (rights_in draft.old) moves.now)
         (seats_in draft.old) (staging_in draft.old)) }
@@ -41,7 +41,7 @@ pub fn combine(draft: &mut Draft, moves: &[Movement]) -> Result<(), AllocError>
     let Some(first) = moves.first() else {
         unreachable!();
     };
-    store_all(draft, moves)?;
+    store_parts(draft, moves)?;
     combine_stored(draft, first, moves)
 }
 
@@ -58,7 +58,7 @@ fn combine_stored(draft: &mut Draft, first: &Movement, moves: &[Movement]) -> Re
     ensures back { CanGoBack draft.old draft.new }
 {
     let whole = whole_value(moves)?;
-    put_stored(draft, &first.to, first.brand, whole)
+    put_part(draft, &first.to, first.brand, whole)
 }
 
 /// All that movements of values of a kind move together, as one value.

@@ -6,18 +6,18 @@
 ghost use Rattle.std.specs.Prelude.{◌≡◌, List, OnOk, Option, IfOk};
 ghost use Rattle.draft_reads.specs.Views.{CanGoBack, HasNow, rights_in, seats_in, staging_in};
 ghost use Rattle.draft_reads.specs.world_state.Shapes.{IsSplit};
-ghost use Rattle.draft_reads.specs.vault.Combinations.{IsLive, brand_at, worth_at};
-ghost use Rattle.draft_reads.specs.proposals.declared.allocations.Row.{Row};
-ghost use Rattle.draft_reads.specs.right_steps.Lists.{taken};
-ghost use Rattle.draft_reads.specs.right_steps.Tables.{hand_plus};
+ghost use Rattle.draft_reads.specs.vault.Combinations.{IsLive, brand_at, value_at};
+ghost use Rattle.draft_reads.specs.proposals.declared.allocations.Share.{Share};
+ghost use Rattle.draft_reads.specs.vault_model.Lists.{taken};
+ghost use Rattle.draft_reads.specs.vault_model.Tables.{hand_plus};
 ghost use Rattle.draft_reads.specs.rights_model.declared.Holder.TheVariants.{Payment};
-ghost use Rattle.draft_effects.specs.Storing.{IsStoring, StoresAll};
+ghost use Rattle.draft_effects.specs.HandStore.{IsStoring, StoresAll};
 ghost use Rattle.draft_reads.specs.vault.Drafts.{IsClean, hand_now};
 ghost use Rattle.draft_reads.specs.vault.Asked.{IsPaymentOf};
 ghost use Rattle.draft_reads.specs.world_state.Good.{CanMoveTogether};
 ghost use Rattle.draft_reads.specs.world_state.Rights.{moved_together};
 
-use crate::stored_parts::{put_all, store_part};
+use crate::stored_parts::{put_parts, store_part};
 use draft_reads::amount_math_lib::Value;
 use draft_reads::payment_reads::payment_amount;
 use draft_reads::rights_model_lib::{Holder, Movement};
@@ -29,7 +29,7 @@ use std::alloc::AllocError;
 pub fn split(draft: &mut Draft, moves: &[Movement]) -> Result<(), AllocError>
     requires clean { IsClean draft.old }
     requires shape { IsSplit moves.now }
-    requires can { (staging : List (Option (List Row)))
+    requires can { (staging : List (Option (List Share)))
         × CanMoveTogether (rights_in draft.old) (seats_in draft.old) staging moves.now }
     ensures ok { OnOk result (HasNow draft.new (moved_together (rights_in draft.old) moves.now)
         (seats_in draft.old) (staging_in draft.old)) }
@@ -44,7 +44,7 @@ pub fn split(draft: &mut Draft, moves: &[Movement]) -> Result<(), AllocError>
         unreachable!();
     };
     store_payment(draft, *payment)?;
-    put_all(draft, moves)
+    put_parts(draft, moves)
 }
 
 /// Takes a live payment whole into the hand's own store. On an error all is as before.
@@ -53,9 +53,9 @@ pub fn store_payment(draft: &mut Draft, payment: u32) -> Result<(), AllocError>
     requires live { IsLive draft.old.now (brand_at draft.old.now payment) payment }
     ensures ok { OnOk result (IsStoring draft.old draft.new
         (taken draft.old.now (Payment payment) (brand_at draft.old.now payment)
-        (worth_at draft.old.now payment))
+        (value_at draft.old.now payment))
         (hand_plus (hand_now draft.old) (brand_at draft.old.now payment)
-        (worth_at draft.old.now payment).content)) }
+        (value_at draft.old.now payment).content)) }
     ensures back { CanGoBack draft.old draft.new }
 {
     let value = payment_value(draft, payment)?;
@@ -64,8 +64,8 @@ pub fn store_payment(draft: &mut Draft, payment: u32) -> Result<(), AllocError>
 
 /// A copy of what a live payment has.
 fn payment_value(draft: &Draft, payment: u32) -> Result<Value, AllocError>
-    requires { IsPaymentOf draft.now.now payment (worth_at draft.now.now payment) }
-    ensures { IfOk result (λ value. value ≡ worth_at draft.now.now payment) }
+    requires { IsPaymentOf draft.now.now payment (value_at draft.now.now payment) }
+    ensures { IfOk result (λ value. value ≡ value_at draft.now.now payment) }
 {
     let Some(held) = payment_amount(draft, payment) else {
         unreachable!();

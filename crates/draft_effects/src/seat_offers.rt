@@ -1,13 +1,13 @@
-//! Offers in a turn's draft. Its one contract: a seat is opened with a slot for each row of its
+//! Offers in a turn's draft. Its one contract: a seat is opened with a slot for each share of its
 //! proposal, its invitation is burned, and its payments are escrowed, as the world's effect of an offer
 //! makes of rights and seats; or the draft can be undone as before.
 
 ghost use Rattle.std.specs.Prelude.{◌≡◌, ◌<◌, ◌++◌, ◌∷◌, [], List, None, Option, length, IfOk, OnOk};
-ghost use Rattle.draft_effects.specs.Steps.{CanTransferEach, IsAfter};
+ghost use Rattle.draft_effects.specs.Steps.{CanMoveEach, IsAfter};
 ghost use Rattle.draft_reads.specs.Views.{CanGoBack, HasNow, rights_in, seats_in, staging_in};
 ghost use Rattle.draft_reads.specs.ertp_mint.Stocks.{most_made};
 ghost use Rattle.draft_reads.specs.proposals.Slots.{FitsSeat};
-ghost use Rattle.draft_reads.specs.proposals.declared.allocations.Row.{Row};
+ghost use Rattle.draft_reads.specs.proposals.declared.allocations.Share.{Share};
 ghost use Rattle.draft_effects.specs.Offers.{CanEscrow, rights_opened, seats_opened};
 ghost use Rattle.draft_reads.specs.world_laws.Views.{all_by_hand};
 ghost use Rattle.draft_reads.specs.vault.Drafts.{DraftState, IsClean};
@@ -16,7 +16,7 @@ ghost use Rattle.draft_reads.specs.world_state.Rights.{moved_together};
 ghost use Rattle.draft_reads.specs.world_state.Worlds.{Offering, State, burn_and_escrows, offered_by};
 
 use crate::draft_openings::open_seat;
-use crate::draft_transfers::{transfer, transfer_each};
+use crate::movements::{move_each, move_rights};
 use draft_reads::proposals_lib::offers::Proposal;
 use draft_reads::rights_model_lib::Movement;
 use draft_reads::vault_lib::draft::Draft;
@@ -51,13 +51,13 @@ pub fn offer(
 /// Burns the payment of an invitation, and escrows payments.
 fn escrow(draft: &mut Draft, burn: &Movement, escrows: &[Movement]) -> Result<(), AllocError>
     requires clean { IsClean draft.old }
-    requires can { CanTransferEach draft.old.now (burn.now ∷ escrows.now) }
+    requires can { CanMoveEach draft.old.now (burn.now ∷ escrows.now) }
     ensures ok { OnOk result (IsAfter draft.old draft.new
         (all_by_hand draft.old.now (burn.now ∷ escrows.now))) }
     ensures back { CanGoBack draft.old draft.new }
 {
-    transfer(draft, burn)?;
-    transfer_each(draft, escrows)
+    move_rights(draft, burn)?;
+    move_each(draft, escrows)
 }
 
 /// An offer that can be made in the world can be made in a draft of it: its movements stand alone.

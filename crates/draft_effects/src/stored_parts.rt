@@ -7,12 +7,12 @@ ghost use Rattle.std.specs.Prelude.{OnOk, map};
 ghost use Rattle.draft_reads.specs.amount_math.Content.{Contains};
 ghost use Rattle.draft_effects.specs.Steps.{MayReach};
 ghost use Rattle.draft_reads.specs.Views.{CanGoBack};
-ghost use Rattle.draft_reads.specs.right_steps.Lists.{amount_of, taken};
-ghost use Rattle.draft_reads.specs.right_steps.Tables.{hand_minus, hand_plus};
+ghost use Rattle.draft_reads.specs.vault_model.Lists.{amount_of, taken};
+ghost use Rattle.draft_reads.specs.vault_model.Tables.{hand_minus, hand_plus};
 ghost use Rattle.draft_reads.specs.world_laws.Views.{put_to};
-ghost use Rattle.draft_effects.specs.Storing.{CanCarry, CanCarryAll, CanStore, IsStoring, StoresAll};
-ghost use Rattle.draft_effects.specs.Storing.{all_carried, carried, hand_after_all, into_hand};
-ghost use Rattle.draft_effects.specs.Storing.{out_of_hand};
+ghost use Rattle.draft_effects.specs.HandStore.{CanCarry, CanCarryAll, CanStore, IsStoring, StoresAll};
+ghost use Rattle.draft_effects.specs.HandStore.{all_carried, carried, hand_after_all, into_hand};
+ghost use Rattle.draft_effects.specs.HandStore.{out_of_hand};
 ghost use Rattle.draft_reads.specs.vault.Drafts.{IsOfBrand, hand_now};
 ghost use Rattle.draft_reads.specs.vault.Asked.{brand_of};
 ghost use Rattle.draft_reads.specs.world_state.Rights.{hand_after};
@@ -24,7 +24,7 @@ use std::alloc::AllocError;
 
 /// Makes movements, each of which goes to the hand or from it, in their order. On an error some may have
 /// been made, and the draft is to be undone.
-pub fn carry_all(draft: &mut Draft, moves: &[Movement]) -> Result<(), AllocError>
+pub fn move_parts(draft: &mut Draft, moves: &[Movement]) -> Result<(), AllocError>
     requires stores { StoresAll draft.old }
     requires can { CanCarryAll draft.old.now (hand_now draft.old) moves.now }
     ensures ok { OnOk result (IsStoring draft.old draft.new (all_carried draft.old.now moves.now)
@@ -32,13 +32,13 @@ pub fn carry_all(draft: &mut Draft, moves: &[Movement]) -> Result<(), AllocError
     ensures back { CanGoBack draft.old draft.new }
 {
     for movement in moves {
-        carry(draft, movement)?;
+        move_part(draft, movement)?;
     }
     Ok(())
 }
 
 /// Makes a movement that goes to the hand or from it. On an error the draft is to be undone.
-pub fn carry(draft: &mut Draft, movement: &Movement) -> Result<(), AllocError>
+pub fn move_part(draft: &mut Draft, movement: &Movement) -> Result<(), AllocError>
     requires stores { StoresAll draft.old }
     requires can { CanCarry draft.old.now (hand_now draft.old) movement.now }
     ensures ok { OnOk result (IsStoring draft.old draft.new (carried draft.old.now movement.now)
@@ -48,7 +48,7 @@ pub fn carry(draft: &mut Draft, movement: &Movement) -> Result<(), AllocError>
     match &movement.from {
         Holder::Hand => {
             let part = movement.value.copy()?;
-            put_stored(draft, &movement.to, movement.brand, part)
+            put_part(draft, &movement.to, movement.brand, part)
         }
         from => store_part(draft, from, &movement.value),
     }
@@ -56,7 +56,7 @@ pub fn carry(draft: &mut Draft, movement: &Movement) -> Result<(), AllocError>
 
 /// Takes what movements move into the hand's own store, in their order. On an error some may have been taken,
 /// and the draft is to be undone.
-pub fn store_all(draft: &mut Draft, moves: &[Movement]) -> Result<(), AllocError>
+pub fn store_parts(draft: &mut Draft, moves: &[Movement]) -> Result<(), AllocError>
     requires stores { StoresAll draft.old }
     requires can { CanCarryAll draft.old.now (hand_now draft.old) (map into_hand moves.now) }
     ensures ok { OnOk result (IsStoring draft.old draft.new
@@ -72,7 +72,7 @@ pub fn store_all(draft: &mut Draft, moves: &[Movement]) -> Result<(), AllocError
 
 /// Puts what movements move from the hand's own store, in their order. On an error some may have been put,
 /// and the draft is to be undone.
-pub fn put_all(draft: &mut Draft, moves: &[Movement]) -> Result<(), AllocError>
+pub fn put_parts(draft: &mut Draft, moves: &[Movement]) -> Result<(), AllocError>
     requires stores { StoresAll draft.old }
     requires can { CanCarryAll draft.old.now (hand_now draft.old) (map out_of_hand moves.now) }
     ensures ok { OnOk result (IsStoring draft.old draft.new
@@ -82,7 +82,7 @@ pub fn put_all(draft: &mut Draft, moves: &[Movement]) -> Result<(), AllocError>
 {
     for movement in moves {
         let part = movement.value.copy()?;
-        put_stored(draft, &movement.to, movement.brand, part)?;
+        put_part(draft, &movement.to, movement.brand, part)?;
     }
     Ok(())
 }
@@ -110,7 +110,7 @@ pub fn store_part(draft: &mut Draft, from: &Holder, part: &Value) -> Result<(), 
 
 /// Puts a part that the hand's own store has to a purse, to a slot of an open seat, where a further one is
 /// opened if there is none, or to the next payment. On an error it is given up.
-pub fn put_stored(draft: &mut Draft, to: &Holder, brand: u16, part: Value) -> Result<(), AllocError>
+pub fn put_part(draft: &mut Draft, to: &Holder, brand: u16, part: Value) -> Result<(), AllocError>
     requires stores { StoresAll draft.old }
     requires has { Contains (hand_now draft.old brand) part.content }
     requires brand { IsOfBrand draft.old.now brand part }

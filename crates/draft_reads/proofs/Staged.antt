@@ -8,16 +8,16 @@ use Rattle.std.specs.declared.cmp.Ordering.{Ordering}
 use Rattle.std.specs.declared.cmp.Ordering.TheVariants.{Less, Equal, Greater}
 use Rattle.std.proofs.Common.{◌≡◌, ◌≢◌, ◌==◌, ℕ, zero, suc, ◌+◌, ◌<◌, ◌≤◌, Bool, true, false, List, [], ◌∷◌, ◌++◌, None, Option, Some, length, map, refl, sym, ◌∙◌, ap, arith}
 use Rattle.std.proofs.lemmas.Bool.{eq-eqb, eqb-true, ne_eqb}
-use Rattle.world_laws.specs.proposals.declared.allocations.Row.{Row}
-use Rattle.world_laws.specs.right_steps.Seats.{KeptSeat}
+use Rattle.world_laws.specs.proposals.declared.allocations.Share.{Share}
+use Rattle.world_laws.specs.vault_model.Seats.{KeptSeat}
 use Rattle.vault.specs.seats.Staging.{staged_at, with_staged, without_staged}
-use Rattle.world_laws.specs.world_state.Worlds.{no_rows}
+use Rattle.world_laws.specs.world_state.Worlds.{no_shares}
 use Rattle.draft_reads.specs.Views.{staged_from}
 
 -- ---- what is staged of one seat
 
 abbrev Staging : Type 0
-Staging = List (ℕ × List Row)
+Staging = List (ℕ × List Share)
 
 tied : (n q : ℕ) → n ≡ q → is_eq (nat_cmp n q) ≡ true
 tied n q same = unsigned_tied n q ∙ eq-eqb n q same
@@ -28,24 +28,24 @@ untied n q apart = unsigned_tied n q ∙ ne_eqb n q apart
 same_of : (n q : ℕ) → is_eq (nat_cmp n q) ≡ true → n ≡ q
 same_of n q is = eqb-true n q (sym (unsigned_tied n q) ∙ is)
 
-module _ (n : ℕ) (rows : List Row) where
-  pub staged_here : (xs : Staging) → staged_at n (with_staged n rows xs) ≡ Some rows
-  staged_here [] = ap (λ t. cond t (Some rows) None) (tied n n refl)
+module _ (n : ℕ) (shares : List Share) where
+  pub staged_here : (xs : Staging) → staged_at n (with_staged n shares xs) ≡ Some shares
+  staged_here [] = ap (λ t. cond t (Some shares) None) (tied n n refl)
   staged_here (e ∷ es) = by (nat_cmp n e.0) refl (staged_here es)
     where
-      by : (o : Ordering) → nat_cmp n e.0 ≡ o → staged_at n (with_staged n rows es) ≡ Some rows → staged_at n (match_ordering o ((n, rows) ∷ e ∷ es) ((e.0, rows) ∷ es) (e ∷ with_staged n rows es)) ≡ Some rows
-      by Less is later = ap (λ t. cond t (Some rows) (staged_at n (e ∷ es))) (tied n n refl)
-      by Equal is later = ap (λ t. cond t (Some rows) (staged_at n es)) (ap is_eq is)
-      by Greater is later = ap (λ t. cond t (Some e.1) (staged_at n (with_staged n rows es))) (ap is_eq is) ∙ later
+      by : (o : Ordering) → nat_cmp n e.0 ≡ o → staged_at n (with_staged n shares es) ≡ Some shares → staged_at n (match_ordering o ((n, shares) ∷ e ∷ es) ((e.0, shares) ∷ es) (e ∷ with_staged n shares es)) ≡ Some shares
+      by Less is later = ap (λ t. cond t (Some shares) (staged_at n (e ∷ es))) (tied n n refl)
+      by Equal is later = ap (λ t. cond t (Some shares) (staged_at n es)) (ap is_eq is)
+      by Greater is later = ap (λ t. cond t (Some e.1) (staged_at n (with_staged n shares es))) (ap is_eq is) ∙ later
 
-  pub staged_apart : (q : ℕ) → q ≢ n → (xs : Staging) → staged_at q (with_staged n rows xs) ≡ staged_at q xs
-  staged_apart q apart [] = ap (λ t. cond t (Some rows) None) (untied q n apart)
+  pub staged_apart : (q : ℕ) → q ≢ n → (xs : Staging) → staged_at q (with_staged n shares xs) ≡ staged_at q xs
+  staged_apart q apart [] = ap (λ t. cond t (Some shares) None) (untied q n apart)
   staged_apart q apart (e ∷ es) = by (nat_cmp n e.0) refl (staged_apart q apart es)
     where
-      by : (o : Ordering) → nat_cmp n e.0 ≡ o → staged_at q (with_staged n rows es) ≡ staged_at q es → staged_at q (match_ordering o ((n, rows) ∷ e ∷ es) ((e.0, rows) ∷ es) (e ∷ with_staged n rows es)) ≡ staged_at q (e ∷ es)
-      by Less is later = ap (λ t. cond t (Some rows) (staged_at q (e ∷ es))) (untied q n apart)
+      by : (o : Ordering) → nat_cmp n e.0 ≡ o → staged_at q (with_staged n shares es) ≡ staged_at q es → staged_at q (match_ordering o ((n, shares) ∷ e ∷ es) ((e.0, shares) ∷ es) (e ∷ with_staged n shares es)) ≡ staged_at q (e ∷ es)
+      by Less is later = ap (λ t. cond t (Some shares) (staged_at q (e ∷ es))) (untied q n apart)
       by Equal is later =
-          ap (λ t. cond t (Some rows) (staged_at q es)) other
+          ap (λ t. cond t (Some shares) (staged_at q es)) other
           ∙ sym (ap (λ t. cond t (Some e.1) (staged_at q es)) other)
         where
           other : is_eq (nat_cmp q e.0) ≡ false
@@ -66,7 +66,7 @@ pub alike_from : (m : ℕ) (ss : List KeptSeat) (xs ys : Staging) → ((q : ℕ)
 alike_from m [] xs ys alike = refl
 alike_from m (s ∷ ss) xs ys alike = λ i. alike m (omega arith) i ∷ alike_from (suc m) ss xs ys (λ q le. alike q (omega (arith, le))) i
 
-changed_from : (m n q : ℕ) (ss : List KeptSeat) (x : Option (List Row)) (xs ys : Staging) → q ≡ m + n → staged_at q ys ≡ x → ((p : ℕ) → p ≢ q → staged_at p ys ≡ staged_at p xs) → staged_from m ss ys ≡ slice_set (staged_from m ss xs) n x
+changed_from : (m n q : ℕ) (ss : List KeptSeat) (x : Option (List Share)) (xs ys : Staging) → q ≡ m + n → staged_at q ys ≡ x → ((p : ℕ) → p ≢ q → staged_at p ys ≡ staged_at p xs) → staged_from m ss ys ≡ slice_set (staged_from m ss xs) n x
 changed_from m n q [] x xs ys at here apart = refl
 changed_from m zero q (s ∷ ss) x xs ys at here apart = λ i. first i ∷ alike_from (suc m) ss ys xs (λ p le. apart p (λ same. absurd (omega (arith, le, same, at)))) i
   where
@@ -75,17 +75,17 @@ changed_from m zero q (s ∷ ss) x xs ys at here apart = λ i. first i ∷ alike
 changed_from m (suc n) q (s ∷ ss) x xs ys at here apart = λ i. apart m (λ same. absurd (omega (arith, at, same))) i ∷ changed_from (suc m) n q ss x xs ys (omega (arith, at)) here apart i
 
 -- one seat's is changed
-pub staged_set : (n : ℕ) (ss : List KeptSeat) (x : Option (List Row)) (xs ys : Staging) → staged_at n ys ≡ x → ((p : ℕ) → p ≢ n → staged_at p ys ≡ staged_at p xs) → staged_from 0 ss ys ≡ slice_set (staged_from 0 ss xs) n x
+pub staged_set : (n : ℕ) (ss : List KeptSeat) (x : Option (List Share)) (xs ys : Staging) → staged_at n ys ≡ x → ((p : ℕ) → p ≢ n → staged_at p ys ≡ staged_at p xs) → staged_from 0 ss ys ≡ slice_set (staged_from 0 ss xs) n x
 staged_set n ss x xs ys here apart = changed_from 0 n n ss x xs ys (omega arith) here apart
 
-pub staged_with : (ss : List KeptSeat) (n : ℕ) (rows : List Row) (xs : Staging) → staged_from 0 ss (with_staged n rows xs) ≡ slice_set (staged_from 0 ss xs) n (Some rows)
-staged_with ss n rows xs = staged_set n ss (Some rows) xs (with_staged n rows xs) (staged_here n rows xs) (λ p apart. staged_apart n rows p apart xs)
+pub staged_with : (ss : List KeptSeat) (n : ℕ) (shares : List Share) (xs : Staging) → staged_from 0 ss (with_staged n shares xs) ≡ slice_set (staged_from 0 ss xs) n (Some shares)
+staged_with ss n shares xs = staged_set n ss (Some shares) xs (with_staged n shares xs) (staged_here n shares xs) (λ p apart. staged_apart n shares p apart xs)
 
-ended_from : (m : ℕ) (ss : List KeptSeat) (xs : Staging) → staged_from m ss [] ≡ map no_rows (staged_from m ss xs)
+ended_from : (m : ℕ) (ss : List KeptSeat) (xs : Staging) → staged_from m ss [] ≡ map no_shares (staged_from m ss xs)
 ended_from m [] xs = refl
 ended_from m (s ∷ ss) xs = ap (λ l. None ∷ l) (ended_from (suc m) ss xs)
 
-pub staged_ended : (ss : List KeptSeat) (xs : Staging) → staged_from 0 ss [] ≡ map no_rows (staged_from 0 ss xs)
+pub staged_ended : (ss : List KeptSeat) (xs : Staging) → staged_from 0 ss [] ≡ map no_shares (staged_from 0 ss xs)
 staged_ended ss xs = ended_from 0 ss xs
 
 -- a seat more, of which this is staged

@@ -1,7 +1,7 @@
 -- A draft with nothing in the hand can be undone; and how many payments are owed to open seats.
 use Rattle.std.proofs.Common.{◌≡◌, ℕ, ◌+◌, List, [], ◌∷◌, length, map, refl, sym, ◌∙◌, ap, subst, arith}
 use Rattle.world_laws.specs.amount_math.Content.{Content, Contains, count-nothing, nothing, same_content}
-use Rattle.world_laws.specs.right_steps.Seats.{KeptSeat, owed_by, owed_by_all}
+use Rattle.world_laws.specs.vault_model.Seats.{KeptSeat, owed_by, owed_by_all}
 use Rattle.world_laws.specs.Views.{seat_of, slots_held}
 use Rattle.vault.specs.Drafts.{DraftState, HandGoes, IsClean, IsValid, given_at, hand_now}
 use Rattle.world_laws.specs.world_state.Good.{open_slots}

@@ -1,24 +1,24 @@
 -- What the stores' lists are in the world's.
 use Rattle.std.specs.Prelude.{is_none, slice_get, unwrap_or}
 use Rattle.std.proofs.Common.{true≢false, ◌≡◌, ℕ, ◌+◌, ◌<◌, Bool, true, false, cond, List, [], ◌∷◌, Option, Some, None, length, map, refl, sym, ◌∙◌, ap, arith}
-use Rattle.world_laws.specs.ertp_mint.Balances.{StoredAmount, no_store}
+use Rattle.world_laws.specs.ertp_mint.Balances.{BalanceView, no_store}
 use Rattle.world_laws.proofs.lemmas.ListEdits.{length_map, read_default, read_map}
-use Rattle.world_laws.specs.proposals.declared.allocations.Row.{Row}
+use Rattle.world_laws.specs.proposals.declared.allocations.Share.{Share}
 use Rattle.vault.specs.holders.Purses.{store_at}
-use Rattle.world_laws.specs.right_steps.Lists.{purse_at}
-use Rattle.world_laws.specs.right_steps.Seats.{KeptSeat, kept_seat_at, no_kept_seat, owed_by_all}
+use Rattle.world_laws.specs.vault_model.Lists.{purse_at}
+use Rattle.world_laws.specs.vault_model.Seats.{KeptSeat, kept_seat_at, no_kept_seat, owed_by_all}
 use Rattle.world_laws.specs.Views.{seat_of, slots_held}
 use Rattle.vault.specs.seats.Seats.{SeatView, allocation_of}
-use Rattle.vault.specs.seats.Slots.{rows_in}
+use Rattle.vault.specs.seats.Slots.{shares_in}
 use Rattle.vault.specs.seats.Store as store
 use Rattle.vault.specs.Memory.{amount_in, kept_seat}
 use Rattle.world_laws.specs.world_state.Good.{open_slots}
 use Rattle.world_laws.specs.world_state.Worlds.{Seat, no_seat, seat_at}
 
-pub purses_counted : (ss : List StoredAmount) → length (map amount_in ss) ≡ length ss
+pub purses_counted : (ss : List BalanceView) → length (map amount_in ss) ≡ length ss
 purses_counted ss = length_map amount_in ss
 
-pub purse_read : (ss : List StoredAmount) (n : ℕ) → purse_at (map amount_in ss) n ≡ (store_at ss n).amount
+pub purse_read : (ss : List BalanceView) (n : ℕ) → purse_at (map amount_in ss) n ≡ (store_at ss n).amount
 purse_read ss n = read_map amount_in ss n no_store
 
 -- ---- payments
@@ -49,6 +49,6 @@ seat_read ss n lt =
 pub last_allocated : (s : SeatView) → is_none s.last ≡ false → Some (allocation_of s) ≡ s.last
 last_allocated s left = by s.last left
   where
-    by : (o : Option (List Row)) → is_none o ≡ false → Some (unwrap_or o (rows_in s.slots)) ≡ o
+    by : (o : Option (List Share)) → is_none o ≡ false → Some (unwrap_or o (shares_in s.slots)) ≡ o
     by None is = absurd (true≢false is)
-    by (Some rows) is = refl
+    by (Some shares) is = refl

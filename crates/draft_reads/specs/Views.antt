@@ -1,7 +1,7 @@
 -- A draft in the world's words: what it has of rights, of seats and of what is staged.
 use Rattle.std.specs.Prelude.{◌≡◌, ℕ, suc, List, [], ◌∷◌, Option}
-use Rattle.world_laws.specs.proposals.declared.allocations.Row.{Row}
-use Rattle.world_laws.specs.right_steps.Seats.{KeptSeat}
+use Rattle.world_laws.specs.proposals.declared.allocations.Share.{Share}
+use Rattle.world_laws.specs.vault_model.Seats.{KeptSeat}
 use Rattle.world_laws.specs.Views.{rights_of, seats_of}
 use Rattle.vault.specs.seats.Staging.{staged_at}
 use Rattle.vault.specs.Drafts.{DraftState, HandGoes, IsClean}
@@ -15,16 +15,16 @@ abbrev pub seats_in : DraftState → List Seat
 seats_in d = seats_of d.now
 
 -- what is staged of each seat, numbered from n
-abbrev pub staged_from : ℕ → List KeptSeat → List (ℕ × List Row) → List (Option (List Row))
+abbrev pub staged_from : ℕ → List KeptSeat → List (ℕ × List Share) → List (Option (List Share))
 staged_from n [] staging = []
 staged_from n (s ∷ ss) staging = staged_at n staging ∷ staged_from (suc n) ss staging
 
-abbrev pub staging_in : DraftState → List (Option (List Row))
+abbrev pub staging_in : DraftState → List (Option (List Share))
 staging_in d = staged_from 0 d.now.seats d.staging
 
 -- a draft has this of the world; nothing is in the hand, and nothing was given up
 pub record HasNow (d : DraftState) (r : Rights) (seats : List Seat)
-    (staging : List (Option (List Row))) : Type 0 where
+    (staging : List (Option (List Share))) : Type 0 where
   pub rights : rights_in d ≡ r
   pub seated : seats_in d ≡ seats
   pub staged : staging_in d ≡ staging

@@ -4,18 +4,18 @@
 
 ghost use Rattle.std.specs.Prelude.{◌≡◌, ◌<◌, ℕ, List, [], None, Some, length, map, slice_set};
 ghost use Rattle.draft_reads.specs.Views.{staged_from};
-ghost use Rattle.world_laws.specs.proposals.declared.allocations.Row.{Row};
-ghost use Rattle.world_laws.specs.right_steps.Seats.{KeptSeat};
+ghost use Rattle.world_laws.specs.proposals.declared.allocations.Share.{Share};
+ghost use Rattle.world_laws.specs.vault_model.Seats.{KeptSeat};
 ghost use Rattle.vault.specs.seats.Staging.{with_staged};
-ghost use Rattle.world_laws.specs.world_state.Worlds.{no_rows};
+ghost use Rattle.world_laws.specs.world_state.Worlds.{no_shares};
 
 /// What is staged of a seat in place of what was is so in the world, and where all is let go of, no seat
 /// has anything staged.
 pub fn what_is_staged_is_so_in_the_world()
-    ensures staged { (seats : List KeptSeat) (n : ℕ) (rows : List Row)
-        → (staging : List (ℕ × List Row))
-        → staged_from 0 seats (with_staged n rows staging)
-        ≡ slice_set (staged_from 0 seats staging) n (Some rows) }
-    ensures ended { (seats : List KeptSeat) (staging : List (ℕ × List Row))
-        → staged_from 0 seats [] ≡ map no_rows (staged_from 0 seats staging) }
+    ensures staged { (seats : List KeptSeat) (n : ℕ) (shares : List Share)
+        → (staging : List (ℕ × List Share))
+        → staged_from 0 seats (with_staged n shares staging)
+        ≡ slice_set (staged_from 0 seats staging) n (Some shares) }
+    ensures ended { (seats : List KeptSeat) (staging : List (ℕ × List Share))
+        → staged_from 0 seats [] ≡ map no_shares (staged_from 0 seats staging) }
 {}

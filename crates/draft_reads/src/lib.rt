@@ -7,7 +7,13 @@ pub mod payment_reads;
 pub mod purse_reads;
 pub mod seat_reads;
 
-pub use vault as vault_lib;
+/// What `vault` gives to those above.
+pub mod vault_lib {
+    pub mod draft {
+        pub use vault::draft::{Draft, Vault};
+    }
+}
+
 pub use vault::{holders_lib, seats_lib};
 pub use world_laws::{
     amount_math_lib, ertp_mint_lib, host_text_lib, proposals_lib, rights_model_lib,

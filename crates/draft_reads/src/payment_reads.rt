@@ -1,9 +1,9 @@
 //! Payments, by their numbers.
 
 ghost use Rattle.std.specs.Prelude.{◌≡◌, ◌<◌, ◌+◌, IfSome, length, option_map};
-ghost use Rattle.world_laws.specs.amount_math.Worth.{IsValue};
+ghost use Rattle.world_laws.specs.amount_math.ValueView.{IsValue};
 ghost use Rattle.world_laws.specs.ertp_mint.Stocks.{most_made};
-ghost use Rattle.vault.specs.holders.Papers.{IsKept, is_live, paper_at};
+ghost use Rattle.vault.specs.holders.PaymentViews.{IsKept, is_live, payment_view_at};
 ghost use Rattle.world_laws.specs.Views.{rights_of, seats_of};
 ghost use Rattle.world_laws.specs.world_state.Good.{open_slots};
 
@@ -31,7 +31,7 @@ pub fn payments_left(draft: &Draft) -> u32
 /// The brand of a payment, of one that was spent too.
 pub fn payment_brand(draft: &Draft, payment: u32) -> u16
     requires { payment < length draft.now.now.payments }
-    ensures { result ≡ (paper_at draft.now.now.payments payment).brand }
+    ensures { result ≡ (payment_view_at draft.now.now.payments payment).brand }
 {
     let payments = draft.payments();
     payments.brand(ref_of(payments, payment))
@@ -40,7 +40,7 @@ pub fn payment_brand(draft: &Draft, payment: u32) -> u16
 /// Whether a payment is live.
 pub fn is_live(draft: &Draft, payment: u32) -> bool
     requires { payment < length draft.now.now.payments }
-    ensures { result ≡ is_live (paper_at draft.now.now.payments payment) }
+    ensures { result ≡ is_live (payment_view_at draft.now.now.payments payment) }
 {
     let payments = draft.payments();
     payments.is_live(ref_of(payments, payment))
@@ -50,7 +50,7 @@ pub fn is_live(draft: &Draft, payment: u32) -> bool
 pub fn payment_amount(draft: &Draft, payment: u32) -> Option<&Holding>
     requires { payment < length draft.now.now.payments }
     ensures held { option_map (λ held. held.now.value) result
-        ≡ (paper_at draft.now.now.payments payment).held }
+        ≡ (payment_view_at draft.now.now.payments payment).held }
     ensures value { IfSome result (λ held. IsValue held.now.value.kind held.now.value.content) }
 {
     let payments = draft.payments();
@@ -62,7 +62,7 @@ pub fn payment_amount(draft: &Draft, payment: u32) -> Option<&Holding>
 
 /// Where the payment of a number stands, which was made.
 fn ref_of(payments: &Payments, payment: u32) -> PaymentRef
-    requires { payment < length payments.now.papers }
+    requires { payment < length payments.now.views }
     ensures kept { IsKept payments.now result }
     ensures number { result.number ≡ payment }
 {

@@ -1,8 +1,8 @@
 //! Purses, by their numbers.
 
 ghost use Rattle.std.specs.Prelude.{◌≡◌, ◌<◌, length};
-ghost use Rattle.world_laws.specs.amount_math.Worth.{IsValue};
-ghost use Rattle.world_laws.specs.right_steps.Lists.{purse_at};
+ghost use Rattle.world_laws.specs.amount_math.ValueView.{IsValue};
+ghost use Rattle.world_laws.specs.vault_model.Lists.{purse_at};
 
 use vault::draft::Draft;
 use world_laws::amount_math_lib::Holding;

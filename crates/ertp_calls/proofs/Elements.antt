@@ -6,8 +6,8 @@ use Rattle.std.proofs.lemmas.Bool.{ltb-true}
 use Rattle.std.proofs.lemmas.Option.{same_Some}
 use Rattle.std.proofs.lemmas.Slice.Eq.{bytes_eq-Decides}
 use Rattle.rules.specs.turn_stores.Elements.{element}
-use Rattle.rules.specs.OfferRows.{named_by}
-use Rattle.row_laws.proofs.world_laws.Elements.{elements_apart}
+use Rattle.rules.specs.Zoe.{named_by}
+use Rattle.rule_laws.proofs.world_laws.Elements.{elements_apart}
 
 same_number : (n m : ℕ) → n < 2 ^ 32 → m < 2 ^ 32 → element n ≡ element m → n < suc m → m < suc n
 same_number n m few less same low = by (nat_lt n m) refl

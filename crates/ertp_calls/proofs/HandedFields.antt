@@ -19,7 +19,7 @@ use Rattle.call_arguments.specs.Records.{first_ill, names}
 use Rattle.refusals.specs.Codes.{bad_args}
 use Rattle.refusals.specs.Outcomes.{wanted}
 use Rattle.refusals.proofs.Steps.{wanted_there}
-use Rattle.rules.specs.ZoeRows.{record_in}
+use Rattle.rules.specs.Words.{record_in}
 use Rattle.rules.specs.world_state.Known.{IsHanded, IsMade as WasMade}
 use Rattle.rules.specs.world_state.Worlds.{State}
 

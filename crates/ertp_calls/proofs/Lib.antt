@@ -2,9 +2,10 @@ pub mod Elements
 pub mod HandedFields
 pub mod HeldKinds
 pub mod Supplies
-pub mod LiveLists
-pub mod PartLists
+pub mod Placed
+pub mod InstanceIssuers
 pub use Rattle.world_reads.proofs.draft_reads
-pub use Rattle.row_laws.proofs as row_laws
+pub use Rattle.rule_laws.proofs as rule_laws
 pub use Rattle.world_reads.proofs.vault
-pub use Rattle.row_laws.proofs.world_laws
+pub use Rattle.rule_laws.proofs.world_laws
+pub use Rattle.world_reads.proofs as world_reads

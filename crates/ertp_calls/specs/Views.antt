@@ -1,6 +1,6 @@
--- What is read, as the definitions of rows have it.
-use Rattle.ertp_calls.specs.declared.service_reads.payment_reads.LivePayment.{LivePayment}
-use Rattle.rules.specs.Payments as rows
+-- What is read, as the rules have it.
+use Rattle.ertp_calls.specs.declared.live_payments.LivePayment.{LivePayment}
+use Rattle.rules.specs.GivenPayments as given_payments
 
-abbrev pub live_view : LivePayment → rows.LivePayment
+abbrev pub live_view : LivePayment → given_payments.LivePayment
 live_view p = record { number = p.number; value = p.value }

@@ -3,7 +3,7 @@ use Rattle.std.proofs.Common.{◌≡◌, ℕ, ◌+◌, ◌≤◌, List, refl, sy
 use Rattle.amount_math.specs.Content.{Content, Contains, count, count-difference, count-nothing, count-sum, counts, difference, sum, sum-difference}
 use Rattle.amount_math.specs.Counted.{counted, counted-difference, counted-nothing, counted-sum}
 use Rattle.amount_math.specs.Totals.{total-put}
-use Rattle.amount_math.specs.Worth.{Fits, Worth, bound}
+use Rattle.amount_math.specs.ValueView.{Fits, ValueView, bound}
 use Rattle.amount_math.specs.declared.Kind.{Kind}
 use Rattle.amount_math.specs.declared.Kind.TheVariants.{Nat, Set, Bag}
 use Rattle.ertp_mint.specs.Circulating.{CanReturn, CirculationView, Circulates, IsOut, new_circulation, with_forgotten, with_issued, with_retired, with_unissued, with_unretired}
@@ -99,7 +99,7 @@ pub kept_is_burned : (s : CirculationView) (c : Content) → Circulates s → Co
 kept_is_burned s c h kept = omega (arith, h.kept, counted-difference s.kept c kept)
 
 -- what was retired can return
-pub retired_can_return : (s : CirculationView) (w : Worth) → Circulates s → IsOut s w → CanReturn (with_retired s w.content) w
+pub retired_can_return : (s : CirculationView) (w : ValueView) → Circulates s → IsOut s w → CanReturn (with_retired s w.content) w
 retired_can_return s w h out = record {
   kind = out.kind;
   kept = record { each = λ k. omega (arith, count-sum s.kept w.content k) };
@@ -107,7 +107,7 @@ retired_can_return s w h out = record {
 }
 
 -- what was issued is out
-pub issued_is_out : (s : CirculationView) (w : Worth) → s.supply.outstanding.kind ≡ w.kind → IsOut (with_issued s w.content) w
+pub issued_is_out : (s : CirculationView) (w : ValueView) → s.supply.outstanding.kind ≡ w.kind → IsOut (with_issued s w.content) w
 issued_is_out s w kind = record {
   kind = kind;
   has = record { each = λ k. omega (arith, count-sum s.supply.outstanding.content w.content k) };

@@ -18,7 +18,7 @@ use Rattle.std.specs.Cmp.Lexicographic.{slice_cmp}
 use Rattle.amount_math.specs.Content.{Content, count, count-sum, count-difference, count-of_entries, count-of_nat, count-of_nat_unit, count_listed, counts, entries, key_cmp, listed, of_entries, of_entries-entries, of_nat, same_content, sum}
 use Rattle.amount_math.specs.Entries.{Entries, IsRising, at_key, entry_at, tally}
 use Rattle.amount_math.specs.Totals.{weighed}
-use Rattle.amount_math.specs.Worth.{Fits, IsFirstPast, IsIssueRefusal, PassesBound, bound, nat_bound}
+use Rattle.amount_math.specs.ValueView.{Fits, IsFirstPast, IsIssueRefusal, PassesBound, bound, nat_bound}
 use Rattle.amount_math.specs.declared.Kind.TheVariants.{Nat, Set}
 use Rattle.amount_math.specs.declared.PutFault.{PutFault}
 use Rattle.amount_math.specs.declared.PutFault.TheVariants as put_fault

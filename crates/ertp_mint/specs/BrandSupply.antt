@@ -5,17 +5,17 @@ use Rattle.amount_math.specs.declared.Kind.{Kind}
 use Rattle.amount_math.specs.declared.Kind.TheVariants.{Nat}
 use Rattle.amount_math.specs.Content.{Content, nothing, sum, difference}
 use Rattle.amount_math.specs.Counted.{counted}
-use Rattle.amount_math.specs.Worth.{Worth, coded_worth, with_content}
+use Rattle.amount_math.specs.ValueView.{ValueView, coded_value_view, with_content}
 
 -- of a brand: what is out, and the totals of the counts that were ever issued and retired
 pub record BrandSupply : Type 0 where
-  pub outstanding : Worth
+  pub outstanding : ValueView
   pub minted : ℕ
   pub burned : ℕ
 
 -- the numbers that stand for it, which a model needs
 abbrev pub coded_supply : Coded BrandSupply
-coded_supply = code_by (Worth × (ℕ × ℕ)) (coded× coded_worth (coded× coded_ℕ coded_ℕ)) (λ s. (s.outstanding, (s.minted, s.burned))) (λ p. record { outstanding = p.0; minted = p.1.0; burned = p.1.1 }) (λ _. refl)
+coded_supply = code_by (ValueView × (ℕ × ℕ)) (coded× coded_value_view (coded× coded_ℕ coded_ℕ)) (λ s. (s.outstanding, (s.minted, s.burned))) (λ p. record { outstanding = p.0; minted = p.1.0; burned = p.1.1 }) (λ _. refl)
 
 -- a brand of which nothing was issued
 abbrev pub new_supply : Kind → BrandSupply

@@ -4,7 +4,7 @@ use Rattle.std.proofs.Common.{arith}
 use Rattle.std.specs.Coded.{Coded, code_by, coded×}
 use Rattle.amount_math.specs.Content.{Content, Contains, coded_content, difference, difference-sum, nothing, sum, sum-difference}
 use Rattle.amount_math.specs.Counted.{counted}
-use Rattle.amount_math.specs.Worth.{Worth, Fits, with_content}
+use Rattle.amount_math.specs.ValueView.{ValueView, Fits, with_content}
 use Rattle.amount_math.specs.declared.Kind.{Kind}
 use Rattle.amount_math.specs.declared.Kind.TheVariants.{Nat}
 use Rattle.ertp_mint.specs.BrandSupply.{AddsUp, BrandSupply, coded_supply, issued, new_supply, retired}
@@ -61,12 +61,12 @@ pub record Circulates (s : CirculationView) : Type 0 where
   pub kept : counted s.kept ≤ s.supply.burned
 
 -- a value of the brand's kind is out
-pub record IsOut (s : CirculationView) (w : Worth) : Type 0 where
+pub record IsOut (s : CirculationView) (w : ValueView) : Type 0 where
   pub kind : s.supply.outstanding.kind ≡ w.kind
   pub has : Contains s.supply.outstanding.content w.content
 
 -- a value of the brand's kind is kept, and can be out again: no count passes the kind's bound then
-pub record CanReturn (s : CirculationView) (w : Worth) : Type 0 where
+pub record CanReturn (s : CirculationView) (w : ValueView) : Type 0 where
   pub kind : s.supply.outstanding.kind ≡ w.kind
   pub kept : Contains s.kept w.content
   pub fits : Fits s.supply.outstanding.kind (sum s.supply.outstanding.content w.content)

@@ -1,9 +1,9 @@
 //! The store of one holder, which is changed in place.
 
-ghost use Rattle.std.specs.Prelude.{◌≡◌, ◌≤◌, ◌↔◌, IfOk, IfErr, IsOk, IsTrue, OnOk, OnErr};
+ghost use Rattle.std.specs.Prelude.{◌≡◌, ◌≤◌, IfOk, IfErr, IsOk, OnOk, OnErr};
 ghost use Rattle.amount_math.specs.Amount.{Meet, holding};
-ghost use Rattle.amount_math.specs.Content.{Contains, difference, sum};
-ghost use Rattle.amount_math.specs.Worth.{IsPutRefusal, IsTakeRefusal, IsValue};
+ghost use Rattle.amount_math.specs.Content.{Contains, sum};
+ghost use Rattle.amount_math.specs.ValueView.{IsPutRefusal, IsTakeRefusal, IsValue};
 ghost use Rattle.ertp_mint.specs.Balances.{ComesOut, GoesIn, HasRoomFor, HasSpare, empty_store, held_in, with_put, with_taken};
 
 use crate::Parcel;
@@ -26,12 +26,12 @@ impl Drop for Balance {
 }
 
 impl Model for Balance {
-    ghost use Rattle.amount_math.specs.Worth.{IsValue};
-    ghost use Rattle.ertp_mint.specs.Balances.{StoredAmount, coded_stored_amount};
+    ghost use Rattle.amount_math.specs.ValueView.{IsValue};
+    ghost use Rattle.ertp_mint.specs.Balances.{BalanceView, coded_balance_view};
 
-    ghost Value = { StoredAmount };
+    ghost Value = { BalanceView };
 
-    ghost coded = { coded_stored_amount };
+    ghost coded = { coded_balance_view };
 
     ghost view = { λ a. record { amount = record { brand = a.brand; value = a.held.value }; room = a.held.room } };
 
@@ -90,14 +90,6 @@ impl Balance {
     {
         let _kind = value.kind();
         self.held.can_absorb(value)
-    }
-
-    /// Whether it has at least the part, of each element.
-    pub fn can_take(&self, part: &Value) -> bool
-        requires { self.now.amount.value.kind ≡ part.now.kind }
-        ensures { IsTrue result ↔ Contains self.now.amount.value.content part.now.content }
-    {
-        self.held.is_gte(part)
     }
 
     /// Takes room for so many keys more, where there isn't.

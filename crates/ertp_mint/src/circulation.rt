@@ -3,7 +3,7 @@
 ghost use Rattle.std.specs.Prelude.{◌≡◌, ◌<◌, ◌+◌, ◌^◌, IfErr, IsOk, OnOk, OnErr};
 ghost use Rattle.amount_math.specs.Content.{Contains, sum};
 ghost use Rattle.amount_math.specs.Counted.{counted};
-ghost use Rattle.amount_math.specs.Worth.{Fits, IsIssueRefusal};
+ghost use Rattle.amount_math.specs.ValueView.{Fits, IsIssueRefusal};
 ghost use Rattle.ertp_mint.specs.Circulating.{CanReturn, Circulates, IsOut, new_circulation, with_forgotten, with_issued, with_retired, with_unissued, with_unretired};
 
 use crate::keys_out::KeysOut;

@@ -4,7 +4,7 @@
 ghost use Rattle.std.specs.Prelude.{◌≡◌, ◌≢◌, ◌≤◌, ◌⊎◌, IfErr, IsOk, OnErr, OnOk};
 ghost use Rattle.amount_math.specs.Content.{of_entries, of_nat, sum};
 ghost use Rattle.amount_math.specs.Entries.{IsRising};
-ghost use Rattle.amount_math.specs.Worth.{Fits, IsIssueRefusal, bound, nat_bound};
+ghost use Rattle.amount_math.specs.ValueView.{Fits, IsIssueRefusal, bound, nat_bound};
 ghost use Rattle.ertp_mint.specs.Places.{AllowsAll, nothing_out, seen, with_change};
 
 use crate::place::Change;

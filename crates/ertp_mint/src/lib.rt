@@ -10,7 +10,15 @@ mod parcel;
 mod place;
 mod places;
 
-pub use amount_math as amount_math_lib;
+/// What `amount_math` gives to those above.
+pub mod amount_math_lib {
+    pub use amount_math::{Amount, Holding, Key, Kind, NAT_BOUND, PutFault, Value};
+
+    pub mod shortfall {
+        pub use amount_math::shortfall::{LossFault, show_shortfall};
+    }
+}
+
 pub use balance::Balance;
 pub use circulations::Circulations;
 pub use parcel::Parcel;

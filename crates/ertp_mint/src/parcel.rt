@@ -3,7 +3,7 @@
 ghost use Rattle.std.specs.Prelude.{◌≡◌, IfOk, IfErr, OnOk, OnErr};
 ghost use Rattle.amount_math.specs.Amount.{Meet, holding};
 ghost use Rattle.amount_math.specs.Content.{Contains, difference, sum};
-ghost use Rattle.amount_math.specs.Worth.{IsPutRefusal, IsTakeRefusal, IsValue};
+ghost use Rattle.amount_math.specs.ValueView.{IsPutRefusal, IsTakeRefusal, IsValue};
 
 use amount_math::{PutFault, TakeFault, Value};
 use std::marker::Model;
@@ -61,6 +61,7 @@ impl Parcel {
     }
 
     /// Cuts a part off it as a parcel of its own, or leaves it whole. A part with keys takes memory.
+    /// The program doesn't use it.
     pub fn cut(&mut self, part: &Value) -> Result<Parcel, TakeFault>
         requires { self.old.value.kind ≡ part.now.kind }
         ensures ok { OnOk result (self.new ≡ holding self.old (difference self.old.value.content part.now.content)) }
@@ -76,7 +77,7 @@ impl Parcel {
         })
     }
 
-    /// Makes one of the two, or hands the other back. Keys take memory.
+    /// Makes one of the two, or hands the other back. Keys take memory. The program doesn't use it.
     pub fn merge(&mut self, other: Parcel) -> Result<(), (Parcel, PutFault)>
         requires { Meet self.old other }
         ensures ok { OnOk result (self.new ≡ holding self.old (sum self.old.value.content other.value.content)) }

@@ -6,6 +6,11 @@
 mod rows;
 mod totals;
 
+/// What `rights_model` gives to those above.
+pub mod rights_model_lib {
+    pub use rights_model::{Holder, Movement, Sum};
+}
+
 ghost use Rattle.std.specs.Prelude.{◌≡◌, ◌<◌, ◌^◌, ℕ, length, slice_index, IsOk, OnErr, OnOk};
 ghost use Rattle.rights_model.specs.Table.{Table, CanMove, moved, no_holdings};
 ghost use Rattle.rights_model.specs.Totals.{held_over};
@@ -16,7 +21,6 @@ use crate::rows::{
     ensure_share, ensure_totals, lower_share, raise_share, shift_totals, undo_shift_totals,
 };
 use crate::totals::Totals;
-pub use rights_model as rights_model_lib;
 pub use rights_model::{amount_math_lib, host_text_lib};
 use rights_model::{Movement, Sum};
 use std::alloc::{AllocError, Global};
@@ -69,7 +73,7 @@ impl Escrow {
         totals.sum(brand)
     }
 
-    /// How much of a brand the slots of an instance's seats have.
+    /// How much of a brand the slots of an instance's seats have. The program doesn't use it.
     pub fn of_instance(&self, instance: u32, brand: u16) -> u128
         ensures value { result ≡ share_of self.now instance brand }
         ensures sums { (t : Table) → AreSums t self.now → result ≡ held_over (is_slot_of self.now.instances instance) t brand }

@@ -1,17 +1,17 @@
--- The rows of mints have their parts one after another.
+-- The rules of mints have their parts one after another.
 use Rattle.std.proofs.Common.{◌≡◌, ℕ, List, Result, Ok, Err, refl, sym, ap, ◌∙◌}
 use Rattle.rules.specs.call_arguments.Arguments.{arg}
-use Rattle.rules.specs.Rows.{Outcome}
+use Rattle.rules.specs.Outcomes.{Outcome}
 use Rattle.rules.specs.Words.{runs}
-use Rattle.rules.specs.ZseatRows.{allocation_of}
+use Rattle.rules.specs.States.{allocation_of}
 use Rattle.host_data.specs.Tree.{Tree}
-use Rattle.rules.specs.proposals.declared.allocations.Row.{Row}
+use Rattle.rules.specs.proposals.declared.allocations.Share.{Share}
 use Rattle.refusals.specs.Outcomes.{bind}
 use Rattle.refusals.specs.declared.codes.Refusal.{Refusal}
-use Rattle.rules.specs.Given.{own_seat, rows_at}
-use Rattle.rules.specs.Mints.{burn_losses, is_not_of, mint_gains, minting}
+use Rattle.rules.specs.Given.{own_seat, shares_at}
+use Rattle.rules.specs.Zmint.{burn_losses, is_not_of, mint_gains, minting}
 use Rattle.rules.specs.world_state.Worlds.{State}
-use Rattle.escrow_calls.specs.MintedLeft.{burned, burning_of, minted, minting_seat, minting_to}
+use Rattle.escrow_calls.specs.MintParts.{burned, burning_of, minted, minting_seat, minting_to}
 
 one_by_one : (r : Result (Unit {0}) Refusal) (s : Result ℕ Refusal) (then : ℕ → Outcome) → bind (bind r (λ _. s)) then ≡ bind r (λ _. bind s then)
 unfolding bind
@@ -43,11 +43,11 @@ module _ (w : State) (brand : ℕ) (args : List Tree) where
   unfolding bind
   burn_refused e is = sym burn_is ∙ ap (λ r. bind r (λ seat. burning_of w brand args seat (allocation_of w seat))) is
 
-  module _ (seat : ℕ) (slots rows : List Row) (read : rows_at (is_not_of brand slots) 1 args ≡ Ok rows) where
-    pub minting_is : minted w brand seat slots rows (arg 2 args) ≡ minting_to w brand args seat slots
+  module _ (seat : ℕ) (slots shares : List Share) (read : shares_at (is_not_of brand slots) 1 args ≡ Ok shares) where
+    pub minting_is : minted w brand seat slots shares (arg 2 args) ≡ minting_to w brand args seat slots
     unfolding bind minting_to
     minting_is = sym (ap (λ r. bind r (λ rs. minted w brand seat slots rs (arg 2 args))) read)
 
-    pub burning_is : burned w seat slots rows ≡ burning_of w brand args seat slots
+    pub burning_is : burned w seat slots shares ≡ burning_of w brand args seat slots
     unfolding bind burning_of
     burning_is = sym (ap (λ r. bind r (burned w seat slots)) read)

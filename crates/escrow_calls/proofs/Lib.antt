@@ -1,8 +1,10 @@
 pub mod Calls
 pub mod Issued
 pub mod MakersCounted
+pub mod MintBrands
 pub mod Shapes
 pub mod Names
 pub mod KnownFields
 pub mod Transfers
 pub mod Steps
+pub use Rattle.ertp_calls.proofs.world_reads

@@ -2,11 +2,11 @@
 use Rattle.std.specs.Prelude.{map}
 use Rattle.std.specs.List.{AllByRecursion}
 use Rattle.std.proofs.Common.{ℕ, List, [], ◌∷◌}
-use Rattle.rules.specs.world_state.Shapes.{AreTransfers, IsGivenOnce, IsTakenOnce}
-use Rattle.rules.specs.proposals.declared.allocations.Row.{Row}
+use Rattle.rules.specs.world_state.Shapes.{AreMovements, IsGivenOnce, IsTakenOnce}
+use Rattle.rules.specs.proposals.declared.allocations.Share.{Share}
 use Rattle.rules.specs.rights_model.declared.Holder.TheVariants.{Outside, Slot}
 use Rattle.rules.specs.rights_model.declared.Movement.{Movement}
-use Rattle.rules.specs.Mints.{gain, loss}
+use Rattle.rules.specs.Zmint.{gain, loss}
 
 slot_taken : (seat : ℕ) (k : List ℕ) (ms : List Movement) → AllByRecursion (IsTakenOnce (Slot seat k)) ms
 slot_taken seat k [] = tt
@@ -24,7 +24,7 @@ outside_given : (ms : List Movement) → AllByRecursion (IsGivenOnce Outside) ms
 outside_given [] = tt
 outside_given (m ∷ ms) = (tt, outside_given ms)
 
-pub losses_apart : (seat : ℕ) (rows : List Row) → AreTransfers (map (loss seat) rows)
+pub losses_apart : (seat : ℕ) (shares : List Share) → AreMovements (map (loss seat) shares)
 losses_apart seat [] = tt
 losses_apart seat (r ∷ rs) = (
   record {
@@ -36,7 +36,7 @@ losses_apart seat (r ∷ rs) = (
   losses_apart seat rs,
 )
 
-pub gains_apart : (seat : ℕ) (rows : List Row) → AreTransfers (map (gain seat) rows)
+pub gains_apart : (seat : ℕ) (shares : List Share) → AreMovements (map (gain seat) shares)
 gains_apart seat [] = tt
 gains_apart seat (r ∷ rs) = (
   record {

@@ -2,12 +2,12 @@
 use Rattle.std.specs.List.{AllByRecursion}
 use Rattle.std.proofs.Common.{◌≡◌, ℕ, suc, ◌+◌, ◌<◌, ◌≤◌, List, [], ◌∷◌, arith}
 use Rattle.rules.specs.call_arguments.Numbers.{AreApart, IsNoneOf}
-use Rattle.rules.specs.world_state.Shapes.{AreTransfers, IsGivenOnce, IsTakenOnce}
-use Rattle.rules.specs.proposals.declared.allocations.Row.{Row}
+use Rattle.rules.specs.world_state.Shapes.{AreMovements, IsGivenOnce, IsTakenOnce}
+use Rattle.rules.specs.proposals.declared.allocations.Share.{Share}
 use Rattle.rules.specs.rights_model.declared.Holder.{Holder}
 use Rattle.rules.specs.rights_model.declared.Holder.TheVariants.{Payment, Slot}
 use Rattle.rules.specs.rights_model.declared.Movement.{Movement}
-use Rattle.rules.specs.OfferRows.{escrows_of}
+use Rattle.rules.specs.GivenPayments.{escrows_of}
 use Rattle.rules.specs.world_state.Worlds.{payout_moves}
 
 same_payment : (n m : ℕ) → ◌≡◌ {A = Holder} (Payment n) (Payment m) → n ≡ m
@@ -24,12 +24,12 @@ slot_taken seat k (m ∷ ms) = (tt, slot_taken seat k ms)
 
 -- ---- from payments to slots
 
-taken_once : (seat p : ℕ) (rows : List Row) (ps : List ℕ) → IsNoneOf ps p → AllByRecursion (IsTakenOnce (Payment p)) (escrows_of seat rows ps)
+taken_once : (seat p : ℕ) (shares : List Share) (ps : List ℕ) → IsNoneOf ps p → AllByRecursion (IsTakenOnce (Payment p)) (escrows_of seat shares ps)
 taken_once seat p [] ps none = tt
 taken_once seat p (r ∷ rs) [] none = tt
 taken_once seat p (r ∷ rs) (q ∷ qs) none = (λ e. none.0 (same_payment q p e), taken_once seat p rs qs none.1)
 
-pub escrows_apart : (seat : ℕ) (rows : List Row) (ps : List ℕ) → AreApart ps → AreTransfers (escrows_of seat rows ps)
+pub escrows_apart : (seat : ℕ) (shares : List Share) (ps : List ℕ) → AreApart ps → AreMovements (escrows_of seat shares ps)
 escrows_apart seat [] ps apart = tt
 escrows_apart seat (r ∷ rs) [] apart = tt
 escrows_apart seat (r ∷ rs) (p ∷ ps) apart = (
@@ -44,11 +44,11 @@ escrows_apart seat (r ∷ rs) (p ∷ ps) apart = (
 
 -- ---- from slots to new payments
 
-given_once : (seat p n : ℕ) (rows : List Row) → p < n → AllByRecursion (IsGivenOnce (Payment p)) (payout_moves seat n rows)
+given_once : (seat p n : ℕ) (shares : List Share) → p < n → AllByRecursion (IsGivenOnce (Payment p)) (payout_moves seat n shares)
 given_once seat p n [] below = tt
 given_once seat p n (r ∷ rs) below = (λ e. absurd (omega (arith, same_payment n p e, below)), given_once seat p (suc n) rs (omega (arith, below)))
 
-pub payouts_apart : (seat n : ℕ) (rows : List Row) → AreTransfers (payout_moves seat n rows)
+pub payouts_apart : (seat n : ℕ) (shares : List Share) → AreMovements (payout_moves seat n shares)
 payouts_apart seat n [] = tt
 payouts_apart seat n (r ∷ rs) = (
   record {

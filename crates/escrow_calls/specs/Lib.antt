@@ -1,3 +1,6 @@
-pub mod MintedLeft
+pub mod MintParts
 pub mod EscrowedLeft
-pub mod Paying
+pub mod PaymentParts
+pub use Rattle.contract_reads.specs as contract_reads
+pub use Rattle.ertp_calls.specs.call_outcomes
+pub use Rattle.ertp_calls.specs.host_world

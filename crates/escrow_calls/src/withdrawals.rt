@@ -2,9 +2,9 @@
 
 ghost use Rattle.std.specs.Prelude.{◌≡◌, ◌<◌, ◌≤◌, ◌+◌, [], ◌∷◌, IfOk, OnOk, length};
 ghost use Rattle.rules.specs.proposals.Losses.{with_losses};
-ghost use Rattle.ertp_calls.specs.call_plans.Lists.{IsEachShaped, effects_view};
-ghost use Rattle.ertp_calls.specs.call_plans.Plans.{Plans, plan_view};
-ghost use Rattle.rules.specs.ZseatRows.{allocation_of, seat_of};
+ghost use Rattle.ertp_calls.specs.call_outcomes.Lists.{IsEachShaped, effects_view};
+ghost use Rattle.ertp_calls.specs.call_outcomes.CallOutcomes.{GivesOutcome, outcome_view};
+ghost use Rattle.rules.specs.States.{allocation_of, changing, has_room, seat_of, touched_seat};
 ghost use Rattle.contract_reads.specs.Known.{AreKnown};
 ghost use Rattle.rules.specs.ertp_mint.Stocks.{most_made};
 ghost use Rattle.escrow_calls.specs.EscrowedLeft.{gives_withdrawal, withdrawing, withdrawn, withdrawn_in};
@@ -12,8 +12,7 @@ ghost use Rattle.ertp_calls.specs.host_world.Worlds.{world_of};
 ghost use Rattle.host_data.specs.View.{trees};
 ghost use Rattle.refusals.specs.Outcomes.{Gives};
 ghost use Rattle.contract_reads.specs.Calls.{FitSlots, IsSeatCall};
-ghost use Rattle.rules.specs.Escrows.{withdraw_from_seat};
-ghost use Rattle.rules.specs.States.{changing, has_room, touched_seat};
+ghost use Rattle.rules.specs.Zcf.{withdraw_from_seat};
 ghost use Rattle.rules.specs.world_state.Good.{IsGoodWorld};
 ghost use Rattle.rules.specs.world_state.Worlds.{IsOpen, payments_tree, payout_moves};
 
@@ -21,95 +20,100 @@ use crate::payouts::{payments_data, payout_moves};
 use contract_reads::contract_words::allocations::current_allocation;
 use contract_reads::contract_words::own_seats::own_seat;
 use contract_reads::seat_changes::counts::{check_room, slots_after};
-use contract_reads::seat_changes::effects::changing;
-use contract_reads::seat_changes::given::rows_for;
+use contract_reads::seat_changes::effects::change_effects;
 use contract_reads::seat_changes::safety::check_safe;
-use ertp_calls::call_plans_lib::lists::Effects;
-use ertp_calls::call_plans_lib::plans::Plan;
+use contract_reads::seat_changes::shares::shares_for;
+use ertp_calls::call_outcomes_lib::lists::Effects;
+use ertp_calls::call_outcomes_lib::outcomes::CallOutcome;
 use ertp_calls::draft_reads_lib::payment_reads::payments_made;
 use ertp_calls::host_world_lib::World;
 use ertp_calls::world_reads_lib::words::runs;
 use host_data::data::Data;
 use refusals::stops::Stop;
-use rules::proposals_lib::allocations::Row;
+use rules::proposals_lib::allocations::Share;
 use rules::rearrange_lib::slot_checks::check_losses;
 use std::alloc::{AllocError, Global};
 
-/// What rows say goes from their slots to new payments, of which the first has the number.
+/// What shares say goes from their slots to new payments, of which the first has the number.
 #[tactic(auto, using(crate::proofs::Transfers::payouts_apart))]
-fn paying(alloc: Global, seat: u32, first: u32, rows: &[Row]) -> Result<Effects, AllocError>
-    requires { first + length rows.now ≤ most_made }
+fn paying(alloc: Global, seat: u32, first: u32, shares: &[Share]) -> Result<Effects, AllocError>
+    requires { first + length shares.now ≤ most_made }
     ensures effects { IfOk result (λ es.
-        effects_view es ≡ changing (seat ∷ []) (payout_moves seat first rows.now)) }
+        effects_view es ≡ changing (seat ∷ []) (payout_moves seat first shares.now)) }
     ensures shaped { IfOk result (λ es. IsEachShaped es) }
 {
-    let moves = payout_moves(alloc, seat, first, rows)?;
-    changing(alloc, seat, moves)
+    let moves = payout_moves(alloc, seat, first, shares)?;
+    change_effects(alloc, seat, moves)
 }
 
 /// The same, which answers the payments.
-fn paying_out(alloc: Global, seat: u32, first: u32, rows: &[Row]) -> Result<Plan, AllocError>
-    requires { first + length rows.now ≤ most_made }
-    ensures plan { IfOk result (λ plan. plan_view plan
-        ≡ (payments_tree first rows.now, changing (seat ∷ []) (payout_moves seat first rows.now))) }
+fn paying_out(
+    alloc: Global,
+    seat: u32,
+    first: u32,
+    shares: &[Share],
+) -> Result<CallOutcome, AllocError>
+    requires { first + length shares.now ≤ most_made }
+    ensures plan { IfOk result (λ plan. outcome_view plan
+        ≡ (payments_tree first shares.now, changing (seat ∷ []) (payout_moves seat first shares.now))) }
     ensures shaped { IfOk result (λ plan. IsEachShaped plan.effects) }
 {
-    let effects = paying(alloc, seat, first, rows)?;
-    let answer = payments_data(alloc, first, rows)?;
-    Ok(Plan { answer, effects })
+    let effects = paying(alloc, seat, first, shares)?;
+    let answer = payments_data(alloc, first, shares)?;
+    Ok(CallOutcome { answer, effects })
 }
 
 /// That the slots that a withdrawal opens, and its payments, leave room: else `Limit` (own).
-fn check_room_for(world: &World, seat: u32, slots: &[Row], rows: &[Row]) -> Result<(), Stop>
+fn check_room_for(world: &World, seat: u32, slots: &[Share], shares: &[Share]) -> Result<(), Stop>
     ensures gives { Gives (λ _. tt) result (has_room (world_of world.now)
-        (touched_seat seat slots.now (with_losses slots.now rows.now) ∷ []) (length rows.now)) }
+        (touched_seat seat slots.now (with_losses slots.now shares.now) ∷ []) (length shares.now)) }
     ensures left { OnOk result
-        (length (world_of world.now).rights.payments + length rows.now ≤ most_made) }
+        (length (world_of world.now).rights.payments + length shares.now ≤ most_made) }
 {
-    check_room(world, slots.len(), slots_after(slots, rows), rows.len())
+    check_room(world, slots.len(), slots_after(slots, shares), shares.len())
 }
 
-/// That rows can be taken from their slots, that the seat's offer stays safe, and that there is room: else
+/// That shares can be taken from their slots, that the seat's offer stays safe, and that there is room: else
 /// `NotEnough`, `NotOfferSafe`, then `Limit`.
 #[tactic(auto, unfolding(crate::specs::EscrowedLeft::gives_withdrawal, refusals::specs::Outcomes::bind))]
 fn check_slots(
     alloc: Global,
     world: &World,
     seat: u32,
-    slots: &[Row],
-    rows: &[Row],
+    slots: &[Share],
+    shares: &[Share],
 ) -> Result<(), Stop>
     requires good { IsGoodWorld (world_of world.now) }
     requires made { seat < length (world_of world.now).seats }
     requires slots { slots.now ≡ allocation_of (world_of world.now) seat }
-    requires fit { FitSlots slots.now rows.now }
+    requires fit { FitSlots slots.now shares.now }
     ensures gives { Gives (λ _. tt) result
-        (gives_withdrawal (world_of world.now) seat slots.now rows.now) }
+        (gives_withdrawal (world_of world.now) seat slots.now shares.now) }
     ensures left { OnOk result
-        (length (world_of world.now).rights.payments + length rows.now ≤ most_made) }
+        (length (world_of world.now).rights.payments + length shares.now ≤ most_made) }
 {
-    check_losses(slots, rows)?;
-    check_safe(alloc, world, seat, slots, rows)?;
-    check_room_for(world, seat, slots, rows)
+    check_losses(slots, shares)?;
+    check_safe(alloc, world, seat, slots, shares)?;
+    check_room_for(world, seat, slots, shares)
 }
 
-/// What is left of a withdrawal once the rows are read.
+/// What is left of a withdrawal once the shares are read.
 #[tactic(auto, unfolding(crate::specs::EscrowedLeft::withdrawn, refusals::specs::Outcomes::bind))]
 fn withdraw(
     alloc: Global,
     world: &World,
     seat: u32,
-    slots: &[Row],
-    rows: &[Row],
-) -> Result<Plan, Stop>
+    slots: &[Share],
+    shares: &[Share],
+) -> Result<CallOutcome, Stop>
     requires good { IsGoodWorld (world_of world.now) }
     requires made { seat < length (world_of world.now).seats }
     requires slots { slots.now ≡ allocation_of (world_of world.now) seat }
-    requires fit { FitSlots slots.now rows.now }
-    ensures { Plans (withdrawn (world_of world.now) seat slots.now rows.now) result }
+    requires fit { FitSlots slots.now shares.now }
+    ensures { GivesOutcome (withdrawn (world_of world.now) seat slots.now shares.now) result }
 {
-    check_slots(alloc, world, seat, slots, rows)?;
-    Ok(paying_out(alloc, seat, payments_made(&world.draft), rows)?)
+    check_slots(alloc, world, seat, slots, shares)?;
+    Ok(paying_out(alloc, seat, payments_made(&world.draft), shares)?)
 }
 
 /// What is left of a withdrawal once the seat's slots are read.
@@ -119,17 +123,17 @@ fn withdraw_in(
     world: &World,
     instance: u32,
     seat: u32,
-    slots: &[Row],
+    slots: &[Share],
     args: &[Data],
-) -> Result<Plan, Stop>
+) -> Result<CallOutcome, Stop>
     requires hosted { instance < length (world_of world.now).tables.instances }
     requires call { IsSeatCall (world_of world.now) seat (trees args.now) }
     requires slots { slots.now ≡ allocation_of (world_of world.now) seat }
-    ensures { Plans
+    ensures { GivesOutcome
         (withdrawn_in (world_of world.now) instance seat slots.now (trees args.now)) result }
 {
-    let rows = rows_for(alloc, world, instance, seat, slots, 2, args)?;
-    withdraw(alloc, world, seat, slots, rows.as_slice())
+    let shares = shares_for(alloc, world, instance, seat, slots, 2, args)?;
+    withdraw(alloc, world, seat, slots, shares.as_slice())
 }
 
 /// What is left of a withdrawal once the seat is read.
@@ -139,17 +143,17 @@ fn withdraw_at(
     instance: u32,
     seat: u32,
     args: &[Data],
-) -> Result<Plan, Stop>
+) -> Result<CallOutcome, Stop>
     requires good { IsGoodWorld (world_of world.now) }
     requires hosted { instance < length (world_of world.now).tables.instances }
     requires made { seat < length (world_of world.now).seats }
     requires open { IsOpen (seat_of (world_of world.now) seat) }
     requires known { AreKnown (world_of world.now) (trees args.now) }
-    ensures { Plans (withdrawn_in (world_of world.now) instance seat
+    ensures { GivesOutcome (withdrawn_in (world_of world.now) instance seat
         (allocation_of (world_of world.now) seat) (trees args.now)) result }
 {
     let slots = current_allocation(world, seat)?;
-    withdraw_in(alloc, world, instance, seat, slots.rows(), args)
+    withdraw_in(alloc, world, instance, seat, slots.shares(), args)
 }
 
 /// zcf.withdrawFromSeat(seat, amounts) (Zoe).
@@ -159,11 +163,11 @@ pub fn withdraw_from_seat(
     world: &World,
     instance: u32,
     args: &[Data],
-) -> Result<Plan, Stop>
+) -> Result<CallOutcome, Stop>
     requires good { IsGoodWorld (world_of world.now) }
     requires hosted { instance < length (world_of world.now).tables.instances }
     requires known { AreKnown (world_of world.now) (trees args.now) }
-    ensures { Plans (withdraw_from_seat (world_of world.now) instance (trees args.now)) result }
+    ensures { GivesOutcome (withdraw_from_seat (world_of world.now) instance (trees args.now)) result }
 {
     runs(world, instance)?;
     let seat = own_seat(world, instance, 1, args)?;

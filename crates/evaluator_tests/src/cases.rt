@@ -1,11 +1,11 @@
 //! A line of the table: a meter, a tab, and a text with a function `start`.
 use crate::host::NullHost;
-use crate::shown::print_outcome;
+use crate::printing::print_outcome;
 use jessie_interpreter::amount_math_lib::Kind;
 use jessie_interpreter::evaluation::{Outcome, evaluate};
 use jessie_interpreter::host_data_lib::data::{Data, Obj, ObjKind};
 use jessie_interpreter::host_text_lib::text::Text;
-use jessie_interpreter::jessie_grammar_lib::jessie_texts::refused::ReadError;
+use jessie_interpreter::jessie_grammar_lib::jessie_texts::refusal::ReadError;
 use jessie_interpreter::jessie_grammar_lib::syntax::Module;
 use jessie_interpreter::jessie_index_lib::jessie_module_index::IndexedModule;
 use jessie_reader::reader::read_module;

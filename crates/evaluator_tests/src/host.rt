@@ -1,9 +1,9 @@
-//! A host to which everything is known, and which answers null.
+//! A host to which everything is known, and which replies with null.
 ghost use Rattle.std.specs.Prelude.{◌≡◌};
 
 use jessie_interpreter::host_data_lib::data::{Data, Obj};
 use jessie_interpreter::host_text_lib::text::Text;
-use jessie_interpreter::jessie_machine_lib::host::{Answer, NoMemory, Powers};
+use jessie_interpreter::jessie_machine_lib::host::{NoMemory, Powers, Reply};
 
 #[derive(Drop)]
 pub struct NullHost {}
@@ -19,16 +19,16 @@ impl Powers for NullHost {
 
     ghost room = { λ w. room };
 
-    fn call(&mut self, _target: Obj, _method: &str, _args: Vec<Data>) -> Result<Answer, NoMemory> {
-        Ok(Answer::Value(Data::Null))
+    fn call(&mut self, _target: Obj, _method: &str, _args: Vec<Data>) -> Result<Reply, NoMemory> {
+        Ok(Reply::Value(Data::Null))
     }
 
-    fn send(&mut self, _target: Obj, _method: &str, _args: Vec<Data>) -> Result<Answer, NoMemory> {
-        Ok(Answer::Value(Data::Null))
+    fn send(&mut self, _target: Obj, _method: &str, _args: Vec<Data>) -> Result<Reply, NoMemory> {
+        Ok(Reply::Value(Data::Null))
     }
 
-    fn when(&mut self, _promise: Obj, _f: &str, _held: Data) -> Result<Answer, NoMemory> {
-        Ok(Answer::Value(Data::Null))
+    fn when(&mut self, _promise: Obj, _f: &str, _held: Data) -> Result<Reply, NoMemory> {
+        Ok(Reply::Value(Data::Null))
     }
 
     fn far(
@@ -36,8 +36,8 @@ impl Powers for NullHost {
         _name: &str,
         _methods: Vec<(Text, Text)>,
         _held: Data,
-    ) -> Result<Answer, NoMemory> {
-        Ok(Answer::Value(Data::Null))
+    ) -> Result<Reply, NoMemory> {
+        Ok(Reply::Value(Data::Null))
     }
 
     ghost keeps = { keeps_to_its_side };

@@ -1,10 +1,10 @@
-//! Tests of a contract's evaluation: a program of tables over texts, answers of the host and
+//! Tests of a contract's evaluation: a program of tables over texts, replies of the host and
 //! outcomes.
 #![tactic(auto)]
 
 mod cases;
 mod host;
-mod shown;
+mod printing;
 
 use cases::print_case;
 use std::io::{self, BufReader, Read};

@@ -9,18 +9,18 @@ use Rattle.fair_rows.specs.amount_math.Counted.{counted, counted-nothing, counte
 use Rattle.delivery_laws.specs.ertp_mint.BrandSupply.{BrandSupply, new_supply}
 use Rattle.delivery_laws.specs.host_data.Tree.{null}
 use Rattle.delivery_laws.proofs.lemmas.ListEdits.{length_push}
-use Rattle.delivery_laws.specs.holders.Papers.{Paper, live_paper}
+use Rattle.delivery_laws.specs.holders.PaymentViews.{PaymentView, live_payment}
 use Rattle.delivery_laws.specs.promise_store.States.{SettlementView}
-use Rattle.delivery_laws.specs.proposals.Rows.{AreApart, AreRows}
+use Rattle.delivery_laws.specs.proposals.Shares.{AreApart, AreShares}
 use Rattle.delivery_laws.specs.proposals.Slots.{slots_of}
-use Rattle.delivery_laws.specs.proposals.declared.allocations.Row.{Row}
+use Rattle.delivery_laws.specs.proposals.declared.allocations.Share.{Share}
 use Rattle.fair_rows.specs.rights_model.Supply.{burned, minted}
 use Rattle.fair_rows.specs.rights_model.Table as table
 use Rattle.fair_rows.specs.rights_model.Table.{Table, table_after}
 use Rattle.fair_rows.specs.rights_model.declared.Movement.{Movement}
 use Rattle.fair_rows.proofs.rights_model.TableLaws.{table_after-append}
-use Rattle.delivery_laws.specs.right_steps.Lists.{amount_of}
-use Rattle.delivery_laws.specs.right_steps.Tables.{no_hand}
+use Rattle.delivery_laws.specs.vault_model.Lists.{amount_of}
+use Rattle.delivery_laws.specs.vault_model.Tables.{no_hand}
 use Rattle.fair_rows.specs.Movements.{is_payment_at, names, takes_from}
 use Rattle.delivery_laws.specs.turn_records.Events as events
 use Rattle.delivery_laws.specs.turn_records.Events.{Event, move_in, moves_in}
@@ -28,9 +28,9 @@ use Rattle.fair_rows.specs.turn_rows.Causes.{Cause}
 use Rattle.delivery_laws.proofs.world_laws.Instances.{open_made}
 use Rattle.delivery_laws.proofs.world_laws.Kept.{good-after}
 use Rattle.delivery_laws.proofs.world_laws.Lists.{all_append, all_map, all_read_or}
-use Rattle.delivery_laws.proofs.world_laws.OfKinds.{KindsStay, SameKinds, amount_stays, of_movement, rows_stay, same_moved, same_refl, same_together, same_trans, stay_push, stay_same}
+use Rattle.delivery_laws.proofs.world_laws.OfKinds.{KindsStay, SameKinds, amount_stays, of_movement, shares_stay, same_moved, same_refl, same_together, same_trans, stay_push, stay_same}
 use Rattle.delivery_laws.proofs.world_laws.Supplies.{can_invite}
-use Rattle.delivery_laws.specs.world_state.Good.{AreGood, AreRowsOf, AreRowsValued, AreValues, CanOffer, HasNothing, IsFresh, IsGoodEffect, IsGoodWorld, rights_for}
+use Rattle.delivery_laws.specs.world_state.Good.{AreGood, AreSharesOf, AreSharesValued, AreValues, CanOffer, HasNothing, IsFresh, IsGoodEffect, IsGoodWorld, rights_for}
 use Rattle.delivery_laws.specs.world_state.Rights.{CanMoveAll, Rights, all_moved, all_spent, hand_after, moved, moved_together, slots_at, with_slots}
 use Rattle.delivery_laws.specs.world_state.Worlds.{Effect, IsOpen, Offering, State, after, after_all, burn_and_escrows, empty_payment, empty_seat, exit, invitation_move, invite, leaving_events, moves, moves_out, new_brand, new_purse, note_call, nothing_of, of_own, offer, offered_by, payout_moves, payouts_tree, promises_made, resolve, seat_at}
 use Rattle.delivery_laws.specs.actors.SeatPromises.{pair_at}
@@ -44,7 +44,7 @@ use Rattle.fair_laws.specs.Accounts.{Accounts, AreStoredEffects, IsAccounted, Is
 use Rattle.delivery_laws.specs.rules.Licence.{IsStored}
 use Rattle.fair_laws.proofs.Moves.{all_as_many, movement_valued, moved_valued}
 use Rattle.fair_laws.proofs.Offers as offers
-use Rattle.fair_laws.proofs.Papers.{all_more, all_named, live_of_taken, push_alike, together_taken}
+use Rattle.fair_laws.proofs.PaymentViews.{all_more, all_named, live_of_taken, push_alike, together_taken}
 use Rattle.fair_laws.proofs.Rows.{Settles, resolving_settles}
 use Rattle.fair_laws.proofs.Supplies.{burned_counts, minted_counts, out_is, out_pushed, supply_pushed, where_append}
 
@@ -150,7 +150,7 @@ settled_known out (p ∷ ps) = (tt, settled_known out ps)
 
 event_stays : (out new : List BrandSupply) → KindsStay out new → (e : Event) → IsKnownEvent out e → IsKnownEvent new e
 event_stays out new stay (events.moved m) is = record { of_kind = amount_stays out new stay (amount_of m.brand m.value) is.of_kind; value = is.value }
-event_stays out new stay (events.opened o) is = record { gives = rows_stay out new stay o.proposal.give is.gives; wants = rows_stay out new stay o.proposal.want is.wants; give_valued = is.give_valued; want_valued = is.want_valued }
+event_stays out new stay (events.opened o) is = record { gives = shares_stay out new stay o.proposal.give is.gives; wants = shares_stay out new stay o.proposal.want is.wants; give_valued = is.give_valued; want_valued = is.want_valued }
 event_stays out new stay (events.called c) is = tt
 event_stays out new stay (events.exited x) is = tt
 event_stays out new stay (events.settled n s) is = tt
@@ -201,24 +201,24 @@ module _ (w : State) where
 
 -- ---- a seat that is left
 
-slots_spend_none : (s n : ℕ) (rs : List Row) (ps : List Paper) → all_spent (payout_moves s n rs) ps ≡ ps
+slots_spend_none : (s n : ℕ) (rs : List Share) (ps : List PaymentView) → all_spent (payout_moves s n rs) ps ≡ ps
 slots_spend_none s n [] ps = refl
 slots_spend_none s n (r ∷ rs) ps = slots_spend_none s (suc n) rs ps
 
-payouts_fresh : (made s n : ℕ) (rs : List Row) → made ≤ n → AllByRecursion (λ (m : Movement). IsFresh made m.to) (payout_moves s n rs)
+payouts_fresh : (made s n : ℕ) (rs : List Share) → made ≤ n → AllByRecursion (λ (m : Movement). IsFresh made m.to) (payout_moves s n rs)
 payouts_fresh made s n [] le = tt
 payouts_fresh made s n (r ∷ rs) le = (le, payouts_fresh made s (suc n) rs (omega arith))
 
-payouts_empty : (ps : List Paper) (s n : ℕ) (rs : List Row) → AllByRecursion (λ (m : Movement). HasNothing ps m.from) (payout_moves s n rs)
+payouts_empty : (ps : List PaymentView) (s n : ℕ) (rs : List Share) → AllByRecursion (λ (m : Movement). HasNothing ps m.from) (payout_moves s n rs)
 payouts_empty ps s n [] = tt
 payouts_empty ps s n (r ∷ rs) = (tt, payouts_empty ps s (suc n) rs)
 
-payouts_stored : (s n : ℕ) (rs : List Row) → AllByRecursion IsStored (payout_moves s n rs)
+payouts_stored : (s n : ℕ) (rs : List Share) → AllByRecursion IsStored (payout_moves s n rs)
 payouts_stored s n [] = tt
 payouts_stored s n (r ∷ rs) = (inl tt, payouts_stored s (suc n) rs)
 
 module _ (w : State) (s : ℕ) (cause : Cause) (good : IsGoodWorld w) (is : IsOpen (seat_at w.seats s)) where
-  abbrev slots : List Row
+  abbrev slots : List Share
   slots = slots_at w.rights.slots s
 
   abbrev next : State
@@ -231,10 +231,10 @@ module _ (w : State) (s : ℕ) (cause : Cause) (good : IsGoodWorld w) (is : IsOp
   made = omega (arith, open_made w.seats s is, good.seats.slotted)
 
   apart : AreApart slots
-  apart = (all_read_or AreRows w.rights.slots s [] good.seats.rows (record { few = omega arith; apart = tt })).apart
+  apart = (all_read_or AreShares w.rights.slots s [] good.seats.shares (record { few = omega arith; apart = tt })).apart
 
   can : CanMoveAll w.rights no_hand ms
-  can = payouts_can w.rights s made apart (all_read_or (AreRowsOf w.rights.out) w.rights.slots s [] good.slot_kinds tt) (all_read_or AreRowsValued w.rights.slots s [] good.valued.slots tt)
+  can = payouts_can w.rights s made apart (all_read_or (AreSharesOf w.rights.out) w.rights.slots s [] good.slot_kinds tt) (all_read_or AreSharesValued w.rights.slots s [] good.valued.slots tt)
 
   rights_are : next.rights ≡ moved_together w.rights ms
   rights_are = sym ((λ i. record (all_moved w.rights ms) { payments = slots_spend_none s (length w.rights.payments) slots (all_moved w.rights ms).payments i }) ∙ left_is w.rights s made apart)
@@ -283,8 +283,8 @@ module _ (w : State) (o : Offering) (good : IsGoodWorld w) (can : CanOffer w o) 
         accounts = subst (Accounts w.rights next.rights) (sym (moves_told all_moves)) (accounts_more w.rights opened_rights next.rights [] all_moves opened_quietly (together opened_rights all_moves can.moves.can can.moves.emptied can.moves.fresh));
         known = (
           record {
-            gives = rows_stay w.rights.out next.rights.out stay o.proposal.give can.proposal.gives;
-            wants = rows_stay w.rights.out next.rights.out stay o.proposal.want can.proposal.wants;
+            gives = shares_stay w.rights.out next.rights.out stay o.proposal.give can.proposal.gives;
+            wants = shares_stay w.rights.out next.rights.out stay o.proposal.want can.proposal.wants;
             give_valued = can.proposal.give_valued;
             want_valued = can.proposal.want_valued;
           },
@@ -306,7 +306,7 @@ effect_accounted : (w : State) (e : Effect) → IsGoodWorld w → IsGoodEffect w
 effect_accounted w (new_brand b maker) good can stored = nothing_told w (after w (new_brand b maker)) refl (quiet w.rights (after w (new_brand b maker)).rights (tables.brand_made w.rights (new_supply b.kind))
     (λ e. out_pushed w.rights.out b.kind e) (λ e. supply_pushed w.rights.out b.kind e (λ x. x.minted) refl) (λ e. supply_pushed w.rights.out b.kind e (λ x. x.burned) refl) (omega arith) (λ p. refl))
 effect_accounted w (new_purse b) good can stored = nothing_told w (after w (new_purse b)) refl (quiet w.rights (after w (new_purse b)).rights (tables.purse_opened w.rights (nothing_of w b) refl) (λ e. refl) (λ e. refl) (λ e. refl) (omega arith) (λ p. refl))
-effect_accounted w (empty_payment b) good can stored = nothing_told w (after w (empty_payment b)) refl (quiet w.rights (after w (empty_payment b)).rights (tables.payment_made w.rights (nothing_of w b) refl) (λ e. refl) (λ e. refl) (λ e. refl) (omega (arith, length_push w.rights.payments (live_paper (nothing_of w b)))) (push_alike w.rights.payments (nothing_of w b)))
+effect_accounted w (empty_payment b) good can stored = nothing_told w (after w (empty_payment b)) refl (quiet w.rights (after w (empty_payment b)).rights (tables.payment_made w.rights (nothing_of w b) refl) (λ e. refl) (λ e. refl) (λ e. refl) (omega (arith, length_push w.rights.payments (live_payment (nothing_of w b)))) (push_alike w.rights.payments (nothing_of w b)))
 effect_accounted w (moves ms) good can stored = moves_accounted w (after w (moves ms)) ms refl refl can.can can.emptied can.fresh good.valued stored
 effect_accounted w (offer o) good can stored = offer_accounted w o good can
 effect_accounted w (empty_seat i rule) good can stored = record {

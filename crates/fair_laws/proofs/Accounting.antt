@@ -8,7 +8,7 @@ use Rattle.std.specs.declared.cmp.Ordering.TheVariants.{Equal, Greater, Less}
 use Rattle.std.proofs.Common.{sym, ◌∙◌, ap, subst, arith}
 use Rattle.fair_rows.specs.amount_math.Content.{count-nothing, nothing, sum}
 use Rattle.fair_rows.specs.amount_math.Counted.{counted as size}
-use Rattle.fair_rows.specs.amount_math.Worth.{IsValue, Worth}
+use Rattle.fair_rows.specs.amount_math.ValueView.{IsValue, ValueView}
 use Rattle.fair_rows.specs.amount_math.declared.Kind.TheVariants.{Nat}
 use Rattle.delivery_laws.specs.brands.declared.Brand.{Brand}
 use Rattle.delivery_laws.specs.turn_records.Values.{printed_value}
@@ -21,10 +21,10 @@ use Rattle.fair_rows.specs.Movements.{is_payment_at, movement_of, movements_in, 
 use Rattle.fair_rows.specs.SoFar.{amounts_at}
 use Rattle.fair_rows.specs.Steps.{IsKnown, World}
 use Rattle.fair_rows.specs.Values.{Named, value_of}
-use Rattle.delivery_laws.specs.holders.Papers.{Paper, paper_at}
-use Rattle.delivery_laws.specs.proposals.declared.allocations.Row.{Row}
-use Rattle.delivery_laws.specs.right_steps.Lists.{amount_of}
-use Rattle.delivery_laws.specs.right_steps.Tables.{content_held, in_brand, right_on}
+use Rattle.delivery_laws.specs.holders.PaymentViews.{PaymentView, payment_view_at}
+use Rattle.delivery_laws.specs.proposals.declared.allocations.Share.{Share}
+use Rattle.delivery_laws.specs.vault_model.Lists.{amount_of}
+use Rattle.delivery_laws.specs.vault_model.Tables.{content_held, in_brand, right_on}
 use Rattle.fair_rows.specs.rights_model.Supply.{burned, is_outside, minted}
 use Rattle.fair_rows.specs.rights_model.Table.{CanMoveAll, Table, moved, table_after}
 use Rattle.fair_rows.specs.rights_model.Totals.{brands_of, placed}
@@ -35,13 +35,13 @@ use Rattle.delivery_laws.proofs.world_laws.Changes.{none_either}
 use Rattle.delivery_laws.proofs.world_laws.Tabled.{table_agrees}
 use Rattle.delivery_laws.specs.turn_records.Events as events
 use Rattle.delivery_laws.specs.turn_records.Events.{Event, moves_in}
-use Rattle.delivery_laws.specs.turn_records.Printed.{printed_move, printed_row, printed_rows}
+use Rattle.delivery_laws.specs.turn_records.Printed.{printed_move, printed_share, printed_shares}
 use Rattle.fair_rows.specs.turn_rows.Order.{put_amount}
 use Rattle.fair_rows.specs.turn_rows.Turns.{KeywordAmount, Turn}
 use Rattle.delivery_laws.proofs.world_laws.Growing.{grows-after}
 use Rattle.delivery_laws.proofs.world_laws.Kept.{good-after, good-after_all}
 use Rattle.delivery_laws.proofs.world_laws.Lists.{all_append, all_read_or, all_under}
-use Rattle.delivery_laws.specs.world_state.Good.{AreGood, AreRowsOf, AreRowsValued, IsGoodWorld, IsInBounds, IsOfKind, IsValued}
+use Rattle.delivery_laws.specs.world_state.Good.{AreGood, AreSharesOf, AreSharesValued, IsGoodWorld, IsInBounds, IsOfKind, IsValued}
 use Rattle.delivery_laws.specs.world_state.Rights.{kind_at}
 use Rattle.delivery_laws.specs.world_state.Worlds.{Effect, State, after, after_all}
 use Rattle.fair_laws.specs.Steps.{AccountsFor, TellsLog}
@@ -101,7 +101,7 @@ module _ (turns : ℕ) (v : State) where
   abbrev KnowsRow : KeywordAmount → Type 0
   KnowsRow a = Knows (a.brand, a.value)
 
-  known_value : (b : ℕ) (w : Worth) → IsOfKind v.rights.out (amount_of b w) → IsValued w → Knows (b, printed_value w)
+  known_value : (b : ℕ) (w : ValueView) → IsOfKind v.rights.out (amount_of b w) → IsValued w → Knows (b, printed_value w)
   known_value b w of is = record {
     made = of.made;
     of_kind = record {
@@ -120,16 +120,16 @@ module _ (turns : ℕ) (v : State) where
       by Equal rest = (one, all.1)
       by Greater rest = (all.0, rest)
 
-  known_rows : (rs : List Row) → AreRowsOf v.rights.out rs → AreRowsValued rs → AllByRecursion KnowsRow (printed_rows rs)
+  known_rows : (rs : List Share) → AreSharesOf v.rights.out rs → AreSharesValued rs → AllByRecursion KnowsRow (printed_shares rs)
   known_rows [] of are = tt
-  known_rows (r ∷ rs) of are = all_put (printed_row r) (printed_rows rs) (known_value r.amount.brand r.amount.value of.0 are.0) (known_rows rs of.1 are.1)
+  known_rows (r ∷ rs) of are = all_put (printed_share r) (printed_shares rs) (known_value r.amount.brand r.amount.value of.0 are.0) (known_rows rs of.1 are.1)
 
   known_amounts : (es : List Event) → AllByRecursion (IsKnownEvent v.rights.out) es → AllByRecursion Knows (flat_map amounts_at (rows_of es))
   known_amounts [] all = tt
   known_amounts (events.moved m ∷ es) all = (known_value m.brand m.value all.0.of_kind all.0.value, known_amounts es all.1)
   known_amounts (events.opened o ∷ es) all =
-      let give = printed_rows o.proposal.give in
-      let want = printed_rows o.proposal.want in
+      let give = printed_shares o.proposal.give in
+      let want = printed_shares o.proposal.want in
       let named = all_append KnowsRow give want (known_rows o.proposal.give all.0.gives all.0.give_valued) (known_rows o.proposal.want all.0.wants all.0.want_valued) in
       all_append Knows (map (λ (a : KeywordAmount). (a.brand, a.value)) (give ++ want)) (flat_map amounts_at (rows_of es))
       (all_under (λ (a : KeywordAmount). (a.brand, a.value)) Knows (give ++ want) named) (known_amounts es all.1)
@@ -139,11 +139,11 @@ module _ (turns : ℕ) (v : State) where
 
 -- ---- payments that were taken from
 
-taken_has_nothing : (ps : List Paper) (p b : ℕ) → is_taken ps p ≡ true → in_brand (right_on (paper_at ps p)) b ≡ nothing
+taken_has_nothing : (ps : List PaymentView) (p b : ℕ) → is_taken ps p ≡ true → in_brand (right_on (payment_view_at ps p)) b ≡ nothing
 taken_has_nothing [] p b is = cc
 taken_has_nothing (x ∷ xs) zero b is = by x.held is
   where
-    by : (o : Option Worth) → is_none o ≡ true → cond (x.brand == b) (content_held o) nothing ≡ nothing
+    by : (o : Option ValueView) → is_none o ≡ true → cond (x.brand == b) (content_held o) nothing ≡ nothing
     by None is = none_either (x.brand == b)
     by (Some w) is = cc
 taken_has_nothing (x ∷ xs) (suc p) b is = taken_has_nothing xs p b is

@@ -12,9 +12,9 @@ use Rattle.std.proofs.lemmas.Cmp.{nat_list_cmp_total}
 use Rattle.std.proofs.lemmas.Slice.Eq.{bytes_eq-Decides}
 use Rattle.fair_rows.specs.amount_math.declared.Amount.{Amount}
 use Rattle.delivery_laws.specs.host_data.Values.{amount_tree}
-use Rattle.delivery_laws.proofs.row_laws.Amounts.{allocation_formed}
-use Rattle.delivery_laws.proofs.row_laws.Fields.{HasNoField, no_field_placed, other_name}
-use Rattle.delivery_laws.specs.rules.ZseatRows.{allocation_tree, amount_fields}
+use Rattle.delivery_laws.proofs.rule_laws.Amounts.{allocation_formed}
+use Rattle.delivery_laws.proofs.rule_laws.Fields.{HasNoField, no_field_placed, other_name}
+use Rattle.delivery_laws.specs.rules.Records.{allocation_tree, amount_fields}
 use Rattle.delivery_laws.specs.host_data.Nodes.{AreInOrder}
 use Rattle.delivery_laws.specs.turn_records.Names.{object_name}
 use Rattle.delivery_laws.specs.turn_records.PrintedData.{printed, printed_fields}
@@ -27,19 +27,19 @@ use Rattle.fair_laws.proofs.Values.{printed_is}
 use Rattle.fair_rows.specs.Amounts.{IsAllocation, IsAmountOf, IsPrinted, IsSlotAmount}
 use Rattle.fair_rows.specs.Amounts as told
 use Rattle.delivery_laws.specs.host_data.Tree.{Before, Fields, Tree, field, no_fields}
-use Rattle.delivery_laws.specs.proposals.Rows.{AreApart, amount_under}
+use Rattle.delivery_laws.specs.proposals.Shares.{AreApart, amount_under}
 use Rattle.delivery_laws.proofs.proposals.SlotLists.{AreApart-in_byte_order}
 use Rattle.delivery_laws.specs.proposals.Slots.{in_byte_order, is_upto, placed}
-use Rattle.delivery_laws.specs.proposals.declared.allocations.Row.{Row}
+use Rattle.delivery_laws.specs.proposals.declared.allocations.Share.{Share}
 use Rattle.fair_rows.specs.rights_model.Table.{Table, holds}
 use Rattle.fair_rows.specs.rights_model.declared.Holder.{Holder}
 use Rattle.serde_json.specs.Data as json
-use Rattle.delivery_laws.specs.turn_records.Printed.{printed_row, printed_rows}
+use Rattle.delivery_laws.specs.turn_records.Printed.{printed_share, printed_shares}
 use Rattle.fair_rows.proofs.turn_rows.Order.{puts_amount}
 use Rattle.fair_rows.specs.turn_rows.Rows.{amount_json, amounts_json}
 use Rattle.fair_rows.specs.turn_rows.Turns.{KeywordAmount, ok}
 use Rattle.delivery_laws.proofs.world_laws.Lists.{all_map, length_map}
-use Rattle.delivery_laws.specs.world_state.Good.{AreNamed, AreRowsOf, AreRowsValued, IsAmountValued, IsGoodWorld}
+use Rattle.delivery_laws.specs.world_state.Good.{AreNamed, AreSharesOf, AreSharesValued, IsAmountValued, IsGoodWorld}
 use Rattle.delivery_laws.specs.world_state.Worlds.{State, placed_field}
 
 -- ---- one amount
@@ -77,7 +77,7 @@ placed_members k t (field next u fs) none = by (slice_cmp nat_cmp k next) refl (
     by Equal e rest = absurd (none.0 (sym (slice_cmp-IsAntisymmetric nat_cmp-IsAntisymmetric k next e)))
     by Greater e rest = ap (json.member next (printed u)) rest
 
-no_field_under : (k : List ℕ) (rs : List Row) → amount_under k rs ≡ None → HasNoField k (amount_fields rs)
+no_field_under : (k : List ℕ) (rs : List Share) → amount_under k rs ≡ None → HasNoField k (amount_fields rs)
 no_field_under k [] none = tt
 no_field_under k (r ∷ rs) none = by (bytes_eq k r.keyword) refl none (no_field_under k rs)
   where
@@ -85,14 +85,14 @@ no_field_under k (r ∷ rs) none = by (bytes_eq k r.keyword) refl none (no_field
     by true e is rest = cc
     by false e is rest = no_field_placed k r.keyword (amount_tree r.amount) (amount_fields rs) (other_name k r.keyword e) (rest is)
 
-amounts_members : (rs : List Row) → AreApart rs → members_of (amount_fields rs) ≡ amounts_json (printed_rows rs)
+amounts_members : (rs : List Share) → AreApart rs → members_of (amount_fields rs) ≡ amounts_json (printed_shares rs)
 unfolding members_of
 amounts_members [] a = refl
 amounts_members (r ∷ rs) a =
     placed_members r.keyword (amount_tree r.amount) (amount_fields rs) (no_field_under r.keyword rs a.0)
     ∙ ap (λ d. json.put r.keyword d (members_of (amount_fields rs))) (printed_amount r.amount)
     ∙ ap (json.put r.keyword (amount_json r.amount.brand (printed_value r.amount.value))) (amounts_members rs a.1)
-    ∙ sym (puts_amount (printed_row r) (printed_rows rs))
+    ∙ sym (puts_amount (printed_share r) (printed_shares rs))
 
 -- ---- fields in order are put one behind another
 
@@ -149,13 +149,13 @@ none_before (field k t fs) = tt
 
 -- ---- an allocation
 
-pub allocation_printed : (w : State) (rs : List Row) → IsGoodWorld w → AreApart rs → AreNamed rs → AreRowsOf w.rights.out rs → printed (allocation_tree rs) ≡ json.object (amounts_json (printed_rows rs))
+pub allocation_printed : (w : State) (rs : List Share) → IsGoodWorld w → AreApart rs → AreNamed rs → AreSharesOf w.rights.out rs → printed (allocation_tree rs) ≡ json.object (amounts_json (printed_shares rs))
 unfolding onto
 allocation_printed w rs good apart named kinds =
     let formed = allocation_formed w None good 0 rs (omega arith) apart named kinds in
     ap json.object (fields_printed (amount_fields rs) json.no_members formed.ordered.0 (none_before (amount_fields rs)) ∙ amounts_members rs apart)
 
-length_placed : (r : Row) (rs : List Row) → length (placed r rs) ≡ suc (length rs)
+length_placed : (r : Share) (rs : List Share) → length (placed r rs) ≡ suc (length rs)
 length_placed r [] = refl
 length_placed r (x ∷ xs) = by (is_upto r.keyword x.keyword) (length_placed r xs)
   where
@@ -163,12 +163,12 @@ length_placed r (x ∷ xs) = by (is_upto r.keyword x.keyword) (length_placed r x
     by true rest = refl
     by false rest = ap suc rest
 
-length_ordered : (rs : List Row) → length (in_byte_order rs) ≡ length rs
+length_ordered : (rs : List Share) → length (in_byte_order rs) ≡ length rs
 length_ordered [] = refl
 length_ordered (r ∷ rs) = length_placed r (in_byte_order rs) ∙ ap suc (length_ordered rs)
 
 -- in byte order or not
-unplaced : (P : Row → Type 0) (r : Row) (rs : List Row) → AllByRecursion P (placed r rs) → P r × AllByRecursion P rs
+unplaced : (P : Share → Type 0) (r : Share) (rs : List Share) → AllByRecursion P (placed r rs) → P r × AllByRecursion P rs
 unplaced P r [] all = (all.0, tt)
 unplaced P r (x ∷ xs) all = by (is_upto r.keyword x.keyword) all (unplaced P r xs)
   where
@@ -176,7 +176,7 @@ unplaced P r (x ∷ xs) all = by (is_upto r.keyword x.keyword) all (unplaced P r
     by true all rest = (all.0, all.1)
     by false all rest = let both = rest all.1 in (both.0, (all.0, both.1))
 
-unordered : (P : Row → Type 0) (rs : List Row) → AllByRecursion P (in_byte_order rs) → AllByRecursion P rs
+unordered : (P : Share → Type 0) (rs : List Share) → AllByRecursion P (in_byte_order rs) → AllByRecursion P rs
 unordered P [] all = tt
 unordered P (r ∷ rs) all = let both = unplaced P r (in_byte_order rs) all in (both.0, unordered P rs both.1)
 
@@ -184,34 +184,34 @@ unordered P (r ∷ rs) all = let both = unplaced P r (in_byte_order rs) all in (
 abbrev StandsAs : List KeywordAmount → List ℕ → Amount → Type 0
 StandsAs xs k a = told.amount_under k xs ≡ Some (record { keyword = k; brand = a.brand; value = printed_value a.value })
 
-told_under : (k : List ℕ) (rs : List Row) (a : Amount) → amount_under k rs ≡ Some a → StandsAs (map printed_row rs) k a
+told_under : (k : List ℕ) (rs : List Share) (a : Amount) → amount_under k rs ≡ Some a → StandsAs (map printed_share rs) k a
 told_under k [] a is = cc
 told_under k (r ∷ rs) a is = by (bytes_eq k r.keyword) refl is (told_under k rs a)
   where
-    by : (b : Bool) → bytes_eq k r.keyword ≡ b → cond b (Some r.amount) (amount_under k rs) ≡ Some a → (amount_under k rs ≡ Some a → StandsAs (map printed_row rs) k a)
-        → cond b (Some (printed_row r)) (told.amount_under k (map printed_row rs)) ≡ Some (record { keyword = k; brand = a.brand; value = printed_value a.value })
+    by : (b : Bool) → bytes_eq k r.keyword ≡ b → cond b (Some r.amount) (amount_under k rs) ≡ Some a → (amount_under k rs ≡ Some a → StandsAs (map printed_share rs) k a)
+        → cond b (Some (printed_share r)) (told.amount_under k (map printed_share rs)) ≡ Some (record { keyword = k; brand = a.brand; value = printed_value a.value })
     by true e at rest =
         let same : k ≡ r.keyword = (bytes_eq-Decides k r.keyword).0 e in
         let amount : r.amount ≡ a = ap (λ o. unwrap_or o a) at in
         (λ i. Some (record { keyword = sym same i; brand = (amount i).brand; value = printed_value (amount i).value }))
     by false e at rest = rest at
 
-each_stands : (rs : List Row) → AreApart rs → AllByRecursion (λ (r : Row). StandsAs (printed_rows rs) r.keyword r.amount) rs
+each_stands : (rs : List Share) → AreApart rs → AllByRecursion (λ (r : Share). StandsAs (printed_shares rs) r.keyword r.amount) rs
 each_stands rs a =
     let sorted = in_byte_order rs in
-    subst (λ xs. AllByRecursion (λ (r : Row). StandsAs xs r.keyword r.amount) rs) (sym (rows_ordered rs a))
-    (unordered (λ (r : Row). StandsAs (map printed_row sorted) r.keyword r.amount) rs
-    (all_map (λ (r : Row). amount_under r.keyword sorted ≡ Some r.amount) (λ (r : Row). StandsAs (map printed_row sorted) r.keyword r.amount) (λ r is. told_under r.keyword sorted r.amount is) sorted (each_under sorted (AreApart-in_byte_order rs a))))
+    subst (λ xs. AllByRecursion (λ (r : Share). StandsAs xs r.keyword r.amount) rs) (sym (rows_ordered rs a))
+    (unordered (λ (r : Share). StandsAs (map printed_share sorted) r.keyword r.amount) rs
+    (all_map (λ (r : Share). amount_under r.keyword sorted ≡ Some r.amount) (λ (r : Share). StandsAs (map printed_share sorted) r.keyword r.amount) (λ r is. told_under r.keyword sorted r.amount is) sorted (each_under sorted (AreApart-in_byte_order rs a))))
 
-each_slot : (xs : List KeywordAmount) (rs : List Row) → AreRowsValued rs → AllByRecursion (λ (r : Row). StandsAs xs r.keyword r.amount) rs → AllZip (IsSlotAmount xs) (map slot_name rs) (map slot_content rs)
+each_slot : (xs : List KeywordAmount) (rs : List Share) → AreSharesValued rs → AllByRecursion (λ (r : Share). StandsAs xs r.keyword r.amount) rs → AllZip (IsSlotAmount xs) (map slot_name rs) (map slot_content rs)
 each_slot xs [] valued all = tt
 each_slot xs (r ∷ rs) valued all = (record { value = printed_value r.amount.value; printed = amount_printed r.amount valued.0; is = all.0 }, each_slot xs rs valued.1 all.1)
 
 -- what slots have, each under its keyword
-pub allocation_is : (w : State) (rs : List Row) → IsGoodWorld w → AreApart rs → AreNamed rs → AreRowsOf w.rights.out rs → AreRowsValued rs → IsAllocation (map slot_name rs) (map slot_content rs) (ok (printed (allocation_tree rs)))
+pub allocation_is : (w : State) (rs : List Share) → IsGoodWorld w → AreApart rs → AreNamed rs → AreSharesOf w.rights.out rs → AreSharesValued rs → IsAllocation (map slot_name rs) (map slot_content rs) (ok (printed (allocation_tree rs)))
 allocation_is w rs good apart named kinds valued = record {
-  amounts = printed_rows rs;
+  amounts = printed_shares rs;
   is = ap ok (allocation_printed w rs good apart named kinds);
-  as_many = ap length (rows_ordered rs apart) ∙ length_map printed_row (in_byte_order rs) ∙ length_ordered rs ∙ sym (length_map slot_name rs);
-  each = each_slot (printed_rows rs) rs valued (each_stands rs apart);
+  as_many = ap length (rows_ordered rs apart) ∙ length_map printed_share (in_byte_order rs) ∙ length_ordered rs ∙ sym (length_map slot_name rs);
+  each = each_slot (printed_shares rs) rs valued (each_stands rs apart);
 }

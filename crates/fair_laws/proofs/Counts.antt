@@ -1,13 +1,13 @@
 -- Good effects keep the numbers of seats, instances, facets and purses within 32 bits.
 use Rattle.std.specs.Prelude.{◌≡◌, ℕ, List, [], ◌∷◌, length, refl}
 use Rattle.std.proofs.Common.{◌∙◌, arith}
-use Rattle.fair_rows.specs.amount_math.Worth.{Worth}
+use Rattle.fair_rows.specs.amount_math.ValueView.{ValueView}
 use Rattle.delivery_laws.specs.actors.Tables.{module_at, new_instance}
 use Rattle.delivery_laws.proofs.lemmas.ListEdits.{length_push, length_set}
 use Rattle.fair_rows.specs.rights_model.declared.Holder.{Holder}
 use Rattle.fair_rows.specs.rights_model.declared.Holder.TheVariants.{Purse, Payment, Slot, Hand, Outside}
 use Rattle.fair_rows.specs.rights_model.declared.Movement.{Movement}
-use Rattle.delivery_laws.specs.right_steps.Lists.{less, more, purse_at}
+use Rattle.delivery_laws.specs.vault_model.Lists.{less, more, purse_at}
 use Rattle.delivery_laws.specs.world_state.Good.{AreGood, IsGoodEffect, rights_for}
 use Rattle.delivery_laws.specs.world_state.Rights.{Rights, all_moved, given, moved, slots_at, taken}
 use Rattle.delivery_laws.specs.world_state.Worlds.{Effect, State, after, after_all, burn_and_escrows, empty_seat, exit, invitation_move, invite, left_seat, make_facet, moves, new_purse, nothing_of, new_seat, of_own, offer, offered_by, seat_at, start}
@@ -16,14 +16,14 @@ use Rattle.fair_laws.specs.Views.{IsCounted}
 
 -- ---- movements make no purse
 
-purses_taken : (r : Rights) (h : Holder) (b : ℕ) (w : Worth) → length (taken r h b w).purses ≡ length r.purses
+purses_taken : (r : Rights) (h : Holder) (b : ℕ) (w : ValueView) → length (taken r h b w).purses ≡ length r.purses
 purses_taken r (Purse n) b w = length_set r.purses n (less (purse_at r.purses n) w.content)
 purses_taken r (Payment n) b w = refl
 purses_taken r (Slot s k) b w = refl
 purses_taken r Hand b w = refl
 purses_taken r Outside b w = refl
 
-purses_given : (r : Rights) (h : Holder) (b : ℕ) (w : Worth) → length (given r h b w).purses ≡ length r.purses
+purses_given : (r : Rights) (h : Holder) (b : ℕ) (w : ValueView) → length (given r h b w).purses ≡ length r.purses
 purses_given r (Purse n) b w = length_set r.purses n (more (purse_at r.purses n) w.content)
 purses_given r (Payment n) b w = refl
 purses_given r (Slot s k) b w = refl

@@ -6,19 +6,19 @@ use Rattle.std.proofs.Common.{sym, ◌∙◌, ap, arith}
 use Rattle.std.proofs.lemmas.Bool.{eq-eqb, ne_eqb}
 use Rattle.fair_rows.specs.amount_math.Amount.{holding}
 use Rattle.fair_rows.specs.amount_math.Content.{nothing}
-use Rattle.fair_rows.specs.amount_math.Worth.{Worth}
+use Rattle.fair_rows.specs.amount_math.ValueView.{ValueView}
 use Rattle.fair_rows.specs.amount_math.declared.Amount.{Amount}
-use Rattle.delivery_laws.specs.proposals.Rows.{amount_under}
-use Rattle.delivery_laws.specs.proposals.declared.allocations.Row.{Row}
+use Rattle.delivery_laws.specs.proposals.Shares.{amount_under}
+use Rattle.delivery_laws.specs.proposals.declared.allocations.Share.{Share}
 use Rattle.fair_rows.specs.rights_model.declared.Holder.{Holder}
 use Rattle.fair_rows.specs.rights_model.declared.Holder.TheVariants.{Purse, Payment, Slot, Hand, Outside}
 use Rattle.fair_rows.specs.rights_model.declared.Movement.{Movement}
-use Rattle.delivery_laws.specs.right_steps.Lists.{amount_of, less, more}
+use Rattle.delivery_laws.specs.vault_model.Lists.{amount_of, less, more}
 use Rattle.delivery_laws.specs.turn_records.Printed.{printed_move}
 use Rattle.fair_rows.specs.turn_rows.Turns.{Move}
 use Rattle.fair_rows.specs.Seats as told
 use Rattle.fair_rows.specs.Seats.{SlotName, brand_under, with_holder, with_move, with_slot}
-use Rattle.delivery_laws.specs.world_state.Rights.{Rights, changed_row, given, moved, rows_with, slots_at, taken}
+use Rattle.delivery_laws.specs.world_state.Rights.{Rights, changed_share, given, moved, shares_with, slots_at, taken}
 use Rattle.delivery_laws.specs.world_state.Worlds.{Seat}
 use Rattle.fair_laws.specs.Places.{seat_told, seats_from, slot_name}
 
@@ -29,7 +29,7 @@ told_brand None = None
 told_brand (Some a) = Some a.brand
 
 -- the brand that is told of a slot is that of what it has
-pub brand_told : (k : List ℕ) (rs : List Row) → brand_under k (map slot_name rs) ≡ told_brand (amount_under k rs)
+pub brand_told : (k : List ℕ) (rs : List Share) → brand_under k (map slot_name rs) ≡ told_brand (amount_under k rs)
 brand_told k [] = refl
 brand_told k (r ∷ rs) = by (bytes_eq k r.keyword) (brand_told k rs)
   where
@@ -39,12 +39,12 @@ brand_told k (r ∷ rs) = by (bytes_eq k r.keyword) (brand_told k rs)
 
 module _ (k : List ℕ) (f : Amount → Amount) (new : Amount) (kept : (a : Amount) → (f a).brand ≡ a.brand) where
   -- a row that is changed keeps its name, a new one gets one, last
-  pub names_with : (rs : List Row) → map slot_name (rows_with k f new rs) ≡ with_slot k new.brand (map slot_name rs)
+  pub names_with : (rs : List Share) → map slot_name (shares_with k f new rs) ≡ with_slot k new.brand (map slot_name rs)
   names_with [] = refl
   names_with (r ∷ rs) = by (bytes_eq k r.keyword) (names_with rs)
     where
-      by : (t : Bool) → map slot_name (rows_with k f new rs) ≡ with_slot k new.brand (map slot_name rs)
-          → map slot_name (cond t (changed_row f r ∷ rs) (r ∷ rows_with k f new rs))
+      by : (t : Bool) → map slot_name (shares_with k f new rs) ≡ with_slot k new.brand (map slot_name rs)
+          → map slot_name (cond t (changed_share f r ∷ rs) (r ∷ shares_with k f new rs))
           ≡ cond (is_some (cond t (Some r.amount.brand) (brand_under k (map slot_name rs)))) (slot_name r ∷ map slot_name rs) (slot_name r ∷ (map slot_name rs ++ record { keyword = k; brand = new.brand } ∷ []))
       by true later = ap (λ b. record { keyword = r.keyword; brand = b } ∷ map slot_name rs) (kept r.amount)
       by false later = ap (λ l. slot_name r ∷ l) later ∙ inside (is_some (brand_under k (map slot_name rs)))
@@ -61,7 +61,7 @@ named_by b h s = record s { slots = with_holder s.opening.seat b h s.slots }
 
 module _ (b : ℕ) (k : List ℕ) (v : ℕ) where
   -- of seats with other numbers nothing changes
-  elsewhere : (m : ℕ) → v < m → (ss : List Seat) (slots : List (List Row)) → map (named_by b (Slot v k)) (seats_from m ss slots) ≡ seats_from m ss slots
+  elsewhere : (m : ℕ) → v < m → (ss : List Seat) (slots : List (List Share)) → map (named_by b (Slot v k)) (seats_from m ss slots) ≡ seats_from m ss slots
   elsewhere m lt [] slots = refl
   elsewhere m lt (s ∷ ss) [] = refl
   elsewhere m lt (s ∷ ss) (rows ∷ rest) =
@@ -69,7 +69,7 @@ module _ (b : ℕ) (k : List ℕ) (v : ℕ) where
       ∙ ap (λ l. seat_told m s rows ∷ l) (elsewhere (suc m) (omega arith) ss rest)
 
 module _ (b : ℕ) (k : List ℕ) (f : Amount → Amount) (new : Amount) (of : new.brand ≡ b) (kept : (a : Amount) → (f a).brand ≡ a.brand) where
-  told_half : (q j : ℕ) (ss : List Seat) (slots : List (List Row)) → map (named_by b (Slot (q + j) k)) (seats_from q ss slots) ≡ seats_from q ss (slice_set slots j (rows_with k f new (slots_at slots j)))
+  told_half : (q j : ℕ) (ss : List Seat) (slots : List (List Share)) → map (named_by b (Slot (q + j) k)) (seats_from q ss slots) ≡ seats_from q ss (slice_set slots j (shares_with k f new (slots_at slots j)))
   told_half q j [] slots = refl
   told_half q j (s ∷ ss) [] = refl
   told_half q zero (s ∷ ss) (rows ∷ rest) =
@@ -86,7 +86,7 @@ unnamed : (xs : List told.Seat) (f : told.Seat → told.Seat) → ((x : told.Sea
 unnamed [] f is = refl
 unnamed (x ∷ xs) f is = ap (λ y. y ∷ map f xs) (is x) ∙ ap (λ l. x ∷ l) (unnamed xs f is)
 
-module _ (ss : List Seat) (r : Rights) (b : ℕ) (w : Worth) where
+module _ (ss : List Seat) (r : Rights) (b : ℕ) (w : ValueView) where
   pub told_taken : (h : Holder) → map (named_by b h) (seats_from 0 ss r.slots) ≡ seats_from 0 ss (taken r h b w).slots
   told_taken (Slot s k) = ap (λ v. map (named_by b (Slot v k)) (seats_from 0 ss r.slots)) (let e : s ≡ 0 + s = omega arith in e) ∙ told_half b k (λ had. less had w.content) (holding (amount_of b w) nothing) refl (λ a. refl) 0 s ss r.slots
   told_taken (Purse n) = unnamed (seats_from 0 ss r.slots) (named_by b (Purse n)) (λ x. refl)
@@ -115,7 +115,7 @@ told_moved ss r m =
 
 -- ---- a seat by its number
 
-pub seat_read : (q j : ℕ) (ss : List Seat) (slots : List (List Row)) (d : Seat) → j < length ss → length slots ≡ length ss
+pub seat_read : (q j : ℕ) (ss : List Seat) (slots : List (List Share)) (d : Seat) → j < length ss → length slots ≡ length ss
     → slice_get (seats_from q ss slots) j ≡ Some (seat_told (q + j) (slice_index_or ss j d) (slots_at slots j))
 seat_read q j [] slots d lt as_many = absurd (omega arith)
 seat_read q j (s ∷ ss) [] d lt as_many = absurd (omega (arith, as_many))
@@ -124,7 +124,7 @@ seat_read q (suc j) (s ∷ ss) (rows ∷ rest) d lt as_many =
     seat_read (suc q) j ss rest d (omega arith) (omega (arith, as_many))
     ∙ ap (λ n. Some (seat_told n (slice_index_or ss j d) (slots_at rest j))) (let e : suc q + j ≡ q + suc j = omega arith in e)
 
-pub seats_counted : (q : ℕ) (ss : List Seat) (slots : List (List Row)) → length slots ≡ length ss → length (seats_from q ss slots) ≡ length ss
+pub seats_counted : (q : ℕ) (ss : List Seat) (slots : List (List Share)) → length slots ≡ length ss → length (seats_from q ss slots) ≡ length ss
 seats_counted q [] slots as_many = refl
 seats_counted q (s ∷ ss) [] as_many = absurd (omega (arith, as_many))
 seats_counted q (s ∷ ss) (rows ∷ rest) as_many = omega (arith, seats_counted (suc q) ss rest (omega (arith, as_many)))

@@ -5,13 +5,13 @@ use Rattle.std.proofs.Common.{append_assoc, inr, sym, ◌∙◌, ap, subst, arit
 use Rattle.std.proofs.lemmas.List.{append-nil}
 use Rattle.delivery_laws.specs.ertp_mint.BrandSupply.{new_supply}
 use Rattle.delivery_laws.proofs.lemmas.ListEdits.{length_push}
-use Rattle.delivery_laws.specs.holders.Papers.{live_paper}
+use Rattle.delivery_laws.specs.holders.PaymentViews.{live_payment}
 use Rattle.delivery_laws.specs.promise_store.States.{ok}
 use Rattle.delivery_laws.specs.host_data.Tree.{null}
 use Rattle.delivery_laws.specs.proposals.declared.offers.Exit.{Exit}
 use Rattle.fair_rows.specs.rights_model.Table.{table_after}
 use Rattle.fair_rows.specs.rights_model.declared.Movement.{Movement}
-use Rattle.delivery_laws.specs.right_steps.Tables.{no_hand}
+use Rattle.delivery_laws.specs.vault_model.Tables.{no_hand}
 use Rattle.delivery_laws.specs.turn_records.Events as events
 use Rattle.delivery_laws.specs.turn_records.Events.{Event}
 use Rattle.delivery_laws.specs.turn_records.Printed.{printed_call, printed_settlement}
@@ -79,7 +79,7 @@ module _ (owners : Owners) (t : Turn) where
     empty_paid : (b : ℕ) → TellsActs owners t w (after w (empty_payment b))
     empty_paid b = record {
       acts = record { rows = []; next = place_of (after w (empty_payment b)) } ∷ [];
-      are = (wider (rows_of w.log) (place_of w) (place_of (after w (empty_payment b))) (sym (tables.payment_made w.rights (nothing_of w b) refl)) refl (omega (arith, length_push w.rights.payments (live_paper (nothing_of w b)))), tt);
+      are = (wider (rows_of w.log) (place_of w) (place_of (after w (empty_payment b))) (sym (tables.payment_made w.rights (nothing_of w b) refl)) refl (omega (arith, length_push w.rights.payments (live_payment (nothing_of w b)))), tt);
       told = sym (append-nil (rows_of w.log));
       place = refl;
     }

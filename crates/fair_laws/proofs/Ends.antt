@@ -5,7 +5,7 @@ use Rattle.std.specs.List.{AllByRecursion}
 use Rattle.std.specs.Str.{bytes_eq}
 use Rattle.std.proofs.Common.{sym, ◌∙◌, ap, subst, arith}
 use Rattle.delivery_laws.specs.rules.Traces.{Departure, all_open, departure, departures_in}
-use Rattle.delivery_laws.proofs.row_laws.OpenSeats.{all_own}
+use Rattle.delivery_laws.proofs.rule_laws.OpenSeats.{all_own}
 use Rattle.delivery_laws.specs.turn_records.Names.{object_name}
 use Rattle.delivery_laws.proofs.Ends.{open_there}
 use Rattle.delivery_laws.proofs.Runs.{after_both, all_grow}
@@ -17,7 +17,7 @@ use Rattle.delivery_laws.specs.host_data.declared.data.ObjKind.TheVariants as ki
 use Rattle.delivery_laws.proofs.lemmas.ListEdits.{read_set}
 use Rattle.delivery_laws.specs.promise_store.States.{SettlementView}
 use Rattle.delivery_laws.specs.promise_store.declared.links.Following.{Following}
-use Rattle.delivery_laws.specs.proposals.declared.allocations.Row.{Row}
+use Rattle.delivery_laws.specs.proposals.declared.allocations.Share.{Share}
 use Rattle.fair_rows.specs.rights_model.declared.Sum.{Sum}
 use Rattle.delivery_laws.specs.turn_records.Settlements.{settled_after}
 use Rattle.delivery_laws.specs.turn_records.Deliveries as deliveries
@@ -135,11 +135,11 @@ closes v s cause opens =
     let rows = slots_at v.rights.slots s in
     subst (λ (x : Seat). IsSome x.last) (sym (read_set v.seats s (left_seat (seat_at v.seats s) rows) no_seat (open_made v.seats s opens))) refl
 
-pub open_or_left : (last : Option (List Row)) → last ≡ None → IsSome last → ⊥
+pub open_or_left : (last : Option (List Share)) → last ≡ None → IsSome last → ⊥
 open_or_left None e h = cc
 open_or_left (Some rows) e h = cc
 
-not_none : (last : Option (List Row)) → is_none last ≡ false → IsSome last
+not_none : (last : Option (List Share)) → is_none last ≡ false → IsSome last
 not_none None e = cc
 not_none (Some rows) e = refl
 

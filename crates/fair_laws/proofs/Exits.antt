@@ -3,14 +3,14 @@ use Rattle.std.specs.Prelude.{◌≡◌, ◌==◌, ◌+◌, ◌<◌, ℕ, zero, 
 use Rattle.std.specs.List.{AllByRecursion}
 use Rattle.std.proofs.Common.{append_assoc, sym, ◌∙◌, ap, subst, arith, if◌then◌else◌}
 use Rattle.std.proofs.lemmas.Bool.{eq-eqb, ne_eqb}
-use Rattle.fair_rows.specs.amount_math.Worth.{IsValue}
+use Rattle.fair_rows.specs.amount_math.ValueView.{IsValue}
 use Rattle.fair_rows.specs.amount_math.declared.Kind.{Kind}
 use Rattle.delivery_laws.specs.ertp_mint.BrandSupply.{BrandSupply}
 use Rattle.delivery_laws.specs.actors.SeatPromises.{pair_at}
 use Rattle.delivery_laws.specs.promise_store.States.{ok}
-use Rattle.delivery_laws.specs.proposals.Rows.{AreRows}
+use Rattle.delivery_laws.specs.proposals.Shares.{AreShares}
 use Rattle.delivery_laws.specs.proposals.Slots.{emptied}
-use Rattle.delivery_laws.specs.proposals.declared.allocations.Row.{Row}
+use Rattle.delivery_laws.specs.proposals.declared.allocations.Share.{Share}
 use Rattle.fair_rows.specs.rights_model.Table.{Table, holds, movement, table_after}
 use Rattle.fair_rows.specs.rights_model.declared.Holder.TheVariants.{Payment, Slot}
 use Rattle.fair_rows.specs.rights_model.declared.Movement.{Movement}
@@ -29,7 +29,7 @@ use Rattle.fair_rows.specs.Values.{value_of}
 use Rattle.fair_rows.proofs.Acts.{exit_is_act}
 use Rattle.delivery_laws.proofs.world_laws.Instances.{open_made}
 use Rattle.delivery_laws.proofs.world_laws.Lists.{all_read_or, length_append, length_map}
-use Rattle.delivery_laws.specs.world_state.Good.{AreRowsOf, AreRowsValued, IsGoodWorld}
+use Rattle.delivery_laws.specs.world_state.Good.{AreSharesOf, AreSharesValued, IsGoodWorld}
 use Rattle.delivery_laws.specs.world_state.Rights.{kind_at, slots_at}
 use Rattle.delivery_laws.specs.world_state.Worlds as worlds
 use Rattle.delivery_laws.specs.world_state.Worlds.{IsOpen, Seat, State, after, exit, left_seat, leaving_events, moves_out, no_seat, paid_out, payouts_at, payouts_from, payouts_tree, seat_at, seats_left}
@@ -47,7 +47,7 @@ use Rattle.fair_laws.proofs.Values.{printed_is}
 
 module _ (P : told.Seat → Type 0) (v : ℕ) where
   -- seats with greater numbers are others
-  past : (m : ℕ) → v < m → (ss : List Seat) (slots : List (List Row)) → AllByRecursion (λ (u : told.Seat). (v == u.opening.seat) ≡ true → P u) (seats_from m ss slots)
+  past : (m : ℕ) → v < m → (ss : List Seat) (slots : List (List Share)) → AllByRecursion (λ (u : told.Seat). (v == u.opening.seat) ≡ true → P u) (seats_from m ss slots)
   past m lt [] slots = tt
   past m lt (s ∷ ss) [] = tt
   past m lt (s ∷ ss) (x ∷ xs) = (
@@ -55,7 +55,7 @@ module _ (P : told.Seat → Type 0) (v : ℕ) where
     past (suc m) (omega arith) ss xs,
   )
 
-alone_from : (q j v : ℕ) (ss : List Seat) (slots : List (List Row)) → v ≡ q + j
+alone_from : (q j v : ℕ) (ss : List Seat) (slots : List (List Share)) → v ≡ q + j
     → AllByRecursion (λ (u : told.Seat). (v == u.opening.seat) ≡ true → u ≡ seat_told v (seat_at ss j) (slots_at slots j)) (seats_from q ss slots)
 alone_from q j v [] slots at = tt
 alone_from q j v (s ∷ ss) [] at = tt
@@ -70,31 +70,31 @@ alone_from q (suc j) v (s ∷ ss) (x ∷ xs) at = (
 
 -- ---- it is left
 
-abbrev HoldsRow : Table → ℕ → Row → Type 0
+abbrev HoldsRow : Table → ℕ → Share → Type 0
 HoldsRow t s r = holds t (Slot s r.keyword) r.amount.brand ≡ r.amount.value.content
 
 module _ (t : Table) (v : ℕ) where
-  others_stay : (m : ℕ) → v < m → (ss : List Seat) (slots : List (List Row)) → map (with_exit t v) (seats_from m ss slots) ≡ seats_from m ss slots
+  others_stay : (m : ℕ) → v < m → (ss : List Seat) (slots : List (List Share)) → map (with_exit t v) (seats_from m ss slots) ≡ seats_from m ss slots
   others_stay m lt [] slots = refl
   others_stay m lt (s ∷ ss) [] = refl
   others_stay m lt (s ∷ ss) (x ∷ xs) =
       ap (λ b. (if b then record (seat_told m s x) { last = Some (contents_of t (seat_told m s x)) } else seat_told m s x) ∷ map (with_exit t v) (seats_from (suc m) ss xs)) (ne_eqb m v (λ e. absurd (omega (arith, lt, e))))
       ∙ ap (λ l. seat_told m s x ∷ l) (others_stay (suc m) (omega arith) ss xs)
 
-  contents_told : (rs : List Row) → AllByRecursion (HoldsRow t v) rs → map (λ (n : told.SlotName). holds t (Slot v n.keyword) n.brand) (map slot_name rs) ≡ map slot_content rs
+  contents_told : (rs : List Share) → AllByRecursion (HoldsRow t v) rs → map (λ (n : told.SlotName). holds t (Slot v n.keyword) n.brand) (map slot_name rs) ≡ map slot_content rs
   contents_told [] all = refl
   contents_told (r ∷ rs) all = ap (λ c. c ∷ map (λ (n : told.SlotName). holds t (Slot v n.keyword) n.brand) (map slot_name rs)) all.0 ∙ ap (λ l. slot_content r ∷ l) (contents_told rs all.1)
 
-  names_emptied : (rs : List Row) → map slot_name (map emptied rs) ≡ map slot_name rs
+  names_emptied : (rs : List Share) → map slot_name (map emptied rs) ≡ map slot_name rs
   names_emptied [] = refl
   names_emptied (r ∷ rs) = ap (λ l. slot_name r ∷ l) (names_emptied rs)
 
-  one_left : (s : Seat) (x : List Row) → AllByRecursion (HoldsRow t v) x → with_exit t v (seat_told v s x) ≡ seat_told v (left_seat s x) (map emptied x)
+  one_left : (s : Seat) (x : List Share) → AllByRecursion (HoldsRow t v) x → with_exit t v (seat_told v s x) ≡ seat_told v (left_seat s x) (map emptied x)
   one_left s x all =
       ap (λ b. if b then record (seat_told v s x) { last = Some (contents_of t (seat_told v s x)) } else seat_told v s x) (eq-eqb v v refl)
       ∙ (λ i. record { opening = opening_told v s; slots = sym (names_emptied x) i; last = Some (contents_told x all i) })
 
-  seats_are_left : (q j : ℕ) (ss : List Seat) (slots : List (List Row)) → v ≡ q + j → AllByRecursion (HoldsRow t v) (slots_at slots j)
+  seats_are_left : (q j : ℕ) (ss : List Seat) (slots : List (List Share)) → v ≡ q + j → AllByRecursion (HoldsRow t v) (slots_at slots j)
       → map (with_exit t v) (seats_from q ss slots) ≡ seats_from q (slice_set ss j (left_seat (seat_at ss j) (slots_at slots j))) (slice_set slots j (map emptied (slots_at slots j)))
   seats_are_left q j [] slots at all = refl
   seats_are_left q zero (s ∷ ss) [] at all = refl
@@ -110,7 +110,7 @@ module _ (t : Table) (v : ℕ) where
 
 -- ---- its payouts as they are told
 
-payouts_told : (out : List BrandSupply) (t : Table) (s n : ℕ) (rs : List Row) → AllByRecursion (HoldsRow t s) rs → AreRowsOf out rs → fair.payout_moves (kind_at out) t s n (map slot_name rs) ≡ map printed_move (worlds.payout_moves s n rs)
+payouts_told : (out : List BrandSupply) (t : Table) (s n : ℕ) (rs : List Share) → AllByRecursion (HoldsRow t s) rs → AreSharesOf out rs → fair.payout_moves (kind_at out) t s n (map slot_name rs) ≡ map printed_move (worlds.payout_moves s n rs)
 payouts_told out t s n [] all of = refl
 payouts_told out t s n (r ∷ rs) all of =
     ap (λ (m : Move). m ∷ fair.payout_moves (kind_at out) t s (n + 1) (map slot_name rs)) one
@@ -124,14 +124,14 @@ payouts_told out t s n (r ∷ rs) all of =
       value = ((ap (λ c. value_of (kind_at out r.amount.brand) c) all.0) ∙ ap (λ k. value_of k r.amount.value.content) of.0.kind ∙ sym (printed_is r.amount.value.kind r.amount.value.content)) i;
     }
 
-out_values : (out : List BrandSupply) (t : Table) (s : ℕ) (rs : List Row) → AllByRecursion (HoldsRow t s) rs → AreRowsOf out rs → AreRowsValued rs → AllByRecursion (λ (n : told.SlotName). IsValue (kind_at out n.brand) (holds t (Slot s n.keyword) n.brand)) (map slot_name rs)
+out_values : (out : List BrandSupply) (t : Table) (s : ℕ) (rs : List Share) → AllByRecursion (HoldsRow t s) rs → AreSharesOf out rs → AreSharesValued rs → AllByRecursion (λ (n : told.SlotName). IsValue (kind_at out n.brand) (holds t (Slot s n.keyword) n.brand)) (map slot_name rs)
 out_values out t s [] all of valued = tt
 out_values out t s (r ∷ rs) all of valued = (
   subst (λ k. IsValue k (holds t (Slot s r.keyword) r.amount.brand)) (sym of.0.kind) (subst (IsValue r.amount.value.kind) (sym all.0) valued.0),
   out_values out t s rs all.1 of.1 valued.1,
 )
 
-moves_valued : (s n : ℕ) (rs : List Row) → AreRowsValued rs → AllByRecursion (λ (m : Movement). IsValue m.value.kind m.value.content) (worlds.payout_moves s n rs)
+moves_valued : (s n : ℕ) (rs : List Share) → AreSharesValued rs → AllByRecursion (λ (m : Movement). IsValue m.value.kind m.value.content) (worlds.payout_moves s n rs)
 moves_valued s n [] valued = tt
 moves_valued s n (r ∷ rs) valued = (valued.0, moves_valued s (suc n) rs valued.1)
 
@@ -139,7 +139,7 @@ moves_valued s n (r ∷ rs) valued = (valued.0, moves_valued s (suc n) rs valued
 
 module _ (owners : Owners) (t : Turn) (w : State) (s : ℕ) (cause : Cause) (good : IsGoodWorld w) (is : IsOpen (seat_at w.seats s))
     (shown : first_cause owners t (rows_of w.log) (seat_at w.seats s).instance s ≡ Some cause) where
-  abbrev slots : List Row
+  abbrev slots : List Share
   slots = slots_at w.rights.slots s
 
   abbrev kind_of : ℕ → Kind
@@ -157,14 +157,14 @@ module _ (owners : Owners) (t : Turn) (w : State) (s : ℕ) (cause : Cause) (goo
   made : s < length w.rights.slots
   made = omega (arith, open_made w.seats s is, good.seats.slotted)
 
-  are : AreRows slots
-  are = all_read_or AreRows w.rights.slots s [] good.seats.rows (record { few = omega arith; apart = tt })
+  are : AreShares slots
+  are = all_read_or AreShares w.rights.slots s [] good.seats.shares (record { few = omega arith; apart = tt })
 
-  of : AreRowsOf w.rights.out slots
-  of = all_read_or (AreRowsOf w.rights.out) w.rights.slots s [] good.slot_kinds tt
+  of : AreSharesOf w.rights.out slots
+  of = all_read_or (AreSharesOf w.rights.out) w.rights.slots s [] good.slot_kinds tt
 
-  valued : AreRowsValued slots
-  valued = all_read_or AreRowsValued w.rights.slots s [] good.valued.slots tt
+  valued : AreSharesValued slots
+  valued = all_read_or AreSharesValued w.rights.slots s [] good.valued.slots tt
 
   hold : AllByRecursion (HoldsRow (table_of w.rights) s) slots
   hold = slots_hold w.rights s are.apart

@@ -12,7 +12,7 @@ use Rattle.fair_rows.proofs.Steps as steps
 use Rattle.fair_laws.specs.Views.{IsSteady, world_of}
 use Rattle.fair_rows.specs.rights_model.Table.{no_holdings}
 use Rattle.delivery_laws.specs.world_laws.Tables.{table_of}
-use Rattle.delivery_laws.specs.rules.ZoeRows.{TextReader}
+use Rattle.delivery_laws.specs.rules.Zoe.{TextReader}
 use Rattle.delivery_laws.specs.turn_records.Printed.{printed}
 use Rattle.fair_rows.specs.turn_rows.Turns.{Turn}
 use Rattle.delivery_laws.specs.world_laws.First.{first_world}

@@ -14,11 +14,13 @@ use Rattle.delivery_laws.specs.call_arguments.Arguments.{arg, is_kind, object_at
 use Rattle.delivery_laws.specs.host_data.Values.{amount_tree}
 use Rattle.delivery_laws.specs.rules.Obligations.{CanCall}
 use Rattle.delivery_laws.specs.rules.Words.{keyword_at, shown_text}
-use Rattle.delivery_laws.specs.rules.ZseatRows.{allocation_of, allocation_tree, amount_or_none, get_amount_allocated, get_current_allocation, is_open}
+use Rattle.delivery_laws.specs.rules.States.{allocation_of, is_open}
+use Rattle.delivery_laws.specs.rules.Records.{allocation_tree}
+use Rattle.delivery_laws.specs.rules.Zseat.{amount_or_none, get_amount_allocated, get_current_allocation, of_zseat}
 use Rattle.delivery_laws.specs.turn_records.Names.{object_name}
 use Rattle.delivery_laws.specs.turn_records.PrintedData.{printed, printed_items}
 use Rattle.delivery_laws.specs.ertp_mint.Stocks.{empty_amount, no_amount}
-use Rattle.delivery_laws.specs.rules.IssuerRows.{get_amount_of}
+use Rattle.delivery_laws.specs.rules.Issuer.{get_amount_of}
 use Rattle.fair_laws.specs.Owed.{answered}
 use Rattle.fair_laws.specs.Places.{seat_told, seats_told, slot_content, slot_name}
 use Rattle.fair_laws.proofs.HeldEffects.{held_there, slots_hold}
@@ -32,34 +34,32 @@ use Rattle.delivery_laws.specs.host_data.View.{items_of}
 use Rattle.delivery_laws.specs.host_data.declared.data.Obj.{Obj}
 use Rattle.delivery_laws.specs.host_data.declared.data.ObjKind.{ObjKind}
 use Rattle.delivery_laws.specs.host_data.declared.data.ObjKind.TheVariants as kinds
-use Rattle.delivery_laws.specs.holders.Papers.{spent_paper}
-use Rattle.delivery_laws.specs.proposals.Rows.{AreApart, AreRows, amount_under}
-use Rattle.delivery_laws.specs.proposals.declared.allocations.Row.{Row}
+use Rattle.delivery_laws.specs.holders.PaymentViews.{spent_payment}
+use Rattle.delivery_laws.specs.proposals.Shares.{AreApart, AreShares, amount_under}
+use Rattle.delivery_laws.specs.proposals.declared.allocations.Share.{Share}
 use Rattle.delivery_laws.specs.refusals.Codes.{dead_payment, pending, wrong_brand, wrong_object}
 use Rattle.delivery_laws.specs.refusals.Outcomes.{bind, reading}
 use Rattle.delivery_laws.specs.refusals.declared.codes.Refusal.{Refusal}
 use Rattle.delivery_laws.proofs.refusals.Steps.{after_check, after_need, after_step, after_wanted, ok_has, wanted_there}
-use Rattle.delivery_laws.specs.right_steps.Lists.{amount_of}
-use Rattle.delivery_laws.specs.right_steps.Tables.{content_held, right_in, right_on}
+use Rattle.delivery_laws.specs.vault_model.Lists.{amount_of}
+use Rattle.delivery_laws.specs.vault_model.Tables.{content_held, right_in, right_on}
 use Rattle.fair_rows.specs.rights_model.Table.{Table, holds}
 use Rattle.fair_rows.specs.rights_model.declared.Holder.TheVariants.{Payment, Purse, Slot}
 use Rattle.delivery_laws.specs.world_laws.Tables.{in_slot, table_of}
 use Rattle.delivery_laws.proofs.world_laws.Changes.{of_brand, of_other}
 use Rattle.delivery_laws.proofs.world_laws.Tabled.{table_agrees}
 use Rattle.serde_json.specs.Data as json
-use Rattle.delivery_laws.specs.rules.Payments.{LivePayment, live_at, paper_of, payment_at}
-use Rattle.delivery_laws.specs.rules.PurseRows.{get_current_amount, purse_of}
-use Rattle.delivery_laws.specs.rules.Trades as trades
-use Rattle.delivery_laws.specs.rules.Trades.{serve}
+use Rattle.delivery_laws.specs.rules.GivenPayments.{LivePayment, live_at, payment_view_of, payment_at}
+use Rattle.delivery_laws.specs.rules.Purse.{get_current_amount, purse_of}
+use Rattle.delivery_laws.specs.rules.Methods.{of_own_kind, serve as service, serve_own}
 use Rattle.delivery_laws.specs.turn_records.Printed.{object, printed_call, printed_trees}
 use Rattle.fair_rows.specs.turn_rows.Rows.{brand_name, only, payment_name}
 use Rattle.fair_rows.specs.turn_rows.Turns.{Turn, ok}
-use Rattle.delivery_laws.specs.rules.ZoeRows.{TextReader}
-use Rattle.delivery_laws.specs.rules.Host as hosts
-use Rattle.delivery_laws.specs.rules.Host.{serve as service}
-use Rattle.delivery_laws.specs.rules.Reads.{get_final_allocation}
+use Rattle.delivery_laws.specs.rules.Zoe.{TextReader}
+use Rattle.delivery_laws.specs.rules.Methods as methods
+use Rattle.delivery_laws.specs.rules.Seat.{get_final_allocation}
 use Rattle.delivery_laws.proofs.world_laws.Lists.{all_read, all_read_or}
-use Rattle.delivery_laws.specs.world_state.Good.{AreNamed, AreRowsOf, AreRowsValued, IsAmountValued, IsGoodWorld, IsLast, IsPaperValued, IsValued}
+use Rattle.delivery_laws.specs.world_state.Good.{AreNamed, AreSharesOf, AreSharesValued, IsAmountValued, IsGoodWorld, IsLast, IsPaymentValued, IsValued}
 use Rattle.delivery_laws.specs.world_state.Known.{known_as, made_as}
 use Rattle.delivery_laws.specs.world_state.Rights.{slots_at}
 use Rattle.delivery_laws.specs.world_state.Worlds.{Effect, State, no_seat, seat_at}
@@ -143,31 +143,31 @@ payment_kind k n e = cc
 
 -- ---- a seat's slots
 
-abbrev HoldsRow : Table → ℕ → Row → Type 0
+abbrev HoldsRow : Table → ℕ → Share → Type 0
 HoldsRow t n r = holds t (Slot n r.keyword) r.amount.brand ≡ r.amount.value.content
 
-contents_same : (t : Table) (n : ℕ) (rs : List Row) → AllByRecursion (HoldsRow t n) rs → map (λ slot. holds t (Slot n slot.keyword) slot.brand) (map slot_name rs) ≡ map slot_content rs
+contents_same : (t : Table) (n : ℕ) (rs : List Share) → AllByRecursion (HoldsRow t n) rs → map (λ slot. holds t (Slot n slot.keyword) slot.brand) (map slot_name rs) ≡ map slot_content rs
 contents_same t n [] all = refl
 contents_same t n (r ∷ rs) all = ap (λ c. c ∷ map (λ slot. holds t (Slot n slot.keyword) slot.brand) (map slot_name rs)) all.0 ∙ ap (λ l. slot_content r ∷ l) (contents_same t n rs all.1)
 
 module _ (w : State) (good : IsGoodWorld w) (n : ℕ) (made : n < length w.seats) where
-  abbrev rows_there : List Row
+  abbrev rows_there : List Share
   rows_there = slots_at w.rights.slots n
 
   there : n < length w.rights.slots
   there = omega (arith, made, good.seats.slotted)
 
   apart : AreApart rows_there
-  apart = (all_read AreRows w.rights.slots n [] good.seats.rows there).apart
+  apart = (all_read AreShares w.rights.slots n [] good.seats.shares there).apart
 
   named : AreNamed rows_there
   named = all_read AreNamed w.rights.slots n [] good.seats.named there
 
-  kinds_are : AreRowsOf w.rights.out rows_there
-  kinds_are = all_read (AreRowsOf w.rights.out) w.rights.slots n [] good.slot_kinds there
+  kinds_are : AreSharesOf w.rights.out rows_there
+  kinds_are = all_read (AreSharesOf w.rights.out) w.rights.slots n [] good.slot_kinds there
 
-  valued : AreRowsValued rows_there
-  valued = all_read AreRowsValued w.rights.slots n [] good.valued.slots there
+  valued : AreSharesValued rows_there
+  valued = all_read AreSharesValued w.rights.slots n [] good.valued.slots there
 
   current_is : IsCurrentAllocation (table_of w.rights) (seats_told w) n (ok (printed (allocation_tree rows_there)))
   current_is = record {
@@ -202,7 +202,7 @@ slot_answer w n args =
     after_need (IsSlotAnswer w n args) ((amount_or_none w b (amount_under k (allocation_of w n))).brand == b) (wrong_brand b) _
     (λ same. record { keyword = k; brand = b; keyword_there = at; brand_there = of; same = same; is = refl }))))
 
-under_valued : (k : List ℕ) (rs : List Row) → AreRowsValued rs → IfSome (amount_under k rs) IsAmountValued
+under_valued : (k : List ℕ) (rs : List Share) → AreSharesValued rs → IfSome (amount_under k rs) IsAmountValued
 under_valued k [] all = tt
 under_valued k (x ∷ xs) all = by (bytes_eq k x.keyword) (under_valued k xs all.1)
   where
@@ -242,9 +242,9 @@ slot_read w n args t good made is =
 
 -- ---- calls of instances' functions
 
-module _ (w : State) (i : ℕ) (o : Obj) (m : List ℕ) (args : List Tree) (answer : Tree) (es : List Effect) (counted : IsCounted w) (can : CanCall w (Some i) o args) (so : serve w o m args ≡ Ok (answer, es)) where
-  so_by_kind : trades.of_kind w o.kind o.number m args ≡ Ok (answer, es)
-  unfolding serve
+module _ (w : State) (i : ℕ) (o : Obj) (m : List ℕ) (args : List Tree) (answer : Tree) (es : List Effect) (counted : IsCounted w) (can : CanCall w (Some i) o args) (so : serve_own w o m args ≡ Ok (answer, es)) where
+  so_by_kind : of_own_kind w o.kind o.number m args ≡ Ok (answer, es)
+  unfolding serve_own
   so_by_kind = so
 
   wide : o.kind ≡ kinds.Zseat → o.number < 2 ^ 128
@@ -260,8 +260,8 @@ module _ (w : State) (i : ℕ) (o : Obj) (m : List ℕ) (args : List Tree) (answ
     made : n < length w.seats
     made = (subst (λ (x : Obj). known_as i w x.kind x.number) here can.target).made
 
-    row : trades.of_zseat w n method args ≡ Ok (answer, es)
-    row = sym (ap (λ (x : Obj). trades.of_kind w x.kind x.number m args) here ∙ ap (λ x. trades.of_zseat w n x args) of_method) ∙ so_by_kind
+    row : of_zseat w n method args ≡ Ok (answer, es)
+    row = sym (ap (λ (x : Obj). of_own_kind w x.kind x.number m args) here ∙ ap (λ x. of_zseat w n x args) of_method) ∙ so_by_kind
 
   reads_calls : IsReadByCall (table_of w.rights) (seats_told w) (printed_call (answered o m args answer))
   reads_calls = record {
@@ -298,21 +298,21 @@ purse_read w n good made =
 
 record IsPaymentAt (w : State) (brand : ℕ) (args : List Tree) (p : ℕ) : Type 0 where
   at : object_at kinds.Payment 1 args ≡ Ok p
-  of : (paper_of w p).brand ≡ brand
+  of : (payment_view_of w p).brand ≡ brand
 
 payment_is : (w : State) (brand : ℕ) (args : List Tree) → IfOk (payment_at w brand 1 args) (IsPaymentAt w brand args)
 unfolding payment_at
-payment_is w brand args = after_step (IsPaymentAt w brand args) (object_at kinds.Payment 1 args) _ (λ p at. after_need (IsPaymentAt w brand args) ((paper_of w p).brand == brand) (wrong_brand (paper_of w p).brand) _ (λ same. record { at = at; of = eqb-true (paper_of w p).brand brand same }))
+payment_is w brand args = after_step (IsPaymentAt w brand args) (object_at kinds.Payment 1 args) _ (λ p at. after_need (IsPaymentAt w brand args) ((payment_view_of w p).brand == brand) (wrong_brand (payment_view_of w p).brand) _ (λ same. record { at = at; of = eqb-true (payment_view_of w p).brand brand same }))
 
 record IsLiveAt (w : State) (brand : ℕ) (args : List Tree) (x : LivePayment) : Type 0 where
   payment : IsPaymentAt w brand args x.number
-  held : (paper_of w x.number).held ≡ Some x.value
+  held : (payment_view_of w x.number).held ≡ Some x.value
 
 live_is : (w : State) (brand : ℕ) (args : List Tree) → IfOk (live_at w brand 1 args) (IsLiveAt w brand args)
 unfolding live_at
 live_is w brand args =
     after_step (IsLiveAt w brand args) (payment_at w brand 1 args) _ (λ p e.
-    after_wanted (IsLiveAt w brand args) (paper_of w p).held (dead_payment p) _ (λ v held. record { payment = ok_has (IsPaymentAt w brand args) (payment_at w brand 1 args) p e (payment_is w brand args); held = held }))
+    after_wanted (IsLiveAt w brand args) (payment_view_of w p).held (dead_payment p) _ (λ v held. record { payment = ok_has (IsPaymentAt w brand args) (payment_at w brand 1 args) p e (payment_is w brand args); held = held }))
 
 record IsPaymentAnswer (w : State) (brand : ℕ) (args : List Tree) (t : Tree) : Type 0 where
   given : LivePayment
@@ -333,20 +333,20 @@ payment_read w brand args t good is =
     let p = is.given.number in
     let at = object_there kinds.Payment 1 args p is.live.payment.at in
     let one = one_named args at.obj p at.is (payment_kind at.obj.kind at.obj.number at.of ∙ ap payment_name at.number) in
-    let valued : IsValued is.given.value = subst (λ o. IfSome o IsValued) is.live.held (all_read_or IsPaperValued w.rights.payments p (spent_paper 0) good.valued.payments tt) in
+    let valued : IsValued is.given.value = subst (λ o. IfSome o IsValued) is.live.held (all_read_or IsPaymentValued w.rights.payments p (spent_payment 0) good.valued.payments tt) in
     record {
       payment = p;
       more = one.0;
       named = one.1;
       amount = subst (λ x. IsAmountOf (table_of w.rights) (Payment p) brand (ok (printed x))) (sym is.is)
           (amount_read (table_of w.rights) (Payment p) (amount_of brand is.given.value) valued
-          ((table_agrees w.rights).each (Payment p) brand ∙ of_brand (right_on (paper_of w p)) brand is.live.payment.of ∙ ap content_held is.live.held));
+          ((table_agrees w.rights).each (Payment p) brand ∙ of_brand (right_on (payment_view_of w p)) brand is.live.payment.of ∙ ap content_held is.live.held));
     }
 
 -- ---- seat.getFinalAllocation()
 
 record IsFinalAnswer (w : State) (n : ℕ) (t : Tree) : Type 0 where
-  rows : List Row
+  rows : List Share
   left : (seat_at w.seats n).last ≡ Some rows
   is : t ≡ allocation_tree rows
 
@@ -372,8 +372,8 @@ final_read w n t good names made is =
 -- ---- turns in which methods of the host's own objects are called
 
 module _ (read : TextReader) (w : State) (o : Obj) (m : List ℕ) (args : List Tree) (answer : Tree) (es : List Effect) (t : Turn) (steady : IsSteady w) (can : CanCall w None o args) (so : service read w o m args ≡ Ok (answer, es)) (turned : IsAnsweredTurn o m args answer t) where
-  by_kind : hosts.of_kind read w o.kind o.number m args ≡ Ok (answer, es)
-  unfolding hosts.serve
+  by_kind : methods.of_kind read w o.kind o.number m args ≡ Ok (answer, es)
+  unfolding methods.serve
   by_kind = so
 
   -- the tests of a turn that is answered
@@ -387,8 +387,8 @@ module _ (read : TextReader) (w : State) (o : Obj) (m : List ℕ) (args : List T
     of_its_method : m ≡ method
     of_its_method = (bytes_eq-Decides m method).0 (and_second (bytes_eq (object_name o) (name word n)) (bytes_eq m method) (tested (name word n) method e))
 
-    its_row : (kind : ObjKind) → o ≡ object kind n → hosts.of_kind read w kind n method args ≡ Ok (answer, es)
-    its_row kind here = sym (ap (λ (x : Obj). hosts.of_kind read w x.kind x.number m args) here ∙ ap (λ x. hosts.of_kind read w kind n x args) of_its_method) ∙ by_kind
+    its_row : (kind : ObjKind) → o ≡ object kind n → methods.of_kind read w kind n method args ≡ Ok (answer, es)
+    its_row kind here = sym (ap (λ (x : Obj). methods.of_kind read w x.kind x.number m args) here ∙ ap (λ x. methods.of_kind read w kind n x args) of_its_method) ∙ by_kind
 
   target_made : (kind : ObjKind) (n : ℕ) → o ≡ object kind n → made_as w kind n
   target_made kind n here = subst (λ (x : Obj). made_as w x.kind x.number) here can.target

@@ -2,19 +2,19 @@
 use Rattle.std.specs.Prelude.{◌≡◌, ◌≢◌, ◌+◌, ◌<◌, ◌==◌, ◌++◌, ℕ, Bool, true, false, List, [], ◌∷◌, Some, None, length, map, slice_set, unwrap_or, refl}
 use Rattle.std.specs.List.{AllByRecursion}
 use Rattle.std.proofs.Common.{sym, ◌∙◌, ap, subst, arith}
-use Rattle.fair_rows.specs.amount_math.Worth.{Worth}
+use Rattle.fair_rows.specs.amount_math.ValueView.{ValueView}
 use Rattle.fair_laws.proofs.Owing.{other_number, same_number}
 use Rattle.fair_laws.specs.Places.{slot_name}
 use Rattle.delivery_laws.proofs.lemmas.ListEdits.{length_push, length_set, read_before, read_other, read_pushed, read_set}
 use Rattle.delivery_laws.specs.proposals.Slots.{emptied}
-use Rattle.delivery_laws.specs.proposals.declared.allocations.Row.{Row}
-use Rattle.delivery_laws.specs.right_steps.Lists.{amount_of}
+use Rattle.delivery_laws.specs.proposals.declared.allocations.Share.{Share}
+use Rattle.delivery_laws.specs.vault_model.Lists.{amount_of}
 use Rattle.fair_rows.specs.rights_model.declared.Holder.{Holder}
 use Rattle.fair_rows.specs.rights_model.declared.Holder.TheVariants.{Purse, Payment, Slot, Hand, Outside}
 use Rattle.fair_rows.specs.rights_model.declared.Movement.{Movement}
 use Rattle.delivery_laws.proofs.world_laws.Instances.{open_made}
 use Rattle.delivery_laws.specs.world_state.Good.{IsAtOpen, IsGoodEffect, IsGoodMove, IsGoodWorld, rights_for, seats_for}
-use Rattle.delivery_laws.specs.world_state.Rights.{Rights, all_moved, given, moved, rows_less, rows_more, slots_at, taken}
+use Rattle.delivery_laws.specs.world_state.Rights.{Rights, all_moved, given, moved, shares_less, shares_more, slots_at, taken}
 use Rattle.delivery_laws.specs.world_state.Worlds.{Effect, Seat, State, after, burn_and_escrows, empty_seat, empty_slots, exit, invite, left_seat, moves, new_seat, no_seat, of_own, offer, offered_by, seat_at}
 use Rattle.fair_laws.specs.Views.{LeftNamed}
 
@@ -24,36 +24,36 @@ abbrev IsElsewhere : ℕ → Holder → Type 0
 IsElsewhere n (Slot s k) = s ≢ n
 IsElsewhere n _ = Unit {0}
 
-taken_elsewhere : (r : Rights) (h : Holder) (b : ℕ) (w : Worth) (n : ℕ) → IsElsewhere n h → slots_at (taken r h b w).slots n ≡ slots_at r.slots n
-taken_elsewhere r (Slot s k) b w n away = read_other r.slots s n (rows_less k (amount_of b w) (slots_at r.slots s)) [] away
+taken_elsewhere : (r : Rights) (h : Holder) (b : ℕ) (w : ValueView) (n : ℕ) → IsElsewhere n h → slots_at (taken r h b w).slots n ≡ slots_at r.slots n
+taken_elsewhere r (Slot s k) b w n away = read_other r.slots s n (shares_less k (amount_of b w) (slots_at r.slots s)) [] away
 taken_elsewhere r (Purse p) b w n away = refl
 taken_elsewhere r (Payment p) b w n away = refl
 taken_elsewhere r Hand b w n away = refl
 taken_elsewhere r Outside b w n away = refl
 
-given_elsewhere : (r : Rights) (h : Holder) (b : ℕ) (w : Worth) (n : ℕ) → IsElsewhere n h → slots_at (given r h b w).slots n ≡ slots_at r.slots n
-given_elsewhere r (Slot s k) b w n away = read_other r.slots s n (rows_more k (amount_of b w) (slots_at r.slots s)) [] away
+given_elsewhere : (r : Rights) (h : Holder) (b : ℕ) (w : ValueView) (n : ℕ) → IsElsewhere n h → slots_at (given r h b w).slots n ≡ slots_at r.slots n
+given_elsewhere r (Slot s k) b w n away = read_other r.slots s n (shares_more k (amount_of b w) (slots_at r.slots s)) [] away
 given_elsewhere r (Purse p) b w n away = refl
 given_elsewhere r (Payment p) b w n away = refl
 given_elsewhere r Hand b w n away = refl
 given_elsewhere r Outside b w n away = refl
 
 -- a seat that was left is named by no good movement
-open_elsewhere : (seats : List Seat) (h : Holder) (n : ℕ) (rows : List Row) → (seat_at seats n).last ≡ Some rows → IsAtOpen seats h → IsElsewhere n h
+open_elsewhere : (seats : List Seat) (h : Holder) (n : ℕ) (rows : List Share) → (seat_at seats n).last ≡ Some rows → IsAtOpen seats h → IsElsewhere n h
 open_elsewhere seats (Slot s k) n rows left opens = λ same. let clash : Some rows ≡ None = sym left ∙ subst (λ m. (seat_at seats m).last ≡ None) same opens in cc
 open_elsewhere seats (Purse p) n rows left opens = tt
 open_elsewhere seats (Payment p) n rows left opens = tt
 open_elsewhere seats Hand n rows left opens = tt
 open_elsewhere seats Outside n rows left opens = tt
 
-slots_stay : (seats : List Seat) (n : ℕ) (rows : List Row) → (seat_at seats n).last ≡ Some rows → (r : Rights) (ms : List Movement) → AllByRecursion (IsGoodMove seats) ms → slots_at (all_moved r ms).slots n ≡ slots_at r.slots n
+slots_stay : (seats : List Seat) (n : ℕ) (rows : List Share) → (seat_at seats n).last ≡ Some rows → (r : Rights) (ms : List Movement) → AllByRecursion (IsGoodMove seats) ms → slots_at (all_moved r ms).slots n ≡ slots_at r.slots n
 slots_stay seats n rows left r [] good = refl
 slots_stay seats n rows left r (m ∷ ms) good =
     slots_stay seats n rows left (moved r m) ms good.1
     ∙ given_elsewhere (taken r m.from m.brand m.value) m.to m.brand m.value n (open_elsewhere seats m.to n rows left good.0.to)
     ∙ taken_elsewhere r m.from m.brand m.value n (open_elsewhere seats m.from n rows left good.0.from)
 
-names_emptied : (rs : List Row) → map slot_name (map emptied rs) ≡ map slot_name rs
+names_emptied : (rs : List Share) → map slot_name (map emptied rs) ≡ map slot_name rs
 names_emptied [] = refl
 names_emptied (r ∷ rs) = ap (λ l. slot_name r ∷ l) (names_emptied rs)
 
@@ -62,15 +62,15 @@ names_emptied (r ∷ rs) = ap (λ l. slot_name r ∷ l) (names_emptied rs)
 -- where the seats and their slots are as they were
 same_left : (w next : State) → next.seats ≡ w.seats → next.rights.slots ≡ w.rights.slots → LeftNamed w → LeftNamed next
 same_left w next seats slots is = record {
-  each = subst (λ (p : List Seat × List (List Row)). (n : ℕ) (rows : List Row) → n < length p.0 → (seat_at p.0 n).last ≡ Some rows → map slot_name (slots_at p.1 n) ≡ map slot_name rows) (λ i. (sym seats i, sym slots i)) is.each;
+  each = subst (λ (p : List Seat × List (List Share)). (n : ℕ) (rows : List Share) → n < length p.0 → (seat_at p.0 n).last ≡ Some rows → map slot_name (slots_at p.1 n) ≡ map slot_name rows) (λ i. (sym seats i, sym slots i)) is.each;
 }
 
 -- a seat that was opened is not left; of the others nothing changes
 opened_left : (w next : State) (new : Seat) → next.seats ≡ w.seats ++ new ∷ [] → new.last ≡ None
-    → ((n : ℕ) (rows : List Row) → n < length w.seats → (seat_at next.seats n).last ≡ Some rows → slots_at next.rights.slots n ≡ slots_at w.rights.slots n) → LeftNamed w → LeftNamed next
+    → ((n : ℕ) (rows : List Share) → n < length w.seats → (seat_at next.seats n).last ≡ Some rows → slots_at next.rights.slots n ≡ slots_at w.rights.slots n) → LeftNamed w → LeftNamed next
 opened_left w next new seats opens slots is = record { each = λ n rows lt left. by n rows lt left (length w.seats == n) refl }
   where
-    by : (n : ℕ) (rows : List Row) → n < length next.seats → (seat_at next.seats n).last ≡ Some rows → (b : Bool) → (length w.seats == n) ≡ b → map slot_name (slots_at next.rights.slots n) ≡ map slot_name rows
+    by : (n : ℕ) (rows : List Share) → n < length next.seats → (seat_at next.seats n).last ≡ Some rows → (b : Bool) → (length w.seats == n) ≡ b → map slot_name (slots_at next.rights.slots n) ≡ map slot_name rows
     by n rows lt left true here =
         let e : n ≡ length w.seats = sym (same_number (length w.seats) n here) in
         let at : seat_at next.seats n ≡ new = ap (λ l. seat_at l n) seats ∙ read_pushed w.seats new no_seat n e in
@@ -89,7 +89,7 @@ module _ (w : State) (s : ℕ) (next : State) (good : IsGoodWorld w) (made : s <
   exit_left : next.seats ≡ slice_set w.seats s closed → next.rights.slots ≡ slice_set w.rights.slots s (map emptied (slots_at w.rights.slots s)) → LeftNamed w → LeftNamed next
   exit_left seats slots is = record { each = λ n rows lt left. by n rows lt left (s == n) refl }
     where
-      by : (n : ℕ) (rows : List Row) → n < length next.seats → (seat_at next.seats n).last ≡ Some rows → (b : Bool) → (s == n) ≡ b → map slot_name (slots_at next.rights.slots n) ≡ map slot_name rows
+      by : (n : ℕ) (rows : List Share) → n < length next.seats → (seat_at next.seats n).last ≡ Some rows → (b : Bool) → (s == n) ≡ b → map slot_name (slots_at next.rights.slots n) ≡ map slot_name rows
       by n rows lt left true here =
           let e : s ≡ n = same_number s n here in
           let at : seat_at next.seats s ≡ closed = ap (λ l. seat_at l s) seats ∙ read_set w.seats s closed no_seat made in

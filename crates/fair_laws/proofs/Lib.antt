@@ -9,7 +9,7 @@ pub mod Payouts
 pub mod Exits
 pub mod Effects
 pub mod Supplies
-pub mod Papers
+pub mod PaymentViews
 pub mod Accounted
 pub mod Shown
 pub mod Owing
@@ -35,5 +35,5 @@ pub use Rattle.delivery_laws.proofs as delivery_laws
 pub use Rattle.fair_rows.proofs as fair_rows
 pub use Rattle.delivery_laws.proofs.jessie_semantics
 pub use Rattle.delivery_laws.proofs.lemmas
-pub use Rattle.delivery_laws.proofs.row_laws
+pub use Rattle.delivery_laws.proofs.rule_laws
 pub use Rattle.delivery_laws.proofs.world_laws

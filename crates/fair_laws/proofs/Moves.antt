@@ -8,20 +8,20 @@ use Rattle.std.proofs.lemmas.Bool.{cases_eq, eq-eqb, ne_eqb}
 use Rattle.fair_rows.specs.amount_math.Amount.{holding}
 use Rattle.fair_rows.specs.amount_math.Content.{Content, Contains, count-nothing, count-sum, nothing, same_content, sum}
 use Rattle.fair_rows.specs.amount_math.KindLaws.{nothing_is_value, value_of_part}
-use Rattle.fair_rows.specs.amount_math.Worth.{IsValue, Worth}
+use Rattle.fair_rows.specs.amount_math.ValueView.{IsValue, ValueView}
 use Rattle.fair_rows.specs.amount_math.declared.Amount.{Amount}
 use Rattle.delivery_laws.specs.ertp_mint.Stocks.{no_amount}
 use Rattle.delivery_laws.proofs.lemmas.ListEdits.{length_push, length_set}
-use Rattle.delivery_laws.specs.holders.Papers.{Paper, live_paper, paper_at, spent_paper}
-use Rattle.delivery_laws.specs.proposals.Rows.{amount_under}
-use Rattle.delivery_laws.specs.proposals.declared.allocations.Row.{Row}
+use Rattle.delivery_laws.specs.holders.PaymentViews.{PaymentView, live_payment, payment_view_at, spent_payment}
+use Rattle.delivery_laws.specs.proposals.Shares.{amount_under}
+use Rattle.delivery_laws.specs.proposals.declared.allocations.Share.{Share}
 use Rattle.fair_rows.specs.rights_model.Table as table
 use Rattle.fair_rows.specs.rights_model.Table.{Table, table_after}
 use Rattle.fair_rows.specs.rights_model.declared.Holder.{Holder}
 use Rattle.fair_rows.specs.rights_model.declared.Holder.TheVariants.{Purse, Payment, Slot, Hand, Outside}
 use Rattle.fair_rows.specs.rights_model.declared.Movement.{Movement}
-use Rattle.delivery_laws.specs.right_steps.Lists.{amount_of, less, purse_at}
-use Rattle.delivery_laws.proofs.right_steps.SlotRows.{keyword_cases}
+use Rattle.delivery_laws.specs.vault_model.Lists.{amount_of, less, purse_at}
+use Rattle.delivery_laws.proofs.vault_model.SlotShares.{keyword_cases}
 use Rattle.delivery_laws.specs.turn_records.Printed.{printed_move}
 use Rattle.fair_rows.specs.turn_rows.Turns.{Event, moved as moved_row, Turn}
 use Rattle.fair_rows.specs.Acts.{Act, AreActs, CanMoveHere, IsAct, Place, after_move, place_after, rows_of_acts}
@@ -33,8 +33,8 @@ use Rattle.fair_rows.proofs.Acts.{singles_are_acts}
 use Rattle.delivery_laws.proofs.world_laws.Instances.{open_made}
 use Rattle.delivery_laws.proofs.world_laws.Lists.{all_read, all_read_or}
 use Rattle.delivery_laws.proofs.world_laws.Valued.{given_valued, taken_valued}
-use Rattle.delivery_laws.specs.world_state.Good.{AreRowsValued, AreValues, IsAmountValued, IsAtOpen, IsGoodMove, IsPaperValued, IsValued}
-use Rattle.delivery_laws.specs.world_state.Rights.{CanGive, CanMove, CanMoveAll, CanTake, Has, HasOrOpens, IsNextOr, IsNothing, IsPaperWith, PaymentMore, Rights, Takes, TakesOrOpens, all_moved, all_spent, given, hand_after, moved, paid, paper_less, paper_paid, rows_less, slots_at, spent_from, taken}
+use Rattle.delivery_laws.specs.world_state.Good.{AreSharesValued, AreValues, IsAmountValued, IsAtOpen, IsGoodMove, IsPaymentValued, IsValued}
+use Rattle.delivery_laws.specs.world_state.Rights.{CanGive, CanMove, CanMoveAll, CanTake, Has, HasOrOpens, IsNextOr, IsNothing, IsPaymentWith, PaymentMore, Rights, Takes, TakesOrOpens, all_moved, all_spent, given, hand_after, moved, paid, lessened_payment, paid_payment, shares_less, slots_at, spent_from, taken}
 use Rattle.delivery_laws.specs.world_state.Worlds.{IsOpen, Seat, no_seat, seat_at}
 use Rattle.delivery_laws.proofs.world_laws.Changes.{under_other, under_with}
 use Rattle.fair_laws.specs.Places.{seat_told, seats_from}
@@ -44,7 +44,7 @@ use Rattle.fair_laws.proofs.Values as values
 
 -- ---- what is moved is a value
 
-module _ (r : Rights) (v : AreValues r) (b : ℕ) (w : Worth) where
+module _ (r : Rights) (v : AreValues r) (b : ℕ) (w : ValueView) where
   part_of : (a : Amount) → Has a b w → IsAmountValued a → IsValued w
   part_of a has is = subst (λ k. IsValue k w.content) has.kind (value_of_part a.value.kind a.value.content w.content has.has is)
 
@@ -54,21 +54,21 @@ module _ (r : Rights) (v : AreValues r) (b : ℕ) (w : Worth) where
   summand : (a : Amount) → Takes a b w → IsValued w
   summand a takes = value_of_part w.kind (sum a.value.content w.content) w.content (in_sum a.value.content w.content) takes.value
 
-  of_paper : (p : Paper) → IsPaperWith p (λ a. Has a b w) → IsPaperValued p → IsValued w
-  of_paper p has is = by p.held has is
+  of_payment_view : (p : PaymentView) → IsPaymentWith p (λ a. Has a b w) → IsPaymentValued p → IsValued w
+  of_payment_view p has is = by p.held has is
     where
-      by : (o : Option Worth) → IsSomeAnd o (λ held. Has (amount_of p.brand held) b w) → IfSome o IsValued → IsValued w
+      by : (o : Option ValueView) → IsSomeAnd o (λ held. Has (amount_of p.brand held) b w) → IfSome o IsValued → IsValued w
       by None h k = absurd h
       by (Some x) h k = part_of (amount_of p.brand x) h k
 
-  to_paper : (p : Paper) → IsPaperWith p (λ a. Takes a b w) → IsValued w
-  to_paper p has = by p.held has
+  to_payment_view : (p : PaymentView) → IsPaymentWith p (λ a. Takes a b w) → IsValued w
+  to_payment_view p has = by p.held has
     where
-      by : (o : Option Worth) → IsSomeAnd o (λ held. Takes (amount_of p.brand held) b w) → IsValued w
+      by : (o : Option ValueView) → IsSomeAnd o (λ held. Takes (amount_of p.brand held) b w) → IsValued w
       by None h = absurd h
       by (Some x) h = summand (amount_of p.brand x) h
 
-  under_valued : (k : List ℕ) (rs : List Row) → AreRowsValued rs → IfSome (amount_under k rs) IsAmountValued
+  under_valued : (k : List ℕ) (rs : List Share) → AreSharesValued rs → IfSome (amount_under k rs) IsAmountValued
   under_valued k [] all = tt
   under_valued k (x ∷ xs) all = by (bytes_eq k x.keyword) (under_valued k xs all.1)
     where
@@ -81,8 +81,8 @@ module _ (r : Rights) (v : AreValues r) (b : ℕ) (w : Worth) where
 
   from_valued : (hand : ℕ → Content) (h : Holder) → IsStore h → CanTake r hand h b w → IsValued w
   from_valued hand (Purse n) is can = part_of (purse_at r.purses n) can.has (all_read IsAmountValued r.purses n no_amount v.purses can.made)
-  from_valued hand (Payment n) is can = of_paper (paper_at r.payments n) can.has (all_read IsPaperValued r.payments n (spent_paper 0) v.payments can.made)
-  from_valued hand (Slot s k) is can = by (amount_under k (slots_at r.slots s)) can.has (under_valued k (slots_at r.slots s) (all_read_or AreRowsValued r.slots s [] v.slots tt))
+  from_valued hand (Payment n) is can = of_payment_view (payment_view_at r.payments n) can.has (all_read IsPaymentValued r.payments n (spent_payment 0) v.payments can.made)
+  from_valued hand (Slot s k) is can = by (amount_under k (slots_at r.slots s)) can.has (under_valued k (slots_at r.slots s) (all_read_or AreSharesValued r.slots s [] v.slots tt))
     where
       by : (o : Option Amount) → HasOrOpens o (slots_at r.slots s) b w → IfSome o IsAmountValued → IsValued w
       by None h k = nothing_valued h.0
@@ -90,13 +90,13 @@ module _ (r : Rights) (v : AreValues r) (b : ℕ) (w : Worth) where
   from_valued hand Hand is can = absurd is
   from_valued hand Outside is can = absurd is
 
-to_valued : (r : Rights) (v : AreValues r) (b : ℕ) (w : Worth) (h : Holder) → IsStore h → CanGive r h b w → IsValued w
+to_valued : (r : Rights) (v : AreValues r) (b : ℕ) (w : ValueView) (h : Holder) → IsStore h → CanGive r h b w → IsValued w
 to_valued r v b w (Purse n) is can = summand r v b w (purse_at r.purses n) can.takes
 to_valued r v b w (Payment n) is can = by (n == length r.payments) can
   where
     by : (t : Bool) → IsNextOr t r n b w → IsValued w
     by true h = h
-    by false h = to_paper r v b w (paper_at r.payments n) h.takes
+    by false h = to_payment_view r v b w (payment_view_at r.payments n) h.takes
 to_valued r v b w (Slot s k) is can = by (amount_under k (slots_at r.slots s)) can.takes
   where
     by : (o : Option Amount) → TakesOrOpens o (slots_at r.slots s) b w → IsValued w
@@ -124,13 +124,13 @@ read_at P (y ∷ ys) zero (suc q) x d new old = old
 read_at P (y ∷ ys) (suc n) zero x d new old = old
 read_at P (y ∷ ys) (suc n) (suc q) x d new old = read_at P ys n q x d (λ e. new (ap suc e)) old
 
-abbrev HasBrand : List ℕ → ℕ → List Row → Type 0
+abbrev HasBrand : List ℕ → ℕ → List Share → Type 0
 HasBrand k b rs = told_brand (amount_under k rs) ≡ Some b
 
 -- a slot keeps its brand where something is taken
-less_keeps : (j k : List ℕ) (b : ℕ) (a : Amount) (rs : List Row) → HasBrand k b rs → HasBrand k b (rows_less j a rs)
+less_keeps : (j k : List ℕ) (b : ℕ) (a : Amount) (rs : List Share) → HasBrand k b rs → HasBrand k b (shares_less j a rs)
 less_keeps j k b a rs is = elim (keyword_cases k j) [
-  | inl same ↦ subst (λ (y : List ℕ). HasBrand y b rs → HasBrand y b (rows_less j a rs)) (sym same)
+  | inl same ↦ subst (λ (y : List ℕ). HasBrand y b rs → HasBrand y b (shares_less j a rs)) (sym same)
       (λ has. ap told_brand (under_with j (λ had. less had a.value.content) (holding a nothing) rs) ∙ by (amount_under j rs) has) is
   | inr apart ↦ ap told_brand (under_other j (λ had. less had a.value.content) (holding a nothing) k apart rs) ∙ is
 ]
@@ -139,9 +139,9 @@ less_keeps j k b a rs is = elim (keyword_cases k j) [
     by None h = absurd cc
     by (Some x) h = h
 
-brand_stays : (r : Rights) (h : Holder) (e : ℕ) (w : Worth) (s : ℕ) (k : List ℕ) (b : ℕ) → HasBrand k b (slots_at r.slots s) → HasBrand k b (slots_at (taken r h e w).slots s)
+brand_stays : (r : Rights) (h : Holder) (e : ℕ) (w : ValueView) (s : ℕ) (k : List ℕ) (b : ℕ) → HasBrand k b (slots_at r.slots s) → HasBrand k b (slots_at (taken r h e w).slots s)
 brand_stays r (Slot q j) e w s k b is =
-    read_at (HasBrand k b) r.slots q s (rows_less j (amount_of e w) (slots_at r.slots q)) []
+    read_at (HasBrand k b) r.slots q s (shares_less j (amount_of e w) (slots_at r.slots q)) []
     (λ at. less_keeps j k b (amount_of e w) (slots_at r.slots q) (subst (λ (y : ℕ). HasBrand k b (slots_at r.slots y)) (sym at) is)) is
 brand_stays r (Purse n) e w s k b is = is
 brand_stays r (Payment n) e w s k b is = is
@@ -154,10 +154,10 @@ module _ (ss : List Seat) (r : Rights) (as_many : length r.slots ≡ length ss) 
   open_told s is = record {
     seat = seat_told s (seat_at ss s) (slots_at r.slots s);
     was_opened = seat_read 0 s ss r.slots no_seat (open_made ss s is) as_many ∙ ap (λ n. Some (seat_told n (seat_at ss s) (slots_at r.slots s))) (let e : 0 + s ≡ s = omega arith in e);
-    stays = ap (option_map (map (λ (x : Row). x.amount.value.content))) is;
+    stays = ap (option_map (map (λ (x : Share). x.amount.value.content))) is;
   }
 
-  from_open : (hand : ℕ → Content) (h : Holder) (b : ℕ) (w : Worth) → IsAtOpen ss h → CanTake r hand h b w → (s : ℕ) (k : List ℕ) → h ≡ Slot s k → IsOpenSlot (seats_from 0 ss r.slots) s k b
+  from_open : (hand : ℕ → Content) (h : Holder) (b : ℕ) (w : ValueView) → IsAtOpen ss h → CanTake r hand h b w → (s : ℕ) (k : List ℕ) → h ≡ Slot s k → IsOpenSlot (seats_from 0 ss r.slots) s k b
   from_open hand h b w is can s k at = at_slot (subst (IsAtOpen ss) at is) (subst (λ x. CanTake r hand x b w) at can)
     where
       at_slot : IsOpen (seat_at ss s) → CanTake r hand (Slot s k) b w → IsOpenSlot (seats_from 0 ss r.slots) s k b
@@ -170,7 +170,7 @@ module _ (ss : List Seat) (r : Rights) (as_many : length r.slots ≡ length ss) 
           by None h e told = absurd cc
           by (Some a) h e told = let brand : a.brand ≡ b = h.brand in cc
 
-  to_open : (q : Holder) (h : Holder) (b : ℕ) (w : Worth) → IsAtOpen ss h → CanGive (taken r q b w) h b w → (s : ℕ) (k : List ℕ) → h ≡ Slot s k → IsOpenSlot (seats_from 0 ss r.slots) s k b
+  to_open : (q : Holder) (h : Holder) (b : ℕ) (w : ValueView) → IsAtOpen ss h → CanGive (taken r q b w) h b w → (s : ℕ) (k : List ℕ) → h ≡ Slot s k → IsOpenSlot (seats_from 0 ss r.slots) s k b
   to_open q h b w is can s k at = at_slot (subst (IsAtOpen ss) at is) (subst (λ x. CanGive (taken r q b w) x b w) at can)
     where
       at_slot : IsOpen (seat_at ss s) → CanGive (taken r q b w) (Slot s k) b w → IsOpenSlot (seats_from 0 ss r.slots) s k b
@@ -185,21 +185,21 @@ module _ (ss : List Seat) (r : Rights) (as_many : length r.slots ≡ length ss) 
 
 -- ---- payments
 
-pub taken_as_many : (r : Rights) (h : Holder) (b : ℕ) (w : Worth) → length (taken r h b w).payments ≡ length r.payments
-taken_as_many r (Payment n) b w = length_set r.payments n (paper_less (paper_at r.payments n) w.content)
+pub taken_as_many : (r : Rights) (h : Holder) (b : ℕ) (w : ValueView) → length (taken r h b w).payments ≡ length r.payments
+taken_as_many r (Payment n) b w = length_set r.payments n (lessened_payment (payment_view_at r.payments n) w.content)
 taken_as_many r (Purse n) b w = refl
 taken_as_many r (Slot s k) b w = refl
 taken_as_many r Hand b w = refl
 taken_as_many r Outside b w = refl
 
-taken_slots : (r : Rights) (h : Holder) (b : ℕ) (w : Worth) → length (taken r h b w).slots ≡ length r.slots
-taken_slots r (Slot s k) b w = length_set r.slots s (rows_less k (amount_of b w) (slots_at r.slots s))
+taken_slots : (r : Rights) (h : Holder) (b : ℕ) (w : ValueView) → length (taken r h b w).slots ≡ length r.slots
+taken_slots r (Slot s k) b w = length_set r.slots s (shares_less k (amount_of b w) (slots_at r.slots s))
 taken_slots r (Purse n) b w = refl
 taken_slots r (Payment n) b w = refl
 taken_slots r Hand b w = refl
 taken_slots r Outside b w = refl
 
-given_slots : (r : Rights) (h : Holder) (b : ℕ) (w : Worth) → length (given r h b w).slots ≡ length r.slots
+given_slots : (r : Rights) (h : Holder) (b : ℕ) (w : ValueView) → length (given r h b w).slots ≡ length r.slots
 given_slots r (Slot s k) b w = length_set r.slots s _
 given_slots r (Purse n) b w = refl
 given_slots r (Payment n) b w = refl
@@ -210,24 +210,24 @@ pub moved_slots : (r : Rights) (m : Movement) → length (moved r m).slots ≡ l
 moved_slots r m = given_slots (taken r m.from m.brand m.value) m.to m.brand m.value ∙ taken_slots r m.from m.brand m.value
 
 -- what is paid to is there then
-module _ (ps : List Paper) (n : ℕ) (a : Amount) where
+module _ (ps : List PaymentView) (n : ℕ) (a : Amount) where
   paid_more : length ps ≤ length (paid ps n a)
   paid_more = by (n == length ps)
     where
-      by : (t : Bool) → length ps ≤ length (cond t (ps ++ live_paper a ∷ []) (slice_set ps n (paper_paid ps n a)))
-      by true = omega (arith, length_push ps (live_paper a))
-      by false = omega (arith, length_set ps n (paper_paid ps n a))
+      by : (t : Bool) → length ps ≤ length (cond t (ps ++ live_payment a ∷ []) (slice_set ps n (paid_payment ps n a)))
+      by true = omega (arith, length_push ps (live_payment a))
+      by false = omega (arith, length_set ps n (paid_payment ps n a))
 
-  paid_there : (r : Rights) (b : ℕ) (w : Worth) → r.payments ≡ ps → IsNextOr (n == length ps) r n b w → n < length (paid ps n a)
+  paid_there : (r : Rights) (b : ℕ) (w : ValueView) → r.payments ≡ ps → IsNextOr (n == length ps) r n b w → n < length (paid ps n a)
   paid_there r b w same can = elim (cases_eq n (length ps)) [
-    | inl at ↦ subst (λ t. n < length (cond t (ps ++ live_paper a ∷ []) (slice_set ps n (paper_paid ps n a)))) (sym (eq-eqb n (length ps) at)) (omega (arith, at, length_push ps (live_paper a)))
+    | inl at ↦ subst (λ t. n < length (cond t (ps ++ live_payment a ∷ []) (slice_set ps n (paid_payment ps n a)))) (sym (eq-eqb n (length ps) at)) (omega (arith, at, length_push ps (live_payment a)))
     | inr apart ↦
         let no : (n == length ps) ≡ false = ne_eqb n (length ps) apart in
         let more : PaymentMore r n b w = subst (λ t. IsNextOr t r n b w) no can in
-        subst (λ t. n < length (cond t (ps ++ live_paper a ∷ []) (slice_set ps n (paper_paid ps n a)))) (sym no) (omega (arith, more.made, ap (λ (l : List Paper). length l) same, length_set ps n (paper_paid ps n a)))
+        subst (λ t. n < length (cond t (ps ++ live_payment a ∷ []) (slice_set ps n (paid_payment ps n a)))) (sym no) (omega (arith, more.made, ap (λ (l : List PaymentView). length l) same, length_set ps n (paid_payment ps n a)))
   ]
 
-pub given_more : (r : Rights) (h : Holder) (b : ℕ) (w : Worth) → length r.payments ≤ length (given r h b w).payments
+pub given_more : (r : Rights) (h : Holder) (b : ℕ) (w : ValueView) → length r.payments ≤ length (given r h b w).payments
 given_more r (Payment n) b w = paid_more r.payments n (amount_of b w)
 given_more r (Purse n) b w = omega arith
 given_more r (Slot s k) b w = omega arith
@@ -240,14 +240,14 @@ moved_more r m = omega (arith, given_more (taken r m.from m.brand m.value) m.to 
 no_payment : (p n : ℕ) → n < p → is_payment_at p (Payment n) ≡ false
 no_payment p n lt = ne_eqb n p (λ is. absurd (omega (arith, lt, is)))
 
-pub from_made : (r : Rights) (hand : ℕ → Content) (h : Holder) (b : ℕ) (w : Worth) → CanTake r hand h b w → (p : ℕ) → length r.payments ≤ p → is_payment_at p h ≡ false
+pub from_made : (r : Rights) (hand : ℕ → Content) (h : Holder) (b : ℕ) (w : ValueView) → CanTake r hand h b w → (p : ℕ) → length r.payments ≤ p → is_payment_at p h ≡ false
 from_made r hand (Payment n) b w can p le = no_payment p n (omega (arith, can.made, le))
 from_made r hand (Purse n) b w can p le = refl
 from_made r hand (Slot s k) b w can p le = refl
 from_made r hand Hand b w can p le = refl
 from_made r hand Outside b w can p le = refl
 
-pub to_made : (r : Rights) (h : Holder) (b : ℕ) (w : Worth) → CanGive r h b w → (p : ℕ) → length (given r h b w).payments ≤ p → is_payment_at p h ≡ false
+pub to_made : (r : Rights) (h : Holder) (b : ℕ) (w : ValueView) → CanGive r h b w → (p : ℕ) → length (given r h b w).payments ≤ p → is_payment_at p h ≡ false
 to_made r (Payment n) b w can p le = no_payment p n (omega (arith, paid_there r.payments n (amount_of b w) r b w refl can, le))
 to_made r (Purse n) b w can p le = refl
 to_made r (Slot s k) b w can p le = refl
@@ -322,13 +322,13 @@ moves_are_acts owners t ss here u r hand (m ∷ ms) as_many good stored can v = 
   moves_are_acts owners t ss (here ++ move_row m ∷ []) (table.moved u m) (moved r m) (hand_after hand m) ms (moved_slots r m ∙ as_many) good.1 stored.1 can.1 (moved_valued r hand m can.0 v),
 )
 
-spent_as_many : (h : Holder) (ps : List Paper) → length (spent_from h ps) ≡ length ps
-spent_as_many (Payment n) ps = length_set ps n (spent_paper (paper_at ps n).brand)
+spent_as_many : (h : Holder) (ps : List PaymentView) → length (spent_from h ps) ≡ length ps
+spent_as_many (Payment n) ps = length_set ps n (spent_payment (payment_view_at ps n).brand)
 spent_as_many (Purse n) ps = refl
 spent_as_many (Slot s k) ps = refl
 spent_as_many Hand ps = refl
 spent_as_many Outside ps = refl
 
-pub all_as_many : (ms : List Movement) (ps : List Paper) → length (all_spent ms ps) ≡ length ps
+pub all_as_many : (ms : List Movement) (ps : List PaymentView) → length (all_spent ms ps) ≡ length ps
 all_as_many [] ps = refl
 all_as_many (m ∷ ms) ps = all_as_many ms (spent_from m.from ps) ∙ spent_as_many m.from ps

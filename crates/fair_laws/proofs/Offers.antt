@@ -8,16 +8,16 @@ use Rattle.fair_rows.specs.amount_math.KindLaws.{nothing_is_value}
 use Rattle.delivery_laws.specs.turn_stores.Elements.{element}
 use Rattle.delivery_laws.proofs.lemmas.ListEdits.{read_pushed}
 use Rattle.delivery_laws.specs.proposals.Slots.{emptied, in_byte_order, slots_of}
-use Rattle.delivery_laws.specs.proposals.declared.allocations.Row.{Row}
+use Rattle.delivery_laws.specs.proposals.declared.allocations.Share.{Share}
 use Rattle.fair_rows.specs.rights_model.Table.{table_after}
 use Rattle.fair_rows.specs.rights_model.declared.Holder.{Holder}
 use Rattle.fair_rows.specs.rights_model.declared.Holder.TheVariants.{Outside, Payment, Slot}
 use Rattle.fair_rows.specs.rights_model.declared.Movement.{Movement}
-use Rattle.delivery_laws.specs.right_steps.Lists.{amount_of, more}
-use Rattle.delivery_laws.specs.right_steps.Tables.{no_hand}
+use Rattle.delivery_laws.specs.vault_model.Lists.{amount_of, more}
+use Rattle.delivery_laws.specs.vault_model.Tables.{no_hand}
 use Rattle.delivery_laws.specs.turn_records.Values.{printed_value}
 use Rattle.delivery_laws.specs.turn_records.Events as events
-use Rattle.delivery_laws.specs.turn_records.Printed.{printed_move, printed_row, printed_rows}
+use Rattle.delivery_laws.specs.turn_records.Printed.{printed_move, printed_share, printed_shares}
 use Rattle.fair_rows.specs.turn_rows.Turns as rows
 use Rattle.fair_rows.specs.turn_rows.Turns.{KeywordAmount, Move, Opening, Turn}
 use Rattle.fair_rows.specs.Acts as fair
@@ -30,8 +30,8 @@ use Rattle.fair_rows.specs.Seats as told
 use Rattle.fair_rows.specs.Seats.{brand_under, with_slot}
 use Rattle.fair_rows.proofs.Acts.{offer_is_act}
 use Rattle.delivery_laws.proofs.world_laws.Lists.{all_push}
-use Rattle.delivery_laws.specs.world_state.Good.{AreEscrows, AreRowsValued, AreValues, CanOffer, IsEscrow, IsGoodWorld, IsValued, rights_for}
-use Rattle.delivery_laws.specs.world_state.Rights.{CanMoveAll, Rights, all_moved, given, hand_after, moved, moved_together, rows_more, slots_at, taken}
+use Rattle.delivery_laws.specs.world_state.Good.{AreEscrows, AreSharesValued, AreValues, CanOffer, IsEscrow, IsGoodWorld, IsValued, rights_for}
+use Rattle.delivery_laws.specs.world_state.Rights.{CanMoveAll, Rights, all_moved, given, hand_after, moved, moved_together, shares_more, slots_at, taken}
 use Rattle.delivery_laws.specs.world_state.Worlds.{Offering, Seat, State, after, burn_and_escrows, empty_slots, new_seat, offer, offered_by}
 use Rattle.delivery_laws.specs.world_laws.Tables.{table_of}
 use Rattle.delivery_laws.proofs.world_laws.Agreeing.{agrees_together}
@@ -49,13 +49,13 @@ use Rattle.fair_laws.proofs.Values as values
 -- ---- slots that are there keep their names
 
 -- rows with the same names are told the same
-seats_alike : (q j : ℕ) (ss : List Seat) (slots : List (List Row)) (rs : List Row) → map slot_name rs ≡ map slot_name (slots_at slots j) → seats_from q ss (slice_set slots j rs) ≡ seats_from q ss slots
+seats_alike : (q j : ℕ) (ss : List Seat) (slots : List (List Share)) (rs : List Share) → map slot_name rs ≡ map slot_name (slots_at slots j) → seats_from q ss (slice_set slots j rs) ≡ seats_from q ss slots
 seats_alike q j [] slots rs same = refl
 seats_alike q j (s ∷ ss) [] rs same = refl
 seats_alike q zero (s ∷ ss) (x ∷ xs) rs same = ap (λ ns. record (seat_told q s x) { slots = ns } ∷ seats_from (suc q) ss xs) same
 seats_alike q (suc j) (s ∷ ss) (x ∷ xs) rs same = ap (λ l. seat_told q s x ∷ l) (seats_alike (suc q) j ss xs rs same)
 
-names_read : (slots : List (List Row)) (j : ℕ) (rs : List Row) → map slot_name rs ≡ map slot_name (slots_at slots j) → map slot_name (slots_at (slice_set slots j rs) j) ≡ map slot_name (slots_at slots j)
+names_read : (slots : List (List Share)) (j : ℕ) (rs : List Share) → map slot_name rs ≡ map slot_name (slots_at slots j) → map slot_name (slots_at (slice_set slots j rs) j) ≡ map slot_name (slots_at slots j)
 names_read [] j rs same = refl
 names_read (x ∷ xs) zero rs same = same
 names_read (x ∷ xs) (suc j) rs same = names_read xs j rs same
@@ -85,18 +85,18 @@ module _ (ss : List Seat) (s : ℕ) where
         payments = taken_as_many r (Payment is.payment) m.brand m.value;
       })
     where
-      after_rows : List Row
-      after_rows = rows_more is.keyword (amount_of m.brand m.value) (slots_at r.slots s)
+      after_rows : List Share
+      after_rows = shares_more is.keyword (amount_of m.brand m.value) (slots_at r.slots s)
 
       kept : map slot_name after_rows ≡ map slot_name (slots_at r.slots s)
       kept =
           names_with is.keyword (λ had. more had m.value.content) (amount_of m.brand m.value) (λ a. refl) (slots_at r.slots s)
           ∙ ap (λ t. cond t (map slot_name (slots_at r.slots s)) (map slot_name (slots_at r.slots s) ++ record { keyword = is.keyword; brand = m.brand } ∷ [])) has
 
-  abbrev AreThere : List told.SlotName → List Row → Type 0
-  AreThere ns rs = AllByRecursion (λ (r : Row). is_some (brand_under r.keyword ns) ≡ true) rs
+  abbrev AreThere : List told.SlotName → List Share → Type 0
+  AreThere ns rs = AllByRecursion (λ (r : Share). is_some (brand_under r.keyword ns) ≡ true) rs
 
-  all_filled : (r : Rights) (rs : List Row) (ms : List Movement) → AreEscrows s rs ms → AreThere (map slot_name (slots_at r.slots s)) rs → IsFilled ss s r (all_moved r ms)
+  all_filled : (r : Rights) (rs : List Share) (ms : List Movement) → AreEscrows s rs ms → AreThere (map slot_name (slots_at r.slots s)) rs → IsFilled ss s r (all_moved r ms)
   all_filled r [] [] escrows there = record { told = refl; names = refl; payments = refl }
   all_filled r [] (m ∷ ms) escrows there = absurd escrows
   all_filled r (x ∷ xs) [] escrows there = absurd escrows
@@ -117,7 +117,7 @@ burned_payments r m p from to =
 
 -- ---- escrows as rows tell them
 
-pub escrows_told : (s : ℕ) (rs : List Row) (ms : List Movement) → AreEscrows s rs ms → fair.AreEscrows s (map printed_row rs) (map printed_move ms)
+pub escrows_told : (s : ℕ) (rs : List Share) (ms : List Movement) → AreEscrows s rs ms → fair.AreEscrows s (map printed_share rs) (map printed_move ms)
 escrows_told s [] [] e = tt
 escrows_told s [] (m ∷ ms) e = absurd e
 escrows_told s (r ∷ rs) [] e = absurd e
@@ -129,7 +129,7 @@ escrows_told s (r ∷ rs) (m ∷ ms) e = (
   escrows_told s rs ms e.1,
 )
 
-escrows_stored : (s : ℕ) (rs : List Row) (ms : List Movement) → AreEscrows s rs ms → AllByRecursion IsStored ms
+escrows_stored : (s : ℕ) (rs : List Share) (ms : List Movement) → AreEscrows s rs ms → AllByRecursion IsStored ms
 escrows_stored s [] [] e = tt
 escrows_stored s [] (m ∷ ms) e = absurd e
 escrows_stored s (r ∷ rs) [] e = absurd e
@@ -141,13 +141,13 @@ escrows_stored s (r ∷ rs) (m ∷ ms) e = (inl (subst IsFrom (sym e.0.from) tt)
 -- ---- payments that are named were made
 
 module _ (r : Rights) (p : ℕ) (le : length r.payments ≤ p) where
-  escrow_names : (s : ℕ) (row : Row) (m : Movement) → IsEscrow s row m → is_payment_at p m.from ≡ false → (is_payment_at p m.from || is_payment_at p m.to) ≡ false
+  escrow_names : (s : ℕ) (row : Share) (m : Movement) → IsEscrow s row m → is_payment_at p m.from ≡ false → (is_payment_at p m.from || is_payment_at p m.to) ≡ false
   escrow_names s row m e none = ap (λ b. b || is_payment_at p m.to) none ∙ ap (is_payment_at p) e.to
 
 names_first : (p : ℕ) (m : Move) (ms : List Movement) → (is_payment_at p m.from || is_payment_at p m.to) ≡ false → names p ms ≡ false → names p (movement_of m ∷ ms) ≡ false
 names_first p m ms a b = ap (λ x. x || names p ms) a ∙ b
 
-escrows_name : (r : Rights) (hand : ℕ → Content) (s p : ℕ) (rs : List Row) (ms : List Movement) → CanMoveAll r hand ms → AreEscrows s rs ms → length r.payments ≤ p → names p (map movement_of (map printed_move ms)) ≡ false
+escrows_name : (r : Rights) (hand : ℕ → Content) (s p : ℕ) (rs : List Share) (ms : List Movement) → CanMoveAll r hand ms → AreEscrows s rs ms → length r.payments ≤ p → names p (map movement_of (map printed_move ms)) ≡ false
 escrows_name r hand s p [] [] can e le = refl
 escrows_name r hand s p [] (m ∷ ms) can e le = absurd e
 escrows_name r hand s p (x ∷ xs) [] can e le = absurd e
@@ -164,16 +164,16 @@ escrows_name r hand s p (x ∷ xs) (m ∷ ms) can e le =
 
 -- ---- the act
 
-emptied_valued : (rs : List Row) → AreRowsValued (map emptied rs)
+emptied_valued : (rs : List Share) → AreSharesValued (map emptied rs)
 emptied_valued [] = tt
 emptied_valued (r ∷ rs) = (nothing_is_value r.amount.value.kind, emptied_valued rs)
 
-first_there : (ns : List told.SlotName) (rs : List Row) (rest : List KeywordAmount) → AllByRecursion (HasItsBrand ns) (map printed_row rs ++ rest) → AllByRecursion (λ (r : Row). is_some (brand_under r.keyword ns) ≡ true) rs
+first_there : (ns : List told.SlotName) (rs : List Share) (rest : List KeywordAmount) → AllByRecursion (HasItsBrand ns) (map printed_share rs ++ rest) → AllByRecursion (λ (r : Share). is_some (brand_under r.keyword ns) ≡ true) rs
 first_there ns [] rest all = tt
 first_there ns (r ∷ rs) rest all = (ap is_some all.0, first_there ns rs rest all.1)
 
 pub opened_valued : (w : State) (o : Offering) → IsGoodWorld w → AreValues (rights_for w o)
-opened_valued w o good = record { purses = good.valued.purses; payments = good.valued.payments; slots = all_push AreRowsValued w.rights.slots (empty_slots o.proposal) good.valued.slots (emptied_valued (slots_of o.proposal)) }
+opened_valued w o good = record { purses = good.valued.purses; payments = good.valued.payments; slots = all_push AreSharesValued w.rights.slots (empty_slots o.proposal) good.valued.slots (emptied_valued (slots_of o.proposal)) }
 
 pub offer_stored : (w : State) (o : Offering) → CanOffer w o → AllByRecursion IsStored (burn_and_escrows o)
 offer_stored w o can = (inl (subst IsStore (sym can.burn.from) tt), escrows_stored (length w.seats) (in_byte_order o.proposal.give) o.escrows can.escrows)
@@ -200,10 +200,10 @@ module _ (owners : Owners) (t : Turn) (w : State) (o : Offering) (good : IsGoodW
   abbrev rights : Rights
   rights = rights_for w o
 
-  abbrev gives : List Row
+  abbrev gives : List Share
   gives = in_byte_order o.proposal.give
 
-  ordered : printed_rows o.proposal.give ≡ map printed_row gives
+  ordered : printed_shares o.proposal.give ≡ map printed_share gives
   ordered = rows_ordered o.proposal.give can.proposal.give.apart
 
   opened : told.new_seat opening ≡ seat_told seat new (empty_slots o.proposal)
@@ -258,11 +258,11 @@ module _ (owners : Owners) (t : Turn) (w : State) (o : Offering) (good : IsGoodW
   new_slots : slots_at rights.slots seat ≡ empty_slots o.proposal
   new_slots = read_pushed w.rights.slots (empty_slots o.proposal) [] seat (sym good.seats.slotted)
 
-  there : AllByRecursion (λ (r : Row). is_some (brand_under r.keyword (map slot_name (slots_at (moved rights o.burn).slots seat))) ≡ true) gives
+  there : AllByRecursion (λ (r : Share). is_some (brand_under r.keyword (map slot_name (slots_at (moved rights o.burn).slots seat))) ≡ true) gives
   there =
-      subst (λ ns. AllByRecursion (λ (r : Row). is_some (brand_under r.keyword ns) ≡ true) gives)
+      subst (λ ns. AllByRecursion (λ (r : Share). is_some (brand_under r.keyword ns) ≡ true) gives)
       (ap (λ (s : told.Seat). s.slots) opened ∙ ap (map slot_name) (sym new_slots) ∙ ap (λ l. map slot_name (slots_at l seat)) (sym (burned_slots rights o.burn can.burn.payment can.burn.from can.burn.to)))
-      (first_there (told.new_seat opening).slots gives (printed_rows o.proposal.want) (subst (λ l. AllByRecursion (HasItsBrand (told.new_seat opening).slots) (l ++ printed_rows o.proposal.want)) ordered (brands_opened o.proposal can.proposal.fits can.proposal.give can.proposal.want seat (offered_by w o).instance)))
+      (first_there (told.new_seat opening).slots gives (printed_shares o.proposal.want) (subst (λ l. AllByRecursion (HasItsBrand (told.new_seat opening).slots) (l ++ printed_shares o.proposal.want)) ordered (brands_opened o.proposal can.proposal.fits can.proposal.give can.proposal.want seat (offered_by w o).instance)))
 
   filled_up : IsFilled (w.seats ++ new ∷ []) seat (moved rights o.burn) (all_moved (moved rights o.burn) o.escrows)
   filled_up = all_filled (w.seats ++ new ∷ []) seat (moved rights o.burn) gives o.escrows can.escrows there

@@ -11,11 +11,11 @@ use Rattle.std.proofs.Common.{append_assoc, sym, ◌∙◌, ap, subst, arith, if
 use Rattle.std.proofs.lemmas.Bool.{ne_eqb}
 use Rattle.std.proofs.lemmas.List.{append-nil}
 use Rattle.std.proofs.lemmas.Slice.Eq.{bytes_eq-Decides}
-use Rattle.delivery_laws.specs.proposals.Rows.{AreApart, AreRows, amount_under}
+use Rattle.delivery_laws.specs.proposals.Shares.{AreApart, AreShares, amount_under}
 use Rattle.delivery_laws.specs.proposals.Slots.{FitsSeat, emptied, in_byte_order, is_upto, placed, slots_of}
-use Rattle.delivery_laws.specs.proposals.declared.allocations.Row.{Row}
+use Rattle.delivery_laws.specs.proposals.declared.allocations.Share.{Share}
 use Rattle.delivery_laws.specs.proposals.declared.offers.Proposal.{Proposal}
-use Rattle.delivery_laws.specs.turn_records.Printed.{printed_row, printed_rows}
+use Rattle.delivery_laws.specs.turn_records.Printed.{printed_share, printed_shares}
 use Rattle.fair_rows.specs.turn_rows.Order.{put_amount}
 use Rattle.fair_rows.specs.turn_rows.Turns.{KeywordAmount}
 use Rattle.fair_rows.specs.Seats as told
@@ -35,7 +35,7 @@ abbrev pub AreApartNames : List SlotName → Type 0
 AreApartNames [] = Unit {0}
 AreApartNames (n ∷ ns) = (brand_under n.keyword ns ≡ None) × AreApartNames ns
 
-pub apart_names : (rs : List Row) → AreApart rs → AreApartNames (map slot_name rs)
+pub apart_names : (rs : List Share) → AreApart rs → AreApartNames (map slot_name rs)
 apart_names [] a = tt
 apart_names (r ∷ rs) a = (brand_told r.keyword rs ∙ ap told_brand a.0, apart_names rs a.1)
 
@@ -98,7 +98,7 @@ own_brands ds (x ∷ xs) a =
 
 -- ---- rows in byte order
 
-none_placed : (k : List ℕ) (r : Row) (rs : List Row) → bytes_eq k r.keyword ≡ false → amount_under k rs ≡ None → amount_under k (placed r rs) ≡ None
+none_placed : (k : List ℕ) (r : Share) (rs : List Share) → bytes_eq k r.keyword ≡ false → amount_under k rs ≡ None → amount_under k (placed r rs) ≡ None
 none_placed k r [] away none = ap (λ t. cond t (Some r.amount) None) away
 none_placed k r (x ∷ xs) away none = by (is_upto r.keyword x.keyword) (bytes_eq k x.keyword) none (none_placed k r xs away)
   where
@@ -116,7 +116,7 @@ none_placed k r (x ∷ xs) away none = by (is_upto r.keyword x.keyword) (bytes_e
             skip true g more = absurd cc
             skip false g more = more g
 
-none_ordered : (k : List ℕ) (rs : List Row) → amount_under k rs ≡ None → amount_under k (in_byte_order rs) ≡ None
+none_ordered : (k : List ℕ) (rs : List Share) → amount_under k rs ≡ None → amount_under k (in_byte_order rs) ≡ None
 none_ordered k [] none = refl
 none_ordered k (r ∷ rs) none = by (bytes_eq k r.keyword) refl none (none_ordered k rs)
   where
@@ -124,7 +124,7 @@ none_ordered k (r ∷ rs) none = by (bytes_eq k r.keyword) refl none (none_order
     by true e h later = absurd cc
     by false e h later = none_placed k r (in_byte_order rs) e (later h)
 
-put_placed : (r : Row) (rs : List Row) → amount_under r.keyword rs ≡ None → put_amount (printed_row r) (map printed_row rs) ≡ map printed_row (placed r rs)
+put_placed : (r : Share) (rs : List Share) → amount_under r.keyword rs ≡ None → put_amount (printed_share r) (map printed_share rs) ≡ map printed_share (placed r rs)
 put_placed r [] none = refl
 put_placed r (x ∷ xs) none = by (slice_cmp nat_cmp r.keyword x.keyword) refl (λ h. put_placed r xs h)
   where
@@ -142,28 +142,28 @@ put_placed r (x ∷ xs) none = by (slice_cmp nat_cmp r.keyword x.keyword) refl (
         free true h = absurd cc
         free false h = h
 
-    by : (o : Ordering) → slice_cmp nat_cmp r.keyword x.keyword ≡ o → (amount_under r.keyword xs ≡ None → put_amount (printed_row r) (map printed_row xs) ≡ map printed_row (placed r xs))
-        → match_ordering o (printed_row r ∷ printed_row x ∷ map printed_row xs) (record (printed_row r) { keyword = x.keyword } ∷ map printed_row xs) (printed_row x ∷ put_amount (printed_row r) (map printed_row xs))
-        ≡ map printed_row (if is_le o then r ∷ x ∷ xs else x ∷ placed r xs)
+    by : (o : Ordering) → slice_cmp nat_cmp r.keyword x.keyword ≡ o → (amount_under r.keyword xs ≡ None → put_amount (printed_share r) (map printed_share xs) ≡ map printed_share (placed r xs))
+        → match_ordering o (printed_share r ∷ printed_share x ∷ map printed_share xs) (record (printed_share r) { keyword = x.keyword } ∷ map printed_share xs) (printed_share x ∷ put_amount (printed_share r) (map printed_share xs))
+        ≡ map printed_share (if is_le o then r ∷ x ∷ xs else x ∷ placed r xs)
     by Less e later = refl
     by Equal e later = absurd (abbrev_free ((bytes_eq-Decides r.keyword x.keyword).1 (slice_cmp-IsAntisymmetric nat_cmp-IsAntisymmetric r.keyword x.keyword e)))
-    by Greater e later = ap (λ l. printed_row x ∷ l) (later rest_free)
+    by Greater e later = ap (λ l. printed_share x ∷ l) (later rest_free)
 
-pub rows_ordered : (rs : List Row) → AreApart rs → printed_rows rs ≡ map printed_row (in_byte_order rs)
+pub rows_ordered : (rs : List Share) → AreApart rs → printed_shares rs ≡ map printed_share (in_byte_order rs)
 rows_ordered [] a = refl
-rows_ordered (r ∷ rs) a = ap (put_amount (printed_row r)) (rows_ordered rs a.1) ∙ put_placed r (in_byte_order rs) (none_ordered r.keyword rs a.0)
+rows_ordered (r ∷ rs) a = ap (put_amount (printed_share r)) (rows_ordered rs a.1) ∙ put_placed r (in_byte_order rs) (none_ordered r.keyword rs a.0)
 
 -- ---- a seat that is opened
 
-names_emptied : (rs : List Row) → map slot_name (map emptied rs) ≡ map slot_name rs
+names_emptied : (rs : List Share) → map slot_name (map emptied rs) ≡ map slot_name rs
 names_emptied [] = refl
 names_emptied (r ∷ rs) = ap (λ l. slot_name r ∷ l) (names_emptied rs)
 
-names_append : (xs ys : List Row) → map slot_name (xs ++ ys) ≡ map slot_name xs ++ map slot_name ys
+names_append : (xs ys : List Share) → map slot_name (xs ++ ys) ≡ map slot_name xs ++ map slot_name ys
 names_append [] ys = refl
 names_append (x ∷ xs) ys = ap (λ l. slot_name x ∷ l) (names_append xs ys)
 
-names_printed : (xs : List Row) → map amount_name (map printed_row xs) ≡ map slot_name xs
+names_printed : (xs : List Share) → map amount_name (map printed_share xs) ≡ map slot_name xs
 names_printed [] = refl
 names_printed (x ∷ xs) = ap (λ l. slot_name x ∷ l) (names_printed xs)
 
@@ -178,12 +178,12 @@ slots_named p =
     ∙ names_append (in_byte_order p.give) (map emptied (in_byte_order p.want))
     ∙ ap (λ l. map slot_name (in_byte_order p.give) ++ l) (names_emptied (in_byte_order p.want))
 
-module _ (p : Proposal) (fits : FitsSeat p) (give : AreRows p.give) (want : AreRows p.want) where
+module _ (p : Proposal) (fits : FitsSeat p) (give : AreShares p.give) (want : AreShares p.want) where
   abbrev gives : List KeywordAmount
-  gives = map printed_row (in_byte_order p.give)
+  gives = map printed_share (in_byte_order p.give)
 
   abbrev wants : List KeywordAmount
-  wants = map printed_row (in_byte_order p.want)
+  wants = map printed_share (in_byte_order p.want)
 
   all_named : map amount_name (gives ++ wants) ≡ map slot_name (empty_slots p)
   all_named =
@@ -195,9 +195,9 @@ module _ (p : Proposal) (fits : FitsSeat p) (give : AreRows p.give) (want : AreR
   all_apart : AreApartNames (map amount_name (gives ++ wants))
   all_apart = subst AreApartNames (sym all_named) (apart_names (empty_slots p) (empty_slots_are p fits give want).apart)
 
-  slots_told : with_amounts (printed_rows p.want) (with_amounts (printed_rows p.give) []) ≡ map slot_name (empty_slots p)
+  slots_told : with_amounts (printed_shares p.want) (with_amounts (printed_shares p.give) []) ≡ map slot_name (empty_slots p)
   slots_told =
-      ap (λ l. with_amounts (printed_rows p.want) (with_amounts l [])) (rows_ordered p.give give.apart)
+      ap (λ l. with_amounts (printed_shares p.want) (with_amounts l [])) (rows_ordered p.give give.apart)
       ∙ ap (λ l. with_amounts l (with_amounts gives [])) (rows_ordered p.want want.apart)
       ∙ with_both gives wants []
       ∙ with_all [] (gives ++ wants) all_apart
@@ -206,14 +206,14 @@ module _ (p : Proposal) (fits : FitsSeat p) (give : AreRows p.give) (want : AreR
   pub seat_opened : (n i : ℕ) → told.new_seat (opening_told n (new_seat i p)) ≡ seat_told n (new_seat i p) (empty_slots p)
   seat_opened n i = λ j. record { opening = opening_told n (new_seat i p); slots = slots_told j; last = None }
 
-  pub brands_opened : (n i : ℕ) → AllByRecursion (HasItsBrand (told.new_seat (opening_told n (new_seat i p))).slots) (printed_rows p.give ++ printed_rows p.want)
+  pub brands_opened : (n i : ℕ) → AllByRecursion (HasItsBrand (told.new_seat (opening_told n (new_seat i p))).slots) (printed_shares p.give ++ printed_shares p.want)
   brands_opened n i =
-      subst (λ ns. AllByRecursion (HasItsBrand ns) (printed_rows p.give ++ printed_rows p.want)) (all_named ∙ sym slots_told)
-      (subst (λ l. AllByRecursion (HasItsBrand (map amount_name (gives ++ wants))) l) (sym (ap (λ l. l ++ printed_rows p.want) (rows_ordered p.give give.apart) ∙ ap (λ l. gives ++ l) (rows_ordered p.want want.apart)))
+      subst (λ ns. AllByRecursion (HasItsBrand ns) (printed_shares p.give ++ printed_shares p.want)) (all_named ∙ sym slots_told)
+      (subst (λ l. AllByRecursion (HasItsBrand (map amount_name (gives ++ wants))) l) (sym (ap (λ l. l ++ printed_shares p.want) (rows_ordered p.give give.apart) ∙ ap (λ l. gives ++ l) (rows_ordered p.want want.apart)))
       (own_brands [] (gives ++ wants) all_apart))
 
 -- a further seat
-pub one_seat_more : (q : ℕ) (ss : List Seat) (slots : List (List Row)) (s : Seat) (rows : List Row) → length slots ≡ length ss
+pub one_seat_more : (q : ℕ) (ss : List Seat) (slots : List (List Share)) (s : Seat) (rows : List Share) → length slots ≡ length ss
     → seats_from q (ss ++ s ∷ []) (slots ++ rows ∷ []) ≡ seats_from q ss slots ++ seat_told (q + length ss) s rows ∷ []
 one_seat_more q [] [] s rows as_many = ap (λ n. seat_told n s rows ∷ []) (let e : q ≡ q + 0 = omega arith in e)
 one_seat_more q [] (x ∷ xs) s rows as_many = absurd (omega (arith, as_many))
@@ -223,7 +223,7 @@ one_seat_more q (y ∷ ys) (x ∷ xs) s rows as_many =
     ∙ ap (λ n. seats_from (suc q) ys xs ++ seat_told n s rows ∷ []) (let e : suc q + length ys ≡ q + suc (length ys) = omega arith in e))
 
 -- no seat so far has the next number
-pub others_before : (q n : ℕ) (ss : List Seat) (slots : List (List Row)) → q + length ss ≡ n → AllByRecursion (λ (s : told.Seat). (n == s.opening.seat) ≡ false) (seats_from q ss slots)
+pub others_before : (q n : ℕ) (ss : List Seat) (slots : List (List Share)) → q + length ss ≡ n → AllByRecursion (λ (s : told.Seat). (n == s.opening.seat) ≡ false) (seats_from q ss slots)
 others_before q n [] slots at = tt
 others_before q n (s ∷ ss) [] at = tt
 others_before q n (s ∷ ss) (rows ∷ rest) at = (ne_eqb n q (λ is. absurd (omega (arith, at, is))), others_before (suc q) n ss rest (omega (arith, at)))

@@ -24,7 +24,7 @@ use Rattle.delivery_laws.specs.world_state.Good.{AreGood, IsGoodEffect}
 use Rattle.delivery_laws.specs.world_state.Rights.{slots_at}
 use Rattle.delivery_laws.specs.world_state.Worlds.{Effect, IsOpen, Seat, State, after, after_all, burn_and_escrows, empty_seat, exit, invitation_move, invite, leaving_events, left_seat, moves, moves_out, new_seat, no_seat, note_call, of_own, offer, offered_by, payouts_tree, promises_made, resolve, seat_at}
 use Rattle.delivery_laws.specs.host_data.Tree.{null}
-use Rattle.delivery_laws.specs.proposals.declared.allocations.Row.{Row}
+use Rattle.delivery_laws.specs.proposals.declared.allocations.Share.{Share}
 use Rattle.fair_laws.specs.Owed.{AreUncalled, HasCause, HaveCauses, IsUncalled, OpensBelow, Owes, cause_in, cause_shown}
 use Rattle.fair_laws.proofs.Shown.{IsNoCall, shown_new, shown_still}
 
@@ -121,7 +121,7 @@ longer : (xs : List Seat) (x : Seat) (ds : List Departure) → AllByRecursion (�
 longer xs x [] all = tt
 longer xs x (d ∷ ds) all = (omega (arith, all.0, length_push xs x), longer xs x ds all.1)
 
-some_none : (rows : List Row) → Some rows ≡ None → ⊥
+some_none : (rows : List Share) → Some rows ≡ None → ⊥
 some_none rows e = cc
 
 module _ (w next : State) (ds : List Departure) (new : Seat) (o : events.Opening) (es : List Event) where
@@ -165,7 +165,7 @@ module _ (w next : State) (ds : List Departure) (new : Seat) (o : events.Opening
 -- ---- a seat that is left
 
 module _ (w next : State) (s : ℕ) (cause : Cause) (ds : List Departure) (es : List Event) where
-  owes_left : IsOpen (seat_at w.seats s) → (rows : List Row) → next.seats ≡ slice_set w.seats s (left_seat (seat_at w.seats s) rows) → next.log ≡ w.log ++ es → AllByRecursion IsQuiet es → Owes w (departure s cause ∷ ds) → Owes next ds
+  owes_left : IsOpen (seat_at w.seats s) → (rows : List Share) → next.seats ≡ slice_set w.seats s (left_seat (seat_at w.seats s) rows) → next.log ≡ w.log ++ es → AllByRecursion IsQuiet es → Owes w (departure s cause ∷ ds) → Owes next ds
   owes_left before rows seats told quiet owes = record {
     shown = λ n opens. by n opens (s == n) refl;
     made = subst (λ m. AllByRecursion (λ (d : Departure). d.seat < m) ds) (sym as_many) owes.made.1;

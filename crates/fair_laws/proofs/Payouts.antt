@@ -8,8 +8,8 @@ use Rattle.std.specs.declared.cmp.Ordering.{Ordering}
 use Rattle.std.specs.declared.cmp.Ordering.TheVariants.{Equal, Greater, Less}
 use Rattle.std.proofs.Common.{sym, ◌∙◌, ap, subst, arith}
 use Rattle.std.proofs.lemmas.Slice.Eq.{bytes_eq-Decides}
-use Rattle.delivery_laws.specs.proposals.Rows.{AreApart, amount_under}
-use Rattle.delivery_laws.specs.proposals.declared.allocations.Row.{Row}
+use Rattle.delivery_laws.specs.proposals.Shares.{AreApart, amount_under}
+use Rattle.delivery_laws.specs.proposals.declared.allocations.Share.{Share}
 use Rattle.delivery_laws.specs.turn_records.Printed.{printed_payouts}
 use Rattle.fair_rows.specs.turn_rows.Order.{put_payout}
 use Rattle.fair_rows.specs.turn_rows.Turns.{Payout}
@@ -69,7 +69,7 @@ module _ (p : Payout) where
 
 -- ---- those of a seat's slots
 
-none_from : (k : List ℕ) (n : ℕ) (rs : List Row) → amount_under k rs ≡ None → payment_under k (payouts_from n rs) ≡ None
+none_from : (k : List ℕ) (n : ℕ) (rs : List Share) → amount_under k rs ≡ None → payment_under k (payouts_from n rs) ≡ None
 none_from k n [] none = refl
 none_from k n (r ∷ rs) none = by (bytes_eq k r.keyword) none (none_from k (suc n) rs)
   where
@@ -77,24 +77,24 @@ none_from k n (r ∷ rs) none = by (bytes_eq k r.keyword) none (none_from k (suc
     by true h later = absurd cc
     by false h later = later h
 
-read_printed : (k : List ℕ) (n : ℕ) (rs : List Row) → AreApart rs → payment_under k (printed_payouts (payouts_from n rs)) ≡ payment_under k (payouts_from n rs)
+read_printed : (k : List ℕ) (n : ℕ) (rs : List Share) → AreApart rs → payment_under k (printed_payouts (payouts_from n rs)) ≡ payment_under k (payouts_from n rs)
 read_printed k n [] a = refl
 read_printed k n (r ∷ rs) a =
     put_read (record { keyword = r.keyword; payment = n }) k (printed_payouts (payouts_from (suc n) rs)) (read_printed r.keyword (suc n) rs a.1 ∙ none_from r.keyword (suc n) rs a.0)
     ∙ ap (λ o. cond (bytes_eq k r.keyword) (Some n) o) (read_printed k (suc n) rs a.1)
 
-pub payouts_count : (n : ℕ) (rs : List Row) → AreApart rs → length (printed_payouts (payouts_from n rs)) ≡ length (map slot_name rs)
+pub payouts_count : (n : ℕ) (rs : List Share) → AreApart rs → length (printed_payouts (payouts_from n rs)) ≡ length (map slot_name rs)
 payouts_count n [] a = refl
 payouts_count n (r ∷ rs) a =
     put_count (record { keyword = r.keyword; payment = n }) (printed_payouts (payouts_from (suc n) rs)) (read_printed r.keyword (suc n) rs a.1 ∙ none_from r.keyword (suc n) rs a.0)
     ∙ ap suc (payouts_count (suc n) rs a.1)
 
 -- each slot has its own, from a number on
-abbrev AreFrom : (List ℕ → Option ℕ) → ℕ → List Row → Type 0
+abbrev AreFrom : (List ℕ → Option ℕ) → ℕ → List Share → Type 0
 AreFrom f n [] = Unit {0}
 AreFrom f n (r ∷ rs) = (f r.keyword ≡ Some n) × AreFrom f (n + 1) rs
 
-behind : (f : List ℕ → Option ℕ) (x : Row) (m n : ℕ) (rs : List Row) → amount_under x.keyword rs ≡ None → AreFrom f n rs → AreFrom (λ k. cond (bytes_eq k x.keyword) (Some m) (f k)) n rs
+behind : (f : List ℕ → Option ℕ) (x : Share) (m n : ℕ) (rs : List Share) → amount_under x.keyword rs ≡ None → AreFrom f n rs → AreFrom (λ k. cond (bytes_eq k x.keyword) (Some m) (f k)) n rs
 behind f x m n [] none are = tt
 behind f x m n (r ∷ rs) none are = (ap (λ t. cond t (Some m) (f r.keyword)) away ∙ are.0, behind f x m (n + 1) rs rest are.1)
   where
@@ -116,16 +116,16 @@ behind f x m n (r ∷ rs) none are = (ap (λ t. cond t (Some m) (f r.keyword)) a
         by true h = absurd cc
         by false h = h
 
-own_from : (n : ℕ) (rs : List Row) → AreApart rs → AreFrom (λ k. payment_under k (payouts_from n rs)) n rs
+own_from : (n : ℕ) (rs : List Share) → AreApart rs → AreFrom (λ k. payment_under k (payouts_from n rs)) n rs
 own_from n [] a = tt
 own_from n (r ∷ rs) a = (
   ap (λ t. cond t (Some n) (payment_under r.keyword (payouts_from (suc n) rs))) (bytes_same r.keyword),
   behind (λ k. payment_under k (payouts_from (suc n) rs)) r n (n + 1) rs a.0 (subst (λ m. AreFrom (λ k. payment_under k (payouts_from (suc n) rs)) m rs) (let e : suc n ≡ n + 1 = omega arith in e) (own_from (suc n) rs a.1)),
 )
 
-named_by : (ps : List Payout) (f : List ℕ → Option ℕ) → ((k : List ℕ) → payment_under k ps ≡ f k) → (n : ℕ) (rs : List Row) → AreFrom f n rs → AreNamed ps n (map slot_name rs)
+named_by : (ps : List Payout) (f : List ℕ → Option ℕ) → ((k : List ℕ) → payment_under k ps ≡ f k) → (n : ℕ) (rs : List Share) → AreFrom f n rs → AreNamed ps n (map slot_name rs)
 named_by ps f same n [] are = tt
 named_by ps f same n (r ∷ rs) are = (same r.keyword ∙ are.0, named_by ps f same (n + 1) rs are.1)
 
-pub payouts_named : (n : ℕ) (rs : List Row) → AreApart rs → AreNamed (printed_payouts (payouts_from n rs)) n (map slot_name rs)
+pub payouts_named : (n : ℕ) (rs : List Share) → AreApart rs → AreNamed (printed_payouts (payouts_from n rs)) n (map slot_name rs)
 payouts_named n rs a = named_by (printed_payouts (payouts_from n rs)) (λ k. payment_under k (payouts_from n rs)) (λ k. read_printed k n rs a) n rs (own_from n rs a)

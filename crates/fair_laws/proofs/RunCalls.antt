@@ -5,21 +5,22 @@ use Rattle.std.specs.List.{AllByRecursion}
 use Rattle.std.specs.Str.{bytes_eq}
 use Rattle.std.proofs.Common.{inl, inr, sym, ◌∙◌, ap, subst, arith}
 use Rattle.delivery_laws.specs.call_arguments.Arguments.{arg}
-use Rattle.delivery_laws.proofs.row_laws.Forms.{null_formed}
-use Rattle.delivery_laws.proofs.row_laws.Next.{after_next_of}
+use Rattle.delivery_laws.proofs.rule_laws.Forms.{null_formed}
+use Rattle.delivery_laws.proofs.rule_laws.Next.{after_next_of}
 use Rattle.delivery_laws.specs.rules.Acts.{MayAct}
 use Rattle.delivery_laws.specs.rules.Licence.{IsStored}
-use Rattle.delivery_laws.specs.rules.Obligations.{CanCall, IsRow}
-use Rattle.delivery_laws.specs.rules.Rows.{Outcome}
+use Rattle.delivery_laws.specs.rules.Obligations.{CanCall, IsRule}
+use Rattle.delivery_laws.specs.rules.Outcomes.{Outcome}
 use Rattle.delivery_laws.specs.rules.Traces.{Departure, all_halted, all_open, departure, departures_by, departures_in, movements_in, one_left, openings_by, openings_in}
 use Rattle.delivery_laws.specs.rules.Words.{runs}
-use Rattle.delivery_laws.proofs.row_laws.OpenSeats.{all_own}
+use Rattle.delivery_laws.proofs.rule_laws.OpenSeats.{all_own}
 use Rattle.delivery_laws.specs.turn_records.Names.{object_name}
 use Rattle.delivery_laws.specs.Works.{AreGoodHostCalls}
 use Rattle.delivery_laws.proofs.Asking.{all_have}
 use Rattle.delivery_laws.proofs.Logs.{all_good_untold}
 use Rattle.delivery_laws.proofs.Replies.{call_is}
-use Rattle.delivery_laws.specs.delivery_turns.HostCalls.{call_effects, far_row, send_row, told_call, told_effects, when_row}
+use Rattle.delivery_laws.specs.delivery_turns.HostCalls.{call_effects, told_call, told_effects}
+use Rattle.delivery_laws.specs.rules.PromisesAndFacets.{far_rule, send_rule, when_rule}
 use Rattle.delivery_laws.specs.ertp_mint.Stocks.{most_made}
 use Rattle.delivery_laws.specs.call_arguments.Exits as exits
 use Rattle.fair_laws.specs.Owed.{AreUncalled, HasCause, HaveCauses, IsNoUserSeat, IsUncalled, Owes, ShowsNothing, answered}
@@ -51,9 +52,9 @@ use Rattle.delivery_laws.specs.refusals.declared.codes.Refusal.{Refusal}
 use Rattle.delivery_laws.proofs.refusals.Steps.{after_check, after_need, after_step, ok_has}
 use Rattle.delivery_laws.specs.world_laws.Tables.{table_of}
 use Rattle.serde_json.specs.Data as json
-use Rattle.delivery_laws.specs.rules.Own.{make_empty_seat_kit}
-use Rattle.delivery_laws.specs.rules.Trades as trades
-use Rattle.delivery_laws.specs.rules.Trades.{serve}
+use Rattle.delivery_laws.specs.rules.Zcf.{make_empty_seat_kit}
+use Rattle.delivery_laws.specs.rules.Methods as methods
+use Rattle.delivery_laws.specs.rules.Methods.{serve_own}
 use Rattle.delivery_laws.specs.turn_records.Events as events
 use Rattle.delivery_laws.specs.turn_records.Printed.{named, object, printed_call}
 use Rattle.fair_rows.specs.turn_rows.Causes as causes_of
@@ -125,7 +126,7 @@ IsOwn kinds.Zseat = Unit {0}
 IsOwn kinds.Zmint = Unit {0}
 IsOwn _ = ⊥
 
-own_kind : (w : State) (kind : ObjKind) (n : ℕ) (m : List ℕ) (args : List Tree) (d : Tree × List Effect) → trades.of_kind w kind n m args ≡ Ok d → IsOwn kind
+own_kind : (w : State) (kind : ObjKind) (n : ℕ) (m : List ℕ) (args : List Tree) (d : Tree × List Effect) → methods.of_own_kind w kind n m args ≡ Ok d → IsOwn kind
 own_kind w kinds.Zcf n m args d is = tt
 own_kind w kinds.Zseat n m args d is = tt
 own_kind w kinds.Zmint n m args d is = tt
@@ -189,7 +190,7 @@ record IsKitCall (kind : ObjKind) (n : ℕ) (m : List ℕ) (es : List Effect) : 
 abbrev OpensAs : ObjKind → ℕ → List ℕ → List Effect → Type 0
 OpensAs kind n m es = IsKitCall kind n m es ⊎ (openings_in es ≡ 0)
 
-opens_as : (w : State) (kind : ObjKind) (n : ℕ) (m : List ℕ) (args : List Tree) (answer : Tree) (es : List Effect) → trades.of_kind w kind n m args ≡ Ok (answer, es) → openings_in es ≡ openings_by (object kind n) m → OpensAs kind n m es
+opens_as : (w : State) (kind : ObjKind) (n : ℕ) (m : List ℕ) (args : List Tree) (answer : Tree) (es : List Effect) → methods.of_own_kind w kind n m args ≡ Ok (answer, es) → openings_in es ≡ openings_by (object kind n) m → OpensAs kind n m es
 opens_as w kinds.Zcf n m args answer es is opens = by (bytes_eq m (codes "makeEmptySeatKit")) refl
   where
     by : (b : Bool) → bytes_eq m (codes "makeEmptySeatKit") ≡ b → OpensAs kinds.Zcf n m es
@@ -231,15 +232,15 @@ module _ (owners : Owners) (t : Turn) where
   }
 
   -- a call of a method that is answered
-  module _ (w : State) (i : ℕ) (o : Obj) (m : List ℕ) (args : List Tree) (answer : Tree) (es : List Effect) (is : Holds none_shown owners (Some (named kinds.Instance i)) w) (owes : Owes w []) (runs_none : is_offer t ≡ false) (can : CanCall w (Some i) o args) (served_so : serve w o m args ≡ Ok (answer, es)) (row : IsRow w (Some i) o m args answer es) (reads : IsReadByCall (table_of w.rights) (seats_told w) (printed_call (answered o m args answer))) where
+  module _ (w : State) (i : ℕ) (o : Obj) (m : List ℕ) (args : List Tree) (answer : Tree) (es : List Effect) (is : Holds none_shown owners (Some (named kinds.Instance i)) w) (owes : Owes w []) (runs_none : is_offer t ≡ false) (can : CanCall w (Some i) o args) (served_so : serve_own w o m args ≡ Ok (answer, es)) (row : IsRule w (Some i) o m args answer es) (reads : IsReadByCall (table_of w.rights) (seats_told w) (printed_call (answered o m args answer))) where
     abbrev c : events.Call
     c = answered o m args answer
 
     abbrev behind : State
     behind = after w (note_call c)
 
-    of_kind : trades.of_kind w o.kind o.number m args ≡ Ok (answer, es)
-    unfolding serve
+    of_kind : methods.of_own_kind w o.kind o.number m args ≡ Ok (answer, es)
+    unfolding serve_own
     of_kind = served_so
 
     own : IsOwn o.kind
@@ -369,20 +370,20 @@ module _ (owners : Owners) (t : Turn) (i : Option (List ℕ)) (w : State) (is : 
 -- ---- any call
 
 -- effects that are fit whatever the row shows
-send_fit : (w : State) (i : ℕ) (target : Obj) (m : List ℕ) (args : List Tree) → IfOk (send_row w i target m args) (λ d. (t : Turn) (v : State) → AreFit t none_shown v d.1)
-unfolding send_row
+send_fit : (w : State) (i : ℕ) (target : Obj) (m : List ℕ) (args : List Tree) → IfOk (send_rule w i target m args) (λ d. (t : Turn) (v : State) → AreFit t none_shown v d.1)
+unfolding send_rule
 send_fit w i target m args = after_need (λ d. (t : Turn) (v : State) → AreFit t none_shown v d.1) _ _ _ (λ e. after_next_of (λ d. (t : Turn) (v : State) → AreFit t none_shown v d.1) (promises_made w) most_made _ (λ room t v. (tt, tt)))
 
-when_fit : (w : State) (i : ℕ) (promise : Obj) (f : List ℕ) (held : Tree) → IfOk (when_row w i promise f held) (λ d. (t : Turn) (v : State) → AreFit t none_shown v d.1)
-unfolding when_row
+when_fit : (w : State) (i : ℕ) (promise : Obj) (f : List ℕ) (held : Tree) → IfOk (when_rule w i promise f held) (λ d. (t : Turn) (v : State) → AreFit t none_shown v d.1)
+unfolding when_rule
 when_fit w i promise f held = after_next_of (λ d. (t : Turn) (v : State) → AreFit t none_shown v d.1) (promises_made w) most_made _ (λ room t v. (tt, tt))
 
 -- a facet is made, with the next number
 abbrev IsFar : State → ℕ → List (List ℕ × List ℕ) → Tree → Tree × List Effect → Type 0
 IsFar w i ms held d = d ≡ (object_tree kinds.Facet (length w.facets), make_facet (record { instance = i; methods = ms; held = held }) ∷ [])
 
-far_is : (w : State) (i : ℕ) (ms : List (List ℕ × List ℕ)) (held : Tree) → IfOk (far_row w i ms held) (IsFar w i ms held)
-unfolding far_row
+far_is : (w : State) (i : ℕ) (ms : List (List ℕ × List ℕ)) (held : Tree) → IfOk (far_rule w i ms held) (IsFar w i ms held)
+unfolding far_rule
 far_is w i ms held = after_next_of (IsFar w i ms held) (length w.facets) most_made _ (λ room. refl)
 
 call_can : (w : State) (i : ℕ) (o : Obj) (m : List ℕ) (args : List Tree) → IsGoodWorld w → i < length w.tables.instances → CallHas (IsKnownTo w i) (call o m args) → IsRoomy w.rights.out (2 ^ 63 * cost (call o m args)) → CanCall w (Some i) o args
@@ -401,7 +402,7 @@ module _ (served : AreGoodHostCalls) (reads : CallsRead) (owners : Owners) (t : 
   abbrev Showing : Call → Outcome → Type 0
   Showing c row = AreGood w (told_effects c row) → Shows owners t none_shown ours w (told_effects c row)
 
-  called_row : (o : Obj) (m : List ℕ) (args : List Tree) → CanCall w (Some i) o args → (row : Outcome) → serve w o m args ≡ row → IfOk row (λ d. IsRow w (Some i) o m args d.0 d.1) → Showing (call o m args) row
+  called_row : (o : Obj) (m : List ℕ) (args : List Tree) → CanCall w (Some i) o args → (row : Outcome) → serve_own w o m args ≡ row → IfOk row (λ d. IsRule w (Some i) o m args d.0 d.1) → Showing (call o m args) row
   called_row o m args can (Err r) e so good = refused_shows owners t ours w is owes (call o m args) r
   called_row o m args can (Ok (answer, es)) e so good = answered_shows owners t w i o m args answer es is owes runs_none can e so (reads w i o m args answer es is.steady.counted can e)
 
@@ -428,7 +429,7 @@ module _ (served : AreGoodHostCalls) (reads : CallsRead) (owners : Owners) (t : 
       by : (c : Call) → CallHas (IsKnownTo w i) c → IsRoomy w.rights.out (2 ^ 63 * cost c) → AreGood w (call_effects w i c) → Shows owners t none_shown ours w (call_effects w i c)
       by (call o m args) known room good =
           let can = call_can w i o m args is.good made known room in
-          called_row o m args can (serve w o m args) refl (served w i o m args can) good
-      by (send o m args) known room good = sent_row o m args (send_row w i o m args) (send_fit w i o m args) good
-      by (when o f held) known room good = asked_row o f held (when_row w i o f held) (when_fit w i o f held) good
-      by (far x ms held) known room good = made_row x ms held (far_row w i ms held) (far_is w i ms held) good
+          called_row o m args can (serve_own w o m args) refl (served w i o m args can) good
+      by (send o m args) known room good = sent_row o m args (send_rule w i o m args) (send_fit w i o m args) good
+      by (when o f held) known room good = asked_row o f held (when_rule w i o f held) (when_fit w i o f held) good
+      by (far x ms held) known room good = made_row x ms held (far_rule w i ms held) (far_is w i ms held) good

@@ -3,7 +3,7 @@ use Rattle.std.specs.Prelude.{Option, ◌≡◌, ◌+◌, ◌*◌, ◌-◌, ◌^
 use Rattle.std.specs.List.{AllByRecursion}
 use Rattle.std.proofs.Common.{sym, ◌∙◌, ap, subst, arith}
 use Rattle.std.proofs.lemmas.List.{append-nil}
-use Rattle.delivery_laws.proofs.row_laws.Calls.{calls_are}
+use Rattle.delivery_laws.proofs.rule_laws.Methods.{calls_are}
 use Rattle.delivery_laws.specs.Works.{AreGoodHostCalls, Evaluates}
 use Rattle.delivery_laws.proofs.Asking.{replies_so}
 use Rattle.delivery_laws.proofs.Replies.{call_is}

@@ -14,7 +14,7 @@ use Rattle.fair_rows.specs.Seats as told
 use Rattle.fair_rows.specs.Seats.{IsOpen, IsSafe}
 use Rattle.fair_rows.specs.Steps.{ShowsRows, World}
 use Rattle.fair_rows.proofs.Acts.{acts_show_rows}
-use Rattle.delivery_laws.specs.proposals.declared.allocations.Row.{Row}
+use Rattle.delivery_laws.specs.proposals.declared.allocations.Share.{Share}
 use Rattle.delivery_laws.specs.world_laws.Tables.{table_of}
 use Rattle.fair_rows.specs.turn_rows.Turns as rows
 use Rattle.fair_rows.specs.turn_rows.Turns.{Opening, Turn}
@@ -28,7 +28,7 @@ use Rattle.fair_laws.specs.Views.{owners_told, world_in}
 
 -- ---- seats by number, as rows tell them
 
-none_past : (q n : ℕ) (ss : List Seat) (slots : List (List Row)) → length ss ≤ n → slice_get (seats_from q ss slots) n ≡ None
+none_past : (q n : ℕ) (ss : List Seat) (slots : List (List Share)) → length ss ≤ n → slice_get (seats_from q ss slots) n ≡ None
 none_past q n [] slots le = refl
 none_past q n (s ∷ ss) [] le = refl
 none_past q zero (s ∷ ss) (rows ∷ rest) le = absurd (omega (arith, le))
@@ -53,7 +53,7 @@ seat_is w n s good got = by (nat_lt n (length w.seats)) refl
     by false high = let none = none_past 0 n w.seats w.rights.slots (ltb-false n (length w.seats) high) in cc
 
 -- one that is told open is open
-open_by : (last : Option (List Row)) → option_map (map slot_content) last ≡ None → last ≡ None
+open_by : (last : Option (List Share)) → option_map (map slot_content) last ≡ None → last ≡ None
 open_by None e = refl
 open_by (Some rows) e = cc
 

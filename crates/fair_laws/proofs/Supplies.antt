@@ -4,7 +4,7 @@ use Rattle.std.proofs.Common.{inl, inr, sym, ◌∙◌, ap, subst, arith}
 use Rattle.std.proofs.lemmas.Bool.{cases_eq, eq-eqb, ne_eqb}
 use Rattle.fair_rows.specs.amount_math.Content.{Contains, Content, count, count-difference, count-sum, nothing-sum, same_content, sum, sum-assoc}
 use Rattle.fair_rows.specs.amount_math.Counted.{counted, counted-nothing, counted-sum}
-use Rattle.fair_rows.specs.amount_math.Worth.{Worth}
+use Rattle.fair_rows.specs.amount_math.ValueView.{ValueView}
 use Rattle.fair_rows.specs.amount_math.declared.Kind.{Kind}
 use Rattle.fair_rows.specs.amount_math.declared.Kind.TheVariants.{Nat}
 use Rattle.delivery_laws.specs.ertp_mint.BrandSupply.{BrandSupply, issued, new_supply, retired, supply_at}
@@ -55,7 +55,7 @@ module _ (l : List BrandSupply) (b e : ℕ) (c : Content) (lt : b < length l) wh
       by (inl at) = subst (λ t. f (cond t x (supply_at l e)) ≡ f (supply_at l e) + cond t n 0) (sym (eq-eqb b e at)) (is ∙ ap (λ q. f (supply_at l q) + n) at)
       by (inr apart) = subst (λ t. f (cond t x (supply_at l e)) ≡ f (supply_at l e) + cond t n 0) (sym (ne_eqb b e apart)) (omega arith)
 
-module _ (r : Rights) (b : ℕ) (w : Worth) (lt : b < length r.out) (e : ℕ) where
+module _ (r : Rights) (b : ℕ) (w : ValueView) (lt : b < length r.out) (e : ℕ) where
   out_taken : (h : Holder) (k : List ℕ) → count (out_of (taken r h b w) e) k ≡ count (out_of r e) k + part h b e (count w.content k)
   out_taken Outside k = issued_out r.out b e w.content lt k
   out_taken (Purse n) k = omega arith
@@ -106,7 +106,7 @@ module _ (r : Rights) (b : ℕ) (w : Worth) (lt : b < length r.out) (e : ℕ) wh
   burned_given (Slot s q) = omega arith
   burned_given Hand = omega arith
 
-out_as_many : (r : Rights) (h : Holder) (b : ℕ) (w : Worth) → length (taken r h b w).out ≡ length r.out
+out_as_many : (r : Rights) (h : Holder) (b : ℕ) (w : ValueView) → length (taken r h b w).out ≡ length r.out
 out_as_many r Outside b w = length_set r.out b _
 out_as_many r (Purse n) b w = refl
 out_as_many r (Payment n) b w = refl

@@ -13,7 +13,7 @@ use Rattle.fair_rows.specs.ExitCauses.{cause_by_calls, either, since_opening, wh
 use Rattle.delivery_laws.specs.actors.SeatPromises.{pair_at}
 use Rattle.delivery_laws.proofs.lemmas.ListEdits.{length_set, read_other, read_set}
 use Rattle.delivery_laws.specs.promise_store.States.{SettlementView, ok}
-use Rattle.delivery_laws.specs.proposals.declared.allocations.Row.{Row}
+use Rattle.delivery_laws.specs.proposals.declared.allocations.Share.{Share}
 use Rattle.fair_rows.specs.rights_model.declared.Movement.{Movement}
 use Rattle.delivery_laws.specs.turn_records.Events as events
 use Rattle.delivery_laws.specs.turn_records.Events.{Call, Event, Leaving}
@@ -219,7 +219,7 @@ causes_called w c all =
 
 -- ---- nothing is left to be done that calls show
 
-some_rows : (xs : List Row) → Some xs ≡ None → ⊥
+some_rows : (xs : List Share) → Some xs ≡ None → ⊥
 some_rows xs e = cc
 
 module _ (w : State) (s : ℕ) (cause : Cause) (opens : IsOpen (seat_at w.seats s)) where

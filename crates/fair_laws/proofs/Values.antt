@@ -2,7 +2,7 @@
 use Rattle.std.specs.Prelude.{◌≡◌, refl}
 use Rattle.std.proofs.Common.{◌∙◌, ap}
 use Rattle.fair_rows.specs.amount_math.Content.{Content}
-use Rattle.fair_rows.specs.amount_math.Worth.{IsValue, Worth}
+use Rattle.fair_rows.specs.amount_math.ValueView.{IsValue, ValueView}
 use Rattle.fair_rows.specs.amount_math.declared.Kind.{Kind}
 use Rattle.fair_rows.specs.amount_math.declared.Kind.TheVariants.{Nat, Set, Bag}
 use Rattle.delivery_laws.specs.turn_records.Values.{printed_content, printed_value}
@@ -18,7 +18,7 @@ printed_is Nat c = refl
 printed_is Set c = refl
 printed_is Bag c = refl
 
-pub told_content : (w : Worth) → IsValue w.kind w.content → content_of (printed_value w) ≡ w.content
+pub told_content : (w : ValueView) → IsValue w.kind w.content → content_of (printed_value w) ≡ w.content
 told_content w is = ap content_of (printed_is w.kind w.content) ∙ whole w.kind w.content is
 
 pub told_moved : (t : Table) (m : Movement) → IsValue m.value.kind m.value.content → moved t (movement_of (printed_move m)) ≡ moved t m

@@ -26,12 +26,12 @@ use Rattle.fair_rows.specs.Turns.{IsCaused}
 use Rattle.delivery_laws.specs.actors.Facets.{FacetView}
 use Rattle.delivery_laws.specs.actors.Tables.{Tables}
 use Rattle.delivery_laws.specs.promise_store.States.{SettlementView}
-use Rattle.delivery_laws.specs.proposals.declared.allocations.Row.{Row}
+use Rattle.delivery_laws.specs.proposals.declared.allocations.Share.{Share}
 use Rattle.delivery_laws.specs.refusals.declared.codes.Refusal.{Refusal}
 use Rattle.fair_rows.specs.rights_model.declared.Sum.{Sum}
 use Rattle.serde_json.specs.Data as json
-use Rattle.delivery_laws.specs.row_laws.GoodServices.{AreGoodServices}
-use Rattle.delivery_laws.specs.rules.ZoeRows.{TextReader}
+use Rattle.delivery_laws.specs.rule_laws.GoodServices.{AreGoodServices}
+use Rattle.delivery_laws.specs.rules.Zoe.{TextReader}
 use Rattle.delivery_laws.specs.turn_records.Settlements.{settled_after}
 use Rattle.delivery_laws.specs.turn_records.Deliveries as deliveries
 use Rattle.delivery_laws.specs.turn_records.Deliveries.{Delivery, Reading}
@@ -45,7 +45,7 @@ use Rattle.delivery_laws.specs.world_state.Good.{AreGood, IsGoodWorld}
 use Rattle.delivery_laws.specs.world_state.Rights.{IsRoomy, Rights, most_issued, most_turns, slots_at}
 use Rattle.delivery_laws.specs.world_state.Worlds as worlds
 use Rattle.delivery_laws.specs.world_state.Worlds.{Effect, Seat, State, after, after_all, behind, in_front, no_seat, seat_at}
-use Rattle.delivery_laws.specs.rules.Host.{serve as serve_call}
+use Rattle.delivery_laws.specs.rules.Methods.{serve as serve_call}
 use Rattle.fair_laws.specs.Reads.{CallsRead, ServicesRead}
 use Rattle.fair_laws.specs.Turns.{IsTurnStep}
 use Rattle.fair_laws.specs.Steps.{AccountsFor, ShowsSeats, TellsLog}
@@ -235,7 +235,7 @@ still_steady x y seats tables facets rights is = record {
     purses = subst (λ (l : Rights). length l.purses ≤ most_made) (sym rights) is.counted.purses;
   };
   left = record {
-    each = subst (λ (p : List Seat × Rights). (n : ℕ) (rows : List Row) → n < length p.0 → (seat_at p.0 n).last ≡ Some rows → map slot_name (slots_at p.1.slots n) ≡ map slot_name rows) (λ i. (sym seats i, sym rights i)) is.left.each;
+    each = subst (λ (p : List Seat × Rights). (n : ℕ) (rows : List Share) → n < length p.0 → (seat_at p.0 n).last ≡ Some rows → map slot_name (slots_at p.1.slots n) ≡ map slot_name rows) (λ i. (sym seats i, sym rights i)) is.left.each;
   };
 }
 

@@ -4,15 +4,15 @@ use Rattle.std.specs.Prelude.{◌≡◌, ◌≢◌, ◌-◌, ◌+◌, ◌^◌, �
 use Rattle.std.specs.List.{AllByRecursion}
 use Rattle.std.specs.Str.{bytes_eq}
 use Rattle.std.proofs.Common.{inl, inr, sym, ◌∙◌, ap, subst, arith}
-use Rattle.delivery_laws.proofs.row_laws.Forms.{null_formed, object_formed}
-use Rattle.delivery_laws.proofs.row_laws.Shown.{handed_held}
+use Rattle.delivery_laws.proofs.rule_laws.Forms.{null_formed, object_formed}
+use Rattle.delivery_laws.proofs.rule_laws.Shown.{handed_held}
 use Rattle.delivery_laws.specs.rules.Acts.{MayAct}
 use Rattle.delivery_laws.specs.rules.Licence.{IsStored}
-use Rattle.delivery_laws.specs.rules.Obligations.{CanCall, IsRow}
-use Rattle.delivery_laws.specs.rules.Rows.{Outcome}
+use Rattle.delivery_laws.specs.rules.Obligations.{CanCall, IsRule}
+use Rattle.delivery_laws.specs.rules.Outcomes.{Outcome}
 use Rattle.delivery_laws.specs.rules.Traces.{Departure, all_open, departure, departures_as, departures_by, departures_in, movements_in, one_left, openings_as, openings_in}
 use Rattle.delivery_laws.specs.rules.Words.{has_halted, standing_of}
-use Rattle.delivery_laws.proofs.row_laws.OpenSeats.{all_own}
+use Rattle.delivery_laws.proofs.rule_laws.OpenSeats.{all_own}
 use Rattle.delivery_laws.specs.turn_records.Names.{object_name}
 use Rattle.delivery_laws.specs.Works.{AreGoodHostCalls, IsTurnWork, most_meter}
 use Rattle.delivery_laws.proofs.Asking.{evaluates, have_all}
@@ -24,7 +24,7 @@ use Rattle.delivery_laws.specs.delivery_turns.Endings.{ending}
 use Rattle.delivery_laws.specs.delivery_turns.Functions.{FunctionCall, Run, ended, function_run, module_play, ran_out, run}
 use Rattle.delivery_laws.specs.delivery_turns.Tasks as tasks
 use Rattle.delivery_laws.specs.delivery_turns.Messages.{Addressed, addressed, gift_of, sent_to}
-use Rattle.delivery_laws.specs.delivery_turns.Tasks.{Beginning, Task, Work, answer_of_ending, beginning, call_beginning, do_all, exit_if_open, exits_with, facet_task, function_behind, gift_beginning, halt_with, handler_call, method_task, notice_call, refuse, row_work, run_task, run_work, serve, settlement_of, start_call, task_on, task_work, tick_task, wakeup_call}
+use Rattle.delivery_laws.specs.delivery_turns.Tasks.{Beginning, Task, Work, answer_of_ending, beginning, call_beginning, do_all, exit_if_open, exits_with, facet_task, function_behind, gift_beginning, halt_with, handler_call, method_task, notice_call, refuse, outcome_work, run_task, run_work, serve, settlement_of, start_call, task_on, task_work, tick_task, wakeup_call}
 use Rattle.fair_laws.specs.Owed.{Owes}
 use Rattle.fair_laws.proofs.Others.{owes_at_start}
 use Rattle.fair_laws.proofs.Shown.{either_none}
@@ -50,8 +50,8 @@ use Rattle.delivery_laws.specs.refusals.Codes.{closed, code_of, local_only, no_m
 use Rattle.delivery_laws.specs.refusals.declared.codes.Refusal.{Refusal}
 use Rattle.fair_rows.specs.rights_model.declared.Sum.{Sum}
 use Rattle.serde_json.specs.Data as json
-use Rattle.delivery_laws.specs.row_laws.GoodServices.{AreGoodServices}
-use Rattle.delivery_laws.specs.rules.ZoeRows.{TextReader}
+use Rattle.delivery_laws.specs.rule_laws.GoodServices.{AreGoodServices}
+use Rattle.delivery_laws.specs.rules.Zoe.{TextReader}
 use Rattle.delivery_laws.specs.turn_records.Deliveries as deliveries
 use Rattle.delivery_laws.specs.turn_records.Deliveries.{Delivery, Offer, Reading, Start}
 use Rattle.delivery_laws.specs.turn_records.Messages.{LineGift}
@@ -72,7 +72,7 @@ use Rattle.delivery_laws.specs.world_state.Good.{AreGood, IsFacet, IsGoodWorld}
 use Rattle.delivery_laws.specs.world_state.Known.{IsHanded, IsKnownTo, WasLeft, made_as, module_of}
 use Rattle.delivery_laws.specs.world_state.Rights.{IsRoomy, most_issued}
 use Rattle.delivery_laws.specs.world_state.Worlds.{Effect, IsOpen, Seat, State, after, after_all, bind_label, burn_and_escrows, set_time, empty_seat, exit, in_front, keep_state, make_facet, moves, note_call, offer, seat_at}
-use Rattle.delivery_laws.specs.rules.Host.{serve as serve_call}
+use Rattle.delivery_laws.specs.rules.Methods.{serve as serve_call}
 use Rattle.fair_laws.specs.Reads.{CallsRead, ServicesRead}
 use Rattle.fair_laws.specs.Views.{IsSteady, owners_from, owners_told}
 use Rattle.fair_laws.proofs.RunCalls.{act_no_facet, first_all, second_all}
@@ -336,7 +336,7 @@ module _ (read : TextReader) (served : AreGoodServices (serve_call read)) (calle
     wide : o.kind ≡ kinds.Seat → o.number < 2 ^ 128
     wide e = let made : o.number < length w.seats = subst (λ x. made_as w x o.number) e known in omega (arith, made, steady.counted.seats)
 
-    answered_turn : (answer : Tree) (es : List Effect) → CanCall w None o args → serve_call read w o m args ≡ Ok (answer, es) → IsRow w None o m args answer es → Turns at (given answer) es
+    answered_turn : (answer : Tree) (es : List Effect) → CanCall w None o args → serve_call read w o m args ≡ Ok (answer, es) → IsRule w None o m args answer es → Turns at (given answer) es
     answered_turn answer es can so is = record {
       shows = fits at (given answer) es is.good (row_fit (turn at (given answer)) (row at (given answer)) w o m w es is.acts is.stored
           (opens_by answer (openings_in es) o.kind refl known is.opens)
@@ -358,7 +358,7 @@ module _ (read : TextReader) (served : AreGoodServices (serve_call read)) (calle
     undated : IsUndated (kind_of d at)
     undated = subst IsUndated (sym (kind_is (given null))) tt
 
-    served_turn : (outcome : Outcome) → CanCall w None o args → serve_call read w o m args ≡ outcome → IfOk outcome (λ x. IsRow w None o m args x.0 x.1) → TurnsBy at (row_work outcome)
+    served_turn : (outcome : Outcome) → CanCall w None o args → serve_call read w o m args ≡ outcome → IfOk outcome (λ x. IsRule w None o m args x.0 x.1) → TurnsBy at (outcome_work outcome)
     served_turn (Err e) can so is = refused_turn at e undated
     served_turn (Ok (answer, es)) can so is = answered_turn answer es can so is
 

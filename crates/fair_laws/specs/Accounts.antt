@@ -5,14 +5,14 @@ use Rattle.fair_rows.specs.amount_math.Content.{Content, sum}
 use Rattle.fair_rows.specs.amount_math.Counted.{counted}
 use Rattle.delivery_laws.specs.ertp_mint.BrandSupply.{BrandSupply, supply_at}
 use Rattle.fair_rows.specs.Movements.{names, takes_from}
-use Rattle.delivery_laws.specs.holders.Papers.{Paper}
-use Rattle.delivery_laws.specs.right_steps.Lists.{amount_of}
+use Rattle.delivery_laws.specs.holders.PaymentViews.{PaymentView}
+use Rattle.delivery_laws.specs.vault_model.Lists.{amount_of}
 use Rattle.fair_rows.specs.rights_model.Supply.{burned, minted}
 use Rattle.fair_rows.specs.rights_model.Table as table
 use Rattle.fair_rows.specs.rights_model.Table.{table_after}
 use Rattle.fair_rows.specs.rights_model.declared.Movement.{Movement}
 use Rattle.delivery_laws.specs.turn_records.Events.{Event, Opening, moved, moves_in, opened}
-use Rattle.delivery_laws.specs.world_state.Good.{AreRowsOf, AreRowsValued, IsOfKind, IsValued}
+use Rattle.delivery_laws.specs.world_state.Good.{AreSharesOf, AreSharesValued, IsOfKind, IsValued}
 use Rattle.delivery_laws.specs.world_state.Rights.{Rights}
 use Rattle.delivery_laws.specs.world_state.Worlds.{Effect, State, moves}
 use Rattle.delivery_laws.specs.world_laws.Tables.{table_of}
@@ -28,7 +28,7 @@ abbrev pub burned_of : Rights → ℕ → ℕ
 burned_of r b = (supply_at r.out b).burned
 
 -- a payment that was made, and that has been taken from
-abbrev pub is_taken : List Paper → ℕ → Bool
+abbrev pub is_taken : List PaymentView → ℕ → Bool
 is_taken [] p = false
 is_taken (x ∷ xs) zero = is_none x.held
 is_taken (x ∷ xs) (suc p) = is_taken xs p
@@ -55,10 +55,10 @@ pub record IsKnownMove (out : List BrandSupply) (m : Movement) : Type 0 where
   pub value : IsValued m.value
 
 pub record IsKnownOpening (out : List BrandSupply) (o : Opening) : Type 0 where
-  pub gives : AreRowsOf out o.proposal.give
-  pub wants : AreRowsOf out o.proposal.want
-  pub give_valued : AreRowsValued o.proposal.give
-  pub want_valued : AreRowsValued o.proposal.want
+  pub gives : AreSharesOf out o.proposal.give
+  pub wants : AreSharesOf out o.proposal.want
+  pub give_valued : AreSharesValued o.proposal.give
+  pub want_valued : AreSharesValued o.proposal.want
 
 abbrev pub IsKnownEvent : List BrandSupply → Event → Type 0
 IsKnownEvent out (moved m) = IsKnownMove out m

@@ -15,8 +15,8 @@ pub use Rattle.delivery_laws.specs.ertp_mint
 pub use Rattle.fair_rows.specs as fair_rows
 pub use Rattle.delivery_laws.specs.jessie_grammar
 pub use Rattle.delivery_laws.specs.jessie_semantics
-pub use Rattle.delivery_laws.specs.right_steps
-pub use Rattle.delivery_laws.specs.row_laws
+pub use Rattle.delivery_laws.specs.vault_model
+pub use Rattle.delivery_laws.specs.rule_laws
 pub use Rattle.delivery_laws.specs.rules
 pub use Rattle.delivery_laws.specs.turn_writer
 pub use Rattle.delivery_laws.specs.world_laws

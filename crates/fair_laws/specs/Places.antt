@@ -2,7 +2,7 @@
 use Rattle.std.specs.Prelude.{ℕ, suc, List, [], ◌∷◌, length, map}
 use Rattle.std.specs.Option.{option_map}
 use Rattle.fair_rows.specs.amount_math.Content.{Content}
-use Rattle.delivery_laws.specs.proposals.declared.allocations.Row.{Row}
+use Rattle.delivery_laws.specs.proposals.declared.allocations.Share.{Share}
 use Rattle.fair_rows.specs.Acts.{Place}
 use Rattle.fair_rows.specs.Seats as told
 use Rattle.fair_rows.specs.Seats.{SlotName}
@@ -13,10 +13,10 @@ use Rattle.delivery_laws.specs.world_state.Worlds.{Seat, State}
 use Rattle.delivery_laws.specs.world_laws.Tables.{table_of}
 
 -- a slot's keyword with its brand, and what the slot has
-abbrev pub slot_name : Row → SlotName
+abbrev pub slot_name : Share → SlotName
 slot_name r = record { keyword = r.keyword; brand = r.amount.brand }
 
-abbrev pub slot_content : Row → Content
+abbrev pub slot_content : Share → Content
 slot_content r = r.amount.value.content
 
 -- a seat, by its number, with its slots
@@ -24,7 +24,7 @@ abbrev pub opening_told : ℕ → Seat → rows.Opening
 opening_told n seat =
     printed_opening (record { seat = n; instance = seat.instance; proposal = seat.proposal })
 
-abbrev pub seat_told : ℕ → Seat → List Row → told.Seat
+abbrev pub seat_told : ℕ → Seat → List Share → told.Seat
 seat_told n seat slots = record {
   opening = opening_told n seat;
   slots = map slot_name slots;
@@ -32,7 +32,7 @@ seat_told n seat slots = record {
 }
 
 -- seats, numbered from n
-abbrev pub seats_from : ℕ → List Seat → List (List Row) → List told.Seat
+abbrev pub seats_from : ℕ → List Seat → List (List Share) → List told.Seat
 seats_from n [] slots = []
 seats_from n (s ∷ ss) [] = []
 seats_from n (s ∷ ss) (rows ∷ rest) = seat_told n s rows ∷ seats_from (suc n) ss rest

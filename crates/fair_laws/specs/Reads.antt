@@ -9,19 +9,18 @@ use Rattle.fair_rows.specs.Amounts.{IsReadByCall, IsReadByTurn}
 use Rattle.delivery_laws.specs.host_data.Tree.{Tree}
 use Rattle.delivery_laws.specs.host_data.declared.data.Obj.{Obj}
 use Rattle.delivery_laws.specs.world_laws.Tables.{table_of}
-use Rattle.delivery_laws.specs.rules.ZoeRows.{TextReader}
-use Rattle.delivery_laws.specs.rules.Trades.{serve}
+use Rattle.delivery_laws.specs.rules.Zoe.{TextReader}
+use Rattle.delivery_laws.specs.rules.Methods.{serve as service, serve_own}
 use Rattle.delivery_laws.specs.turn_records.Printed.{printed_call, printed_trees}
 use Rattle.fair_rows.specs.turn_rows.Turns.{Turn, ok}
 use Rattle.delivery_laws.specs.world_state.Worlds.{Effect, State}
-use Rattle.delivery_laws.specs.rules.Host.{serve as service}
 use Rattle.fair_laws.specs.Views.{IsCounted, IsSteady}
 
 -- by a call of an instance's function
 abbrev pub CallsRead : Type 0
 CallsRead =
     (w : State) (i : ℕ) (o : Obj) (m : List ℕ) (args : List Tree) (answer : Tree) (es : List Effect)
-    → IsCounted w → CanCall w (Some i) o args → serve w o m args ≡ Ok (answer, es)
+    → IsCounted w → CanCall w (Some i) o args → serve_own w o m args ≡ Ok (answer, es)
     → IsReadByCall (table_of w.rights) (seats_told w) (printed_call (answered o m args answer))
 
 -- a turn in which a method of an object was called, and answered

@@ -3,7 +3,7 @@ use Rattle.std.specs.Prelude.{◌≡◌, ◌<◌, ◌≤◌, ℕ, ◌+◌, true,
 use Rattle.std.specs.List.{AllByRecursion, flat_map}
 use Rattle.fair_rows.specs.amount_math.Content.{nothing, sum}
 use Rattle.fair_rows.specs.amount_math.Counted.{counted as size}
-use Rattle.fair_rows.specs.amount_math.Worth.{Fits}
+use Rattle.fair_rows.specs.amount_math.ValueView.{Fits}
 use Rattle.delivery_laws.specs.delivery_turns.Hosts.{sums_of}
 use Rattle.fair_laws.specs.Places.{rows_of}
 use Rattle.fair_rows.specs.Movements.{movements_in, names, takes_from}

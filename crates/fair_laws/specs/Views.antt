@@ -9,7 +9,7 @@ use Rattle.fair_rows.specs.ExitCauses.{Owners}
 use Rattle.fair_rows.specs.Steps.{World}
 use Rattle.delivery_laws.specs.actors.Facets.{FacetView}
 use Rattle.delivery_laws.specs.host_data.declared.data.ObjKind.TheVariants.{Facet, Instance}
-use Rattle.delivery_laws.specs.proposals.declared.allocations.Row.{Row}
+use Rattle.delivery_laws.specs.proposals.declared.allocations.Share.{Share}
 use Rattle.delivery_laws.specs.world_laws.Tables.{table_of}
 use Rattle.delivery_laws.specs.turn_records.Printed.{named}
 use Rattle.delivery_laws.specs.world_state.Rights.{kind_at, slots_at}
@@ -51,7 +51,7 @@ pub record IsCounted (w : State) : Type 0 where
 
 -- the slots of a seat that was left have the names that they had then
 pub record LeftNamed (w : State) : Type 0 where
-  pub each : (n : ℕ) (rows : List Row) → n < length w.seats → (seat_at w.seats n).last ≡ Some rows
+  pub each : (n : ℕ) (rows : List Share) → n < length w.seats → (seat_at w.seats n).last ≡ Some rows
       → map slot_name (slots_at w.rights.slots n) ≡ map slot_name rows
 
 -- both hold of a host's world, whatever is delivered

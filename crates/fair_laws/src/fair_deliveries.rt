@@ -8,7 +8,7 @@ ghost use Rattle.fair_rows.specs.SoFar.{nothing_so_far};
 ghost use Rattle.fair_rows.specs.Steps.{Leaves, so_far_after};
 ghost use Rattle.fair_rows.specs.Turns.{AreFair};
 ghost use Rattle.fair_laws.specs.Views.{IsSteady, world_of};
-ghost use Rattle.delivery_laws.specs.rules.ZoeRows.{ReadsModules, TextReader};
+ghost use Rattle.delivery_laws.specs.rules.Zoe.{ReadsModules, TextReader};
 ghost use Rattle.fair_rows.specs.turn_rows.Turns.{Turn};
 ghost use Rattle.delivery_laws.specs.world_state.Rights.{most_turns};
 

@@ -1,6 +1,6 @@
 //! Laws of what is answered. The bodies are empty: what they state is proved of the definitions.
 
-ghost use Rattle.delivery_laws.specs.rules.ZoeRows.{TextReader};
+ghost use Rattle.delivery_laws.specs.rules.Zoe.{TextReader};
 ghost use Rattle.fair_laws.specs.Reads.{CallsRead, ServicesRead};
 
 /// What a call of an instance's function answers of a seat's allocation, or of one of its slots, is what is held.

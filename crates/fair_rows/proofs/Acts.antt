@@ -6,7 +6,7 @@ use Rattle.std.specs.Str.{bytes_eq}
 use Rattle.std.proofs.lemmas.Bool.Decides.{nat_tests}
 use Rattle.std.proofs.lemmas.List.Folds.{list_any-append}
 use Rattle.std.proofs.lemmas.Slice.Eq.{bytes_eq-Decides}
-use Rattle.turn_rows.specs.amount_math.Worth.{IsValue}
+use Rattle.turn_rows.specs.amount_math.ValueView.{IsValue}
 use Rattle.turn_rows.specs.amount_math.declared.Kind.{Kind}
 use Rattle.turn_rows.specs.rights_model.Table.{Table, holds, table_after}
 use Rattle.turn_rows.specs.rights_model.declared.Holder.TheVariants.{Outside, Payment, Slot}

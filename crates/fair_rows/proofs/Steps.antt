@@ -4,7 +4,7 @@ use Rattle.std.specs.List.{AllByRecursion, flat_map}
 use Rattle.std.proofs.lemmas.List.Folds.{list_any-append}
 use Rattle.turn_rows.specs.amount_math.Content.{difference, difference-sum, nothing, nothing-sum, sum, sum-assoc, sum-comm}
 use Rattle.turn_rows.specs.amount_math.Counted.{counted as size, counted-sum}
-use Rattle.turn_rows.specs.amount_math.Worth.{Fits}
+use Rattle.turn_rows.specs.amount_math.ValueView.{Fits}
 use Rattle.turn_rows.specs.amount_math.declared.Kind.{Kind}
 use Rattle.turn_rows.proofs.rights_model.SupplyLaws.{balanced_after}
 use Rattle.turn_rows.specs.rights_model.Supply.{Balanced, burned, is_outside, minted, moved_where, supply}

@@ -7,7 +7,7 @@ use Rattle.std.specs.Ordering.{is_eq}
 use lib.Dec.{T}
 use Rattle.turn_rows.specs.amount_math.Content.{Content, count-of_entries, entries, is_zero, key_cmp, of_entries, of_entries-entries, same_content}
 use Rattle.turn_rows.specs.amount_math.Sparse.{is_something}
-use Rattle.turn_rows.specs.amount_math.Worth.{IsValue}
+use Rattle.turn_rows.specs.amount_math.ValueView.{IsValue}
 use Rattle.turn_rows.specs.amount_math.declared.Kind.{Kind}
 use Rattle.turn_rows.specs.amount_math.declared.Kind.TheVariants.{Nat, Set, Bag}
 use Rattle.turn_rows.specs.Turns.{counted, key}

@@ -1,7 +1,7 @@
 -- What a host does in a turn, act by act, in terms of its own world, and the laws that the rows of its acts are in place.
 use Rattle.std.specs.Prelude.{◌≡◌, ◌≤◌, ℕ, ◌+◌, ◌==◌, true, false, List, [], ◌∷◌, ◌++◌, Some, length, map}
 use Rattle.std.specs.List.{AllByRecursion, flat_map}
-use Rattle.turn_rows.specs.amount_math.Worth.{IsValue}
+use Rattle.turn_rows.specs.amount_math.ValueView.{IsValue}
 use Rattle.turn_rows.specs.amount_math.declared.Kind.{Kind}
 use Rattle.turn_rows.specs.rights_model.Table.{Table, holds, moved as table_moved, table_after}
 use Rattle.turn_rows.specs.rights_model.declared.Holder.TheVariants.{Payment, Slot}

@@ -3,7 +3,7 @@ use Rattle.std.specs.Prelude.{◌≡◌, ◌≢◌, ℕ, List, [], ◌∷◌, Op
 use Rattle.std.specs.List.{AllZip, slice_get}
 use Rattle.std.specs.Str.{bytes_eq}
 use Rattle.turn_rows.specs.amount_math.Content.{Content, nothing}
-use Rattle.turn_rows.specs.amount_math.Worth.{IsValue}
+use Rattle.turn_rows.specs.amount_math.ValueView.{IsValue}
 use Rattle.turn_rows.specs.amount_math.declared.Kind.{Kind}
 use Rattle.turn_rows.specs.rights_model.Table.{Table, holds}
 use Rattle.turn_rows.specs.rights_model.declared.Holder.{Holder}

@@ -3,7 +3,7 @@ use Rattle.std.specs.Prelude.{◌≡◌, ◌<◌, ◌≤◌, ℕ, ◌+◌, Bool,
 use Rattle.std.specs.List.{AllByRecursion, flat_map}
 use Rattle.turn_rows.specs.amount_math.Content.{Content, nothing, sum}
 use Rattle.turn_rows.specs.amount_math.Counted.{counted as size}
-use Rattle.turn_rows.specs.amount_math.Worth.{Fits}
+use Rattle.turn_rows.specs.amount_math.ValueView.{Fits}
 use Rattle.turn_rows.specs.amount_math.declared.Kind.{Kind}
 use Rattle.turn_rows.specs.rights_model.Supply.{burned, minted}
 use Rattle.turn_rows.specs.rights_model.Table.{CanMoveAll, Table, holds, no_holdings, table_after}

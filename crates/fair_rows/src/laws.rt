@@ -2,7 +2,7 @@
 
 ghost use Rattle.std.specs.Prelude.{◌≡◌, List, []};
 ghost use Rattle.turn_rows.specs.amount_math.Content.{Content};
-ghost use Rattle.turn_rows.specs.amount_math.Worth.{IsValue};
+ghost use Rattle.turn_rows.specs.amount_math.ValueView.{IsValue};
 ghost use Rattle.turn_rows.specs.amount_math.declared.Kind.{Kind};
 ghost use Rattle.turn_rows.specs.Turns.{Event, Turn};
 ghost use Rattle.fair_rows.specs.Acts.{ActsShowRows, ExitIsAct, OfferIsAct, Place, SinglesAreActs};

@@ -5,7 +5,7 @@ use Rattle.std.proofs.lemmas.Fmt.{decimal_digit}
 use Rattle.std.specs.Prelude.{MatchBool}
 use Rattle.std.specs.Cmp.Lexicographic.{bytes_decides}
 use Rattle.std.specs.Fmt.{decimal, digit_glyph, digits, digits_onto}
-use Rattle.fair_rows.specs.amount_math.Worth.{IsValue}
+use Rattle.fair_rows.specs.amount_math.ValueView.{IsValue}
 use Rattle.fair_rows.specs.amount_math.declared.Kind.{Kind}
 use Rattle.fair_rows.specs.rights_model.Supply.{is_outside}
 use Rattle.fair_rows.specs.rights_model.Table.{Table, holds}

@@ -1,5 +1,5 @@
 -- Each list breaks its own sentence.
-use Rattle.fair_rows.specs.amount_math.Worth.{bound}
+use Rattle.fair_rows.specs.amount_math.ValueView.{bound}
 use Rattle.std.proofs.Common.{◌≡◌, ◌≢◌, ◌≤◌, ◌⊎◌, ◌+◌, ℕ, Bool, true, false, cond, List, [], ◌∷◌, ◌++◌, map, length, is_some, codes, Option, Some, None, refl, sym, ap, subst, ◌∙◌, inl, inr, arith}
 use Rattle.std.proofs.lemmas.Bool.{cases_Bool, cases_eq, true≢false}
 use Rattle.std.specs.Fmt.{digits}

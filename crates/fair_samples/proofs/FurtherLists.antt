@@ -4,7 +4,7 @@ use Rattle.std.proofs.lemmas.Bool.{and_parts, true≢false}
 use Rattle.std.specs.Fmt.{digits}
 use Rattle.std.specs.List.{AllByRecursion, list_all}
 use Rattle.fair_rows.specs.amount_math.Content.{count, count-difference, count-of_nat_unit, unit}
-use Rattle.fair_rows.specs.amount_math.Worth.{bound}
+use Rattle.fair_rows.specs.amount_math.ValueView.{bound}
 use Rattle.fair_rows.specs.amount_math.declared.Kind.{Kind}
 use Rattle.fair_rows.specs.amount_math.declared.Kind.TheVariants.{Bag, Nat, Set}
 use Rattle.fair_rows.specs.rights_model.Supply.{burned, is_outside, minted, supply}

@@ -13,7 +13,7 @@ use Rattle.serde_json.specs.Read.{max_depth}
 use Rattle.fair_rows.specs.host_text.Words.{is_field_name, is_keyword, is_label}
 use Rattle.fair_rows.specs.amount_math.Content.{key_cmp}
 use Rattle.fair_rows.specs.amount_math.Totals.{less}
-use Rattle.fair_rows.specs.amount_math.Worth.{bag_bound, most_keys, nat_bound}
+use Rattle.fair_rows.specs.amount_math.ValueView.{bag_bound, most_keys, nat_bound}
 use Rattle.fair_rows.specs.rights_model.declared.Holder.{Holder}
 use Rattle.fair_rows.specs.rights_model.declared.Holder.TheVariants.{Hand, Outside, Payment, Purse, Slot}
 use Rattle.fair_rows.specs.rights_model.declared.Sum.{Sum}

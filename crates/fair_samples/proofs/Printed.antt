@@ -9,7 +9,7 @@ use Rattle.std.specs.FinMap.{is_sorted}
 use Rattle.std.specs.List.{AllByRecursion, list_all}
 use Rattle.fair_rows.specs.amount_math.Content.{count-of_entries, count-of_nat, count-of_nat_unit, key_cmp, listed, of_entries, of_nat, unit}
 use Rattle.fair_rows.specs.amount_math.Entries.{AreEntries, Entries, IsEntry, most_of_key}
-use Rattle.fair_rows.specs.amount_math.Worth.{Fits, IsKeyed, IsValue, most_keys, nat_bound}
+use Rattle.fair_rows.specs.amount_math.ValueView.{Fits, IsKeyed, IsValue, most_keys, nat_bound}
 use Rattle.fair_rows.specs.amount_math.declared.Kind.{Kind}
 use Rattle.fair_rows.specs.amount_math.declared.Kind.TheVariants.{Bag, Nat, Set}
 use Rattle.fair_rows.proofs.amount_math.Listed.{count_bounded, entries-of_entries, found, keys_have_form}

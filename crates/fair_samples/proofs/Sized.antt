@@ -6,7 +6,7 @@ use Rattle.fair_rows.specs.amount_math.Content.{Contains, Content, count, count-
 use Rattle.fair_rows.specs.amount_math.Counted.{counted as size, counted-difference, counted-nothing, counted-of_nat, counted-sum}
 use Rattle.fair_rows.specs.amount_math.Entries.{Entries}
 use Rattle.fair_rows.specs.amount_math.Totals.{total, total-empty, total-put, weighed}
-use Rattle.fair_rows.specs.amount_math.Worth.{Fits, bound}
+use Rattle.fair_rows.specs.amount_math.ValueView.{Fits, bound}
 use Rattle.fair_rows.specs.amount_math.declared.Kind.{Kind}
 use Rattle.fair_rows.proofs.amount_math.Listed.{entries-of_entries}
 use Rattle.fair_rows.specs.rights_model.Place.{Place, place}

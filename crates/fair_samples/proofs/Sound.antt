@@ -1,5 +1,5 @@
 -- Where the test of a sentence passes, the list of turns meets the sentence.
-use Rattle.fair_rows.specs.amount_math.Worth.{Fits}
+use Rattle.fair_rows.specs.amount_math.ValueView.{Fits}
 use Rattle.fair_rows.specs.rights_model.declared.Movement.{Movement}
 use Rattle.std.proofs.Common.{◌≡◌, ◌⊎◌, ◌+◌, ℕ, zero, suc, Bool, true, false, not, ◌&&◌, ◌||◌, ◌==◌, List, [], ◌∷◌, ◌++◌, map, length, is_some, codes, bytes_eq, Option, Some, None, refl, sym, ap, subst, ◌∙◌, inl, inr, ⊎_elim, eqb-true, arith, cond}
 use Rattle.std.proofs.lemmas.Bool.{and_parts, cases_Bool, true≢false, and_from, false_from_ne_true, or_from}

@@ -3,7 +3,7 @@
 use Rattle.std.specs.Prelude.{◌≡◌, ◌⊎◌, ℕ, ◌+◌, true, false, List, [], ◌∷◌, ◌++◌, Some, None, is_some, length, codes}
 use Rattle.std.specs.List.{AllByRecursion, slice_get}
 use Rattle.fair_rows.specs.amount_math.Content.{Content, count, nothing}
-use Rattle.fair_rows.specs.amount_math.Worth.{Fits}
+use Rattle.fair_rows.specs.amount_math.ValueView.{Fits}
 use Rattle.fair_rows.specs.amount_math.declared.Kind.{Kind}
 use Rattle.fair_rows.specs.rights_model.Supply.{is_store, supply, total_of}
 use Rattle.fair_rows.specs.rights_model.Table.{CanMove, holds}

@@ -1,28 +1,24 @@
 -- What a function of an instance came to that was run over the world of a turn.
 use Rattle.std.specs.Prelude.{◌≡◌, ℕ, List, [], ◌∷◌}
-use Rattle.world_effects.specs.Carried.{AreCarried}
+use Rattle.contract_powers.specs.world_effects.CarriedEffects.{AreCarried}
 use Rattle.delivery_tasks.specs.delivery_turns.Functions.{FunctionCall, function_run, ran_out, run, run_after}
-use Rattle.delivery_tasks.specs.delivery_turns.Tasks.{Work, answer_of_ending, run_work}
+use Rattle.delivery_tasks.specs.delivery_turns.Tasks.{answer_of_ending, run_work}
+use Rattle.front_turns.specs.FrontTurns.{IsDone}
 use Rattle.front_turns.specs.declared.function_runs.Ran.{Ran}
 use Rattle.front_turns.specs.declared.function_runs.Ran.TheVariants.{Ended, Spent}
-use Rattle.world_reads.specs.host_world.Worlds.{world_of}
-use Rattle.world_reads.specs.host_world.declared.World.{World}
+use Rattle.contract_powers.specs.host_world.Worlds.{world_of}
+use Rattle.contract_powers.specs.host_world.declared.World.{World}
 use Rattle.jessie_interpreter.specs.jessie_semantics.Play.{Asks, Ending, Ends, Play, Spends}
 use Rattle.delivery_tasks.specs.host_data.Tree.{Tree}
-use Rattle.plain_stores.specs.turn_records.Views.{answer_view}
-use Rattle.plain_stores.specs.turn_records.declared.events.Answer.{Answer}
-use Rattle.plain_stores.specs.world_state.Good.{CanKeep}
-use Rattle.plain_stores.specs.world_state.Worlds.{Effect, State, keep_state}
-
--- the work was done on the world, and is answered so; the turn goes on
-pub record WasDone (work : Work) (old new : World) (a : Answer) : Type 0 where
-  pub answer : answer_view a ≡ work.answer
-  pub carried : AreCarried old new work.effects
+use Rattle.contract_powers.specs.turn_records.Views.{answer_view}
+use Rattle.contract_powers.specs.turn_records.declared.events.Answer.{Answer}
+use Rattle.contract_powers.specs.world_state.Good.{CanKeep}
+use Rattle.contract_powers.specs.world_state.Worlds.{Effect, State, keep_state}
 
 -- what a run comes to that ends, its state kept; or its meter was spent, and what it did by then is to be undone
 abbrev pub CameTo : ℕ → FunctionCall → World → World → Ran → Type 0
 CameTo meter c old new (Ended answer) =
-    WasDone (run_work meter (world_of old) c.instance (function_run meter (world_of old) c)) old new answer
+    IsDone old new answer (run_work meter (world_of old) c.instance (function_run meter (world_of old) c))
 CameTo meter c old new Spent = function_run meter (world_of old) c ≡ ran_out
 
 -- ---- on the way there

@@ -1,29 +1,29 @@
 //! What ends a turn, carried out.
 
 ghost use Rattle.std.specs.Prelude.{◌≡◌, ◌<◌, OnOk, length};
-ghost use Rattle.world_effects.specs.Carried.{AreCarried, IsInTurn};
+ghost use Rattle.contract_powers.specs.world_effects.CarriedEffects.{AreCarried, IsInTurn};
 ghost use Rattle.fair_laws.specs.delivery_laws.Works.{IsOut, LabelIsFree};
 ghost use Rattle.delivery_tasks.specs.delivery_turns.Endings.{ending};
-ghost use Rattle.world_reads.specs.host_world.Worlds.{IsUndoable, world_now, world_of};
-ghost use Rattle.plain_stores.specs.turn_records.Views.{answer_view, delivery_view};
-ghost use Rattle.plain_stores.specs.world_state.Good.{IsGoodWorld};
-ghost use Rattle.plain_stores.specs.world_state.Worlds.{in_front};
-ghost use Rattle.front_turns.specs.Turning.{front};
+ghost use Rattle.contract_powers.specs.host_world.Worlds.{IsUndoable, world_now, world_of};
+ghost use Rattle.contract_powers.specs.turn_records.Views.{answer_view, delivery_view};
+ghost use Rattle.contract_powers.specs.world_state.Good.{IsGoodWorld};
+ghost use Rattle.contract_powers.specs.world_state.Worlds.{in_front};
+ghost use Rattle.front_turns.specs.FrontTurns.{front};
 
+use contract_powers::host_world_lib::World;
+use contract_powers::turn_records_lib::deliveries::Delivery;
+use contract_powers::turn_records_lib::events::Answer;
+use contract_powers::world_effects_lib::carry_out;
 use delivery_tasks::endings::ending;
-use plain_stores::turn_records_lib::deliveries::Delivery;
-use plain_stores::turn_records_lib::events::Answer;
 use std::alloc::{AllocError, Global};
-use world_effects::carry_out;
-use world_reads::host_world_lib::World;
 
 /// The delivery that the turn is about.
-#[tactic(auto, using(plain_stores::proofs::Front::front_view))]
+#[tactic(auto, using(crate::proofs::TurnEffects::front_is))]
 pub(crate) fn front(world: &World) -> &Delivery
     requires { 0 < length (world_now world.now).waiting }
     ensures { delivery_view result.now ≡ front world.now }
 {
-    match world.plain.queue.front() {
+    match world.registers.queue.front() {
         Some(delivery) => delivery,
         None => unreachable!(),
     }

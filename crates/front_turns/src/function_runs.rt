@@ -3,26 +3,26 @@
 //! (`function_run`, `run_work` of delivery_turns), and whatever it comes to, the turn can be undone.
 
 ghost use Rattle.std.specs.Prelude.{◌<◌, ◌*◌, ◌^◌, IfOk, length};
-ghost use Rattle.world_effects.specs.Carried.{IsInTurn};
+ghost use Rattle.contract_powers.specs.world_effects.CarriedEffects.{IsInTurn};
 ghost use Rattle.front_turns.specs.FunctionRuns.{CameTo};
-ghost use Rattle.world_reads.specs.host_world.Worlds.{IsUndoable, world_of};
+ghost use Rattle.contract_powers.specs.host_world.Worlds.{IsUndoable, world_of};
 ghost use Rattle.jessie_interpreter.specs.jessie_semantics.Keeping.{AllHave};
 ghost use Rattle.delivery_tasks.specs.host_data.View.{trees};
-ghost use Rattle.plain_stores.specs.world_state.Known.{IsKnownTo};
-ghost use Rattle.plain_stores.specs.world_state.Rights.{IsRoomy};
+ghost use Rattle.contract_powers.specs.world_state.Known.{IsKnownTo};
+ghost use Rattle.contract_powers.specs.world_state.Rights.{IsRoomy};
 
 mod endings;
 mod running;
 
-use contract_powers::rows::ContractRows;
+use contract_powers::host_world_lib::World;
+use contract_powers::planner::Planner;
+use contract_powers::turn_records_lib::events::Answer;
 use delivery_tasks::host_data_lib::data::Data;
 use endings::end_run;
 use jessie_interpreter::host_text_lib::text::Text;
-use plain_stores::turn_records_lib::events::Answer;
-use running::{prepared, run_in};
+use running::{prepare_run, run_in};
 use std::alloc::{AllocError, Global};
 use std::marker::Brand;
-use world_reads::host_world_lib::World;
 
 /// What a function came to.
 #[derive(Drop)]
@@ -34,9 +34,9 @@ pub enum Ran {
 }
 
 /// Runs a function of an instance's module with these arguments, over the world: a missing argument is null, surplus
-/// ones are dropped. `meter` has what the run may cost at most. `R` plans the calls of methods that the function makes.
+/// ones are dropped. `meter` has what the run may cost at most. `P` plans the calls of methods that the function makes.
 /// The world comes back: where the meter was spent, and for want of memory, the turn is to be undone.
-pub fn run_function<R: ContractRows>(
+pub fn run_function<P: Planner>(
     alloc: Global,
     world: World,
     instance: u32,
@@ -55,11 +55,11 @@ pub fn run_function<R: ContractRows>(
     }) world result.0) }
     ensures back { IsUndoable world result.0 }
 {
-    let (module, mut state) = match prepared(alloc, &world, instance) {
+    let (module, mut state) = match prepare_run(alloc, &world, instance) {
         Ok(prepared) => prepared,
         Err(fault) => return (world, Err(fault)),
     };
-    let (mut world, outcome) = run_in::<Brand, R>(
+    let (mut world, outcome) = run_in::<Brand, P>(
         alloc,
         world,
         instance,

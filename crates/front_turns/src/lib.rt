@@ -6,9 +6,14 @@ mod ends;
 pub mod function_runs;
 mod tasks;
 pub mod turns;
-pub mod works;
 
-pub use contract_powers as contract_powers_lib;
-pub use delivery_tasks as delivery_tasks_lib;
-pub use delivery_tasks::host_data_lib;
-pub use world_reads::{call_plans_lib, host_world_lib};
+/// What `contract_powers` gives to those above.
+pub mod contract_powers_lib {
+    pub mod planner {
+        pub use contract_powers::planner::Planner;
+    }
+}
+
+pub use contract_powers::{
+    call_outcomes_lib, escrow_lib, host_world_lib, rights_model_lib, turn_records_lib,
+};

@@ -1,38 +1,40 @@
-//! The work on a delivery's task: effects are carried out, a call is served, a function is run.
+//! The work on a delivery's task: effects are carried out, a call is served, a function is run; where its meter is spent,
+//! all is undone and its instance halts.
 
 ghost use Rattle.std.specs.Prelude.{◌≡◌, ◌<◌, IfOk, OnOk, length};
-ghost use Rattle.world_reads.specs.call_plans.Lists.{IsEachShaped, effects_view};
-ghost use Rattle.world_reads.specs.call_plans.Plans.{Plans};
-ghost use Rattle.contract_texts.specs.rules.Rows.{Outcome};
-ghost use Rattle.world_effects.specs.Carried.{AreCarried, IsInTurn};
-ghost use Rattle.contract_texts.specs.Reader.{reader};
+ghost use Rattle.contract_powers.specs.call_outcomes.Lists.{IsEachShaped, effects_view};
+ghost use Rattle.contract_powers.specs.call_outcomes.CallOutcomes.{GivesOutcome};
+ghost use Rattle.contract_powers.specs.rules.Outcomes.{Outcome};
+ghost use Rattle.contract_powers.specs.world_effects.CarriedEffects.{AreCarried, IsInTurn};
+ghost use Rattle.contract_powers.specs.contract_texts.Reader.{reader};
 ghost use Rattle.delivery_tasks.specs.Views.{IsTaskShaped, function_call_view, task_view};
 ghost use Rattle.delivery_tasks.specs.delivery_turns.HostCalls.{effects_of};
-ghost use Rattle.delivery_tasks.specs.delivery_turns.Tasks.{halt_with, row_work, run};
-ghost use Rattle.world_reads.specs.host_world.Worlds.{IsUndoable, world_at_start, world_now, world_of};
+ghost use Rattle.delivery_tasks.specs.delivery_turns.Tasks.{halt_with, outcome_work, run};
+ghost use Rattle.contract_powers.specs.host_world.Worlds.{IsUndoable, world_at_start, world_now, world_of};
 ghost use Rattle.delivery_tasks.specs.host_data.View.{trees};
-ghost use Rattle.plain_stores.specs.turn_rows.Causes as causes;
-ghost use Rattle.world_reads.specs.vault.Drafts.{HandGoes, IsClean};
-ghost use Rattle.plain_stores.specs.world_state.Good.{AreGood, IsGoodWorld};
-ghost use Rattle.contract_texts.specs.rules.Host.{serve};
-ghost use Rattle.front_turns.specs.There.{IsCallable, IsServed, IsThere};
-ghost use Rattle.front_turns.specs.Turning.{IsBegun, IsDone, work_of};
+ghost use Rattle.contract_powers.specs.turn_rows.Causes as causes;
+ghost use Rattle.contract_powers.specs.vault.Drafts.{HandGoes, IsClean};
+ghost use Rattle.contract_powers.specs.world_state.Good.{AreGood, IsGoodWorld};
+ghost use Rattle.contract_powers.specs.rules.Methods.{serve};
+ghost use Rattle.front_turns.specs.KnownTasks.{IsCallable, IsServed, IsThere};
+ghost use Rattle.front_turns.specs.FrontTurns.{IsBegun, IsDone, work_of};
 
-use crate::works::{Ran, Works};
+use crate::function_runs::{Ran, run_function};
+use contract_powers::call_outcomes_lib::lists::Effects;
+use contract_powers::call_outcomes_lib::outcomes::CallOutcome;
+use contract_powers::host_world_lib::World;
+use contract_powers::planner::Planner;
+use contract_powers::refusals_lib::stops::Stop;
+use contract_powers::turn_records_lib::events::{Answer, Cause};
+use contract_powers::world_effects_lib::carry_out;
 use delivery_tasks::host_data_lib::data::{Data, Obj};
 use delivery_tasks::open_seats::halt_with;
 use delivery_tasks::tasks::{FunctionCall, Task};
 use jessie_interpreter::host_text_lib::text::Text;
-use plain_stores::turn_records_lib::events::{Answer, Cause};
 use std::alloc::{AllocError, Global};
-use world_effects::carry_out;
-use world_reads::call_plans_lib::lists::Effects;
-use world_reads::call_plans_lib::plans::Plan;
-use world_reads::host_world_lib::World;
-use world_reads::refusals_lib::stops::Stop;
 
 /// Effects are carried out, and then it is answered.
-fn carried(
+fn carry_and_answer(
     alloc: Global,
     world: &mut World,
     effects: Effects,
@@ -51,23 +53,23 @@ fn carried(
 
 // ---- calls of the host's own objects
 
-/// A row's plan is carried out.
-fn plan_carried(
+/// A rule's plan is carried out.
+fn carry_plan(
     alloc: Global,
     world: &mut World,
-    row: Result<Plan, Stop>,
+    row: Result<CallOutcome, Stop>,
 ) -> Result<Answer, AllocError>
     requires turn { IsInTurn world.old }
     requires shaped { IfOk row (λ plan. IsEachShaped plan.effects) }
     requires good { IfOk row (λ plan. AreGood (world_of world.old) (effects_view plan.effects)) }
-    ensures done { (outcome : Outcome) → Plans outcome row
-        → IfOk result (λ a. IsDone world.old world.new a (row_work outcome)) }
+    ensures done { (outcome : Outcome) → GivesOutcome outcome row
+        → IfOk result (λ a. IsDone world.old world.new a (outcome_work outcome)) }
     ensures back { IsUndoable world.old world.new }
 {
     match row {
         Ok(plan) => {
-            let Plan { answer, effects } = plan;
-            carried(alloc, world, effects, Answer::Given(answer))
+            let CallOutcome { answer, effects } = plan;
+            carry_and_answer(alloc, world, effects, Answer::Given(answer))
         }
         Err(Stop::Refused(refusal)) => Ok(Answer::Refused(refusal)),
         Err(Stop::NoMemory) => Err(AllocError),
@@ -75,7 +77,7 @@ fn plan_carried(
 }
 
 /// A method of one of the host's own objects is called.
-fn served<W: Works>(
+fn serve_call<P: Planner>(
     alloc: Global,
     world: &mut World,
     target: Obj,
@@ -87,17 +89,17 @@ fn served<W: Works>(
     requires good { AreGood (world_of world.old)
         (effects_of (serve reader (world_of world.old) target method (trees args.items))) }
     ensures done { IfOk result (λ a. IsDone world.old world.new a
-        (row_work (serve reader (world_of world.old) target method (trees args.items)))) }
+        (outcome_work (serve reader (world_of world.old) target method (trees args.items)))) }
     ensures back { IsUndoable world.old world.new }
 {
-    let row = W::serve(alloc, world, target, method.as_str(), args.as_slice());
-    plan_carried(alloc, world, row)
+    let row = P::plan_service(alloc, world, target, method.as_str(), args.as_slice());
+    carry_plan(alloc, world, row)
 }
 
 // ---- functions
 
 /// The turn begins again: nothing was done in it.
-fn again(world: World) -> World
+fn begin_again(world: World) -> World
     requires { HandGoes world.draft }
     ensures now { world_now result ≡ world_at_start world }
     ensures clean { IsClean result.draft }
@@ -105,17 +107,21 @@ fn again(world: World) -> World
 {
     let World {
         draft,
-        mut plain,
+        mut registers,
         sums,
     } = world;
-    plain.back();
+    registers.back();
     let draft = draft.undo().begin();
     draft.valid();
-    World { draft, plain, sums }
+    World {
+        draft,
+        registers,
+        sums,
+    }
 }
 
 /// All open seats of an instance are left because a meter was spent, and it halts.
-fn halted(alloc: Global, world: &mut World, instance: u32) -> Result<(), AllocError>
+fn halt_instance(alloc: Global, world: &mut World, instance: u32) -> Result<(), AllocError>
     requires turn { IsInTurn world.old }
     requires made { instance < length (world_of world.old).tables.instances }
     ensures ok { OnOk result
@@ -128,7 +134,7 @@ fn halted(alloc: Global, world: &mut World, instance: u32) -> Result<(), AllocEr
 
 /// A function spent its meter: nothing of what it did stands, and from the world at the turn's start its instance halts
 /// (our own).
-fn spent(
+fn undo_and_halt(
     alloc: Global,
     world: World,
     instance: u32,
@@ -143,15 +149,15 @@ fn spent(
         × AreCarried old result.0 (halt_with causes.spent (world_of old) instance)) }
     ensures back { IsUndoable world result.0 }
 {
-    let mut world = again(world);
-    match halted(alloc, &mut world, instance) {
+    let mut world = begin_again(world);
+    match halt_instance(alloc, &mut world, instance) {
         Ok(()) => (world, Ok(Answer::Spent(meter))),
         Err(fault) => (world, Err(fault)),
     }
 }
 
-/// A function of an instance is run.
-fn ran<W: Works>(
+/// A function of an instance is run under the meter.
+fn run_task<P: Planner>(
     alloc: Global,
     world: World,
     meter: u32,
@@ -163,11 +169,16 @@ fn ran<W: Works>(
         (work_of meter world (run (function_call_view call)))) }
     ensures back { IsUndoable world result.0 }
 {
-    let instance = call.instance;
-    let (world, ran) = W::run(alloc, world, meter, call);
+    let FunctionCall {
+        instance,
+        function,
+        arguments,
+    } = call;
+    let most = u64::from(meter);
+    let (world, ran) = run_function::<P>(alloc, world, instance, &function, arguments, most);
     match ran {
         Ok(Ran::Ended(answer)) => (world, Ok(answer)),
-        Ok(Ran::Spent) => spent(alloc, world, instance, meter),
+        Ok(Ran::Spent) => undo_and_halt(alloc, world, instance, meter),
         Err(fault) => (world, Err(fault)),
     }
 }
@@ -176,7 +187,7 @@ fn ran<W: Works>(
 
 /// What a delivery's task comes to, before its turn is ended. For want of memory some effects may have been carried out,
 /// and the turn is to be undone.
-pub(crate) fn worked<W: Works>(
+pub(crate) fn work_task<P: Planner>(
     alloc: Global,
     world: World,
     meter: u32,
@@ -193,13 +204,13 @@ pub(crate) fn worked<W: Works>(
     match task {
         Task::Refuse(refusal) => (world, Ok(Answer::Refused(refusal))),
         Task::DoAll(effects) => {
-            let done = carried(alloc, &mut world, effects, Answer::Given(Data::Null));
+            let done = carry_and_answer(alloc, &mut world, effects, Answer::Given(Data::Null));
             (world, done)
         }
         Task::Serve(target, method, args) => {
-            let done = served::<W>(alloc, &mut world, target, method, args);
+            let done = serve_call::<P>(alloc, &mut world, target, method, args);
             (world, done)
         }
-        Task::Run(call) => ran::<W>(alloc, world, meter, call),
+        Task::Run(call) => run_task::<P>(alloc, world, meter, call),
     }
 }

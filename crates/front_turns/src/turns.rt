@@ -3,19 +3,19 @@
 ghost use Rattle.std.specs.Prelude.{◌≡◌, ◌<◌, IfOk, IfSome, length};
 ghost use Rattle.delivery_tasks.specs.Views.{IsTaskShaped, beginning_view};
 ghost use Rattle.delivery_tasks.specs.delivery_turns.Tasks.{beginning};
-ghost use Rattle.world_reads.specs.host_world.Worlds.{IsUndoable, world_now, world_of};
-ghost use Rattle.plain_stores.specs.world_state.Good.{IsGoodWorld};
-ghost use Rattle.front_turns.specs.Turning.{IsBegun, IsDelivered, front};
+ghost use Rattle.contract_powers.specs.host_world.Worlds.{IsUndoable, world_now, world_of};
+ghost use Rattle.contract_powers.specs.world_state.Good.{IsGoodWorld};
+ghost use Rattle.front_turns.specs.FrontTurns.{IsBegun, IsDelivered, front};
 
 use crate::ends::{carry_end, front};
-use crate::tasks::worked;
-use crate::works::Works;
+use crate::tasks::work_task;
+use contract_powers::host_world_lib::World;
+use contract_powers::planner::Planner;
+use contract_powers::turn_records_lib::deliveries::Reading;
+use contract_powers::turn_records_lib::events::Answer;
 use delivery_tasks::beginnings::delivery_beginning;
 use delivery_tasks::tasks::Beginning;
-use plain_stores::turn_records_lib::deliveries::Reading;
-use plain_stores::turn_records_lib::events::Answer;
 use std::alloc::{AllocError, Global};
-use world_reads::host_world_lib::World;
 
 /// What was read for a delivery, and what it is answered.
 #[derive(Drop)]
@@ -25,7 +25,7 @@ pub struct Delivered {
 }
 
 /// What is read for the delivery in front, and what is then to be done.
-fn begun(alloc: Global, world: &World) -> Result<Beginning, AllocError>
+fn begin_delivery(alloc: Global, world: &World) -> Result<Beginning, AllocError>
     requires waits { 0 < length (world_now world.now).waiting }
     requires good { IsGoodWorld (world_now world.now) }
     ensures begins { IfOk result (λ b. beginning_view b ≡ beginning (world_of world.now) (front world.now)) }
@@ -35,7 +35,7 @@ fn begun(alloc: Global, world: &World) -> Result<Beginning, AllocError>
 }
 
 /// The turn of a delivery for which all is read.
-fn turned<W: Works>(
+fn work_delivery<P: Planner>(
     alloc: Global,
     world: World,
     meter: u32,
@@ -48,7 +48,7 @@ fn turned<W: Works>(
     ensures back { IsUndoable world result.0 }
 {
     let Beginning { reading, task } = begun;
-    let (mut world, done) = worked::<W>(alloc, world, meter, task);
+    let (mut world, done) = work_task::<P>(alloc, world, meter, task);
     let Ok(answer) = done else {
         drop(reading);
         return (world, None);
@@ -66,13 +66,13 @@ fn turned<W: Works>(
 /// The turn of the delivery in front is worked on the world, where functions of instances run under the meter. The world
 /// comes back, since what runs functions holds it while they run. For want of memory, where nothing is answered, some of
 /// the turn may have been worked, and it is to be undone.
-pub fn deliver<W: Works>(alloc: Global, world: World, meter: u32) -> (World, Option<Delivered>)
+pub fn deliver<P: Planner>(alloc: Global, world: World, meter: u32) -> (World, Option<Delivered>)
     requires { IsBegun meter world }
     ensures done { IfSome result.1 (IsDelivered meter world result.0) }
     ensures back { IsUndoable world result.0 }
 {
-    match begun(alloc, &world) {
-        Ok(begun) => turned::<W>(alloc, world, meter, begun),
+    match begin_delivery(alloc, &world) {
+        Ok(begun) => work_delivery::<P>(alloc, world, meter, begun),
         Err(_) => (world, None),
     }
 }

@@ -1,4 +1,4 @@
 pub mod Purses
-pub mod Papers
+pub mod PaymentViews
 pub mod Kept
 pub use Rattle.ertp_mint.specs as ertp_mint

@@ -5,4 +5,7 @@
 pub mod payments;
 pub mod purses;
 
-pub use ertp_mint as ertp_mint_lib;
+/// What `ertp_mint` gives to those above.
+pub mod ertp_mint_lib {
+    pub use ertp_mint::{Balance, Circulations, Parcel};
+}

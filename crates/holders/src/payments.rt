@@ -4,12 +4,12 @@
 //! payments made and open slots, each of which will be a payment, are never more than 4,294,967,295;
 //! and each call that changes them has one that works it backwards, without memory.
 
-ghost use Rattle.std.specs.Prelude.{◌≡◌, ◌+◌, ◌<◌, ◌≤◌, ◌↔◌, ◌-◌, true, IsTrue, None, Some, IfErr, IfOk, IfSome, OnErr, OnOk, is_err, is_some, length, slice_get};
-ghost use Rattle.ertp_mint.specs.amount_math.Worth.{IsValue};
+ghost use Rattle.std.specs.Prelude.{◌≡◌, ◌+◌, ◌<◌, ◌≤◌, ◌↔◌, ◌-◌, true, IsTrue, None, Some, IfErr, IfOk, IfSome, OnErr, OnOk, is_err, is_some, length};
+ghost use Rattle.ertp_mint.specs.amount_math.ValueView.{IsValue};
 ghost use Rattle.ertp_mint.specs.Stocks.{most_made};
 ghost use Rattle.slab.specs.Slab.{get};
 ghost use Rattle.holders.specs.Kept.{AreKept, book_of, held_by};
-ghost use Rattle.holders.specs.Papers.{HasVacancy, IsKept, IsMade, IsRoomier, IsSpent, IsUnmade, IsUnspent, held_at, is_live, made_and_open, next_ref, no_payments, paper_at, ref_to, spent_paper};
+ghost use Rattle.holders.specs.PaymentViews.{HasVacancy, IsKept, IsMade, IsRoomier, IsSpent, IsUnmade, IsUnspent, held_at, is_live, made_and_open, next_ref, no_payments, payment_view_at, ref_to, spent_payment};
 
 use ertp_mint::amount_math_lib::Holding;
 use ertp_mint::{Balance, Parcel};
@@ -56,7 +56,7 @@ struct Listed {
     key: usize,
 }
 
-/// All payments. Contracts see each by its number, and how many slots are open (specs/Papers.antt).
+/// All payments. Contracts see each by its number, and how many slots are open (specs/PaymentViews.antt).
 #[derive(Drop)]
 pub struct Payments {
     live: Slab<Entry>,
@@ -65,7 +65,7 @@ pub struct Payments {
 }
 
 impl Model for Payments {
-    ghost use Rattle.holders.specs.Papers.{PaymentBook, coded_payment_book};
+    ghost use Rattle.holders.specs.PaymentViews.{PaymentBook, coded_payment_book};
 
     ghost Value = { PaymentBook };
 
@@ -92,8 +92,8 @@ impl Payments {
 
     /// How many payments were made: the number that the next one gets.
     pub fn made(&self) -> u32
-        ensures made { result ≡ length self.now.papers }
-        ensures keys { length self.now.keys ≡ length self.now.papers }
+        ensures made { result ≡ length self.now.views }
+        ensures keys { length self.now.keys ≡ length self.now.views }
         ensures few { made_and_open self.now ≤ most_made }
     {
         self.listed.len() as u32
@@ -104,13 +104,6 @@ impl Payments {
         ensures { result + made_and_open self.now ≡ most_made }
     {
         u32::MAX - self.slots - self.made()
-    }
-
-    /// The key under which the next payment will stand.
-    pub fn next_key(&self) -> usize
-        ensures { result ≡ self.now.next_key }
-    {
-        self.live.vacant_key()
     }
 
     /// The payment of a number: none where it wasn't made.
@@ -126,7 +119,7 @@ impl Payments {
     /// Whether a payment is live: the entry under its key has its number.
     pub fn is_live(&self, payment: PaymentRef) -> bool
         requires { IsKept self.now payment }
-        ensures { result ≡ is_live (paper_at self.now.papers payment.number) }
+        ensures { result ≡ is_live (payment_view_at self.now.views payment.number) }
     {
         is_entry_of(&self.live, payment)
     }
@@ -134,7 +127,7 @@ impl Payments {
     /// The brand of a payment, also of one that was spent.
     pub fn brand(&self, payment: PaymentRef) -> u16
         requires { IsKept self.now payment }
-        ensures { result ≡ (paper_at self.now.papers payment.number).brand }
+        ensures { result ≡ (payment_view_at self.now.views payment.number).brand }
     {
         self.listed[payment.number as usize].brand
     }
@@ -175,6 +168,7 @@ impl Payments {
     }
 
     /// Makes a payment of a parcel, which uses up an open slot, or hands the parcel back for want of memory.
+    /// The program doesn't use it.
     pub fn make_from_slot(&mut self, parcel: Parcel) -> Result<PaymentRef, AllocFailed<Parcel>>
         requires { 0 < self.old.slots }
         ensures ok { OnOk result (IsMade self.old self.new parcel) }
@@ -234,32 +228,19 @@ impl Payments {
 
     /// Works `make` backwards, which takes no memory: the payment that was made last, which is live, is gone.
     pub fn undo_make(&mut self) -> Parcel
-        requires made { 0 < length self.old.papers }
-        requires live { is_live (paper_at self.old.papers (length self.old.papers - 1)) ≡ true }
+        requires made { 0 < length self.old.views }
+        requires live { is_live (payment_view_at self.old.views (length self.old.views - 1)) ≡ true }
         ensures unmade { IsUnmade self.old self.new result }
         ensures slots { self.new.slots ≡ self.old.slots }
     {
         remove_last(&mut self.live, &mut self.listed)
     }
 
-    /// Works `make_from_slot` backwards, which takes no memory: the payment that was made last, which is
-    /// live, is gone, and its slot is open again.
-    pub fn undo_make_from_slot(&mut self) -> Parcel
-        requires made { 0 < length self.old.papers }
-        requires live { is_live (paper_at self.old.papers (length self.old.papers - 1)) ≡ true }
-        ensures unmade { IsUnmade self.old self.new result }
-        ensures slots { self.new.slots ≡ self.old.slots + 1 }
-    {
-        let parcel = remove_last(&mut self.live, &mut self.listed);
-        self.slots += 1;
-        parcel
-    }
-
     /// Works `spend` backwards, which takes no memory: the parcel goes into the payment again, which may
     /// stand under another key than before.
     pub fn undo_spend(&mut self, payment: u32, parcel: Parcel)
-        requires made { payment < length self.old.papers }
-        requires spent { paper_at self.old.papers payment ≡ spent_paper parcel.brand }
+        requires made { payment < length self.old.views }
+        requires spent { payment_view_at self.old.views payment ≡ spent_payment parcel.brand }
         requires vacancy { HasVacancy self.old }
         ensures unspent { IsUnspent self.old self.new payment parcel }
         ensures slots { self.new.slots ≡ self.old.slots }
@@ -319,7 +300,7 @@ fn add(
 fn remove_last(live: &mut Slab<Entry>, listed: &mut Vec<Listed>) -> Parcel
     requires kept { AreKept live.old listed.old.items }
     requires made { 0 < length listed.old.items }
-    requires last { is_live (paper_at (book_of live.old listed.old.items 0).papers (length listed.old.items - 1)) ≡ true }
+    requires last { is_live (payment_view_at (book_of live.old listed.old.items 0).views (length listed.old.items - 1)) ≡ true }
     ensures kept { AreKept live.new listed.new.items }
     ensures unmade { IsUnmade (book_of live.old listed.old.items 0) (book_of live.new listed.new.items 0) result }
     ensures few { length listed.new.items + 1 ≡ length listed.old.items }

@@ -7,7 +7,7 @@ ghost use Rattle.std.specs.Prelude.{◌≡◌, ◌<◌, ◌≤◌, ◌↔◌, �
 ghost use Rattle.ertp_mint.specs.amount_math.Amount.{Meet};
 ghost use Rattle.ertp_mint.specs.amount_math.Content.{Contains, nothing};
 ghost use Rattle.ertp_mint.specs.amount_math.Shortfalls.{IsLossFault};
-ghost use Rattle.ertp_mint.specs.amount_math.Worth.{IsValue};
+ghost use Rattle.ertp_mint.specs.amount_math.ValueView.{IsValue};
 ghost use Rattle.ertp_mint.specs.Balances.{ComesOut, GoesIn, HasRoomFor, HasSpare, empty_store, held_in};
 ghost use Rattle.ertp_mint.specs.Stocks.{most_made};
 ghost use Rattle.holders.specs.Purses.{IsPutFault, TakesIn, content_at, kind_at, put_at, put_in_room, room_at, store_at, taken_at, with_room_at};
@@ -35,12 +35,12 @@ pub struct Purses {
 impl Model for Purses {
     ghost use Rattle.std.specs.Prelude.{List, length, ◌≤◌};
     ghost use Rattle.std.specs.Coded.{coded_list};
-    ghost use Rattle.ertp_mint.specs.Balances.{StoredAmount, coded_stored_amount};
+    ghost use Rattle.ertp_mint.specs.Balances.{BalanceView, coded_balance_view};
     ghost use Rattle.ertp_mint.specs.Stocks.{most_made};
 
-    ghost Value = { List StoredAmount };
+    ghost Value = { List BalanceView };
 
-    ghost coded = { coded_list coded_stored_amount };
+    ghost coded = { coded_list coded_balance_view };
 
     ghost view = { λ a. a.balances.items };
 

@@ -24,7 +24,7 @@ use Rattle.amount_math.specs.KindData.{IsKeysOf, IsPairsOf, signed}
 use Rattle.amount_math.specs.Sparse.{at-put, put, put_by, same_found}
 use Rattle.amount_math.specs.Totals.{first, less, second}
 use Rattle.amount_math.specs.NatLaws.{IsNat-of_nat}
-use Rattle.amount_math.specs.Worth.{IsBag, IsNat, IsNumber, IsSet, Worth, most_keys, nat_bound}
+use Rattle.amount_math.specs.ValueView.{IsBag, IsNat, IsNumber, IsSet, ValueView, most_keys, nat_bound}
 use Rattle.amount_math.specs.declared.Kind.TheVariants.{Nat, Set, Bag}
 use Rattle.amount_math.proofs.Listed.{listed-tally, no_entries, rising_rest, below_rest, same_key}
 use Rattle.amount_math.proofs.Numbers.{number_is_within}
@@ -228,7 +228,7 @@ keyed_not : (kind : _) (es : Entries) → are_entries es ≡ false → keyed_val
 unfolding keyed_value bind need
 keyed_not kind es h = ap (λ b. bind (need b BadValue) (λ _. Ok (record { kind = kind; content = of_entries es }))) h
 
-pub set_is : (ks : List (List ℕ)) (w : Worth) → w.kind ≡ Set → IsKeysOf ks w.content → IsSet w.content → keyed_value Set (map as_one ks) ≡ Ok w
+pub set_is : (ks : List (List ℕ)) (w : ValueView) → w.kind ≡ Set → IsKeysOf ks w.content → IsSet w.content → keyed_value Set (map as_one ks) ≡ Ok w
 set_is ks w kind keys set =
     let es = map as_one ks in
     let bag = set_is_bag w.content set in
@@ -283,7 +283,7 @@ read_are (p ∷ ps) es is = by (λ fs rest. read_are ps fs rest) p.1 refl
     by later (pos n) z = from later n z (read_all counted_key ps) refl (ap (λ x. one_read p.0 x (read_all counted_key ps)) (sym z) ∙ is)
     by later (negsuc n) z = absurd (none-some es (ap (λ x. one_read p.0 x (read_all counted_key ps)) (sym z) ∙ is))
 
-abbrev bag_from : List (List ℕ × ℤ) → Result Worth Refusal
+abbrev bag_from : List (List ℕ × ℤ) → Result ValueView Refusal
 bag_from ps = bind (wanted (read_all counted_key ps) BadValue) (keyed_value Bag)
 
 read_so : (ps : List (List ℕ × ℤ)) (es : Entries) → read_all counted_key ps ≡ Some es → bag_from ps ≡ keyed_value Bag es
@@ -297,7 +297,7 @@ read_not ps is = ap (λ (o : Option Entries). bind (wanted o BadValue) (keyed_va
 as_made : (ps : List (List ℕ × ℤ)) (es : Entries) → map signed es ≡ ps → IsPermutation ps (map signed es)
 as_made ps es is = subst (λ (qs : List (List ℕ × ℤ)). IsPermutation ps qs) (sym is) (IsPermutation-refl ps)
 
-pub bag_is : (ps : List (List ℕ × ℤ)) (w : Worth) → w.kind ≡ Bag → IsPairsOf ps w.content → IsBag w.content → bag_from ps ≡ Ok w
+pub bag_is : (ps : List (List ℕ × ℤ)) (w : ValueView) → w.kind ≡ Bag → IsPairsOf ps w.content → IsBag w.content → bag_from ps ≡ Ok w
 bag_is ps w kind pairs bag =
     let small = pairs_are_small ps w.content bag pairs in
     let es = map unsigned ps in
@@ -316,10 +316,10 @@ bag_is_not ps none = by (read_all counted_key ps) refl
 
 -- ---- what a number is the value of
 
-abbrev pub nat_if : ℕ → Bool → Result Worth Refusal
+abbrev pub nat_if : ℕ → Bool → Result ValueView Refusal
 nat_if n b = if b then Ok (record { kind = Nat; content = of_nat n }) else Err BadValue
 
-pub nat_is : (z : ℤ) (w : Worth) → w.kind ≡ Nat → IsNumber z w.content → IsNat w.content → nat_value z ≡ Ok w
+pub nat_is : (z : ℤ) (w : ValueView) → w.kind ≡ Nat → IsNumber z w.content → IsNat w.content → nat_value z ≡ Ok w
 nat_is z w kind number nat =
     let n = number.number in
     let small : n ≤ nat_bound = omega (arith, number_is_within z w.content nat number) in

@@ -6,7 +6,7 @@ use Rattle.std.proofs.lemmas.Result.{IfOk-at_ok}
 use Rattle.amount_math.specs.Content.{of_entries}
 use Rattle.amount_math.specs.Entries.{Entries, as_one}
 use Rattle.amount_math.specs.NatLaws.{IsNat-of_nat}
-use Rattle.amount_math.specs.Worth.{IsValue, Worth, nat_bound}
+use Rattle.amount_math.specs.ValueView.{IsValue, ValueView, nat_bound}
 use Rattle.amount_math.specs.declared.Kind.{Kind}
 use Rattle.amount_math.specs.declared.Kind.TheVariants.{Nat, Set, Bag}
 use Rattle.amount_math.proofs.Permuted.{made_set}
@@ -19,7 +19,7 @@ use Rattle.host_data.specs.declared.refusals.Refusal.TheVariants.{BadValue}
 use Rattle.host_data.proofs.KeyedData.{entries_make_bag, entries_permute, nat_if}
 
 -- what a reader returned, where it gives what the definition reads
-pub own_from : (r : Result Worth Stop) (read : Result Worth Refusal) (kind : Kind) → Gives (λ w. w) r read → IfOk read (IsValueOf kind) → IfOk r (IsValueOf kind)
+pub own_from : (r : Result ValueView Stop) (read : Result ValueView Refusal) (kind : Kind) → Gives (λ w. w) r read → IfOk read (IsValueOf kind) → IfOk r (IsValueOf kind)
 own_from (Ok w) read kind gives has = IfOk-at_ok (IsValueOf kind) gives has
 own_from (Err e) read kind gives has = tt
 

@@ -5,7 +5,7 @@ use Rattle.std.specs.List.{list_all, list_any}
 use Rattle.std.specs.Str.{bytes_eq}
 use Rattle.amount_math.specs.Content.{of_entries, of_nat}
 use Rattle.amount_math.specs.Entries.{Entries, as_one, most_of_key}
-use Rattle.amount_math.specs.Worth.{IsValue, Worth, most_keys, nat_bound}
+use Rattle.amount_math.specs.ValueView.{IsValue, ValueView, most_keys, nat_bound}
 use Rattle.amount_math.specs.declared.Kind.{Kind}
 use Rattle.amount_math.specs.declared.Kind.TheVariants.{Nat, Set, Bag}
 use Rattle.host_data.specs.Tree.{Tree, null, number_of, text_of, object_of, list_of, field_of, field_count}
@@ -31,11 +31,11 @@ read_all read [] = Some []
 read_all read (x ∷ xs) = option_and_then (λ y. option_map (λ ys. y ∷ ys) (read_all read xs)) (read x)
 
 -- a number of units
-abbrev pub nat_value : ℤ → Result Worth Refusal
+abbrev pub nat_value : ℤ → Result ValueView Refusal
 nat_value (pos n) = if nat_le n nat_bound then Ok (record { kind = Nat; content = of_nat n }) else Err BadValue
 nat_value (negsuc n) = Err BadValue
 
-abbrev pub nat_from : Option ℤ → Result Worth Refusal
+abbrev pub nat_from : Option ℤ → Result ValueView Refusal
 nat_from None = Err BadValue
 nat_from (Some z) = nat_value z
 
@@ -53,13 +53,13 @@ abbrev pub are_entries : Entries → Bool
 are_entries es = list_all is_entry es && are_apart es && nat_le (length es) most_keys
 
 -- the value of the kind that has these keys
-unfoldable pub keyed_value : Kind → Entries → Result Worth Refusal
+unfoldable pub keyed_value : Kind → Entries → Result ValueView Refusal
 keyed_value kind es = do
   need (are_entries es) BadValue
   Ok (record { kind = kind; content = of_entries es })
 
 -- a set is an array of texts
-unfoldable pub set_in : Tree → Result Worth Refusal
+unfoldable pub set_in : Tree → Result ValueView Refusal
 set_in t = do
   items ← wanted (list_of t) BadValue
   keys ← wanted (read_all text_of items) BadValue
@@ -82,7 +82,7 @@ abbrev pub counted_key : List ℕ × ℤ → Option (List ℕ × ℕ)
 counted_key p = option_map (λ n. (p.0, n)) (whole p.1)
 
 -- a bag is an array of arrays, each of a text and its count
-unfoldable pub bag_in : Tree → Result Worth Refusal
+unfoldable pub bag_in : Tree → Result ValueView Refusal
 bag_in t = do
   items ← wanted (list_of t) BadValue
   pairs ← wanted (read_all pair_in items) BadValue
@@ -90,13 +90,13 @@ bag_in t = do
   keyed_value Bag entries
 
 -- the value of a kind that data stands for
-unfoldable pub value_in : Kind → Tree → Result Worth Refusal
+unfoldable pub value_in : Kind → Tree → Result ValueView Refusal
 value_in Nat t = nat_from (number_of t)
 value_in Set t = set_in t
 value_in Bag t = bag_in t
 
 -- a value of the kind
-pub record IsValueOf (kind : Kind) (w : Worth) : Type 0 where
+pub record IsValueOf (kind : Kind) (w : ValueView) : Type 0 where
   pub kind_is : w.kind ≡ kind
   pub value : IsValue kind w.content
 

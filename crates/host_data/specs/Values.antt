@@ -1,7 +1,7 @@
 -- Values and amounts as data.
 use Rattle.std.specs.Prelude.{ℕ, List, pos, map, codes}
 use Rattle.amount_math.specs.Content.{Content, count, entries, unit}
-use Rattle.amount_math.specs.Worth.{Worth}
+use Rattle.amount_math.specs.ValueView.{ValueView}
 use Rattle.amount_math.specs.declared.Amount.{Amount}
 use Rattle.amount_math.specs.declared.Kind.{Kind}
 use Rattle.amount_math.specs.declared.Kind.TheVariants.{Nat, Set, Bag}
@@ -33,7 +33,7 @@ content_tree Nat c = number_tree (count c unit)
 content_tree Set c = array (items_of (map key_tree (entries c)))
 content_tree Bag c = array (items_of (map counted_tree (entries c)))
 
-unfoldable pub value_tree : Worth → Tree
+unfoldable pub value_tree : ValueView → Tree
 value_tree w = content_tree w.kind w.content
 
 -- `{brand, value}`

@@ -1,4 +1,4 @@
-// The data of the contract language: finished trees.
+//! The data of the contract language: finished trees.
 ghost use Rattle.std.specs.Prelude.{◌≡◌, ℕ, ◌+◌, ◌-◌, ◌≤◌, List, length, map, Bool, Option, Some, None, IfOk, option_map, nat_le, if◌then◌else◌};
 ghost use Rattle.host_data.specs.Tree.{object_of, number_of, text_of, boolean_of, function_of, is_null, list_of, pairs_of, field_count, field_of, get, size, items_size, fields_size, nesting, items_nesting, fields_nesting, stays, is_local, some_local, some_local_field};
 ghost use Rattle.host_data.specs.View.{tree, trees, named, named_trees, items_of, fields_of};
@@ -188,7 +188,7 @@ impl Data {
         copy_data(alloc, self)
     }
 
-    /// The size, where it is at most `limit`.
+    /// The size, where it is at most `limit`. The program doesn't use it.
     pub fn size(&self, limit: u64) -> Option<u64>
         ensures { result ≡ (if nat_le (size (tree self.now)) limit then Some (size (tree self.now)) else None) }
     {

@@ -1,4 +1,4 @@
-// Keywords of proposals, issuer records and allocations.
+//! Keywords of proposals, issuer records and allocations.
 ghost use Rattle.std.specs.Prelude.{◌≡◌, ◌↔◌, IfOk, IfErr, IsTrue, false};
 ghost use Rattle.std.specs.Str.{bytes_eq};
 ghost use Rattle.host_text.specs.Words as words;

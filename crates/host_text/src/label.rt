@@ -1,4 +1,4 @@
-// Labels by which parties name what they hold.
+//! Labels by which parties name what they hold.
 ghost use Rattle.std.specs.Prelude.{◌≡◌, ◌↔◌, IfOk, IfErr, IsTrue, false};
 ghost use Rattle.std.specs.Str.{bytes_eq};
 ghost use Rattle.host_text.specs.Words as words;

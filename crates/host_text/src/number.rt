@@ -1,4 +1,4 @@
-// Whole numbers in decimal.
+//! Whole numbers in decimal.
 ghost use Rattle.std.specs.Prelude.{◌≡◌, ◌++◌, OnOk, OnErr};
 ghost use Rattle.std.specs.Char.{is_ascii_digit};
 ghost use Rattle.std.specs.Fmt.{signed_decimal};
@@ -54,6 +54,7 @@ pub fn read_number(bytes: &[u8]) -> Option<i128>
 }
 
 /// Writes the number in decimal behind what `out` holds. After an error `out` is as before.
+/// The program doesn't use it.
 pub fn write_number(number: i128, out: &mut Vec<u8>) -> Result<(), AllocError>
     ensures ok { OnOk result (out.new.items ≡ out.old.items ++ signed_decimal number) }
     ensures err { OnErr result (out.new.items ≡ out.old.items) }

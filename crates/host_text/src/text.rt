@@ -1,4 +1,4 @@
-// A text that owns its bytes.
+//! A text that owns its bytes.
 ghost use Rattle.std.specs.Prelude.{◌≡◌, ◌↔◌, IfOk, IsTrue, length, string_bytes};
 ghost use Rattle.std.specs.Str.{bytes_eq};
 

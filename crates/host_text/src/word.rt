@@ -1,4 +1,4 @@
-// Words: a byte that begins them, then letters, digits and underscores.
+//! Words: a byte that begins them, then letters, digits and underscores.
 ghost use Rattle.std.specs.Prelude.{◌≡◌};
 ghost use Rattle.std.specs.List.{list_all};
 ghost use Rattle.host_text.specs.Words as words;

@@ -2,33 +2,33 @@
 use Rattle.std.specs.Prelude.{IsSomeAnd, OnErr, OnOk, Result, Ok, Err}
 use Rattle.std.proofs.Common.{◌≡◌, ℕ, ◌≤◌, List, Option, Some, refl, sym, ap, subst, ◌∙◌}
 use Rattle.std.specs.declared.alloc.AllocError.{AllocError}
-use Rattle.top_call.specs.delivery_laws.Hosts.{IsGoodHost}
-use Rattle.top_call.specs.delivery_laws.Works.{most_meter}
-use Rattle.top_call.proofs.fair_laws.Fair.{steady_first}
-use Rattle.top_call.specs.fair_laws.Views.{IsSteady}
-use Rattle.world_effects.specs.host_world.Turns.{IsBetween, arrived}
-use Rattle.world_effects.specs.host_world.Worlds.{kept_state}
-use Rattle.world_effects.specs.host_world.declared.KeptWorld.{KeptWorld}
-use Rattle.top_call.specs.Steps.{IsSubmitted, Waits}
-use Rattle.top_call.specs.declared.hosts.Submitted.{Submitted}
-use Rattle.top_call.specs.declared.hosts.Submitted.TheVariants as submitted
-use Rattle.top_call.proofs.run_laws.FormedLines.{line_is_line}
-use Rattle.top_call.specs.message_lines.Meanings.{Meaning, blank, delivered, meaning_of, run}
-use Rattle.world_effects.specs.turn_records.Deliveries.{Delivery}
-use Rattle.host_turns.specs.Telling.{TellsWorld}
-use Rattle.host_turns.proofs.Seated.{first_told}
-use Rattle.world_effects.specs.escrow.Told.{nothing_told}
-use Rattle.world_effects.specs.world_laws.First.{first_world}
-use Rattle.world_effects.proofs.world_laws.First.{first_is_good, first_is_roomy}
-use Rattle.world_effects.proofs.world_laws.Kept.{good-after}
-use Rattle.world_effects.specs.world_state.Worlds.{State, arrive}
-use Rattle.host_turns.specs.Kept.{HostParts, IsArrived, IsKept, IsRested, host_of, world_kept}
-use Rattle.host_turns.specs.Made.{parts}
-use Rattle.host_turns.specs.Taken.{IsTaken}
+use Rattle.run_laws.specs.delivery_laws.Hosts.{IsGoodHost}
+use Rattle.run_laws.specs.delivery_laws.Works.{most_meter}
+use Rattle.run_laws.proofs.fair_laws.Fair.{steady_first}
+use Rattle.run_laws.specs.fair_laws.Views.{IsSteady}
+use Rattle.front_turns.specs.host_world.Turns.{IsBetween, arrived}
+use Rattle.front_turns.specs.host_world.Worlds.{kept_state}
+use Rattle.front_turns.specs.host_world.declared.Ledger.{Ledger}
+use Rattle.host_turns.specs.HostSteps.{IsSubmitted, Waits}
+use Rattle.host_turns.specs.declared.steps.Submitted.{Submitted}
+use Rattle.host_turns.specs.declared.steps.Submitted.TheVariants as submitted
+use Rattle.run_laws.proofs.FormedLines.{line_is_line}
+use Rattle.run_laws.specs.message_lines.Meanings.{Meaning, blank, delivered, meaning_of, run}
+use Rattle.front_turns.specs.turn_records.Deliveries.{Delivery}
+use Rattle.host_turns.specs.Totals.{TellsWorld}
+use Rattle.host_turns.proofs.SeatNumbers.{first_told}
+use Rattle.front_turns.specs.escrow.Told.{nothing_told}
+use Rattle.front_turns.specs.world_laws.First.{first_world}
+use Rattle.front_turns.proofs.world_laws.First.{first_is_good, first_is_roomy}
+use Rattle.front_turns.proofs.world_laws.Kept.{good-after}
+use Rattle.front_turns.specs.world_state.Worlds.{State, arrive}
+use Rattle.host_turns.specs.HostStates.{HostParts, IsArrived, IsKept, IsRested, host_of, world_kept}
+use Rattle.host_turns.specs.TurnSteps.{parts}
+use Rattle.host_turns.specs.LineSteps.{IsTaken}
 
 -- ---- a new host
 
-pub first_kept : (meter : ℕ) (k : KeptWorld) → meter ≤ most_meter → kept_state k ≡ first_world → IsBetween k → k.sums ≡ nothing_told → IsKept (parts meter (Some k) 0)
+pub first_kept : (meter : ℕ) (k : Ledger) → meter ≤ most_meter → kept_state k ≡ first_world → IsBetween k → k.sums ≡ nothing_told → IsKept (parts meter (Some k) 0)
 first_kept meter k few is between sums = record {
   good = subst (λ v. IsGoodHost (record { meter = meter; world = v; turns = 0 })) (sym is) (record { meter = few; world = first_is_good; room = first_is_roomy; untold = refl });
   steady = subst IsSteady (sym is) steady_first;
@@ -44,12 +44,12 @@ steady_more w d is = record {
 }
 
 -- it stays at rest, whatever came of it
-pub rests_on : {A B : Type 0} (r : Result A B) (d : Delivery) (old new : KeptWorld) → IsRested old → OnOk r (kept_state new ≡ arrived d (kept_state old)) → OnErr r (kept_state new ≡ kept_state old)
+pub rests_on : {A B : Type 0} (r : Result A B) (d : Delivery) (old new : Ledger) → IsRested old → OnOk r (kept_state new ≡ arrived d (kept_state old)) → OnErr r (kept_state new ≡ kept_state old)
     → IsBetween new → new.sums ≡ old.sums → IsRested new
 rests_on (Ok x) d old new is ok err between sums = record { between = between; sums = subst (λ e. TellsWorld (kept_state new) e) (sym sums) (subst (λ v. TellsWorld v old.sums) (sym ok) is.sums) }
 rests_on (Err x) d old new is ok err between sums = record { between = between; sums = subst (λ e. TellsWorld (kept_state new) e) (sym sums) (subst (λ v. TellsWorld v old.sums) (sym err) is.sums) }
 
-module _ (p : HostParts) (world : Option KeptWorld) (rests : IsSomeAnd world IsRested) (is : IsKept p) where
+module _ (p : HostParts) (world : Option Ledger) (rests : IsSomeAnd world IsRested) (is : IsKept p) where
   -- the delivery of a line
   pub line_kept : (line : List ℕ) (d : Delivery) → delivered d ≡ meaning_of line → IsArrived d p.world world → IsKept (record { meter = p.meter; world = world; turns = p.turns })
   line_kept line d means came =
@@ -69,11 +69,11 @@ module _ (p : HostParts) (world : Option KeptWorld) (rests : IsSomeAnd world IsR
     rests = rests;
   }
 
-pub waits_now : (p : HostParts) (world : Option KeptWorld) (m : Meaning) (d : Delivery) → delivered d ≡ m → IsArrived d p.world world → Waits (host_of p) (host_of (record { meter = p.meter; world = world; turns = p.turns })) m
+pub waits_now : (p : HostParts) (world : Option Ledger) (m : Meaning) (d : Delivery) → delivered d ≡ m → IsArrived d p.world world → Waits (host_of p) (host_of (record { meter = p.meter; world = world; turns = p.turns })) m
 waits_now p world m d means came = subst (Waits (host_of p) (host_of (record { meter = p.meter; world = world; turns = p.turns }))) means (ap (λ v. record { meter = p.meter; world = v; turns = p.turns }) came)
 
 -- whatever came of it
-pub taken_kept : (r : Result Submitted AllocError) (p : HostParts) (world : Option KeptWorld) (line : List ℕ) (m : Meaning) → m ≡ meaning_of line → IsKept p → IsTaken p.world world m r → IsSomeAnd world IsRested
+pub taken_kept : (r : Result Submitted AllocError) (p : HostParts) (world : Option Ledger) (line : List ℕ) (m : Meaning) → m ≡ meaning_of line → IsKept p → IsTaken p.world world m r → IsSomeAnd world IsRested
     → IsKept (record { meter = p.meter; world = world; turns = p.turns })
 taken_kept (Ok submitted.Blank) p world line m means is taken rests = same_kept p world rests is taken.same
 taken_kept (Ok (submitted.Run n)) p world line m means is taken rests = same_kept p world rests is taken.same
@@ -83,7 +83,7 @@ taken_kept (Ok submitted.Queued) p world line (run n) means is taken rests = abs
 taken_kept (Err e) p world line m means is taken rests = same_kept p world rests is taken
 
 -- and it is what runs ask of a host
-pub submitted_so : (r : Result Submitted AllocError) (p q : HostParts) → p ≡ q → (world : Option KeptWorld) (line : List ℕ) (m : Meaning) → m ≡ meaning_of line → IsTaken p.world world m r
+pub submitted_so : (r : Result Submitted AllocError) (p q : HostParts) → p ≡ q → (world : Option Ledger) (line : List ℕ) (m : Meaning) → m ≡ meaning_of line → IsTaken p.world world m r
     → IsSubmitted (host_of q) (host_of (record { meter = p.meter; world = world; turns = p.turns })) line r
 submitted_so r p q seen world line m means taken =
     let new : HostParts = record { meter = p.meter; world = world; turns = p.turns } in

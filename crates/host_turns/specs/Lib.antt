@@ -1,7 +1,10 @@
-pub mod Telling
-pub mod Kept
-pub mod Begun
-pub mod Delivered
-pub mod Made
-pub mod Ending
-pub mod Taken
+pub mod Totals
+pub mod HostStates
+pub mod HostSteps
+pub mod TurnSteps
+pub mod TurnEnds
+pub mod LineSteps
+pub use Rattle.front_turns.specs.contract_texts
+pub use Rattle.front_turns.specs.turn_records
+pub use Rattle.front_turns.specs.turn_rows
+pub use Rattle.front_turns.specs.world_state

@@ -1,49 +1,49 @@
 //! The host between its calls.
 
 ghost use Rattle.std.specs.Prelude.{◌≡◌, ◌≤◌, IfOk, IfSome, IsSomeAnd, List, OnErr, OnOk, length};
-ghost use Rattle.top_call.specs.fair_laws.Turns.{StaysFair};
-ghost use Rattle.top_call.specs.fair_rows.SoFar.{nothing_so_far};
-ghost use Rattle.top_call.specs.fair_rows.Steps.{Leaves, so_far_after};
-ghost use Rattle.top_call.specs.fair_rows.Turns.{AreFair};
-ghost use Rattle.top_call.specs.fair_laws.Views.{world_of};
-ghost use Rattle.top_call.specs.run_laws.Runs.{first_host, most_meter};
-ghost use Rattle.host_turns.specs.Kept.{IsArrived, IsRested, world_kept};
-ghost use Rattle.host_turns.specs.Taken.{IsTaken};
-ghost use Rattle.top_call.specs.Steps.{IsStep};
-ghost use Rattle.top_call.specs.message_lines.FormTables.{line_view};
-ghost use Rattle.top_call.specs.run_laws.Steps.{IsCalledFor};
-ghost use Rattle.world_effects.specs.turn_records.Views.{delivery_view, turn_view};
-ghost use Rattle.world_effects.specs.turn_rows.Turns.{Turn};
-ghost use Rattle.world_effects.specs.world_state.Good.{IsLine};
+ghost use Rattle.run_laws.specs.fair_laws.Turns.{StaysFair};
+ghost use Rattle.run_laws.specs.fair_rows.SoFar.{nothing_so_far};
+ghost use Rattle.run_laws.specs.fair_rows.Steps.{Leaves, so_far_after};
+ghost use Rattle.run_laws.specs.fair_rows.Turns.{AreFair};
+ghost use Rattle.run_laws.specs.fair_laws.Views.{world_of};
+ghost use Rattle.run_laws.specs.Runs.{first_host, left_in, most_meter};
+ghost use Rattle.host_turns.specs.HostStates.{IsArrived, IsRested, world_kept};
+ghost use Rattle.host_turns.specs.LineSteps.{IsTaken};
+ghost use Rattle.host_turns.specs.HostSteps.{IsStep, IsSubmitted};
+ghost use Rattle.run_laws.specs.message_lines.FormTables.{line_view};
+ghost use Rattle.run_laws.specs.Steps.{IsCalledFor};
+ghost use Rattle.front_turns.specs.turn_records.Views.{delivery_view, turn_view};
+ghost use Rattle.front_turns.specs.turn_rows.Turns.{Turn};
+ghost use Rattle.front_turns.specs.world_state.Good.{IsLine};
 
-use crate::deliveries::Deliveries;
+use crate::steps::{StepFault, Submitted};
 use crate::turns::run_turn;
+use front_turns::contract_powers_lib::planner::Planner;
+use front_turns::host_world_lib::Ledger;
+use front_turns::turn_records_lib::deliveries::Delivery;
+use front_turns::turn_records_lib::turns::TurnRecord;
+use run_laws::message_lines_lib::messages::{Line, read_line};
 use std::alloc::{AllocError, Global};
 use std::marker::{Model, PhantomData};
-use top_call::hosts::{HostSteps, StepFault, Submitted};
-use top_call::message_lines_lib::messages::{Line, read_line};
-use world_effects::host_world_lib::KeptWorld;
-use world_effects::turn_records_lib::deliveries::Delivery;
-use world_effects::turn_records_lib::turns::TurnRecord;
 
 /// The most turns that a host runs.
 const MOST_TURNS: u32 = 4_000_000_000;
 
-/// An escrow host, over the code of deliveries. Contracts see what it keeps, of which `host_of` gives its state
-/// (specs/Kept.antt).
+/// An escrow host, over the plans of all methods. Contracts see what it keeps, of which `host_of` gives its state
+/// (specs/HostStates.antt).
 #[derive(Drop)]
-pub struct Host<D: Deliveries> {
+pub struct Host<P: Planner> {
     /// The most that a function may cost.
     meter: u32,
     /// It is away within a step alone.
-    world: Option<KeptWorld>,
+    world: Option<Ledger>,
     /// How many turns were run.
     turns: u32,
-    deliveries: PhantomData<D>,
+    planner: PhantomData<P>,
 }
 
-impl<D: Deliveries> Model for Host<D> {
-    ghost use Rattle.host_turns.specs.Kept.{HostParts, IsKept, coded_parts};
+impl<P: Planner> Model for Host<P> {
+    ghost use Rattle.host_turns.specs.HostStates.{HostParts, IsKept, coded_parts};
 
     ghost Value = { HostParts };
 
@@ -55,18 +55,18 @@ impl<D: Deliveries> Model for Host<D> {
 }
 
 /// How many deliveries wait.
-fn waiting_in(world: &Option<KeptWorld>) -> u64
+fn waiting_in(world: &Option<Ledger>) -> u64
     requires { IsSomeAnd world.now IsRested }
     ensures { result ≡ length (world_kept world.now).waiting }
 {
     match world {
-        Some(kept) => kept.plain.queue.len() as u64,
+        Some(kept) => kept.registers.queue.len() as u64,
         None => unreachable!(),
     }
 }
 
 /// A line's delivery waits behind all others.
-fn arrive(world: &mut Option<KeptWorld>, delivery: Delivery) -> Result<(), AllocError>
+fn arrive(world: &mut Option<Ledger>, delivery: Delivery) -> Result<(), AllocError>
     requires { IsSomeAnd world.old IsRested }
     ensures ok { OnOk result (IsArrived (delivery_view delivery) world.old world.new) }
     ensures err { OnErr result (world_kept world.new ≡ world_kept world.old) }
@@ -79,7 +79,7 @@ fn arrive(world: &mut Option<KeptWorld>, delivery: Delivery) -> Result<(), Alloc
 }
 
 /// What a line means is taken: its delivery waits, if it has one.
-fn take_line(world: &mut Option<KeptWorld>, line: Line) -> Result<Submitted, AllocError>
+fn take_line(world: &mut Option<Ledger>, line: Line) -> Result<Submitted, AllocError>
     requires { IsSomeAnd world.old IsRested }
     ensures taken { IsTaken world.old world.new (line_view line) result }
     ensures rests { IsSomeAnd world.new IsRested }
@@ -94,21 +94,45 @@ fn take_line(world: &mut Option<KeptWorld>, line: Line) -> Result<Submitted, All
     }
 }
 
-impl<D: Deliveries> Host<D> {
-    ghost use Rattle.host_turns.specs.Kept.{host_of};
+impl<P: Planner> Host<P> {
+    ghost use Rattle.host_turns.specs.HostStates.{host_of};
 
-    /// A new host.
-    pub fn new(alloc: Global, meter: u32) -> Result<Host<D>, AllocError>
+    /// A new host, which has the brand of invitations and no right. Functions of contracts run under the
+    /// meter, which is at most 10,000,000 (our own).
+    pub fn new(alloc: Global, meter: u32) -> Result<Host<P>, AllocError>
         requires { meter ≤ most_meter }
         ensures { IfOk result (λ host. host_of host ≡ first_host meter) }
     {
-        let world = KeptWorld::new(alloc)?;
+        let world = Ledger::new(alloc)?;
         Ok(Host {
             meter,
             world: Some(world),
             turns: 0,
-            deliveries: PhantomData,
+            planner: PhantomData,
         })
+    }
+
+    /// The delivery that a line means, if it means one, waits. A bad line means one too, which is refused
+    /// when its turn comes. A run line is answered, and left to the caller.
+    pub fn submit(&mut self, alloc: Global, line: &[u8]) -> Result<Submitted, AllocError>
+        ensures { IsSubmitted (host_of self.old) (host_of self.new) line.now result }
+    {
+        let line = read_line(alloc, line)?;
+        take_line(&mut self.world, line)
+    }
+
+    /// How many deliveries wait.
+    pub fn waiting(&self) -> u64
+        ensures { result ≡ left_in (host_of self.now) }
+    {
+        waiting_in(&self.world)
+    }
+
+    /// How many turns were run.
+    pub fn turns(&self) -> u32
+        ensures { result ≡ (host_of self.now).turns }
+    {
+        self.turns
     }
 
     /// The turn of the delivery in front, or `None` exactly where none waits. Where turn 4,000,000,000
@@ -132,39 +156,12 @@ impl<D: Deliveries> Host<D> {
         if self.turns >= MOST_TURNS {
             return Err(StepFault::TurnLimit);
         }
-        match run_turn::<D>(alloc, &mut self.world, self.meter, self.turns) {
+        match run_turn::<P>(alloc, &mut self.world, self.meter, self.turns) {
             Some(turn) => {
                 self.turns += 1;
                 Ok(Some(turn))
             }
             None => Err(StepFault::NoMemory),
         }
-    }
-}
-
-impl<D: Deliveries> HostSteps for Host<D> {
-    ghost use Rattle.host_turns.specs.Kept.{host_of};
-
-    ghost state = { host_of };
-
-    fn first(alloc: Global, meter: u32) -> Result<Self, AllocError> {
-        Host::<D>::new(alloc, meter)
-    }
-
-    fn submit(&mut self, alloc: Global, line: &[u8]) -> Result<Submitted, AllocError> {
-        let line = read_line(alloc, line)?;
-        take_line(&mut self.world, line)
-    }
-
-    fn step(&mut self, alloc: Global) -> Result<Option<TurnRecord>, StepFault> {
-        self.next_turn(alloc)
-    }
-
-    fn waiting(&self) -> u64 {
-        waiting_in(&self.world)
-    }
-
-    fn turns(&self) -> u32 {
-        self.turns
     }
 }

@@ -2,10 +2,9 @@
 //! host, is always good, and its turns stay fair.
 #![tactic(auto)]
 
-pub mod deliveries;
 pub mod host;
+pub mod steps;
 pub mod turn_sums;
 mod turns;
 
-pub use top_call as top_call_lib;
-pub use top_call::{command_words_lib, host_io_lib};
+pub use front_turns::{call_outcomes_lib, contract_powers_lib, host_world_lib, turn_records_lib};

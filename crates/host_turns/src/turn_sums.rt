@@ -7,21 +7,21 @@ pub mod laws;
 
 ghost use Rattle.std.specs.Prelude.{◌≡◌, ◌≤◌, ◌+◌, ◌++◌, ℕ, List, length, map, IfOk, OnErr, OnOk};
 ghost use Rattle.std.specs.Vec.{vec_capacity, vec_len};
-ghost use Rattle.world_effects.specs.escrow.Told.{EscrowState, IsSame};
-ghost use Rattle.world_effects.specs.escrow.Told.{sum_of as told_sum};
-ghost use Rattle.world_effects.specs.rights_model.Totals.{brands_of};
-ghost use Rattle.world_effects.specs.world_laws.Tables.{sum_of};
-ghost use Rattle.world_effects.specs.turn_records.Views.{event_view, event_views};
-ghost use Rattle.world_effects.specs.turn_records.Events.{moves_in};
-ghost use Rattle.host_turns.specs.Telling.{AreSteps, CanTell, CanTellAll, IsRoomed, IsStep, IsTurn};
-ghost use Rattle.host_turns.specs.Telling.{Tells, TurnOf, WasTold, WereTold, instances_in};
-ghost use Rattle.world_effects.specs.world_state.Rights.{Rights};
+ghost use Rattle.front_turns.specs.escrow.Told.{EscrowState, IsSame};
+ghost use Rattle.front_turns.specs.escrow.Told.{sum_of as told_sum};
+ghost use Rattle.front_turns.specs.rights_model.Totals.{brands_of};
+ghost use Rattle.front_turns.specs.world_laws.Tables.{sum_of};
+ghost use Rattle.front_turns.specs.turn_records.Views.{event_view, event_views};
+ghost use Rattle.front_turns.specs.turn_records.Events.{moves_in};
+ghost use Rattle.host_turns.specs.Totals.{AreSteps, CanTell, CanTellAll, IsRoomed, IsStep, IsTurn};
+ghost use Rattle.host_turns.specs.Totals.{Tells, TurnOf, WasTold, WereTold, instances_in};
+ghost use Rattle.front_turns.specs.world_state.Rights.{Rights};
 
+use front_turns::escrow_lib::Escrow;
+use front_turns::rights_model_lib::Sum;
+use front_turns::turn_records_lib::events::Event;
+use front_turns::turn_records_lib::turn_answers::brands_named;
 use std::alloc::{AllocError, Global};
-use world_effects::escrow_lib::Escrow;
-use world_effects::rights_model_lib::Sum;
-use world_effects::turn_records_lib::events::Event;
-use world_effects::turn_records_lib::turn_answers::brands::brands_named;
 
 /// An event is told: that a seat was opened, or a movement.
 fn tell(sums: &mut Escrow, event: &Event) -> Result<(), AllocError>

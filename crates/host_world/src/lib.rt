@@ -2,43 +2,65 @@
 //! running totals, kept together at the turn's end or as they were at its start, without memory.
 #![tactic(auto)]
 
+/// What `draft_reads` gives to those above.
+pub mod draft_reads_lib {
+    pub mod payment_reads {
+        pub use draft_reads::payment_reads::{
+            is_live, payment_amount, payment_brand, payments_left, payments_made,
+        };
+    }
+
+    pub mod purse_reads {
+        pub use draft_reads::purse_reads::{purse_amount, purse_brand, purses_made};
+    }
+
+    pub mod seat_reads {
+        pub use draft_reads::seat_reads::{
+            is_open, last_allocation, seat_instance, seat_proposal, seats_made,
+        };
+    }
+}
+
+/// What `escrow` gives to those above.
+pub mod escrow_lib {
+    pub use escrow::Escrow;
+}
+
 ghost use Rattle.std.specs.Prelude.{◌≡◌, ◌<◌, length, IfOk, OnErr, OnOk};
 ghost use Rattle.escrow.specs.Told.{nothing_told};
 ghost use Rattle.host_world.specs.Turns.{IsBetween, arrived, ended, first_lists};
 ghost use Rattle.host_world.specs.Worlds.{IsUndoable, kept_state, world_at_start, world_now};
-ghost use Rattle.plain_stores.specs.Plain.{turn_ended};
-ghost use Rattle.plain_stores.specs.Stores.{plain_now};
-ghost use Rattle.plain_stores.specs.turn_records.Views.{answer_view, delivery_view, reading_view, turn_view};
+ghost use Rattle.registers.specs.RegisterStates.{turn_ended};
+ghost use Rattle.registers.specs.Stores.{registers_now};
+ghost use Rattle.registers.specs.turn_records.Views.{answer_view, delivery_view, reading_view, turn_view};
 ghost use Rattle.draft_reads.specs.vault.Drafts.{HandGoes, IsClean};
 ghost use Rattle.draft_reads.specs.world_laws.First.{first_world};
 
-pub use draft_reads as draft_reads_lib;
 pub use draft_reads::vault_lib;
 use draft_reads::vault_lib::draft::{Draft, Vault};
-pub use escrow as escrow_lib;
 use escrow::Escrow;
 use escrow::amount_math_lib::Kind;
-use plain_stores::PlainStores;
-use plain_stores::promise_table::waiting::queue_delivery;
-use plain_stores::rights_model_lib::Sum;
-use plain_stores::turn_records_lib::deliveries::{Delivery, Reading};
-use plain_stores::turn_records_lib::events::Answer;
-use plain_stores::turn_records_lib::turns::TurnRecord;
+use registers::Registers;
+use registers::promise_table::waiting::queue_delivery;
+use registers::rights_model_lib::Sum;
+use registers::turn_records_lib::deliveries::{Delivery, Reading};
+use registers::turn_records_lib::events::Answer;
+use registers::turn_records_lib::turns::TurnRecord;
 use std::alloc::{AllocError, Global};
 
 /// The world between turns. To let go of it is one call.
-pub struct KeptWorld {
+pub struct Ledger {
     pub vault: Vault,
-    pub plain: PlainStores,
+    pub registers: Registers,
     /// What was told up to the last turn that was kept.
     pub sums: Escrow,
 }
 
-impl Drop for KeptWorld {
+impl Drop for Ledger {
     fn drop(self) {
-        let KeptWorld {
+        let Ledger {
             vault: _,
-            plain: _,
+            registers: _,
             sums: _,
         } = self;
     }
@@ -48,7 +70,7 @@ impl Drop for KeptWorld {
 /// about still waits, in front.
 pub struct World {
     pub draft: Draft,
-    pub plain: PlainStores,
+    pub registers: Registers,
     pub sums: Escrow,
 }
 
@@ -66,18 +88,18 @@ fn first_vault(alloc: Global) -> Result<Vault, AllocError>
     }
 }
 
-impl KeptWorld {
+impl Ledger {
     /// The world of a new host: the brand of invitations was made, and nothing else.
-    pub fn new(alloc: Global) -> Result<KeptWorld, AllocError>
+    pub fn new(alloc: Global) -> Result<Ledger, AllocError>
         ensures world { IfOk result (λ world. kept_state world ≡ first_world) }
         ensures between { IfOk result IsBetween }
         ensures sums { IfOk result (λ world. world.sums ≡ nothing_told) }
     {
-        let plain = PlainStores::new(alloc)?;
+        let registers = Registers::new(alloc)?;
         let vault = first_vault(alloc)?;
-        Ok(KeptWorld {
+        Ok(Ledger {
             vault,
-            plain,
+            registers,
             sums: Escrow::new(alloc),
         })
     }
@@ -91,8 +113,8 @@ impl KeptWorld {
         ensures between { IsBetween self.new }
         ensures sums { self.new.sums ≡ self.old.sums }
     {
-        let pushed = queue_delivery(&mut self.plain.queue, delivery);
-        self.plain.queue.forget();
+        let pushed = queue_delivery(&mut self.registers.queue, delivery);
+        self.registers.queue.forget();
         pushed
     }
 
@@ -104,10 +126,14 @@ impl KeptWorld {
         ensures clean { IsClean result.draft }
         ensures sums { result.sums ≡ self.sums }
     {
-        let KeptWorld { vault, plain, sums } = self;
+        let Ledger {
+            vault,
+            registers,
+            sums,
+        } = self;
         World {
             draft: vault.begin(),
-            plain,
+            registers,
             sums,
         }
     }
@@ -115,7 +141,7 @@ impl KeptWorld {
 
 impl World {
     /// Ends the turn as if it had not been, which takes no memory.
-    pub fn undo(self) -> KeptWorld
+    pub fn undo(self) -> Ledger
         requires { HandGoes self.draft }
         ensures world { kept_state result ≡ world_at_start self }
         ensures between { IsBetween result }
@@ -123,13 +149,13 @@ impl World {
     {
         let World {
             draft,
-            mut plain,
+            mut registers,
             sums,
         } = self;
-        plain.back();
-        KeptWorld {
+        registers.back();
+        Ledger {
             vault: draft.undo(),
-            plain,
+            registers,
             sums,
         }
     }
@@ -142,25 +168,25 @@ impl World {
         reading: Reading,
         answer: Answer,
         sums: Vec<Sum>,
-    ) -> (KeptWorld, TurnRecord)
+    ) -> (Ledger, TurnRecord)
         requires clean { IsClean self.draft }
         requires waits { 0 < length (world_now self).waiting }
         ensures world { kept_state result.0 ≡ ended (world_now self) }
         ensures between { IsBetween result.0 }
         ensures turn { turn_view result.1 ≡ turn_ended number (reading_view reading) (answer_view answer)
-            sums.items (plain_now self.plain) }
+            sums.items (registers_now self.registers) }
         ensures sums { result.0.sums ≡ self.sums }
     {
         let World {
             draft,
-            mut plain,
+            mut registers,
             sums: told,
         } = self;
         let vault = draft.commit();
-        let turn = plain.end_turn(alloc, number, reading, answer, sums);
-        let kept = KeptWorld {
+        let turn = registers.end_turn(alloc, number, reading, answer, sums);
+        let kept = Ledger {
             vault,
-            plain,
+            registers,
             sums: told,
         };
         (kept, turn)

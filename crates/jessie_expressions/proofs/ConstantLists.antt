@@ -4,7 +4,7 @@ use Rattle.jessie_grammar.specs.declared.jessie_lexer.token.Kind.{Kind}
 use Rattle.jessie_grammar.specs.declared.jessie_lexer.token.Kind.TheVariants as k
 use Rattle.jessie_grammar.specs.declared.jessie_lexer.token.Token.{Token}
 use Rattle.jessie_grammar.specs.Tokens.{kind, has}
-use Rattle.jessie_grammar.specs.declared.jessie_scopes.event.Event.{Event}
+use Rattle.jessie_grammar.specs.declared.jessie_scopes.name_use.NameUse.{NameUse}
 use Rattle.jessie_grammar.specs.declared.jessie_language.fault.ParseError.{ParseError}
 use Rattle.jessie_grammar.specs.declared.jessie_language.fault.ParseError.TheVariants as errors
 use Rattle.jessie_grammar.specs.Words.{Found, more, ongoing}
@@ -16,10 +16,10 @@ not_chosen : {B : Type 0} (p q : Outcome B) (b : Bool) → b ≡ false → (if b
 not_chosen p q true h = absurd (cc)
 not_chosen p q false h = refl
 
-abbrev after_first : {A : Type 0} → Kind → (List Event → Parser (Found A)) → Found A → Parser (Found (List A))
+abbrev after_first : {A : Type 0} → Kind → (List NameUse → Parser (Found A)) → Found A → Parser (Found (List A))
 after_first close item a = loop ongoing (k.Comma ∷ []) (rules.comma_step close item) (more [] a, true) >>= λ s. pure s.0
 
-pub listed_goes : {A : Type 0} (close : Kind) (item : List Event → Parser (Found A)) (es : List Event) (ts us : List Token) (a : A) (xs : List Event) (before found : List A)
+pub listed_goes : {A : Type 0} (close : Kind) (item : List NameUse → Parser (Found A)) (es : List NameUse) (ts us : List Token) (a : A) (xs : List NameUse) (before found : List A)
     → has (close ∷ []) (kind ts) ≡ false → item es ts ≡ Ok ((a, xs), us) → found ≡ before ++ a ∷ [] → before ≡ []
     → rules.listed close item es ts ≡ more_items close item (found, xs) us
 listed_goes {A} close item es ts us a xs before found h r i j =

@@ -5,12 +5,12 @@ use Rattle.jessie_grammar.specs.declared.jessie_lexer.token.Kind.{Kind}
 use Rattle.jessie_grammar.specs.declared.jessie_lexer.token.Kind.TheVariants as k
 use Rattle.jessie_grammar.specs.declared.jessie_lexer.token.Token.{Token}
 use Rattle.jessie_grammar.specs.Tokens.{kind, has}
-use Rattle.jessie_grammar.specs.declared.jessie_scopes.event.Event.{Event}
+use Rattle.jessie_grammar.specs.declared.jessie_scopes.name_use.NameUse.{NameUse}
 use Rattle.jessie_grammar.specs.declared.syntax.Expr.{Expr}
-use Rattle.jessie_grammar.specs.declared.syntax.Step.{Step}
+use Rattle.jessie_grammar.specs.declared.syntax.Access.{Access}
 use Rattle.jessie_grammar.specs.declared.jessie_language.fault.ParseError.{ParseError}
 use Rattle.jessie_grammar.specs.declared.jessie_language.fault.ParseError.TheVariants as errors
-use Rattle.jessie_grammar.specs.Words.{Found, Stepped, more, step_more, ongoing}
+use Rattle.jessie_grammar.specs.Words.{Found, Accessed, more, access_more, ongoing}
 use Rattle.jessie_grammar.specs.Parse.{Parser, Fault, Outcome, Fails, Gives, and_then, ◌>>=◌, ◌>>◌, pure, loop, symbol, opening, bracketed}
 use Rattle.jessie_grammar.specs.Levels.{more_items}
 use Rattle.jessie_grammar.specs.Rules as rules
@@ -19,10 +19,10 @@ not_chosen : {B : Type 0} (p q : Outcome B) (b : Bool) → b ≡ false → (if b
 not_chosen p q true h = absurd (cc)
 not_chosen p q false h = refl
 
-abbrev after_first : {A : Type 0} → Kind → (List Event → Parser (Found A)) → Found A → Parser (Found (List A))
+abbrev after_first : {A : Type 0} → Kind → (List NameUse → Parser (Found A)) → Found A → Parser (Found (List A))
 after_first close item a = loop ongoing (k.Comma ∷ []) (rules.comma_step close item) (more [] a, true) >>= λ s. pure s.0
 
-pub listed_goes : {A : Type 0} (close : Kind) (item : List Event → Parser (Found A)) (es : List Event) (ts us : List Token) (a : A) (xs : List Event) (before found : List A)
+pub listed_goes : {A : Type 0} (close : Kind) (item : List NameUse → Parser (Found A)) (es : List NameUse) (ts us : List Token) (a : A) (xs : List NameUse) (before found : List A)
     → has (close ∷ []) (kind ts) ≡ false → item es ts ≡ Ok ((a, xs), us) → found ≡ before ++ a ∷ [] → before ≡ []
     → rules.listed close item es ts ≡ more_items close item (found, xs) us
 listed_goes {A} close item es ts us a xs before found h r i j =
@@ -39,20 +39,20 @@ unfolding bracketed
 bracketed_goes room from to body a ts us vs e r = ap (λ o. and_then o (λ _. (body >>= λ x. (symbol to >> pure x)))) e ∙ ap (λ o. and_then o (λ x. (symbol to >> pure x))) r
 
 -- the steps so far, behind what they stand behind
-abbrev behind : Expr → Outcome (Found (List Step)) → Outcome Stepped
+abbrev behind : Expr → Outcome (Found (List Access)) → Outcome Accessed
 behind first (Ok x) = Ok (((first, x.0.0), x.0.1), x.1)
 behind first (Err e) = Err e
 
-steps_on : (first : Expr) (found : List Step) (es : List Event) (o : Outcome (Found Step))
-    → and_then o (λ x. pure (step_more ((first, found), es) x)) ≡ behind first (and_then o (λ x. pure (more found x)))
-steps_on first found es (Ok x) = refl
-steps_on first found es (Err e) = refl
+accesses_on : (first : Expr) (found : List Access) (es : List NameUse) (o : Outcome (Found Access))
+    → and_then o (λ x. pure (access_more ((first, found), es) x)) ≡ behind first (and_then o (λ x. pure (more found x)))
+accesses_on first found es (Ok x) = refl
+accesses_on first found es (Err e) = refl
 
-pub step_reads : (first : Expr) (found next : List Step) (es fs : List Event) (us : List Token) (o : Outcome (Found Step))
-    → and_then o (λ x. pure (more found x)) ≡ Ok ((next, fs), us) → and_then o (λ x. pure (step_more ((first, found), es) x)) ≡ Ok (((first, next), fs), us)
-step_reads first found next es fs us o h = steps_on first found es o ∙ ap (behind first) h
+pub access_reads : (first : Expr) (found next : List Access) (es fs : List NameUse) (us : List Token) (o : Outcome (Found Access))
+    → and_then o (λ x. pure (more found x)) ≡ Ok ((next, fs), us) → and_then o (λ x. pure (access_more ((first, found), es) x)) ≡ Ok (((first, next), fs), us)
+access_reads first found next es fs us o h = accesses_on first found es o ∙ ap (behind first) h
 
-pub step_fails : (first : Expr) (found : List Step) (es : List Event) (o : Outcome (Found Step)) (r : ParseError)
-    → Fails r (and_then o (λ x. pure (more found x))) → Fails r (and_then o (λ x. pure (step_more ((first, found), es) x)))
-step_fails first found es o errors.NoMemory h = tt
-step_fails first found es o (errors.Refused k left) h = steps_on first found es o ∙ ap (behind first) h
+pub access_fails : (first : Expr) (found : List Access) (es : List NameUse) (o : Outcome (Found Access)) (r : ParseError)
+    → Fails r (and_then o (λ x. pure (more found x))) → Fails r (and_then o (λ x. pure (access_more ((first, found), es) x)))
+access_fails first found es o errors.NoMemory h = tt
+access_fails first found es o (errors.Refused k left) h = accesses_on first found es o ∙ ap (behind first) h

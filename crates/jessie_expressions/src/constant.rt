@@ -1,5 +1,5 @@
-// Constants: what a state variable can hold at first. Each function answers what it read, and the
-// tokens after it; what the text does with names goes behind the events.
+//! Constants, which a state variable can hold at first: each function gives what it read and the
+//! tokens after it, and puts what the text does with names behind the name uses.
 ghost use Rattle.std.specs.Prelude.{[], ◌∷◌, ◌≡◌, ◌<◌, true, length};
 ghost use Rattle.jessie_grammar.specs.Parse.{Gives};
 ghost use Rattle.jessie_grammar.specs.Levels.{more_items};
@@ -8,13 +8,13 @@ ghost use Rattle.jessie_grammar.specs.Rules as rules;
 use jessie_grammar::host_text_lib::text::Text;
 use jessie_grammar::jessie_language::fault::ParseError;
 use jessie_grammar::jessie_lexer::token::{Kind, Token, peek};
-use jessie_grammar::jessie_scopes::event::Event;
+use jessie_grammar::jessie_scopes::name_use::NameUse;
 use jessie_grammar::syntax::Constant;
 use jessie_terminals::constants::{
     add_constant, add_constant_field, array_constant, literal_constant, record_constant,
 };
-use jessie_terminals::deeds::fills;
 use jessie_terminals::kinds::{is, is_literal};
+use jessie_terminals::name_uses::fills;
 use jessie_terminals::names::name;
 use jessie_terminals::symbols::{expect, open};
 use jessie_terminals::values::{literal, negative};
@@ -29,18 +29,18 @@ fn item_step<'a>(
     tokens: &'a [Token],
     room: u32,
     found: &mut Items<Constant>,
-    events: &mut Items<Event>,
+    name_uses: &mut Items<NameUse>,
 ) -> Result<(bool, &'a [Token]), ParseError>
     requires { 0 < room }
-    ensures { Gives (λ x. (((found.new, events.new), x.0), x.1.now)) result
+    ensures { Gives (λ x. (((found.new, name_uses.new), x.0), x.1.now)) result
         (rules.comma_step Kind.RightBracket (rules.inner_constant room)
-        ((found.old, events.old), true) tokens.now) }
+        ((found.old, name_uses.old), true) tokens.now) }
 {
     let rest = expect(tokens, Kind::Comma)?;
     if is(rest, Kind::Comma) || is(rest, Kind::RightBracket) {
         return Ok((false, rest));
     }
-    let (item, rest) = constant(alloc, rest, room - 1, events)?;
+    let (item, rest) = constant(alloc, rest, room - 1, name_uses)?;
     add_constant(item, found)?;
     Ok((true, rest))
 }
@@ -52,17 +52,17 @@ fn more_constants<'a>(
     tokens: &'a [Token],
     room: u32,
     found: &mut Items<Constant>,
-    events: &mut Items<Event>,
+    name_uses: &mut Items<NameUse>,
 ) -> Result<&'a [Token], ParseError>
     requires { 0 < room }
-    ensures { Gives (λ rest. ((found.new, events.new), rest.now)) result
-        (more_items Kind.RightBracket (rules.inner_constant room) (found.old, events.old)
+    ensures { Gives (λ rest. ((found.new, name_uses.new), rest.now)) result
+        (more_items Kind.RightBracket (rules.inner_constant room) (found.old, name_uses.old)
         tokens.now) }
 {
     let mut more = true;
     let mut rest = tokens;
     'items: while more && is(rest, Kind::Comma) {
-        let (again, after) = item_step(alloc, rest, room, found, events)?;
+        let (again, after) = item_step(alloc, rest, room, found, name_uses)?;
         more = again;
         rest = after;
     }
@@ -76,19 +76,19 @@ fn constants<'a>(
     alloc: Global,
     tokens: &'a [Token],
     room: u32,
-    events: &mut Items<Event>,
+    name_uses: &mut Items<NameUse>,
 ) -> Result<(Items<Constant>, &'a [Token]), ParseError>
     requires { 0 < room }
-    ensures { Gives (λ x. ((x.0, events.new), x.1.now)) result
-        (rules.listed Kind.RightBracket (rules.inner_constant room) events.old tokens.now) }
+    ensures { Gives (λ x. ((x.0, name_uses.new), x.1.now)) result
+        (rules.listed Kind.RightBracket (rules.inner_constant room) name_uses.old tokens.now) }
 {
     let mut found = Items::new(alloc);
     if is(tokens, Kind::RightBracket) {
         return Ok((found, tokens));
     }
-    let (first, rest) = constant(alloc, tokens, room - 1, events)?;
+    let (first, rest) = constant(alloc, tokens, room - 1, name_uses)?;
     add_constant(first, &mut found)?;
-    let rest = more_constants(alloc, rest, room, &mut found, events)?;
+    let rest = more_constants(alloc, rest, room, &mut found, name_uses)?;
     Ok((found, rest))
 }
 
@@ -98,13 +98,13 @@ fn array<'a>(
     alloc: Global,
     tokens: &'a [Token],
     room: u32,
-    events: &mut Items<Event>,
+    name_uses: &mut Items<NameUse>,
 ) -> Result<(Boxed<Constant>, &'a [Token]), ParseError>
-    ensures { Gives (λ x. ((x.0, events.new), x.1.now)) result
-        (rules.constant_array room (rules.inner_constant room) events.old tokens.now) }
+    ensures { Gives (λ x. ((x.0, name_uses.new), x.1.now)) result
+        (rules.constant_array room (rules.inner_constant room) name_uses.old tokens.now) }
 {
     let rest = open(tokens, room, Kind::LeftBracket)?;
-    let (found, rest) = constants(alloc, rest, room, events)?;
+    let (found, rest) = constants(alloc, rest, room, name_uses)?;
     let rest = expect(rest, Kind::RightBracket)?;
     Ok((array_constant(alloc, found)?, rest))
 }
@@ -116,16 +116,16 @@ fn field<'a>(
     alloc: Global,
     tokens: &'a [Token],
     room: u32,
-    events: &mut Items<Event>,
+    name_uses: &mut Items<NameUse>,
 ) -> Result<((&'a Token, Boxed<Constant>), &'a [Token]), ParseError>
     requires { 0 < room }
-    ensures { Gives (λ x. (((x.0.0.now.text, x.0.1), events.new), x.1.now)) result
-        (rules.constant_field (rules.inner_constant room) events.old tokens.now) }
+    ensures { Gives (λ x. (((x.0.0.now.text, x.0.1), name_uses.new), x.1.now)) result
+        (rules.constant_field (rules.inner_constant room) name_uses.old tokens.now) }
 {
     let (key, rest) = name(tokens)?;
     let rest = expect(rest, Kind::Colon)?;
-    fills(alloc, key, events)?;
-    let (value, rest) = constant(alloc, rest, room - 1, events)?;
+    fills(alloc, key, name_uses)?;
+    let (value, rest) = constant(alloc, rest, room - 1, name_uses)?;
     Ok(((key, value), rest))
 }
 
@@ -136,18 +136,18 @@ fn field_step<'a>(
     tokens: &'a [Token],
     room: u32,
     found: &mut Items<(Text, Constant)>,
-    events: &mut Items<Event>,
+    name_uses: &mut Items<NameUse>,
 ) -> Result<(bool, &'a [Token]), ParseError>
     requires { 0 < room }
-    ensures { Gives (λ x. (((found.new, events.new), x.0), x.1.now)) result
+    ensures { Gives (λ x. (((found.new, name_uses.new), x.0), x.1.now)) result
         (rules.comma_step Kind.RightBrace (rules.constant_field (rules.inner_constant room))
-        ((found.old, events.old), true) tokens.now) }
+        ((found.old, name_uses.old), true) tokens.now) }
 {
     let rest = expect(tokens, Kind::Comma)?;
     if is(rest, Kind::Comma) || is(rest, Kind::RightBrace) {
         return Ok((false, rest));
     }
-    let ((key, value), rest) = field(alloc, rest, room, events)?;
+    let ((key, value), rest) = field(alloc, rest, room, name_uses)?;
     add_constant_field(alloc, key, value, found)?;
     Ok((true, rest))
 }
@@ -159,17 +159,17 @@ fn more_fields<'a>(
     tokens: &'a [Token],
     room: u32,
     found: &mut Items<(Text, Constant)>,
-    events: &mut Items<Event>,
+    name_uses: &mut Items<NameUse>,
 ) -> Result<&'a [Token], ParseError>
     requires { 0 < room }
-    ensures { Gives (λ rest. ((found.new, events.new), rest.now)) result
+    ensures { Gives (λ rest. ((found.new, name_uses.new), rest.now)) result
         (more_items Kind.RightBrace (rules.constant_field (rules.inner_constant room))
-        (found.old, events.old) tokens.now) }
+        (found.old, name_uses.old) tokens.now) }
 {
     let mut more = true;
     let mut rest = tokens;
     'fields: while more && is(rest, Kind::Comma) {
-        let (again, after) = field_step(alloc, rest, room, found, events)?;
+        let (again, after) = field_step(alloc, rest, room, found, name_uses)?;
         more = again;
         rest = after;
     }
@@ -182,20 +182,20 @@ fn fields<'a>(
     alloc: Global,
     tokens: &'a [Token],
     room: u32,
-    events: &mut Items<Event>,
+    name_uses: &mut Items<NameUse>,
 ) -> Result<(Items<(Text, Constant)>, &'a [Token]), ParseError>
     requires { 0 < room }
-    ensures { Gives (λ x. ((x.0, events.new), x.1.now)) result
+    ensures { Gives (λ x. ((x.0, name_uses.new), x.1.now)) result
         (rules.listed Kind.RightBrace (rules.constant_field (rules.inner_constant room))
-        events.old tokens.now) }
+        name_uses.old tokens.now) }
 {
     let mut found = Items::new(alloc);
     if is(tokens, Kind::RightBrace) {
         return Ok((found, tokens));
     }
-    let ((key, value), rest) = field(alloc, tokens, room, events)?;
+    let ((key, value), rest) = field(alloc, tokens, room, name_uses)?;
     add_constant_field(alloc, key, value, &mut found)?;
-    let rest = more_fields(alloc, rest, room, &mut found, events)?;
+    let rest = more_fields(alloc, rest, room, &mut found, name_uses)?;
     Ok((found, rest))
 }
 
@@ -205,16 +205,16 @@ fn record_text<'a>(
     alloc: Global,
     tokens: &'a [Token],
     room: u32,
-    events: &mut Items<Event>,
+    name_uses: &mut Items<NameUse>,
 ) -> Result<(Boxed<Constant>, &'a [Token]), ParseError>
-    ensures { Gives (λ x. ((x.0, events.new), x.1.now)) result
-        (rules.constant_record room (rules.inner_constant room) events.old tokens.now) }
+    ensures { Gives (λ x. ((x.0, name_uses.new), x.1.now)) result
+        (rules.constant_record room (rules.inner_constant room) name_uses.old tokens.now) }
 {
     let rest = open(tokens, room, Kind::LeftBrace)?;
-    events.push(Event::Opens)?;
-    let (found, rest) = fields(alloc, rest, room, events)?;
+    name_uses.push(NameUse::Opens)?;
+    let (found, rest) = fields(alloc, rest, room, name_uses)?;
     let rest = expect(rest, Kind::RightBrace)?;
-    events.push(Event::Closes)?;
+    name_uses.push(NameUse::Closes)?;
     Ok((record_constant(alloc, found)?, rest))
 }
 
@@ -225,10 +225,10 @@ pub fn constant<'a>(
     alloc: Global,
     tokens: &'a [Token],
     room: u32,
-    events: &mut Items<Event>,
+    name_uses: &mut Items<NameUse>,
 ) -> Result<(Boxed<Constant>, &'a [Token]), ParseError>
-    ensures { Gives (λ x. ((x.0, events.new), x.1.now)) result
-        (rules.constant room events.old tokens.now) }
+    ensures { Gives (λ x. ((x.0, name_uses.new), x.1.now)) result
+        (rules.constant room name_uses.old tokens.now) }
 {
     if is_literal(peek(tokens)) {
         let (value, rest) = literal(alloc, tokens)?;
@@ -240,7 +240,7 @@ pub fn constant<'a>(
         return Ok((literal_constant(alloc, value)?, rest));
     }
     if is(tokens, Kind::LeftBracket) {
-        return array(alloc, tokens, room, events);
+        return array(alloc, tokens, room, name_uses);
     }
-    record_text(alloc, tokens, room, events)
+    record_text(alloc, tokens, room, name_uses)
 }

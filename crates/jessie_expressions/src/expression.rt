@@ -1,5 +1,5 @@
-// Expressions. Each function answers what it read, and the tokens after it; what the text does with
-// names goes behind the events. Each reads by the grammar's rule of its contract.
+//! Expressions: each function gives what it read and the tokens after it, and puts what the text
+//! does with names behind the name uses.
 ghost use Rattle.std.specs.Prelude.{ℕ, Bool, List, [], ◌∷◌, ◌≡◌, ◌⊎◌, ◌<◌, ◌≤◌, ◌+◌, true, length, IfOk, OnOk};
 ghost use Rattle.jessie_grammar.specs.Parse.{Gives, and_then, bracketed, one, pure, symbol};
 ghost use Rattle.jessie_grammar.specs.Levels.{level_at, level_ops, level_rest, level_tails, operands, more_items};
@@ -9,18 +9,18 @@ ghost use Rattle.jessie_grammar.specs.Words as words;
 use jessie_grammar::host_text_lib::text::Text;
 use jessie_grammar::jessie_language::fault::ParseError;
 use jessie_grammar::jessie_lexer::token::{Kind, Token, peek};
-use jessie_grammar::jessie_scopes::event::Event;
-use jessie_grammar::syntax::{Expr, Operator, Step, Unary};
-use jessie_terminals::deeds::{calls, fills, shortens, uses};
+use jessie_grammar::jessie_scopes::name_use::NameUse;
+use jessie_grammar::syntax::{Access, Expr, Operator, Unary};
 use jessie_terminals::expressions::{
-    add_expression, add_field, add_field_step, add_index_step, add_method_step, add_operand,
+    add_expression, add_field, add_field_access, add_index_access, add_method_access, add_operand,
     amount_expression, array_expression, call_expression, choice_expression, literal_expression,
-    name_expression, record_expression, send_expression, unary_expression, with_operands,
-    with_steps,
+    name_expression, record_expression, send_expression, unary_expression, with_accesses,
+    with_operands,
 };
 use jessie_terminals::kinds::{
-    begins_bare, begins_step, is, is_free_word, is_literal, is_operator, is_sign, repeats,
+    begins_access, begins_bare, is, is_free_word, is_literal, is_operator, is_sign, repeats,
 };
+use jessie_terminals::name_uses::{calls, fills, shortens, uses};
 use jessie_terminals::names::{free_name, name};
 use jessie_terminals::symbols::{expect, open, operator, sign};
 use jessie_terminals::values::literal;
@@ -35,14 +35,14 @@ fn next_item<'a>(
     tokens: &'a [Token],
     room: u32,
     found: &mut Items<Expr>,
-    events: &mut Items<Event>,
+    name_uses: &mut Items<NameUse>,
 ) -> Result<&'a [Token], ParseError>
     requires { 0 < room }
-    ensures { Gives (λ rest. (((found.new, events.new), true), rest.now)) result
-        (and_then {B = words.Found (List Expr) × Bool} (rules.inner room events.old tokens.now)
+    ensures { Gives (λ rest. (((found.new, name_uses.new), true), rest.now)) result
+        (and_then {B = words.Found (List Expr) × Bool} (rules.inner room name_uses.old tokens.now)
         (λ item. pure (words.more found.old item, true))) }
 {
-    let (item, rest) = expression(alloc, tokens, room - 1, events)?;
+    let (item, rest) = expression(alloc, tokens, room - 1, name_uses)?;
     let Ok(()) = add_expression(item, found) else {
         return Err(ParseError::NoMemory);
     };
@@ -57,17 +57,17 @@ fn item_step<'a>(
     room: u32,
     close: Kind,
     found: &mut Items<Expr>,
-    events: &mut Items<Event>,
+    name_uses: &mut Items<NameUse>,
 ) -> Result<(bool, &'a [Token]), ParseError>
     requires { 0 < room }
-    ensures { Gives (λ x. (((found.new, events.new), x.0), x.1.now)) result
-        (rules.comma_step close (rules.inner room) ((found.old, events.old), true) tokens.now) }
+    ensures { Gives (λ x. (((found.new, name_uses.new), x.0), x.1.now)) result
+        (rules.comma_step close (rules.inner room) ((found.old, name_uses.old), true) tokens.now) }
 {
     let rest = expect(tokens, Kind::Comma)?;
     if is(rest, Kind::Comma) || is(rest, close) {
         return Ok((false, rest));
     }
-    let rest = next_item(alloc, rest, room, found, events)?;
+    let rest = next_item(alloc, rest, room, found, name_uses)?;
     Ok((true, rest))
 }
 
@@ -79,17 +79,17 @@ fn later_items<'a>(
     room: u32,
     close: Kind,
     found: &mut Items<Expr>,
-    events: &mut Items<Event>,
+    name_uses: &mut Items<NameUse>,
 ) -> Result<&'a [Token], ParseError>
     requires room { 0 < room }
     requires close { (close ≡ Kind.RightParen) ⊎ (close ≡ Kind.RightBracket) }
-    ensures { Gives (λ rest. ((found.new, events.new), rest.now)) result
-        (more_items close (rules.inner room) (found.old, events.old) tokens.now) }
+    ensures { Gives (λ rest. ((found.new, name_uses.new), rest.now)) result
+        (more_items close (rules.inner room) (found.old, name_uses.old) tokens.now) }
 {
     let mut more = true;
     let mut rest = tokens;
     'items: while more && is(rest, Kind::Comma) {
-        let (again, after) = item_step(alloc, rest, room, close, found, events)?;
+        let (again, after) = item_step(alloc, rest, room, close, found, name_uses)?;
         more = again;
         rest = after;
     }
@@ -105,41 +105,41 @@ fn items<'a>(
     room: u32,
     close: Kind,
     found: &mut Items<Expr>,
-    events: &mut Items<Event>,
+    name_uses: &mut Items<NameUse>,
 ) -> Result<&'a [Token], ParseError>
     requires room { 0 < room }
     requires close { (close ≡ Kind.RightParen) ⊎ (close ≡ Kind.RightBracket) }
     requires none { found.old ≡ [] }
-    ensures { Gives (λ rest. ((found.new, events.new), rest.now)) result
-        (rules.listed close (rules.inner room) events.old tokens.now) }
+    ensures { Gives (λ rest. ((found.new, name_uses.new), rest.now)) result
+        (rules.listed close (rules.inner room) name_uses.old tokens.now) }
 {
     if is(tokens, close) {
         return Ok(tokens);
     }
-    let (first, rest) = expression(alloc, tokens, room - 1, events)?;
+    let (first, rest) = expression(alloc, tokens, room - 1, name_uses)?;
     add_expression(first, found)?;
-    later_items(alloc, rest, room, close, found, events)
+    later_items(alloc, rest, room, close, found, name_uses)
 }
 
 /// The expressions of a list between two brackets.
 #[cycle(expression)]
 #[tactic(auto, unfolding(jessie_grammar::specs::Parse::bracketed))]
-fn enclosed<'a>(
+fn bracketed_items<'a>(
     alloc: Global,
     tokens: &'a [Token],
     room: u32,
     from: Kind,
     close: Kind,
     found: &mut Items<Expr>,
-    events: &mut Items<Event>,
+    name_uses: &mut Items<NameUse>,
 ) -> Result<&'a [Token], ParseError>
     requires close { (close ≡ Kind.RightParen) ⊎ (close ≡ Kind.RightBracket) }
     requires none { found.old ≡ [] }
-    ensures { Gives (λ rest. ((found.new, events.new), rest.now)) result
-        (bracketed room from close (rules.listed close (rules.inner room) events.old) tokens.now) }
+    ensures { Gives (λ rest. ((found.new, name_uses.new), rest.now)) result
+        (bracketed room from close (rules.listed close (rules.inner room) name_uses.old) tokens.now) }
 {
     let rest = open(tokens, room, from)?;
-    let rest = items(alloc, rest, room, close, found, events)?;
+    let rest = items(alloc, rest, room, close, found, name_uses)?;
     let rest = expect(rest, close)?;
     Ok(rest)
 }
@@ -152,20 +152,20 @@ fn arguments<'a>(
     tokens: &'a [Token],
     room: u32,
     found: &mut Items<Expr>,
-    events: &mut Items<Event>,
+    name_uses: &mut Items<NameUse>,
 ) -> Result<&'a [Token], ParseError>
     requires { found.old ≡ [] }
-    ensures { Gives (λ rest. ((found.new, events.new), rest.now)) result
-        (rules.args room (rules.inner room) events.old tokens.now) }
+    ensures { Gives (λ rest. ((found.new, name_uses.new), rest.now)) result
+        (rules.args room (rules.inner room) name_uses.old tokens.now) }
 {
-    enclosed(
+    bracketed_items(
         alloc,
         tokens,
         room,
         Kind::LeftParen,
         Kind::RightParen,
         found,
-        events,
+        name_uses,
     )
 }
 
@@ -174,20 +174,20 @@ fn array<'a>(
     alloc: Global,
     tokens: &'a [Token],
     room: u32,
-    events: &mut Items<Event>,
+    name_uses: &mut Items<NameUse>,
 ) -> Result<(Boxed<Expr>, &'a [Token]), ParseError>
-    ensures { Gives (λ x. ((x.0, events.new), x.1.now)) result
-        (rules.array room (rules.inner room) events.old tokens.now) }
+    ensures { Gives (λ x. ((x.0, name_uses.new), x.1.now)) result
+        (rules.array room (rules.inner room) name_uses.old tokens.now) }
 {
     let mut found = Items::new(alloc);
-    let rest = enclosed(
+    let rest = bracketed_items(
         alloc,
         tokens,
         room,
         Kind::LeftBracket,
         Kind::RightBracket,
         &mut found,
-        events,
+        name_uses,
     )?;
     let Ok(tree) = array_expression(alloc, found) else {
         return Err(ParseError::NoMemory);
@@ -203,28 +203,28 @@ fn own_value<'a>(
     tokens: &'a [Token],
     room: u32,
     key: &Token,
-    events: &mut Items<Event>,
+    name_uses: &mut Items<NameUse>,
 ) -> Result<(Boxed<Expr>, &'a [Token]), ParseError>
     requires { 0 < room }
-    ensures { Gives (λ x. (((key.now.text, x.0), events.new), x.1.now)) result
-        (rules.own_value (rules.inner room) events.old (words.spotted key.now) tokens.now) }
+    ensures { Gives (λ x. (((key.now.text, x.0), name_uses.new), x.1.now)) result
+        (rules.own_value (rules.inner room) name_uses.old (words.spotted key.now) tokens.now) }
 {
     let rest = expect(tokens, Kind::Colon)?;
-    fills(alloc, key, events)?;
-    expression(alloc, rest, room - 1, events)
+    fills(alloc, key, name_uses)?;
+    expression(alloc, rest, room - 1, name_uses)
 }
 
 /// What the name of a field reads, where the field has no value of its own.
 fn shorthand(
     alloc: Global,
     key: &Token,
-    events: &mut Items<Event>,
+    name_uses: &mut Items<NameUse>,
 ) -> Result<Boxed<Expr>, AllocError>
     ensures tree { IfOk result (λ tree. tree ≡ Expr.Name key.now.text) }
-    ensures events { OnOk result
-        (events.new ≡ words.also events.old (Event.Shorthand key.now.at key.now.text)) }
+    ensures name_uses { OnOk result
+        (name_uses.new ≡ words.also name_uses.old (NameUse.Shorthand key.now.at key.now.text)) }
 {
-    shortens(alloc, key, events)?;
+    shortens(alloc, key, name_uses)?;
     name_expression(alloc, key)
 }
 
@@ -235,18 +235,18 @@ fn field<'a>(
     alloc: Global,
     tokens: &'a [Token],
     room: u32,
-    events: &mut Items<Event>,
+    name_uses: &mut Items<NameUse>,
 ) -> Result<((&'a Token, Boxed<Expr>), &'a [Token]), ParseError>
     requires { 0 < room }
-    ensures { Gives (λ x. (((x.0.0.now.text, x.0.1), events.new), x.1.now)) result
-        (rules.field (rules.inner room) events.old tokens.now) }
+    ensures { Gives (λ x. (((x.0.0.now.text, x.0.1), name_uses.new), x.1.now)) result
+        (rules.field (rules.inner room) name_uses.old tokens.now) }
 {
     let (key, rest) = name(tokens)?;
     if is(rest, Kind::Colon) {
-        let (value, rest) = own_value(alloc, rest, room, key, events)?;
+        let (value, rest) = own_value(alloc, rest, room, key, name_uses)?;
         return Ok(((key, value), rest));
     }
-    let Ok(value) = shorthand(alloc, key, events) else {
+    let Ok(value) = shorthand(alloc, key, name_uses) else {
         return Err(ParseError::NoMemory);
     };
     Ok(((key, value), rest))
@@ -259,15 +259,15 @@ fn next_field<'a>(
     tokens: &'a [Token],
     room: u32,
     found: &mut Items<(Text, Expr)>,
-    events: &mut Items<Event>,
+    name_uses: &mut Items<NameUse>,
 ) -> Result<&'a [Token], ParseError>
     requires { 0 < room }
-    ensures { Gives (λ rest. (((found.new, events.new), true), rest.now)) result
+    ensures { Gives (λ rest. (((found.new, name_uses.new), true), rest.now)) result
         (and_then {B = words.Found (List (List ℕ × Expr)) × Bool}
-        (rules.field (rules.inner room) events.old tokens.now)
+        (rules.field (rules.inner room) name_uses.old tokens.now)
         (λ item. pure (words.more found.old item, true))) }
 {
-    let ((key, value), rest) = field(alloc, tokens, room, events)?;
+    let ((key, value), rest) = field(alloc, tokens, room, name_uses)?;
     let Ok(()) = add_field(alloc, key, value, found) else {
         return Err(ParseError::NoMemory);
     };
@@ -281,18 +281,18 @@ fn field_step<'a>(
     tokens: &'a [Token],
     room: u32,
     found: &mut Items<(Text, Expr)>,
-    events: &mut Items<Event>,
+    name_uses: &mut Items<NameUse>,
 ) -> Result<(bool, &'a [Token]), ParseError>
     requires { 0 < room }
-    ensures { Gives (λ x. (((found.new, events.new), x.0), x.1.now)) result
+    ensures { Gives (λ x. (((found.new, name_uses.new), x.0), x.1.now)) result
         (rules.comma_step Kind.RightBrace (rules.field (rules.inner room))
-        ((found.old, events.old), true) tokens.now) }
+        ((found.old, name_uses.old), true) tokens.now) }
 {
     let rest = expect(tokens, Kind::Comma)?;
     if is(rest, Kind::Comma) || is(rest, Kind::RightBrace) {
         return Ok((false, rest));
     }
-    let rest = next_field(alloc, rest, room, found, events)?;
+    let rest = next_field(alloc, rest, room, found, name_uses)?;
     Ok((true, rest))
 }
 
@@ -303,17 +303,17 @@ fn later_fields<'a>(
     tokens: &'a [Token],
     room: u32,
     found: &mut Items<(Text, Expr)>,
-    events: &mut Items<Event>,
+    name_uses: &mut Items<NameUse>,
 ) -> Result<&'a [Token], ParseError>
     requires { 0 < room }
-    ensures { Gives (λ rest. ((found.new, events.new), rest.now)) result
-        (more_items Kind.RightBrace (rules.field (rules.inner room)) (found.old, events.old)
+    ensures { Gives (λ rest. ((found.new, name_uses.new), rest.now)) result
+        (more_items Kind.RightBrace (rules.field (rules.inner room)) (found.old, name_uses.old)
         tokens.now) }
 {
     let mut more = true;
     let mut rest = tokens;
     'fields: while more && is(rest, Kind::Comma) {
-        let (again, after) = field_step(alloc, rest, room, found, events)?;
+        let (again, after) = field_step(alloc, rest, room, found, name_uses)?;
         more = again;
         rest = after;
     }
@@ -327,58 +327,58 @@ fn fields<'a>(
     tokens: &'a [Token],
     room: u32,
     found: &mut Items<(Text, Expr)>,
-    events: &mut Items<Event>,
+    name_uses: &mut Items<NameUse>,
 ) -> Result<&'a [Token], ParseError>
     requires room { 0 < room }
     requires none { found.old ≡ [] }
-    ensures { Gives (λ rest. ((found.new, events.new), rest.now)) result
-        (rules.listed Kind.RightBrace (rules.field (rules.inner room)) events.old tokens.now) }
+    ensures { Gives (λ rest. ((found.new, name_uses.new), rest.now)) result
+        (rules.listed Kind.RightBrace (rules.field (rules.inner room)) name_uses.old tokens.now) }
 {
     if is(tokens, Kind::RightBrace) {
         return Ok(tokens);
     }
-    let ((key, value), rest) = field(alloc, tokens, room, events)?;
+    let ((key, value), rest) = field(alloc, tokens, room, name_uses)?;
     add_field(alloc, key, value, found)?;
-    later_fields(alloc, rest, room, found, events)
+    later_fields(alloc, rest, room, found, name_uses)
 }
 
 /// The fields of a record behind its opening brace.
 #[cycle(expression)]
-fn opened_fields<'a>(
+fn fields_and_scope<'a>(
     alloc: Global,
     tokens: &'a [Token],
     room: u32,
     found: &mut Items<(Text, Expr)>,
-    events: &mut Items<Event>,
+    name_uses: &mut Items<NameUse>,
 ) -> Result<&'a [Token], ParseError>
     requires room { 0 < room }
     requires none { found.old ≡ [] }
-    ensures { Gives (λ rest. ((found.new, events.new), rest.now)) result
+    ensures { Gives (λ rest. ((found.new, name_uses.new), rest.now)) result
         (rules.listed Kind.RightBrace (rules.field (rules.inner room))
-        (words.also events.old Event.Opens) tokens.now) }
+        (words.also name_uses.old NameUse.Opens) tokens.now) }
 {
-    events.push(Event::Opens)?;
-    fields(alloc, tokens, room, found, events)
+    name_uses.push(NameUse::Opens)?;
+    fields(alloc, tokens, room, found, name_uses)
 }
 
 /// The fields of a record between its braces.
 #[cycle(expression)]
 #[tactic(auto, unfolding(jessie_grammar::specs::Parse::bracketed))]
-fn enclosed_fields<'a>(
+fn braced_fields<'a>(
     alloc: Global,
     tokens: &'a [Token],
     room: u32,
     found: &mut Items<(Text, Expr)>,
-    events: &mut Items<Event>,
+    name_uses: &mut Items<NameUse>,
 ) -> Result<&'a [Token], ParseError>
     requires { found.old ≡ [] }
-    ensures { Gives (λ rest. ((found.new, events.new), rest.now)) result
+    ensures { Gives (λ rest. ((found.new, name_uses.new), rest.now)) result
         (bracketed room Kind.LeftBrace Kind.RightBrace
         (rules.listed Kind.RightBrace (rules.field (rules.inner room))
-        (words.also events.old Event.Opens)) tokens.now) }
+        (words.also name_uses.old NameUse.Opens)) tokens.now) }
 {
     let rest = open(tokens, room, Kind::LeftBrace)?;
-    let rest = opened_fields(alloc, rest, room, found, events)?;
+    let rest = fields_and_scope(alloc, rest, room, found, name_uses)?;
     let rest = expect(rest, Kind::RightBrace)?;
     Ok(rest)
 }
@@ -388,14 +388,14 @@ fn record_text<'a>(
     alloc: Global,
     tokens: &'a [Token],
     room: u32,
-    events: &mut Items<Event>,
+    name_uses: &mut Items<NameUse>,
 ) -> Result<(Boxed<Expr>, &'a [Token]), ParseError>
-    ensures { Gives (λ x. ((x.0, events.new), x.1.now)) result
-        (rules.record_text room (rules.inner room) events.old tokens.now) }
+    ensures { Gives (λ x. ((x.0, name_uses.new), x.1.now)) result
+        (rules.record_text room (rules.inner room) name_uses.old tokens.now) }
 {
     let mut found = Items::new(alloc);
-    let rest = enclosed_fields(alloc, tokens, room, &mut found, events)?;
-    let Ok(()) = events.push(Event::Closes) else {
+    let rest = braced_fields(alloc, tokens, room, &mut found, name_uses)?;
+    let Ok(()) = name_uses.push(NameUse::Closes) else {
         return Err(ParseError::NoMemory);
     };
     let Ok(tree) = record_expression(alloc, found) else {
@@ -405,12 +405,12 @@ fn record_text<'a>(
 }
 
 /// The expression, where its closing bracket stands behind it; whatever was done before.
-fn closed<'a>(
+fn close_group<'a>(
     tree: Boxed<Expr>,
     tokens: &'a [Token],
     to: Kind,
 ) -> Result<(Boxed<Expr>, &'a [Token]), ParseError>
-    ensures { (done : List Event) → Gives (λ x. ((x.0, done), x.1.now)) result
+    ensures { (done : List NameUse) → Gives (λ x. ((x.0, done), x.1.now)) result
         (and_then {B = words.Found Expr} (symbol to tokens.now) (λ _. pure (tree, done))) }
 {
     let rest = expect(tokens, to)?;
@@ -421,38 +421,38 @@ fn closed<'a>(
 /// open; else the first refusal.
 #[cycle(expression)]
 #[tactic(auto, using(jessie_grammar::proofs::Reading::inner_is), unfolding(jessie_grammar::specs::Parse::bracketed))]
-pub fn grouped<'a>(
+pub fn group<'a>(
     alloc: Global,
     tokens: &'a [Token],
     room: u32,
     from: Kind,
     to: Kind,
-    events: &mut Items<Event>,
+    name_uses: &mut Items<NameUse>,
 ) -> Result<(Boxed<Expr>, &'a [Token]), ParseError>
-    ensures { Gives (λ x. ((x.0, events.new), x.1.now)) result
-        (bracketed room from to (rules.inner room events.old) tokens.now) }
+    ensures { Gives (λ x. ((x.0, name_uses.new), x.1.now)) result
+        (bracketed room from to (rules.inner room name_uses.old) tokens.now) }
 {
     let rest = open(tokens, room, from)?;
-    let (tree, rest) = expression(alloc, rest, room - 1, events)?;
-    closed(tree, rest, to)
+    let (tree, rest) = expression(alloc, rest, room - 1, name_uses)?;
+    close_group(tree, rest, to)
 }
 
 /// The call that begins with this name.
 #[cycle(expression)]
-fn called<'a>(
+fn call<'a>(
     alloc: Global,
     tokens: &'a [Token],
     room: u32,
     function: &Token,
-    events: &mut Items<Event>,
+    name_uses: &mut Items<NameUse>,
 ) -> Result<(Boxed<Expr>, &'a [Token]), ParseError>
-    ensures { Gives (λ x. ((x.0, events.new), x.1.now)) result
-        (rules.called_with room (rules.inner room) events.old (words.spotted function.now)
+    ensures { Gives (λ x. ((x.0, name_uses.new), x.1.now)) result
+        (rules.called_with room (rules.inner room) name_uses.old (words.spotted function.now)
         tokens.now) }
 {
-    calls(alloc, function, events)?;
+    calls(alloc, function, name_uses)?;
     let mut given = Items::new(alloc);
-    let rest = arguments(alloc, tokens, room, &mut given, events)?;
+    let rest = arguments(alloc, tokens, room, &mut given, name_uses)?;
     let Ok(tree) = call_expression(alloc, function, given) else {
         return Err(ParseError::NoMemory);
     };
@@ -467,15 +467,15 @@ fn call_tail<'a>(
     tokens: &'a [Token],
     room: u32,
     name: &Token,
-    events: &mut Items<Event>,
+    name_uses: &mut Items<NameUse>,
 ) -> Result<(Boxed<Expr>, &'a [Token]), ParseError>
-    ensures { Gives (λ x. ((x.0, events.new), x.1.now)) result
-        (rules.call_tail room (rules.inner room) events.old (words.spotted name.now) tokens.now) }
+    ensures { Gives (λ x. ((x.0, name_uses.new), x.1.now)) result
+        (rules.call_tail room (rules.inner room) name_uses.old (words.spotted name.now) tokens.now) }
 {
     if is(tokens, Kind::LeftParen) {
-        return called(alloc, tokens, room, name, events);
+        return call(alloc, tokens, room, name, name_uses);
     }
-    uses(alloc, name, events)?;
+    uses(alloc, name, name_uses)?;
     let Ok(tree) = name_expression(alloc, name) else {
         return Err(ParseError::NoMemory);
     };
@@ -484,17 +484,17 @@ fn call_tail<'a>(
 
 #[cycle(expression)]
 #[tactic(auto, unfolding(jessie_grammar::specs::Rules::named))]
-fn named<'a>(
+fn name_or_call<'a>(
     alloc: Global,
     tokens: &'a [Token],
     room: u32,
-    events: &mut Items<Event>,
+    name_uses: &mut Items<NameUse>,
 ) -> Result<(Boxed<Expr>, &'a [Token]), ParseError>
-    ensures { Gives (λ x. ((x.0, events.new), x.1.now)) result
-        (rules.named room (rules.inner room) events.old tokens.now) }
+    ensures { Gives (λ x. ((x.0, name_uses.new), x.1.now)) result
+        (rules.named room (rules.inner room) name_uses.old tokens.now) }
 {
     let (name, rest) = free_name(tokens)?;
-    call_tail(alloc, rest, room, name, events)
+    call_tail(alloc, rest, room, name, name_uses)
 }
 
 /// A method's name behind a dot, and its arguments.
@@ -505,15 +505,15 @@ fn method_call<'a>(
     tokens: &'a [Token],
     room: u32,
     given: &mut Items<Expr>,
-    events: &mut Items<Event>,
+    name_uses: &mut Items<NameUse>,
 ) -> Result<(&'a Token, &'a [Token]), ParseError>
     requires { given.old ≡ [] }
-    ensures { Gives (λ x. (((x.0.now.text, given.new), events.new), x.1.now)) result
-        (rules.method_call room (rules.inner room) events.old tokens.now) }
+    ensures { Gives (λ x. (((x.0.now.text, given.new), name_uses.new), x.1.now)) result
+        (rules.method_call room (rules.inner room) name_uses.old tokens.now) }
 {
     let rest = expect(tokens, Kind::Dot)?;
     let (method, rest) = name(rest)?;
-    let rest = arguments(alloc, rest, room, given, events)?;
+    let rest = arguments(alloc, rest, room, given, name_uses)?;
     Ok((method, rest))
 }
 
@@ -524,14 +524,14 @@ fn send<'a>(
     tokens: &'a [Token],
     room: u32,
     target: Boxed<Expr>,
-    events: &mut Items<Event>,
+    name_uses: &mut Items<NameUse>,
 ) -> Result<(Boxed<Expr>, &'a [Token]), ParseError>
-    ensures { Gives (λ x. ((x.0, events.new), x.1.now)) result
-        (and_then (rules.method_call room (rules.inner room) events.old tokens.now)
+    ensures { Gives (λ x. ((x.0, name_uses.new), x.1.now)) result
+        (and_then (rules.method_call room (rules.inner room) name_uses.old tokens.now)
         (λ call. pure (words.send_of target call))) }
 {
     let mut given = Items::new(alloc);
-    let (method, rest) = method_call(alloc, tokens, room, &mut given, events)?;
+    let (method, rest) = method_call(alloc, tokens, room, &mut given, name_uses)?;
     let Ok(tree) = send_expression(alloc, target, method, given) else {
         return Err(ParseError::NoMemory);
     };
@@ -545,14 +545,21 @@ fn eventually<'a>(
     alloc: Global,
     tokens: &'a [Token],
     room: u32,
-    events: &mut Items<Event>,
+    name_uses: &mut Items<NameUse>,
 ) -> Result<(Boxed<Expr>, &'a [Token]), ParseError>
-    ensures { Gives (λ x. ((x.0, events.new), x.1.now)) result
-        (rules.eventually room (rules.inner room) events.old tokens.now) }
+    ensures { Gives (λ x. ((x.0, name_uses.new), x.1.now)) result
+        (rules.eventually room (rules.inner room) name_uses.old tokens.now) }
 {
     let rest = expect(tokens, Kind::Eventually)?;
-    let (target, rest) = grouped(alloc, rest, room, Kind::LeftParen, Kind::RightParen, events)?;
-    send(alloc, rest, room, target, events)
+    let (target, rest) = group(
+        alloc,
+        rest,
+        room,
+        Kind::LeftParen,
+        Kind::RightParen,
+        name_uses,
+    )?;
+    send(alloc, rest, room, target, name_uses)
 }
 
 /// The call of the method of `AmountMath`.
@@ -561,14 +568,14 @@ fn amount_call<'a>(
     alloc: Global,
     tokens: &'a [Token],
     room: u32,
-    events: &mut Items<Event>,
+    name_uses: &mut Items<NameUse>,
 ) -> Result<(Boxed<Expr>, &'a [Token]), ParseError>
-    ensures { Gives (λ x. ((x.0, events.new), x.1.now)) result
-        (and_then (rules.method_call room (rules.inner room) events.old tokens.now)
+    ensures { Gives (λ x. ((x.0, name_uses.new), x.1.now)) result
+        (and_then (rules.method_call room (rules.inner room) name_uses.old tokens.now)
         (λ call. pure (words.amount_of call))) }
 {
     let mut given = Items::new(alloc);
-    let (method, rest) = method_call(alloc, tokens, room, &mut given, events)?;
+    let (method, rest) = method_call(alloc, tokens, room, &mut given, name_uses)?;
     let Ok(tree) = amount_expression(alloc, method, given) else {
         return Err(ParseError::NoMemory);
     };
@@ -582,13 +589,13 @@ fn amount<'a>(
     alloc: Global,
     tokens: &'a [Token],
     room: u32,
-    events: &mut Items<Event>,
+    name_uses: &mut Items<NameUse>,
 ) -> Result<(Boxed<Expr>, &'a [Token]), ParseError>
-    ensures { Gives (λ x. ((x.0, events.new), x.1.now)) result
-        (rules.amount room (rules.inner room) events.old tokens.now) }
+    ensures { Gives (λ x. ((x.0, name_uses.new), x.1.now)) result
+        (rules.amount room (rules.inner room) name_uses.old tokens.now) }
 {
     let rest = expect(tokens, Kind::AmountMath)?;
-    amount_call(alloc, rest, room, events)
+    amount_call(alloc, rest, room, name_uses)
 }
 
 /// A literal, whatever was done before.
@@ -596,7 +603,7 @@ fn literal_alone<'a>(
     alloc: Global,
     tokens: &'a [Token],
 ) -> Result<(Boxed<Expr>, &'a [Token]), ParseError>
-    ensures { (done : List Event) → Gives (λ x. ((x.0, done), x.1.now)) result
+    ensures { (done : List NameUse) → Gives (λ x. ((x.0, done), x.1.now)) result
         (and_then (one words.literals words.literal_of words.wide tokens.now)
         (λ value. pure (words.literal_expr done value))) }
 {
@@ -607,156 +614,156 @@ fn literal_alone<'a>(
     Ok((tree, rest))
 }
 
-/// What stands before the steps, where it is neither a name nor a record.
+/// What stands before the accesses, where it is neither a name nor a record.
 #[cycle(expression)]
 #[tactic(auto, unfolding(jessie_grammar::specs::Rules::bare))]
-fn bare<'a>(
+fn bare_first<'a>(
     alloc: Global,
     tokens: &'a [Token],
     room: u32,
-    events: &mut Items<Event>,
+    name_uses: &mut Items<NameUse>,
 ) -> Result<(Boxed<Expr>, &'a [Token]), ParseError>
-    ensures { Gives (λ x. ((x.0, events.new), x.1.now)) result
-        (rules.bare room (rules.inner room) events.old tokens.now) }
+    ensures { Gives (λ x. ((x.0, name_uses.new), x.1.now)) result
+        (rules.bare room (rules.inner room) name_uses.old tokens.now) }
 {
     if is_literal(peek(tokens)) {
         return literal_alone(alloc, tokens);
     }
     if is(tokens, Kind::Eventually) {
-        return eventually(alloc, tokens, room, events);
+        return eventually(alloc, tokens, room, name_uses);
     }
     if is(tokens, Kind::AmountMath) {
-        return amount(alloc, tokens, room, events);
+        return amount(alloc, tokens, room, name_uses);
     }
     if is(tokens, Kind::LeftParen) {
-        return grouped(
+        return group(
             alloc,
             tokens,
             room,
             Kind::LeftParen,
             Kind::RightParen,
-            events,
+            name_uses,
         );
     }
-    array(alloc, tokens, room, events)
+    array(alloc, tokens, room, name_uses)
 }
 
-/// What stands before the steps.
+/// What stands before the accesses.
 #[cycle(expression)]
 #[tactic(auto, unfolding(jessie_grammar::specs::Rules::prim))]
 fn prim<'a>(
     alloc: Global,
     tokens: &'a [Token],
     room: u32,
-    events: &mut Items<Event>,
+    name_uses: &mut Items<NameUse>,
 ) -> Result<(Boxed<Expr>, &'a [Token]), ParseError>
-    ensures { Gives (λ x. ((x.0, events.new), x.1.now)) result
-        (rules.prim room (rules.inner room) events.old tokens.now) }
+    ensures { Gives (λ x. ((x.0, name_uses.new), x.1.now)) result
+        (rules.prim room (rules.inner room) name_uses.old tokens.now) }
 {
     if is_free_word(peek(tokens)) {
-        return named(alloc, tokens, room, events);
+        return name_or_call(alloc, tokens, room, name_uses);
     }
     if begins_bare(peek(tokens)) {
-        return bare(alloc, tokens, room, events);
+        return bare_first(alloc, tokens, room, name_uses);
     }
-    record_text(alloc, tokens, room, events)
+    record_text(alloc, tokens, room, name_uses)
 }
 
-/// One step more: the call of the method with this name.
+/// One access more: the call of the method with this name.
 #[cycle(expression)]
-fn method_step<'a>(
+fn method_access<'a>(
     alloc: Global,
     tokens: &'a [Token],
     room: u32,
     method: &Token,
-    found: &mut Items<Step>,
-    events: &mut Items<Event>,
+    found: &mut Items<Access>,
+    name_uses: &mut Items<NameUse>,
 ) -> Result<&'a [Token], ParseError>
-    ensures { Gives (λ rest. ((found.new, events.new), rest.now)) result
-        (and_then (and_then (rules.args room (rules.inner room) events.old tokens.now)
+    ensures { Gives (λ rest. ((found.new, name_uses.new), rest.now)) result
+        (and_then (and_then (rules.args room (rules.inner room) name_uses.old tokens.now)
         (λ given. pure (words.method_of (words.spotted method.now) given)))
         (λ step. pure (words.more found.old step))) }
 {
     let mut given = Items::new(alloc);
-    let rest = arguments(alloc, tokens, room, &mut given, events)?;
-    add_method_step(alloc, method, given, found)?;
+    let rest = arguments(alloc, tokens, room, &mut given, name_uses)?;
+    add_method_access(alloc, method, given, found)?;
     Ok(rest)
 }
 
-/// One step more: a field, or a call of a method.
+/// One access more: a field, or a call of a method.
 #[cycle(expression)]
-fn dot_step<'a>(
+fn dot_access<'a>(
     alloc: Global,
     tokens: &'a [Token],
     room: u32,
-    found: &mut Items<Step>,
-    events: &mut Items<Event>,
+    found: &mut Items<Access>,
+    name_uses: &mut Items<NameUse>,
 ) -> Result<&'a [Token], ParseError>
-    ensures { Gives (λ rest. ((found.new, events.new), rest.now)) result
-        (and_then (rules.dot_step room (rules.inner room) events.old tokens.now)
+    ensures { Gives (λ rest. ((found.new, name_uses.new), rest.now)) result
+        (and_then (rules.dot_access room (rules.inner room) name_uses.old tokens.now)
         (λ step. pure (words.more found.old step))) }
 {
     let rest = expect(tokens, Kind::Dot)?;
     let (name, rest) = name(rest)?;
     if is(rest, Kind::LeftParen) {
-        return method_step(alloc, rest, room, name, found, events);
+        return method_access(alloc, rest, room, name, found, name_uses);
     }
-    let Ok(()) = add_field_step(alloc, name, found) else {
+    let Ok(()) = add_field_access(alloc, name, found) else {
         return Err(ParseError::NoMemory);
     };
     Ok(rest)
 }
 
-/// One step more.
+/// One access more.
 #[cycle(expression)]
-#[tactic(auto, unfolding(jessie_grammar::specs::Rules::post_step))]
-fn step<'a>(
+#[tactic(auto, unfolding(jessie_grammar::specs::Rules::post_access))]
+fn access<'a>(
     alloc: Global,
     tokens: &'a [Token],
     room: u32,
-    found: &mut Items<Step>,
-    events: &mut Items<Event>,
+    found: &mut Items<Access>,
+    name_uses: &mut Items<NameUse>,
 ) -> Result<&'a [Token], ParseError>
-    ensures { Gives (λ rest. ((found.new, events.new), rest.now)) result
-        (and_then (rules.post_step room (rules.inner room) events.old tokens.now)
+    ensures { Gives (λ rest. ((found.new, name_uses.new), rest.now)) result
+        (and_then (rules.post_access room (rules.inner room) name_uses.old tokens.now)
         (λ step. pure (words.more found.old step))) }
 {
     if is(tokens, Kind::Dot) {
-        return dot_step(alloc, tokens, room, found, events);
+        return dot_access(alloc, tokens, room, found, name_uses);
     }
-    let (index, rest) = grouped(
+    let (index, rest) = group(
         alloc,
         tokens,
         room,
         Kind::LeftBracket,
         Kind::RightBracket,
-        events,
+        name_uses,
     )?;
-    add_index_step(index, found)?;
+    add_index_access(index, found)?;
     Ok(rest)
 }
 
-/// The steps behind an expression, whatever it is.
+/// The accesses behind an expression, whatever it is.
 #[cycle(expression)]
-fn steps<'a>(
+fn accesses<'a>(
     alloc: Global,
     tokens: &'a [Token],
     room: u32,
-    found: &mut Items<Step>,
-    events: &mut Items<Event>,
+    found: &mut Items<Access>,
+    name_uses: &mut Items<NameUse>,
 ) -> Result<&'a [Token], ParseError>
-    ensures { (first : Expr) → Gives (λ rest. (((first, found.new), events.new), rest.now)) result
-        (rules.steps_from room (rules.inner room) ((first, found.old), events.old) tokens.now) }
+    ensures { (first : Expr) → Gives (λ rest. (((first, found.new), name_uses.new), rest.now)) result
+        (rules.accesses_from room (rules.inner room) ((first, found.old), name_uses.old) tokens.now) }
 {
     let mut rest = tokens;
-    'steps: while begins_step(peek(rest)) {
-        let after = step(alloc, rest, room, found, events)?;
+    'accesses: while begins_access(peek(rest)) {
+        let after = access(alloc, rest, room, found, name_uses)?;
         rest = after;
     }
     Ok(rest)
 }
 
-/// The expression with the steps behind it.
+/// The expression with the accesses behind it.
 #[cycle(expression)]
 #[tactic(auto, unfolding(jessie_grammar::specs::Rules::post_tail))]
 fn post_tail<'a>(
@@ -764,20 +771,20 @@ fn post_tail<'a>(
     tokens: &'a [Token],
     room: u32,
     first: Boxed<Expr>,
-    events: &mut Items<Event>,
+    name_uses: &mut Items<NameUse>,
 ) -> Result<(Boxed<Expr>, &'a [Token]), ParseError>
-    ensures { Gives (λ x. ((x.0, events.new), x.1.now)) result
-        (rules.post_tail room (rules.inner room) (first, events.old) tokens.now) }
+    ensures { Gives (λ x. ((x.0, name_uses.new), x.1.now)) result
+        (rules.post_tail room (rules.inner room) (first, name_uses.old) tokens.now) }
 {
     let mut found = Items::new(alloc);
-    let rest = steps(alloc, tokens, room, &mut found, events)?;
-    let Ok(tree) = with_steps(alloc, first, found) else {
+    let rest = accesses(alloc, tokens, room, &mut found, name_uses)?;
+    let Ok(tree) = with_accesses(alloc, first, found) else {
         return Err(ParseError::NoMemory);
     };
     Ok((tree, rest))
 }
 
-/// The operand with the steps behind it, below the operator before it.
+/// The operand with the accesses behind it, below the operator before it.
 #[cycle(expression)]
 fn below_sign<'a>(
     alloc: Global,
@@ -785,13 +792,13 @@ fn below_sign<'a>(
     room: u32,
     operator: Unary,
     first: Boxed<Expr>,
-    events: &mut Items<Event>,
+    name_uses: &mut Items<NameUse>,
 ) -> Result<(Boxed<Expr>, &'a [Token]), ParseError>
-    ensures { Gives (λ x. ((x.0, events.new), x.1.now)) result
-        (and_then (rules.post_tail room (rules.inner room) (first, events.old) tokens.now)
+    ensures { Gives (λ x. ((x.0, name_uses.new), x.1.now)) result
+        (and_then (rules.post_tail room (rules.inner room) (first, name_uses.old) tokens.now)
         (λ operand. pure (words.unary_of operator operand))) }
 {
-    let (operand, rest) = post_tail(alloc, tokens, room, first, events)?;
+    let (operand, rest) = post_tail(alloc, tokens, room, first, name_uses)?;
     let Ok(tree) = unary_expression(alloc, operator, operand) else {
         return Err(ParseError::NoMemory);
     };
@@ -800,18 +807,18 @@ fn below_sign<'a>(
 
 /// An operator before an operand, and the operand.
 #[cycle(expression)]
-fn signed<'a>(
+fn sign_and_operand<'a>(
     alloc: Global,
     tokens: &'a [Token],
     room: u32,
-    events: &mut Items<Event>,
+    name_uses: &mut Items<NameUse>,
 ) -> Result<(Boxed<Expr>, &'a [Token]), ParseError>
-    ensures { Gives (λ x. ((x.0, events.new), x.1.now)) result
-        (rules.signed room (rules.inner room) events.old tokens.now) }
+    ensures { Gives (λ x. ((x.0, name_uses.new), x.1.now)) result
+        (rules.signed room (rules.inner room) name_uses.old tokens.now) }
 {
     let (operator, rest) = sign(tokens)?;
-    let (first, rest) = prim(alloc, rest, room, events)?;
-    below_sign(alloc, rest, room, operator, first, events)
+    let (first, rest) = prim(alloc, rest, room, name_uses)?;
+    below_sign(alloc, rest, room, operator, first, name_uses)
 }
 
 /// An operand of operators.
@@ -821,17 +828,17 @@ fn unary<'a>(
     alloc: Global,
     tokens: &'a [Token],
     room: u32,
-    events: &mut Items<Event>,
+    name_uses: &mut Items<NameUse>,
 ) -> Result<(Boxed<Expr>, &'a [Token]), ParseError>
-    ensures { Gives (λ x. ((x.0, events.new), x.1.now)) result
-        (rules.unary room (rules.inner room) (rules.prim room (rules.inner room)) events.old
+    ensures { Gives (λ x. ((x.0, name_uses.new), x.1.now)) result
+        (rules.unary room (rules.inner room) (rules.prim room (rules.inner room)) name_uses.old
         tokens.now) }
 {
     if is_sign(peek(tokens)) {
-        return signed(alloc, tokens, room, events);
+        return sign_and_operand(alloc, tokens, room, name_uses);
     }
-    let (first, rest) = prim(alloc, tokens, room, events)?;
-    post_tail(alloc, rest, room, first, events)
+    let (first, rest) = prim(alloc, tokens, room, name_uses)?;
+    post_tail(alloc, rest, room, first, name_uses)
 }
 
 /// An operator of the level and the operand behind it, whatever stands before; and whether more may
@@ -844,16 +851,16 @@ fn operator_step<'a>(
     room: u32,
     level: u8,
     found: &mut Items<(Operator, Expr)>,
-    events: &mut Items<Event>,
+    name_uses: &mut Items<NameUse>,
 ) -> Result<(bool, &'a [Token]), ParseError>
     requires { level < 6 }
     ensures { (first : Expr)
-        → Gives (λ x. ((((first, found.new), events.new), x.0), x.1.now)) result
+        → Gives (λ x. ((((first, found.new), name_uses.new), x.0), x.1.now)) result
         (rules.op_step (level_at level) (operands room (level + 1))
-        (((first, found.old), events.old), true) tokens.now) }
+        (((first, found.old), name_uses.old), true) tokens.now) }
 {
     let (mark, rest) = operator(tokens, level)?;
-    let (right, rest) = operand(alloc, rest, room, level + 1, events)?;
+    let (right, rest) = operand(alloc, rest, room, level + 1, name_uses)?;
     let Ok(()) = add_operand(mark, right, found) else {
         return Err(ParseError::NoMemory);
     };
@@ -868,16 +875,16 @@ fn operators<'a>(
     room: u32,
     level: u8,
     found: &mut Items<(Operator, Expr)>,
-    events: &mut Items<Event>,
+    name_uses: &mut Items<NameUse>,
 ) -> Result<&'a [Token], ParseError>
     requires { level < 6 }
-    ensures { (first : Expr) → Gives (λ rest. (((first, found.new), events.new), rest.now)) result
-        (level_ops room level ((first, found.old), events.old) tokens.now) }
+    ensures { (first : Expr) → Gives (λ rest. (((first, found.new), name_uses.new), rest.now)) result
+        (level_ops room level ((first, found.old), name_uses.old) tokens.now) }
 {
     let mut more = true;
     let mut rest = tokens;
     'operators: while more && is_operator(peek(rest), level) {
-        let (again, after) = operator_step(alloc, rest, room, level, found, events)?;
+        let (again, after) = operator_step(alloc, rest, room, level, found, name_uses)?;
         more = again;
         rest = after;
     }
@@ -892,14 +899,14 @@ fn chain<'a>(
     room: u32,
     level: u8,
     first: Boxed<Expr>,
-    events: &mut Items<Event>,
+    name_uses: &mut Items<NameUse>,
 ) -> Result<(Boxed<Expr>, &'a [Token]), ParseError>
     requires { level < 6 }
-    ensures { Gives (λ x. ((x.0, events.new), x.1.now)) result
-        (level_rest room level (first, events.old) tokens.now) }
+    ensures { Gives (λ x. ((x.0, name_uses.new), x.1.now)) result
+        (level_rest room level (first, name_uses.old) tokens.now) }
 {
     let mut found = Items::new(alloc);
-    let rest = operators(alloc, tokens, room, level, &mut found, events)?;
+    let rest = operators(alloc, tokens, room, level, &mut found, name_uses)?;
     let Ok(tree) = with_operands(alloc, first, found) else {
         return Err(ParseError::NoMemory);
     };
@@ -915,17 +922,17 @@ fn tails<'a>(
     room: u32,
     level: u8,
     first: Boxed<Expr>,
-    events: &mut Items<Event>,
+    name_uses: &mut Items<NameUse>,
 ) -> Result<(Boxed<Expr>, &'a [Token]), ParseError>
     requires { level ≤ 6 }
-    ensures { Gives (λ x. ((x.0, events.new), x.1.now)) result
-        (level_tails room level (first, events.old) tokens.now) }
+    ensures { Gives (λ x. ((x.0, name_uses.new), x.1.now)) result
+        (level_tails room level (first, name_uses.old) tokens.now) }
 {
     if level == 6 {
         return Ok((first, tokens));
     }
-    let (tree, rest) = tails(alloc, tokens, room, level + 1, first, events)?;
-    chain(alloc, rest, room, level, tree, events)
+    let (tree, rest) = tails(alloc, tokens, room, level + 1, first, name_uses)?;
+    chain(alloc, rest, room, level, tree, name_uses)
 }
 
 /// An operand of operators that bind less than the level's.
@@ -935,14 +942,14 @@ fn operand<'a>(
     tokens: &'a [Token],
     room: u32,
     level: u8,
-    events: &mut Items<Event>,
+    name_uses: &mut Items<NameUse>,
 ) -> Result<(Boxed<Expr>, &'a [Token]), ParseError>
     requires { level ≤ 6 }
-    ensures { Gives (λ x. ((x.0, events.new), x.1.now)) result
-        (operands room level events.old tokens.now) }
+    ensures { Gives (λ x. ((x.0, name_uses.new), x.1.now)) result
+        (operands room level name_uses.old tokens.now) }
 {
-    let (first, rest) = unary(alloc, tokens, room, events)?;
-    tails(alloc, rest, room, level, first, events)
+    let (first, rest) = unary(alloc, tokens, room, name_uses)?;
+    tails(alloc, rest, room, level, first, name_uses)
 }
 
 /// The second branch of a choice, behind its colon, with the first.
@@ -952,15 +959,15 @@ fn second_branch<'a>(
     tokens: &'a [Token],
     room: u32,
     first: Boxed<Expr>,
-    events: &mut Items<Event>,
+    name_uses: &mut Items<NameUse>,
 ) -> Result<((Boxed<Expr>, Boxed<Expr>), &'a [Token]), ParseError>
-    ensures { Gives (λ x. ((x.0, events.new), x.1.now)) result
+    ensures { Gives (λ x. ((x.0, name_uses.new), x.1.now)) result
         (and_then {B = words.Found (Expr × Expr)} (symbol Kind.Colon tokens.now)
-        (λ _ rest. and_then {B = words.Found (Expr × Expr)} (operands room 0 events.old rest)
+        (λ _ rest. and_then {B = words.Found (Expr × Expr)} (operands room 0 name_uses.old rest)
         (λ second. pure ((first, second.0), second.1)))) }
 {
     let rest = expect(tokens, Kind::Colon)?;
-    let (second, rest) = operand(alloc, rest, room, 0, events)?;
+    let (second, rest) = operand(alloc, rest, room, 0, name_uses)?;
     Ok(((first, second), rest))
 }
 
@@ -971,29 +978,29 @@ fn branches<'a>(
     alloc: Global,
     tokens: &'a [Token],
     room: u32,
-    events: &mut Items<Event>,
+    name_uses: &mut Items<NameUse>,
 ) -> Result<((Boxed<Expr>, Boxed<Expr>), &'a [Token]), ParseError>
-    ensures { Gives (λ x. ((x.0, events.new), x.1.now)) result
-        (rules.branches (operands room 0) events.old tokens.now) }
+    ensures { Gives (λ x. ((x.0, name_uses.new), x.1.now)) result
+        (rules.branches (operands room 0) name_uses.old tokens.now) }
 {
-    let (first, rest) = operand(alloc, tokens, room, 0, events)?;
-    second_branch(alloc, rest, room, first, events)
+    let (first, rest) = operand(alloc, tokens, room, 0, name_uses)?;
+    second_branch(alloc, rest, room, first, name_uses)
 }
 
 /// The choice by the condition between the branches.
 #[cycle(expression)]
-fn branched<'a>(
+fn choice_of<'a>(
     alloc: Global,
     tokens: &'a [Token],
     room: u32,
     condition: Boxed<Expr>,
-    events: &mut Items<Event>,
+    name_uses: &mut Items<NameUse>,
 ) -> Result<(Boxed<Expr>, &'a [Token]), ParseError>
-    ensures { Gives (λ x. ((x.0, events.new), x.1.now)) result
-        (and_then (rules.branches (operands room 0) events.old tokens.now)
+    ensures { Gives (λ x. ((x.0, name_uses.new), x.1.now)) result
+        (and_then (rules.branches (operands room 0) name_uses.old tokens.now)
         (λ both. pure (words.choice_of condition both))) }
 {
-    let ((first, second), rest) = branches(alloc, tokens, room, events)?;
+    let ((first, second), rest) = branches(alloc, tokens, room, name_uses)?;
     let Ok(tree) = choice_expression(alloc, condition, first, second) else {
         return Err(ParseError::NoMemory);
     };
@@ -1002,18 +1009,18 @@ fn branched<'a>(
 
 /// The condition with the choice behind it.
 #[cycle(expression)]
-fn chosen<'a>(
+fn choice_behind<'a>(
     alloc: Global,
     tokens: &'a [Token],
     room: u32,
     condition: Boxed<Expr>,
-    events: &mut Items<Event>,
+    name_uses: &mut Items<NameUse>,
 ) -> Result<(Boxed<Expr>, &'a [Token]), ParseError>
-    ensures { Gives (λ x. ((x.0, events.new), x.1.now)) result
-        (rules.chosen (operands room 0) (condition, events.old) tokens.now) }
+    ensures { Gives (λ x. ((x.0, name_uses.new), x.1.now)) result
+        (rules.chosen (operands room 0) (condition, name_uses.old) tokens.now) }
 {
     let rest = expect(tokens, Kind::Question)?;
-    branched(alloc, rest, room, condition, events)
+    choice_of(alloc, rest, room, condition, name_uses)
 }
 
 /// The condition with the choice behind it, if there is one.
@@ -1024,13 +1031,13 @@ fn choice<'a>(
     tokens: &'a [Token],
     room: u32,
     condition: Boxed<Expr>,
-    events: &mut Items<Event>,
+    name_uses: &mut Items<NameUse>,
 ) -> Result<(Boxed<Expr>, &'a [Token]), ParseError>
-    ensures { Gives (λ x. ((x.0, events.new), x.1.now)) result
-        (rules.choice (operands room 0) (condition, events.old) tokens.now) }
+    ensures { Gives (λ x. ((x.0, name_uses.new), x.1.now)) result
+        (rules.choice (operands room 0) (condition, name_uses.old) tokens.now) }
 {
     if is(tokens, Kind::Question) {
-        return chosen(alloc, tokens, room, condition, events);
+        return choice_behind(alloc, tokens, room, condition, name_uses);
     }
     Ok((condition, tokens))
 }
@@ -1043,17 +1050,17 @@ fn after<'a>(
     tokens: &'a [Token],
     room: u32,
     first: Boxed<Expr>,
-    events: &mut Items<Event>,
+    name_uses: &mut Items<NameUse>,
 ) -> Result<(Boxed<Expr>, &'a [Token]), ParseError>
-    ensures { Gives (λ x. ((x.0, events.new), x.1.now)) result
-        (rules.after room (rules.inner room) (first, events.old) tokens.now) }
+    ensures { Gives (λ x. ((x.0, name_uses.new), x.1.now)) result
+        (rules.after room (rules.inner room) (first, name_uses.old) tokens.now) }
 {
-    let (tree, rest) = tails(alloc, tokens, room, 0, first, events)?;
-    choice(alloc, rest, room, tree, events)
+    let (tree, rest) = tails(alloc, tokens, room, 0, first, name_uses)?;
+    choice(alloc, rest, room, tree, name_uses)
 }
 
 /// An expression, where `room` more brackets may be open: its tree and the tokens after it; what the
-/// text does with names goes behind the events. Else the first refusal, with the limit that its
+/// text does with names goes behind the name uses. Else the first refusal, with the limit that its
 /// token breaks and the count of tokens from it on, or want of memory. The rules are our own.
 #[cycle(expression)]
 #[tactic(auto, using(jessie_grammar::proofs::Reading::expr_is), unfolding(jessie_grammar::specs::Rules::full))]
@@ -1061,13 +1068,13 @@ pub fn expression<'a>(
     alloc: Global,
     tokens: &'a [Token],
     room: u32,
-    events: &mut Items<Event>,
+    name_uses: &mut Items<NameUse>,
 ) -> Result<(Boxed<Expr>, &'a [Token]), ParseError>
-    ensures { Gives (λ x. ((x.0, events.new), x.1.now)) result
-        (rules.expr room events.old tokens.now) }
+    ensures { Gives (λ x. ((x.0, name_uses.new), x.1.now)) result
+        (rules.expr room name_uses.old tokens.now) }
 {
-    let (first, rest) = unary(alloc, tokens, room, events)?;
-    after(alloc, rest, room, first, events)
+    let (first, rest) = unary(alloc, tokens, room, name_uses)?;
+    after(alloc, rest, room, first, name_uses)
 }
 
 /// The expression that begins with this name, which stands before the tokens: a statement is read so
@@ -1077,16 +1084,16 @@ pub fn led_expression<'a>(
     tokens: &'a [Token],
     room: u32,
     name: &Token,
-    events: &mut Items<Event>,
+    name_uses: &mut Items<NameUse>,
 ) -> Result<(Boxed<Expr>, &'a [Token]), ParseError>
-    ensures { Gives (λ x. ((x.0, events.new), x.1.now)) result
+    ensures { Gives (λ x. ((x.0, name_uses.new), x.1.now)) result
         (and_then (and_then
-        (rules.call_tail room (rules.inner room) events.old (words.spotted name.now) tokens.now)
+        (rules.call_tail room (rules.inner room) name_uses.old (words.spotted name.now) tokens.now)
         (rules.post_tail room (rules.inner room))) (rules.after room (rules.inner room))) }
 {
-    let (first, rest) = call_tail(alloc, tokens, room, name, events)?;
-    let (operand, rest) = post_tail(alloc, rest, room, first, events)?;
-    after(alloc, rest, room, operand, events)
+    let (first, rest) = call_tail(alloc, tokens, room, name, name_uses)?;
+    let (operand, rest) = post_tail(alloc, rest, room, first, name_uses)?;
+    after(alloc, rest, room, operand, name_uses)
 }
 
 /// The first operand of an expression that begins with no name and is no record.
@@ -1095,17 +1102,17 @@ fn bare_operand<'a>(
     alloc: Global,
     tokens: &'a [Token],
     room: u32,
-    events: &mut Items<Event>,
+    name_uses: &mut Items<NameUse>,
 ) -> Result<(Boxed<Expr>, &'a [Token]), ParseError>
-    ensures { Gives (λ x. ((x.0, events.new), x.1.now)) result
-        (rules.unary room (rules.inner room) (rules.bare room (rules.inner room)) events.old
+    ensures { Gives (λ x. ((x.0, name_uses.new), x.1.now)) result
+        (rules.unary room (rules.inner room) (rules.bare room (rules.inner room)) name_uses.old
         tokens.now) }
 {
     if is_sign(peek(tokens)) {
-        return signed(alloc, tokens, room, events);
+        return sign_and_operand(alloc, tokens, room, name_uses);
     }
-    let (first, rest) = bare(alloc, tokens, room, events)?;
-    post_tail(alloc, rest, room, first, events)
+    let (first, rest) = bare_first(alloc, tokens, room, name_uses)?;
+    post_tail(alloc, rest, room, first, name_uses)
 }
 
 /// An expression that begins with no name and is no record, as a statement may; else the first
@@ -1114,13 +1121,13 @@ pub fn bare_expression<'a>(
     alloc: Global,
     tokens: &'a [Token],
     room: u32,
-    events: &mut Items<Event>,
+    name_uses: &mut Items<NameUse>,
 ) -> Result<(Boxed<Expr>, &'a [Token]), ParseError>
-    ensures { Gives (λ x. ((x.0, events.new), x.1.now)) result
+    ensures { Gives (λ x. ((x.0, name_uses.new), x.1.now)) result
         (and_then
-        (rules.unary room (rules.inner room) (rules.bare room (rules.inner room)) events.old
+        (rules.unary room (rules.inner room) (rules.bare room (rules.inner room)) name_uses.old
         tokens.now) (rules.after room (rules.inner room))) }
 {
-    let (first, rest) = bare_operand(alloc, tokens, room, events)?;
-    after(alloc, rest, room, first, events)
+    let (first, rest) = bare_operand(alloc, tokens, room, name_uses)?;
+    after(alloc, rest, room, first, name_uses)
 }

@@ -4,8 +4,8 @@ use Rattle.std.specs.Prelude.{codes}
 use Rattle.std.proofs.lemmas.Bool.Decides.{nat_tests}
 use Rattle.jessie_grammar.specs.declared.jessie_lexer.token.Token.{Token}
 use Rattle.jessie_grammar.specs.Lex.{cut}
-use Rattle.jessie_grammar.specs.declared.jessie_scopes.event.Event.{Event}
-use Rattle.jessie_grammar.specs.declared.jessie_scopes.event.NameFault.{NameFault}
+use Rattle.jessie_grammar.specs.declared.jessie_scopes.name_use.NameUse.{NameUse}
+use Rattle.jessie_grammar.specs.declared.jessie_scopes.name_use.NameFault.{NameFault}
 use Rattle.jessie_grammar.specs.Scopes.{first_fault}
 use Rattle.jessie_grammar.specs.declared.syntax.Module.{Module}
 use Rattle.jessie_grammar.specs.declared.jessie_language.fault.Limit.{Limit}
@@ -15,10 +15,10 @@ use Rattle.jessie_grammar.specs.Refused.{Refused}
 use Rattle.jessie_grammar.specs.Grammar as grammar
 use Rattle.jessie_grammar.specs.Rules as rules
 use Rattle.jessie_grammar.proofs.Texts as laws
-use Rattle.jessie_grammar.specs.declared.jessie_texts.refused.ReadError.{ReadError}
-use Rattle.jessie_grammar.specs.declared.jessie_texts.refused.ReadError.TheVariants as errors
-use Rattle.jessie_grammar.specs.declared.jessie_texts.refused.TextRefusal.{TextRefusal}
-use Rattle.jessie_grammar.specs.declared.jessie_texts.refused.Refusal.TheVariants as r
+use Rattle.jessie_grammar.specs.declared.jessie_texts.refusal.ReadError.{ReadError}
+use Rattle.jessie_grammar.specs.declared.jessie_texts.refusal.ReadError.TheVariants as errors
+use Rattle.jessie_grammar.specs.declared.jessie_texts.refusal.TextRefusal.{TextRefusal}
+use Rattle.jessie_grammar.specs.declared.jessie_texts.refusal.Refusal.TheVariants as r
 use Rattle.jessie_grammar.specs.Texts.{most_bytes, most_brackets, refusal, kind_of, place_at, has_function, IsWritten, FirstRefusal, too_many_bytes, refused_token, refused_name, has_no_start, Answer, Comes}
 use Rattle.jessie_grammar.specs.Answers.{place_of, by_names, by_tokens, read, EachComesToIt, ComesToNoOther, IfAnswered, Reads}
 
@@ -45,14 +45,14 @@ place_is total left ts front rest e i =
 
 -- ---- what a reader answers is so
 
-started : (bytes : List ℕ) (m : Module) (deeds : List Event) → IsWritten bytes m deeds → first_fault deeds ≡ None → (b : Bool) → has_function (codes "start") m.functions ≡ b
+started : (bytes : List ℕ) (m : Module) (name_uses : List NameUse) → IsWritten bytes m name_uses → first_fault name_uses ≡ None → (b : Bool) → has_function (codes "start") m.functions ≡ b
     → Comes bytes (if b then Ok m else Err (refusal (length bytes) r.NoStart))
-started bytes m deeds w p true e = record { deeds = deeds; written = w; proper = p; starts = e }
-started bytes m deeds w p false e = has_no_start m deeds w p e
+started bytes m name_uses w p true e = record { name_uses = name_uses; written = w; proper = p; starts = e }
+started bytes m name_uses w p false e = has_no_start m name_uses w p e
 
-named : (bytes : List ℕ) (m : Module) (deeds : List Event) → IsWritten bytes m deeds → (o : Option (ℕ × NameFault)) → first_fault deeds ≡ o → Comes bytes (by_names (length bytes) m o)
-named bytes m deeds w None e = started bytes m deeds w e (has_function (codes "start") m.functions) refl
-named bytes m deeds w (Some f) e = refused_name m deeds f.0 f.1 w e
+named : (bytes : List ℕ) (m : Module) (name_uses : List NameUse) → IsWritten bytes m name_uses → (o : Option (ℕ × NameFault)) → first_fault name_uses ≡ o → Comes bytes (by_names (length bytes) m o)
+named bytes m name_uses w None e = started bytes m name_uses w e (has_function (codes "start") m.functions) refl
+named bytes m name_uses w (Some f) e = refused_name m name_uses f.0 f.1 w e
 
 told : (bytes : List ℕ) → length bytes ≤ most_bytes → (o : Outcome (Found Module)) → rules.text most_brackets (cut bytes) ≡ o → Comes bytes (by_tokens (length bytes) (cut bytes) o)
 told bytes s (Ok x) e = named bytes x.0.0 x.0.1 (record { short = s; in_grammar = (laws.reads_texts most_brackets (cut bytes) x.1 x.0 e).1 }) (first_fault x.0.1) refl
@@ -80,8 +80,8 @@ long_read : (bytes : List ℕ) → most_bytes < length bytes → read bytes ≡ 
 unfolding read
 long_read bytes s = rw (is_long (length bytes) s) refl
 
-written_read : (bytes : List ℕ) (m : Module) (deeds : List Event) → IsWritten bytes m deeds → read bytes ≡ by_names (length bytes) m (first_fault deeds)
-written_read bytes m deeds w = short_read bytes w.short ∙ ap (by_tokens (length bytes) (cut bytes)) (laws.reads_each most_brackets (cut bytes) (m, deeds) w.in_grammar)
+written_read : (bytes : List ℕ) (m : Module) (name_uses : List NameUse) → IsWritten bytes m name_uses → read bytes ≡ by_names (length bytes) m (first_fault name_uses)
+written_read bytes m name_uses w = short_read bytes w.short ∙ ap (by_tokens (length bytes) (cut bytes)) (laws.reads_each most_brackets (cut bytes) (m, name_uses) w.in_grammar)
 
 token_read : (bytes : List ℕ) (limit : Option Limit) (front rest : List Token) → length bytes ≤ most_bytes → cut bytes ≡ front ++ rest → Refused (grammar.text most_brackets) front rest limit
     → read bytes ≡ Err (refusal (place_at (length bytes) rest) (kind_of limit))
@@ -93,12 +93,12 @@ token_read bytes limit front rest s e h =
 refused_read : (bytes : List ℕ) (f : TextRefusal) → FirstRefusal bytes f → read bytes ≡ Err f
 refused_read bytes _ (too_many_bytes s) = long_read bytes s
 refused_read bytes _ (refused_token limit front rest s e h) = token_read bytes limit front rest s e h
-refused_read bytes _ (refused_name m deeds place fault w e) = written_read bytes m deeds w ∙ ap (by_names (length bytes) m) e
-refused_read bytes _ (has_no_start m deeds w p e) =
-    written_read bytes m deeds w ∙ (ap (by_names (length bytes) m) p ∙ ap (λ b. (if b then Ok m else Err (refusal (length bytes) r.NoStart))) e)
+refused_read bytes _ (refused_name m name_uses place fault w e) = written_read bytes m name_uses w ∙ ap (by_names (length bytes) m) e
+refused_read bytes _ (has_no_start m name_uses w p e) =
+    written_read bytes m name_uses w ∙ (ap (by_names (length bytes) m) p ∙ ap (λ b. (if b then Ok m else Err (refusal (length bytes) r.NoStart))) e)
 
 pub one_answer : ComesToNoOther
-one_answer bytes (Ok m) t = sym (written_read bytes m t.deeds t.written ∙ (ap (by_names (length bytes) m) t.proper ∙ ap (λ b. (if b then Ok m else Err (refusal (length bytes) r.NoStart))) t.starts))
+one_answer bytes (Ok m) t = sym (written_read bytes m t.name_uses t.written ∙ (ap (by_names (length bytes) m) t.proper ∙ ap (λ b. (if b then Ok m else Err (refusal (length bytes) r.NoStart))) t.starts))
 one_answer bytes (Err f) h = sym (refused_read bytes f h)
 
 -- ---- what a function that reads says

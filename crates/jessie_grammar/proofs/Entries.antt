@@ -1,7 +1,7 @@
 -- Entries, one after the other, and from the last on.
 use Rattle.std.proofs.Common.{◌≡◌, ℕ, Bool, List, [], ◌∷◌, ◌++◌, reverse, Option, refl, ap, ◌∙◌}
 use Rattle.std.proofs.lemmas.List.{reverse-append}
-use Rattle.jessie_grammar.specs.declared.jessie_scopes.event.Binding.{Binding}
+use Rattle.jessie_grammar.specs.declared.jessie_scopes.name_use.Binding.{Binding}
 use Rattle.jessie_grammar.specs.declared.jessie_scopes.scopes.Entry.{Entry}
 use Rattle.jessie_grammar.specs.declared.jessie_scopes.scopes.Entry.TheVariants as entry
 use Rattle.jessie_grammar.specs.Scopes.{stands_in, last_of}

@@ -2,9 +2,9 @@
 use Rattle.std.proofs.Common.{ℕ, zero, suc, ◌+◌, ◌<◌, nat_lt, List, [], ◌∷◌, ◌++◌, length, refl, arith, inl}
 use Rattle.jessie_grammar.specs.declared.jessie_lexer.token.Kind.{Kind}
 use Rattle.jessie_grammar.specs.declared.jessie_lexer.token.Kind.TheVariants as k
-use Rattle.jessie_grammar.specs.declared.jessie_scopes.event.Binding.TheVariants as binding
-use Rattle.jessie_grammar.specs.declared.jessie_scopes.event.Event.{Event}
-use Rattle.jessie_grammar.specs.declared.jessie_scopes.event.Event.TheVariants as event
+use Rattle.jessie_grammar.specs.declared.jessie_scopes.name_use.Binding.TheVariants as binding
+use Rattle.jessie_grammar.specs.declared.jessie_scopes.name_use.NameUse.{NameUse}
+use Rattle.jessie_grammar.specs.declared.jessie_scopes.name_use.NameUse.TheVariants as name_use
 use Rattle.jessie_grammar.specs.declared.syntax.Constant.{Constant}
 use Rattle.jessie_grammar.specs.declared.syntax.Stmt.{Stmt}
 use Rattle.jessie_grammar.specs.declared.syntax.Module.{Module}
@@ -22,20 +22,20 @@ use Rattle.jessie_grammar.proofs.Statements.{Block, block_good}
 abbrev pub constant_begins : List Kind
 constant_begins = literals ++ k.Minus ∷ k.LeftBracket ∷ k.LeftBrace ∷ []
 
-abbrev pub In : ℕ → (List Event → Lang (Found Constant)) → (List Event → Parser (Found Constant)) → Type 0
-In n l q = (0 < n → Reads l q constant_begins ends) × ((es : List Event) → Word (l es))
+abbrev pub In : ℕ → (List NameUse → Lang (Found Constant)) → (List NameUse → Parser (Found Constant)) → Type 0
+In n l q = (0 < n → Reads l q constant_begins ends) × ((es : List NameUse) → Word (l es))
 
-pub constant_field_good : {l : List Event → Lang (Found Constant)} {q : List Event → Parser (Found Constant)} → Reads l q constant_begins ends → Reads (g.constant_field l) (p.constant_field q) words (k.Comma ∷ k.RightBrace ∷ [])
+pub constant_field_good : {l : List NameUse → Lang (Found Constant)} {q : List NameUse → Parser (Found Constant)} → Reads l q constant_begins ends → Reads (g.constant_field l) (p.constant_field q) words (k.Comma ∷ k.RightBrace ∷ [])
 unfolding g.constant_field p.constant_field
 constant_field_good h es =
-    then_good (name_good (k.Colon ∷ [])) (λ x. then_good (symbol_good k.Colon constant_begins) (λ _. made_good _ (weaken constant_begins (k.Comma ∷ k.RightBrace ∷ []) (h (also es (event.Field x.0 x.1))) refl refl)) refl) refl
+    then_good (name_good (k.Colon ∷ [])) (λ x. then_good (symbol_good k.Colon constant_begins) (λ _. made_good _ (weaken constant_begins (k.Comma ∷ k.RightBrace ∷ []) (h (also es (name_use.Field x.0 x.1))) refl refl)) refl) refl
 
-pub constant_in_good : {l : List Event → Lang (Found Constant)} {q : List Event → Parser (Found Constant)} (n : ℕ) → In n l q → Reads (g.constant_in n l) (p.constant_in n q) constant_begins ends
+pub constant_in_good : {l : List NameUse → Lang (Found Constant)} {q : List NameUse → Parser (Found Constant)} (n : ℕ) → In n l q → Reads (g.constant_in n l) (p.constant_in n q) constant_begins ends
 unfolding g.constant_in p.constant_in
 constant_in_good n h es =
     or_good (made_good _ (one_good literals literal_of wide ends refl)) (or_good (then_good (symbol_good k.Minus (k.Number ∷ [])) (λ _. made_good _ (one_good (k.Number ∷ []) negative_of wide ends refl)) refl)
     (or_good (made_good _ (bracketed_good n k.LeftBracket k.RightBracket ends (λ i. listed_good k.RightBracket (λ z. weaken constant_begins (k.Comma ∷ k.RightBracket ∷ []) (h.0 i z) refl refl) refl refl refl es) ([], ([], es), inl (refl, refl))))
-    (made_good _ (bracketed_good n k.LeftBrace k.RightBrace ends (λ i. listed_good k.RightBrace (constant_field_good (h.0 i)) refl refl refl (also es event.Opens)) ([], ([], also es event.Opens), inl (refl, refl))))
+    (made_good _ (bracketed_good n k.LeftBrace k.RightBrace ends (λ i. listed_good k.RightBrace (constant_field_good (h.0 i)) refl refl refl (also es name_use.Opens)) ([], ([], also es name_use.Opens), inl (refl, refl))))
     refl) refl) refl
 
 pub constant_good : (n room : ℕ) → room < n → Reads (g.constant n room) (p.constant room) constant_begins ends
@@ -72,17 +72,17 @@ unfolding g.heading p.heading
 heading_good i e =
     then_good exported_good (λ _. then_good (symbol_good k.Const words) (λ _. then_good (one_good words spotted (declared (nat_lt i most_functions)) (k.Equals ∷ []) refl) (λ x. closed_good k.Equals x e) refl) refl) refl
 
-ending_block_good : {b : List Event → Lang (Found (List Stmt))} {c : List Event → Parser (Found (List Stmt))} (e : List Kind) → Block b c → Reads (g.ending_block b) (p.ending_block c) (k.Arrow ∷ []) e
+ending_block_good : {b : List NameUse → Lang (Found (List Stmt))} {c : List NameUse → Parser (Found (List Stmt))} (e : List Kind) → Block b c → Reads (g.ending_block b) (p.ending_block c) (k.Arrow ∷ []) e
 unfolding g.ending_block p.ending_block
 ending_block_good e v es = then_good (symbol_good k.Arrow (k.LeftBrace ∷ [])) (λ _. then_good (v (k.Semicolon ∷ []) es) (λ b. closed_good k.Semicolon b e) refl) refl
 
 function_good : (n room : ℕ) (s : Found Module) (e : List Kind) → room < suc n → Good (g.function n room s) (p.function room s) (k.Export ∷ k.Const ∷ []) e
 unfolding g.function p.function
 function_good n room s e h =
-    then_good (heading_good (length s.0.functions) (k.LeftParen ∷ [])) (λ x. then_good (bracketed_good room k.LeftParen k.RightParen (k.Arrow ∷ []) (λ _. params_good (also (defined binding.Function s.1 x) event.Opens)) (params_good (also (defined binding.Function s.1 x) event.Opens)).word) (λ xs.
+    then_good (heading_good (length s.0.functions) (k.LeftParen ∷ [])) (λ x. then_good (bracketed_good room k.LeftParen k.RightParen (k.Arrow ∷ []) (λ _. params_good (also (defined binding.Function s.1 x) name_use.Opens)) (params_good (also (defined binding.Function s.1 x) name_use.Opens)).word) (λ xs.
     made_good _ (ending_block_good e (block_good n room h) xs.1)) refl) refl
 
-constant_value_good : {l : List Event → Lang (Found Constant)} {q : List Event → Parser (Found Constant)} (e : List Kind) → Reads l q constant_begins ends → Reads (g.constant_value l) (p.constant_value q) (k.Equals ∷ []) e
+constant_value_good : {l : List NameUse → Lang (Found Constant)} {q : List NameUse → Parser (Found Constant)} (e : List Kind) → Reads l q constant_begins ends → Reads (g.constant_value l) (p.constant_value q) (k.Equals ∷ []) e
 unfolding g.constant_value p.constant_value
 constant_value_good e h es = then_good (symbol_good k.Equals constant_begins) (λ _. then_good (h es) (λ t. closed_good k.Semicolon t e) refl) refl
 

@@ -1,27 +1,28 @@
 -- Loops and depths, as the code goes through them.
-use Rattle.std.proofs.Common.{length, ◌≡◌, ℕ, zero, suc, ◌-◌, ◌+◌, ◌<◌, ◌⊎◌, inl, inr, drop, Bool, true, false, List, [], ◌∷◌, ◌++◌, Ok, refl, sym, subst, ap, ◌∙◌, arith}
+use Rattle.std.proofs.Common.{length, ◌≡◌, ℕ, zero, suc, ◌-◌, ◌+◌, ◌<◌, ◌≤◌, ◌⊎◌, inl, inr, drop, Bool, true, false, List, [], ◌∷◌, ◌++◌, Ok, Err, refl, sym, subst, ap, ◌∙◌, arith, length-append}
 use Rattle.std.proofs.lemmas.List.{append-nil}
 use Rattle.jessie_grammar.specs.declared.jessie_lexer.token.Kind.{Kind}
 use Rattle.jessie_grammar.specs.declared.jessie_lexer.token.Kind.TheVariants as k
 use Rattle.jessie_grammar.specs.declared.jessie_lexer.token.Token.{Token}
 use Rattle.jessie_grammar.specs.Tokens.{kind, has}
-use Rattle.jessie_grammar.specs.declared.jessie_scopes.event.Event.{Event}
+use Rattle.jessie_grammar.specs.declared.jessie_scopes.name_use.NameUse.{NameUse}
 use Rattle.jessie_grammar.specs.declared.syntax.Expr.{Expr}
 use Rattle.jessie_grammar.specs.declared.syntax.Stmt.{Stmt}
 use Rattle.jessie_grammar.specs.declared.syntax.Stmt.TheVariants as stmt
 use Rattle.jessie_grammar.specs.declared.syntax.Branch.{Branch}
 use Rattle.jessie_grammar.specs.declared.jessie_language.fault.ParseError.{ParseError}
 use Rattle.jessie_grammar.specs.declared.jessie_language.fault.ParseError.TheVariants as errors
-use Rattle.jessie_grammar.specs.Words.{Found, always, ongoing, inside, Level, table, step_begins, statement_begins, item_begins}
+use Rattle.jessie_grammar.specs.Words.{Found, always, ongoing, inside, Level, table, access_begins, statement_begins, item_begins}
 use Rattle.jessie_grammar.specs.Parse.{Parser, Outcome, Fails, loop, and_then, ◌>>=◌, either}
+use Rattle.jessie_grammar.specs.Refused.{Lang}
 use Rattle.jessie_grammar.specs.Grammar as g
 use Rattle.jessie_grammar.specs.Rules as p
 use Rattle.jessie_grammar.specs.StatementList.{names_after}
 use Rattle.jessie_grammar.specs.BlockTurns.{shut}
 use Rattle.jessie_grammar.specs.Levels.{level_at, operand, level_tails, level_rest, operands}
 use Rattle.jessie_grammar.proofs.Sets.{within_self, filled, apart}
-use Rattle.jessie_grammar.proofs.Good.{Falls, falls, loop_more, loop_done, weaken, then_good}
-use Rattle.jessie_grammar.proofs.Exprs.{Reads, In, begins, ends, in_with, expr_good, field_good, comma_steps, post_steps, op_steps, unary_good, prim_good, tails_good, or_ends, unary_ends, closed, fits}
+use Rattle.jessie_grammar.proofs.Good.{Good, Halts, Falls, falls, loop_more, loop_done, weaken, then_good}
+use Rattle.jessie_grammar.proofs.Exprs.{Reads, In, begins, ends, in_with, expr_good, field_good, comma_steps, post_accesses, op_steps, unary_good, prim_good, tails_good, or_ends, unary_ends, closed, fits}
 use Rattle.jessie_grammar.proofs.Statements.{turns_good, block_good}
 use Rattle.jessie_grammar.proofs.Modules.{constant_begins, constant_good, constant_field_good, next_params, items}
 
@@ -42,12 +43,12 @@ loop_fails more set q f all s ts (errors.Refused k left) e m h r = e ∙ (loop_m
 
 -- ---- depths
 
-pub inner_is : (n : ℕ) (es : List Event) (ts : List Token) → 0 < n → p.inner n es ts ≡ p.expr (n - 1) es ts
+pub inner_is : (n : ℕ) (es : List NameUse) (ts : List Token) → 0 < n → p.inner n es ts ≡ p.expr (n - 1) es ts
 unfolding p.inner
 inner_is zero es ts h = absurd (omega arith)
 inner_is (suc n) es ts h = let e : n ≡ suc n - 1 = omega arith in ap (λ m. p.expr m es ts) e
 
-pub expr_is : (n : ℕ) (es : List Event) (ts : List Token) → p.expr n es ts ≡ p.full n (p.inner n) es ts
+pub expr_is : (n : ℕ) (es : List NameUse) (ts : List Token) → p.expr n es ts ≡ p.full n (p.inner n) es ts
 unfolding p.expr p.inner
 expr_is zero es ts = refl
 expr_is (suc n) es ts = refl
@@ -58,12 +59,12 @@ in_here room = in_with room room (omega arith) (expr_good room)
 inner_good : (room : ℕ) → 0 < room → Reads (g.expr room (inside room)) (p.inner room) begins ends
 inner_good room h = (in_here room).0 h
 
-pub constant_is : (n : ℕ) (es : List Event) (ts : List Token) → p.constant n es ts ≡ p.constant_in n (p.inner_constant n) es ts
+pub constant_is : (n : ℕ) (es : List NameUse) (ts : List Token) → p.constant n es ts ≡ p.constant_in n (p.inner_constant n) es ts
 unfolding p.constant p.inner_constant
 constant_is zero es ts = refl
 constant_is (suc n) es ts = refl
 
-pub inner_constant_is : (n : ℕ) (es : List Event) (ts : List Token) → 0 < n → p.inner_constant n es ts ≡ p.constant (n - 1) es ts
+pub inner_constant_is : (n : ℕ) (es : List NameUse) (ts : List Token) → 0 < n → p.inner_constant n es ts ≡ p.constant (n - 1) es ts
 unfolding p.inner_constant
 inner_constant_is zero es ts h = absurd (omega arith)
 inner_constant_is (suc n) es ts h = let e : n ≡ suc n - 1 = omega arith in ap (λ m. p.constant m es ts) e
@@ -92,8 +93,38 @@ constants_fall room h = falls (comma_steps k.RightBracket (λ es. weaken constan
 pub constant_fields_fall : (room : ℕ) → 0 < room → Falls ongoing (k.Comma ∷ []) (p.comma_step k.RightBrace (p.constant_field (p.inner_constant room)))
 constant_fields_fall room h = falls (comma_steps k.RightBrace (constant_field_good (inner_constant_good room h)) refl refl)
 
-pub steps_fall : (room : ℕ) → Falls always step_begins (p.step_on room (p.inner room))
-steps_fall room = falls (post_steps room (in_here room))
+-- what an item leaves is no longer than what it begins
+abbrev pub Leaves : {A : Type 0} → (List NameUse → Parser A) → Type 0
+Leaves {A} q = (es : List NameUse) (ts us : List Token) (a : A) → q es ts ≡ Ok (a, us) → length us ≤ length ts
+
+left_of : {A : Type 0} → List Token → Outcome A → List Token
+left_of vs (Ok x) = x.1
+left_of vs (Err f) = vs
+
+halts_leave : {A : Type 0} (l : Lang A) (p : Parser A) (ts us : List Token) (a : A) (o : Outcome A) → Halts l p ts o → o ≡ Ok (a, us) → length us ≤ length ts
+unfolding left_of
+halts_leave l p ts us a (Ok x) h e =
+    let same : x.1 ≡ us = ap (left_of us) e in
+    omega (arith, ap length h.1, length-append h.0 x.1, ap length same)
+halts_leave l p ts us a (Err f) h e = absurd (cc)
+
+reads_leave : {A : Type 0} {l : List NameUse → Lang A} {q : List NameUse → Parser A} {b e : List Kind} → Reads l q b e → Leaves q
+reads_leave {l = l} {q = q} good es ts us a h = halts_leave (l es) (q es) ts us a (q es ts) ((good es).halts ts) h
+
+pub items_leave : (room : ℕ) → 0 < room → Leaves (p.inner room)
+items_leave room h = reads_leave (inner_good room h)
+
+pub fields_leave : (room : ℕ) → 0 < room → Leaves (p.field (p.inner room))
+fields_leave room h = reads_leave (field_good (inner_good room h))
+
+pub constants_leave : (room : ℕ) → 0 < room → Leaves (p.inner_constant room)
+constants_leave room h = reads_leave (inner_constant_good room h)
+
+pub constant_fields_leave : (room : ℕ) → 0 < room → Leaves (p.constant_field (p.inner_constant room))
+constant_fields_leave room h = reads_leave (constant_field_good (inner_constant_good room h))
+
+pub accesses_fall : (room : ℕ) → Falls always access_begins (p.access_on room (p.inner room))
+accesses_fall room = falls (post_accesses room (in_here room))
 
 pub params_fall : Falls always (k.Comma ∷ []) p.next_param
 params_fall = falls next_params
@@ -157,32 +188,32 @@ flag_fails set q f all a false ts r e m h x = absurd (cc)
 
 -- ---- statements
 
-pub turn_none : (room : ℕ) (i : List Event → Parser (Found Expr)) (b : List Event → Parser (Found (List Stmt))) (found : List Stmt) (arms : List Branch) (es : List Event) (ts : List Token) → length arms ≡ 0
+pub turn_none : (room : ℕ) (i : List NameUse → Parser (Found Expr)) (b : List NameUse → Parser (Found (List Stmt))) (found : List Stmt) (arms : List Branch) (es : List NameUse) (ts : List Token) → length arms ≡ 0
     → p.turn room i b found arms es ts ≡ p.begun room i b (names_after false) (found, es) ts
 unfolding p.turn
 turn_none room i b found [] es ts h = refl
 turn_none room i b found (a ∷ arms) es ts h = absurd (omega arith)
 
-pub turn_some : (room : ℕ) (i : List Event → Parser (Found Expr)) (b : List Event → Parser (Found (List Stmt))) (found : List Stmt) (arms : List Branch) (es : List Event) (ts : List Token) → 0 < length arms
+pub turn_some : (room : ℕ) (i : List NameUse → Parser (Found Expr)) (b : List NameUse → Parser (Found (List Stmt))) (found : List Stmt) (arms : List Branch) (es : List NameUse) (ts : List Token) → 0 < length arms
     → p.turn room i b found arms es ts ≡ either (k.Else ∷ []) (p.going_on room i b found (arms, es)) (p.begun room i b (names_after true) (shut (found, (arms, es)))) ts
 unfolding p.turn
 turn_some room i b found [] es ts h = absurd (omega arith)
 turn_some room i b found (a ∷ arms) es ts h = refl
 
-pub shut_none : (found : List Stmt) (arms : List Branch) (es : List Event) → length arms ≡ 0 → shut (found, (arms, es)) ≡ (found, es)
+pub shut_none : (found : List Stmt) (arms : List Branch) (es : List NameUse) → length arms ≡ 0 → shut (found, (arms, es)) ≡ (found, es)
 shut_none found [] es h = ap (λ (z : List Stmt). (z, es)) (append-nil found)
 shut_none found (a ∷ arms) es h = absurd (omega arith)
 
-pub shut_some : (found : List Stmt) (arms : List Branch) (es : List Event) → 0 < length arms → shut (found, (arms, es)) ≡ (found ++ stmt.If arms [] ∷ [], es)
+pub shut_some : (found : List Stmt) (arms : List Branch) (es : List NameUse) → 0 < length arms → shut (found, (arms, es)) ≡ (found ++ stmt.If arms [] ∷ [], es)
 shut_some found [] es h = absurd (omega arith)
 shut_some found (a ∷ arms) es h = refl
 
-pub body_is : (room : ℕ) (es : List Event) (ts : List Token) → p.body room es ts ≡ p.statements room (p.inner room) (p.block room) es ts
+pub body_is : (room : ℕ) (es : List NameUse) (ts : List Token) → p.body room es ts ≡ p.statements room (p.inner room) (p.block room) es ts
 unfolding p.body p.inner p.block p.inner_body
 body_is zero es ts = refl
 body_is (suc n) es ts = refl
 
-pub inner_body_is : (n : ℕ) (es : List Event) (ts : List Token) → 0 < n → p.inner_body n es ts ≡ p.body (n - 1) es ts
+pub inner_body_is : (n : ℕ) (es : List NameUse) (ts : List Token) → 0 < n → p.inner_body n es ts ≡ p.body (n - 1) es ts
 unfolding p.inner_body
 inner_body_is zero es ts h = absurd (omega arith)
 inner_body_is (suc n) es ts h = let e : n ≡ suc n - 1 = omega arith in ap (λ m. p.body m es ts) e

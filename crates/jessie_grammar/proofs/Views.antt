@@ -9,8 +9,8 @@ use Rattle.jessie_grammar.specs.declared.syntax.Unary.{Unary}
 use Rattle.jessie_grammar.specs.declared.syntax.Operator.{Operator}
 use Rattle.jessie_grammar.specs.declared.syntax.Expr.{Expr}
 use Rattle.jessie_grammar.specs.declared.syntax.Expr as E
-use Rattle.jessie_grammar.specs.declared.syntax.Step.{Step}
-use Rattle.jessie_grammar.specs.declared.syntax.Step as P
+use Rattle.jessie_grammar.specs.declared.syntax.Access.{Access}
+use Rattle.jessie_grammar.specs.declared.syntax.Access as P
 use Rattle.jessie_grammar.specs.declared.syntax.Stmt.{Stmt}
 use Rattle.jessie_grammar.specs.declared.syntax.Stmt as S
 use Rattle.jessie_grammar.specs.declared.syntax.Branch.{Branch}
@@ -49,8 +49,8 @@ term-Array es = search (rules, E.the_lemmas)
 pub term-Record : (fs : List (List ℕ × Expr)) → term_view (E.Record fs) ≡ composed (named_terms_view fs)
 term-Record fs = search (rules, E.the_lemmas)
 
-pub term-Steps : (e : Expr) (ks : List Step) → term_view (E.Steps e ks) ≡ linked (term_view e) (links_view ks)
-term-Steps e ks = search (rules, E.the_lemmas)
+pub term-Accesses : (e : Expr) (ks : List Access) → term_view (E.Accesses e ks) ≡ linked (term_view e) (links_view ks)
+term-Accesses e ks = search (rules, E.the_lemmas)
 
 pub term-Unary : (u : Unary) (e : Expr) → term_view (E.Unary u e) ≡ unary u (term_view e)
 term-Unary u e = search (rules, E.the_lemmas)

@@ -2,15 +2,15 @@
 use Rattle.std.specs.Prelude.{◌≡◌, ℕ, ◌-◌, nat_lt, if◌then◌else◌, List, length, drop, codes, Option, Some, None, Result, Ok, Err}
 use Rattle.jessie_grammar.specs.declared.jessie_lexer.token.Token.{Token}
 use Rattle.jessie_grammar.specs.Lex.{cut}
-use Rattle.jessie_grammar.specs.declared.jessie_scopes.event.NameFault.{NameFault}
+use Rattle.jessie_grammar.specs.declared.jessie_scopes.name_use.NameFault.{NameFault}
 use Rattle.jessie_grammar.specs.Scopes.{first_fault}
 use Rattle.jessie_grammar.specs.declared.syntax.Module.{Module}
 use Rattle.jessie_grammar.specs.Parse.{Outcome}
 use Rattle.jessie_grammar.specs.Words.{Found}
 use Rattle.jessie_grammar.specs.Rules as rules
-use Rattle.jessie_grammar.specs.declared.jessie_texts.refused.ReadError.{ReadError}
-use Rattle.jessie_grammar.specs.declared.jessie_texts.refused.ReadError.TheVariants as errors
-use Rattle.jessie_grammar.specs.declared.jessie_texts.refused.Refusal.TheVariants as r
+use Rattle.jessie_grammar.specs.declared.jessie_texts.refusal.ReadError.{ReadError}
+use Rattle.jessie_grammar.specs.declared.jessie_texts.refusal.ReadError.TheVariants as errors
+use Rattle.jessie_grammar.specs.declared.jessie_texts.refusal.Refusal.TheVariants as r
 use Rattle.jessie_grammar.specs.Texts.{most_bytes, most_brackets, refusal, kind_of, name_kind, place_at, has_function, Answer, Comes}
 
 -- the place of the token from which on so many are left; where none is, the text's length

@@ -2,7 +2,7 @@
 use Rattle.std.specs.Prelude.{ℕ, ◌+◌, true, false, drop, List, [], ◌∷◌, ◌==◌, if◌then◌else◌}
 use Rattle.jessie_grammar.specs.declared.jessie_lexer.token.Kind.{Kind}
 use Rattle.jessie_grammar.specs.declared.jessie_lexer.token.Kind.TheVariants as k
-use Rattle.jessie_grammar.specs.declared.jessie_scopes.event.Event.{Event}
+use Rattle.jessie_grammar.specs.declared.jessie_scopes.name_use.NameUse.{NameUse}
 use Rattle.jessie_grammar.specs.declared.syntax.Expr.{Expr}
 use Rattle.jessie_grammar.specs.Words.{Found, Level, table, ongoing, Chained, unchained, chained}
 use Rattle.jessie_grammar.specs.Parse.{Parser, ◌>>=◌, pure, loop}
@@ -13,14 +13,14 @@ level_at n =
     if n == 0 then (k.Or ∷ [], true) else if n == 1 then (k.And ∷ [], true) else if n == 2 then (k.Same ∷ k.Differs ∷ [], false)
     else if n == 3 then (k.Less ∷ k.AtMost ∷ k.Greater ∷ k.AtLeast ∷ [], false) else if n == 4 then (k.Plus ∷ k.Minus ∷ [], true) else (k.Times ∷ k.Over ∷ k.Remainder ∷ [], true)
 
-abbrev pub operand : ℕ → List Event → Parser (Found Expr)
+abbrev pub operand : ℕ → List NameUse → Parser (Found Expr)
 operand room es = rules.unary room (rules.inner room) (rules.prim room (rules.inner room)) es
 
 abbrev pub level_tails : ℕ → ℕ → Found Expr → Parser (Found Expr)
 level_tails room n t = rules.tails (drop n table) (operand room) t
 
 -- an operand with what stands after it from level n on
-abbrev pub operands : ℕ → ℕ → List Event → Parser (Found Expr)
+abbrev pub operands : ℕ → ℕ → List NameUse → Parser (Found Expr)
 operands room n es = operand room es >>= level_tails room n
 
 -- the operators of level n, each with its operand
@@ -31,5 +31,5 @@ abbrev pub level_rest : ℕ → ℕ → Found Expr → Parser (Found Expr)
 level_rest room n t = level_ops room n (unchained t) >>= λ s. pure (chained s)
 
 -- the items of a list after the first ones
-abbrev pub more_items : {A : Type 0} → Kind → (List Event → Parser (Found A)) → Found (List A) → Parser (Found (List A))
+abbrev pub more_items : {A : Type 0} → Kind → (List NameUse → Parser (Found A)) → Found (List A) → Parser (Found (List A))
 more_items close item found = loop ongoing (k.Comma ∷ []) (rules.comma_step close item) (found, true) >>= λ s. pure s.0

@@ -1,12 +1,12 @@
 -- The first fault of what a text does with names.
 use Rattle.std.specs.Prelude.{ℕ, Bool, true, false, ◌||◌, ◌&&◌, if◌then◌else◌, List, [], ◌∷◌, ◌++◌, reverse, Option, Some, None}
 use Rattle.std.specs.Str.{bytes_eq}
-use Rattle.jessie_grammar.specs.declared.jessie_scopes.event.Binding.{Binding}
-use Rattle.jessie_grammar.specs.declared.jessie_scopes.event.Binding.TheVariants as b
-use Rattle.jessie_grammar.specs.declared.jessie_scopes.event.Event.{Event}
-use Rattle.jessie_grammar.specs.declared.jessie_scopes.event.Event.TheVariants as e
-use Rattle.jessie_grammar.specs.declared.jessie_scopes.event.NameFault.{NameFault}
-use Rattle.jessie_grammar.specs.declared.jessie_scopes.event.NameFault.TheVariants as f
+use Rattle.jessie_grammar.specs.declared.jessie_scopes.name_use.Binding.{Binding}
+use Rattle.jessie_grammar.specs.declared.jessie_scopes.name_use.Binding.TheVariants as b
+use Rattle.jessie_grammar.specs.declared.jessie_scopes.name_use.NameUse.{NameUse}
+use Rattle.jessie_grammar.specs.declared.jessie_scopes.name_use.NameUse.TheVariants as e
+use Rattle.jessie_grammar.specs.declared.jessie_scopes.name_use.NameFault.{NameFault}
+use Rattle.jessie_grammar.specs.declared.jessie_scopes.name_use.NameFault.TheVariants as f
 use Rattle.jessie_grammar.specs.declared.jessie_scopes.scopes.Entry.{Entry}
 use Rattle.jessie_grammar.specs.declared.jessie_scopes.scopes.Entry.TheVariants as entry
 use Rattle.jessie_grammar.specs.Reserved.{is_reserved, is_built_in}
@@ -16,7 +16,7 @@ use Rattle.jessie_grammar.specs.Reserved.{is_reserved, is_built_in}
 abbrev pub Global : Type 0
 Global = List ℕ × Binding
 
-abbrev pub globals : List Event → List Global
+abbrev pub globals : List NameUse → List Global
 globals [] = []
 globals (e.Defines at x b ∷ es) = (x, b) ∷ globals es
 globals (_ ∷ es) = globals es
@@ -100,7 +100,7 @@ fills es at x = if stands x es then Some (at, f.Duplicate) else None
 abbrev pub shortens : List Global → List Entry → ℕ → List ℕ → Found
 shortens gs es at x = if is_reserved x then Some (at, f.Reserved) else if stands x es then Some (at, f.Duplicate) else reads (known gs es x) at
 
-abbrev pub fault : List Global → List Entry → Event → Found
+abbrev pub fault : List Global → List Entry → NameUse → Found
 fault gs es e.Opens = None
 fault gs es e.Closes = None
 fault gs es (e.Defines at x b) = declares es at x
@@ -112,9 +112,9 @@ fault gs es (e.Assigns at x) = assigns gs es at x
 fault gs es (e.Field at x) = fills es at x
 fault gs es (e.Shorthand at x) = shortens gs es at x
 
--- ---- what stands after an event
+-- ---- what stands after an name use
 
-abbrev pub after : Event → List Entry → List Entry
+abbrev pub after : NameUse → List Entry → List Entry
 after e.Opens es = es ++ entry.Opening ∷ []
 after e.Closes es = around es
 after (e.Defines at x b) es = es ++ entry.Name x b ∷ []
@@ -131,9 +131,9 @@ or_else None later = later
 or_else (Some f) later = Some f
 
 -- the first fault, in the text's order
-unfoldable pub first : List Global → List Entry → List Event → Found
+unfoldable pub first : List Global → List Entry → List NameUse → Found
 first gs es [] = None
 first gs es (x ∷ xs) = or_else (fault gs es x) (first gs (after x es) xs)
 
-abbrev pub first_fault : List Event → Found
+abbrev pub first_fault : List NameUse → Found
 first_fault xs = first (globals xs) [] xs

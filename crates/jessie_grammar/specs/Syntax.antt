@@ -8,9 +8,9 @@ use Rattle.jessie_grammar.specs.declared.syntax.BuiltIn.{BuiltIn}
 use Rattle.jessie_grammar.specs.declared.syntax.Unary.{Unary}
 use Rattle.jessie_grammar.specs.declared.syntax.Operator.{Operator}
 use Rattle.jessie_grammar.specs.declared.syntax.Expr.{Expr}
-use Rattle.jessie_grammar.specs.declared.syntax.Expr.TheFolds.{fold-Expr, fold-Step}
-use Rattle.jessie_grammar.specs.declared.syntax.Expr.TheOpen.{Expr-F, Step-F}
-use Rattle.jessie_grammar.specs.declared.syntax.Step.{Step}
+use Rattle.jessie_grammar.specs.declared.syntax.Access.TheFolds.{fold-Expr, fold-Access}
+use Rattle.jessie_grammar.specs.declared.syntax.Access.TheOpen.{Expr-F, Access-F}
+use Rattle.jessie_grammar.specs.declared.syntax.Access.{Access}
 use Rattle.jessie_grammar.specs.declared.syntax.Stmt.{Stmt}
 use Rattle.jessie_grammar.specs.declared.syntax.Stmt.TheFolds.{fold-Stmt, fold-Branch}
 use Rattle.jessie_grammar.specs.declared.syntax.Stmt.TheOpen.{Stmt-F, Branch-F}
@@ -158,7 +158,7 @@ fixeds_view cs = fixeds_of (map fixed_view cs)
 abbrev pub named_fixeds_view : List (List ℕ × Constant) → NamedFixeds
 named_fixeds_view cs = named_fixeds_of (map (λ c. (c.0, fixed_view c.1)) cs)
 
-abbrev pub term_step : Expr-F Term Link → Term
+abbrev pub term_step : Expr-F Link Term → Term
 term_step (Expr-F.Literal c) = literal c
 term_step (Expr-F.Name x) = name x
 term_step (Expr-F.Call f ts) = call f (terms_of ts)
@@ -167,21 +167,21 @@ term_step (Expr-F.AmountMath x ts) = amount_math x (terms_of ts)
 term_step (Expr-F.Send t x ts) = send t x (terms_of ts)
 term_step (Expr-F.Array ts) = listing (terms_of ts)
 term_step (Expr-F.Record fs) = composed (named_terms_of fs)
-term_step (Expr-F.Steps t ks) = linked t (links_of ks)
+term_step (Expr-F.Accesses t ks) = linked t (links_of ks)
 term_step (Expr-F.Unary u t) = unary u t
 term_step (Expr-F.Chain t ts) = chain t (operands_of ts)
 term_step (Expr-F.Choice c a b) = choice c a b
 
-abbrev pub link_step : Step-F Term Link → Link
-link_step (Step-F.Field x) = at_field x
-link_step (Step-F.Method x ts) = method x (terms_of ts)
-link_step (Step-F.Index t) = at_index t
+abbrev pub link_step : Access-F Link Term → Link
+link_step (Access-F.Field x) = at_field x
+link_step (Access-F.Method x ts) = method x (terms_of ts)
+link_step (Access-F.Index t) = at_index t
 
 abbrev pub term_view : Expr → Term
-term_view = fold-Expr Term Link term_step link_step
+term_view = fold-Expr Link Term link_step term_step
 
-abbrev pub link_view : Step → Link
-link_view = fold-Step Term Link term_step link_step
+abbrev pub link_view : Access → Link
+link_view = fold-Access Link Term link_step term_step
 
 abbrev pub terms_view : List Expr → Terms
 terms_view es = terms_of (map term_view es)
@@ -192,7 +192,7 @@ named_terms_view fs = named_terms_of (map (λ f. (f.0, term_view f.1)) fs)
 abbrev pub operands_view : List (Operator × Expr) → Operands
 operands_view es = operands_of (map (λ e. (e.0, term_view e.1)) es)
 
-abbrev pub links_view : List Step → Links
+abbrev pub links_view : List Access → Links
 links_view ks = links_of (map link_view ks)
 
 abbrev pub return_view : Option Expr → Statement

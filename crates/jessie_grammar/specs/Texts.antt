@@ -3,9 +3,9 @@ use Rattle.std.specs.Prelude.{◌≡◌, ℕ, ◌≤◌, ◌<◌, Bool, true, fa
 use Rattle.std.specs.Str.{bytes_eq}
 use Rattle.jessie_grammar.specs.declared.jessie_lexer.token.Token.{Token}
 use Rattle.jessie_grammar.specs.Lex.{cut}
-use Rattle.jessie_grammar.specs.declared.jessie_scopes.event.Event.{Event}
-use Rattle.jessie_grammar.specs.declared.jessie_scopes.event.NameFault.{NameFault}
-use Rattle.jessie_grammar.specs.declared.jessie_scopes.event.NameFault.TheVariants as names
+use Rattle.jessie_grammar.specs.declared.jessie_scopes.name_use.NameUse.{NameUse}
+use Rattle.jessie_grammar.specs.declared.jessie_scopes.name_use.NameFault.{NameFault}
+use Rattle.jessie_grammar.specs.declared.jessie_scopes.name_use.NameFault.TheVariants as names
 use Rattle.jessie_grammar.specs.Scopes.{first_fault}
 use Rattle.jessie_grammar.specs.declared.syntax.Function.{Function}
 use Rattle.jessie_grammar.specs.declared.syntax.Module.{Module}
@@ -13,9 +13,9 @@ use Rattle.jessie_grammar.specs.declared.jessie_language.fault.Limit.{Limit}
 use Rattle.jessie_grammar.specs.declared.jessie_language.fault.Limit.TheVariants as limits
 use Rattle.jessie_grammar.specs.Refused.{clean, Refused}
 use Rattle.jessie_grammar.specs.Grammar as grammar
-use Rattle.jessie_grammar.specs.declared.jessie_texts.refused.Refusal.{Refusal}
-use Rattle.jessie_grammar.specs.declared.jessie_texts.refused.Refusal.TheVariants as r
-use Rattle.jessie_grammar.specs.declared.jessie_texts.refused.TextRefusal.{TextRefusal}
+use Rattle.jessie_grammar.specs.declared.jessie_texts.refusal.Refusal.{Refusal}
+use Rattle.jessie_grammar.specs.declared.jessie_texts.refusal.Refusal.TheVariants as r
+use Rattle.jessie_grammar.specs.declared.jessie_texts.refusal.TextRefusal.{TextRefusal}
 
 -- how many bytes a text may have, and how many brackets may be open
 abbrev pub most_bytes : ℕ
@@ -66,15 +66,15 @@ has_function x [] = false
 has_function x (f ∷ fs) = bytes_eq f.name x || has_function x fs
 
 -- a text within all limits, of that tree; and what it does with names
-pub record IsWritten (bytes : List ℕ) (m : Module) (deeds : List Event) : Type 0 where
+pub record IsWritten (bytes : List ℕ) (m : Module) (name_uses : List NameUse) : Type 0 where
   pub short : length bytes ≤ most_bytes
-  pub in_grammar : grammar.text most_brackets (clean (cut bytes)) (m, deeds)
+  pub in_grammar : grammar.text most_brackets (clean (cut bytes)) (m, name_uses)
 
 -- a text is this module: it is written so, nothing is wrong with its names, and it has a function `start`
 pub record IsText (bytes : List ℕ) (m : Module) : Type 0 where
-  pub deeds : List Event
-  pub written : IsWritten bytes m deeds
-  pub proper : first_fault deeds ≡ None
+  pub name_uses : List NameUse
+  pub written : IsWritten bytes m name_uses
+  pub proper : first_fault name_uses ≡ None
   pub starts : has_function (codes "start") m.functions ≡ true
 
 -- the first refusal of a text
@@ -86,9 +86,9 @@ pub data FirstRefusal (bytes : List ℕ) : TextRefusal → Type 0 where
   refused_token : (limit : Option Limit) (front rest : List Token) → length bytes ≤ most_bytes → cut bytes ≡ front ++ rest → Refused (grammar.text most_brackets) front rest limit
       → FirstRefusal bytes (refusal (place_at (length bytes) rest) (kind_of limit))
   -- it is in the grammar, and this is the first fault of its names
-  refused_name : (m : Module) (deeds : List Event) (place : ℕ) (fault : NameFault) → IsWritten bytes m deeds → first_fault deeds ≡ Some (place, fault) → FirstRefusal bytes (refusal place (name_kind fault))
+  refused_name : (m : Module) (name_uses : List NameUse) (place : ℕ) (fault : NameFault) → IsWritten bytes m name_uses → first_fault name_uses ≡ Some (place, fault) → FirstRefusal bytes (refusal place (name_kind fault))
   -- it is in the grammar, nothing is wrong with its names, and it has no function `start`
-  has_no_start : (m : Module) (deeds : List Event) → IsWritten bytes m deeds → first_fault deeds ≡ None → has_function (codes "start") m.functions ≡ false → FirstRefusal bytes (refusal (length bytes) r.NoStart)
+  has_no_start : (m : Module) (name_uses : List NameUse) → IsWritten bytes m name_uses → first_fault name_uses ≡ None → has_function (codes "start") m.functions ≡ false → FirstRefusal bytes (refusal (length bytes) r.NoStart)
 
 -- the module that a text is, or its first refusal
 abbrev pub Answer : Type 0

@@ -7,10 +7,10 @@ use Rattle.jessie_grammar.specs.declared.jessie_lexer.token.Kind.{Kind}
 use Rattle.jessie_grammar.specs.declared.jessie_lexer.token.Kind.TheVariants as k
 use Rattle.jessie_grammar.specs.declared.jessie_lexer.token.Token.{Token}
 use Rattle.jessie_grammar.specs.Lex.{limit}
-use Rattle.jessie_grammar.specs.declared.jessie_scopes.event.Binding.{Binding}
-use Rattle.jessie_grammar.specs.declared.jessie_scopes.event.Binding.TheVariants as binding
-use Rattle.jessie_grammar.specs.declared.jessie_scopes.event.Event.{Event}
-use Rattle.jessie_grammar.specs.declared.jessie_scopes.event.Event.TheVariants as event
+use Rattle.jessie_grammar.specs.declared.jessie_scopes.name_use.Binding.{Binding}
+use Rattle.jessie_grammar.specs.declared.jessie_scopes.name_use.Binding.TheVariants as binding
+use Rattle.jessie_grammar.specs.declared.jessie_scopes.name_use.NameUse.{NameUse}
+use Rattle.jessie_grammar.specs.declared.jessie_scopes.name_use.NameUse.TheVariants as name_use
 use Rattle.jessie_grammar.specs.declared.syntax.Literal.{Literal}
 use Rattle.jessie_grammar.specs.declared.syntax.Literal.TheVariants as literal
 use Rattle.jessie_grammar.specs.declared.syntax.Constant.{Constant}
@@ -23,8 +23,8 @@ use Rattle.jessie_grammar.specs.declared.syntax.Operator.{Operator}
 use Rattle.jessie_grammar.specs.declared.syntax.Operator.TheVariants as operator
 use Rattle.jessie_grammar.specs.declared.syntax.Expr.{Expr}
 use Rattle.jessie_grammar.specs.declared.syntax.Expr.TheVariants as expr
-use Rattle.jessie_grammar.specs.declared.syntax.Step.{Step}
-use Rattle.jessie_grammar.specs.declared.syntax.Step.TheVariants as step
+use Rattle.jessie_grammar.specs.declared.syntax.Access.{Access}
+use Rattle.jessie_grammar.specs.declared.syntax.Access.TheVariants as step
 use Rattle.jessie_grammar.specs.declared.syntax.Stmt.{Stmt}
 use Rattle.jessie_grammar.specs.declared.syntax.Stmt.TheVariants as stmt
 use Rattle.jessie_grammar.specs.declared.syntax.Branch.{Branch}
@@ -35,7 +35,7 @@ use Rattle.jessie_grammar.specs.declared.jessie_language.fault.Limit.{Limit}
 use Rattle.jessie_grammar.specs.declared.jessie_language.fault.Limit.TheVariants as breaks
 
 abbrev pub Found : Type 0 → Type 0
-Found A = A × List Event
+Found A = A × List NameUse
 
 -- a name and its place
 abbrev pub Named : Type 0
@@ -73,8 +73,8 @@ table =
     ∷ (k.Plus ∷ k.Minus ∷ [], true) ∷ (k.Times ∷ k.Over ∷ k.Remainder ∷ [], true) ∷ []
 
 -- what the steps behind an expression begin with
-abbrev pub step_begins : List Kind
-step_begins = k.Dot ∷ k.LeftBracket ∷ []
+abbrev pub access_begins : List Kind
+access_begins = k.Dot ∷ k.LeftBracket ∷ []
 
 -- what an expression begins with that begins with no name and is no record
 abbrev pub bare_begins : List Kind
@@ -127,16 +127,16 @@ abbrev pub spotted : Token → Named
 spotted t = (t.at, t.text)
 
 -- what is done so far, and then one thing more
-abbrev pub also : List Event → Event → List Event
+abbrev pub also : List NameUse → NameUse → List NameUse
 also es x = es ++ x ∷ []
 
 -- a parameter's name
-abbrev pub param_of : List Event → Named → Found (List ℕ)
-param_of es x = (x.1, also (also es (event.Declares x.0 x.1)) (event.Binds x.1 binding.Variable))
+abbrev pub param_of : List NameUse → Named → Found (List ℕ)
+param_of es x = (x.1, also (also es (name_use.Declares x.0 x.1)) (name_use.Binds x.1 binding.Variable))
 
 -- a name of the module
-abbrev pub defined : Binding → List Event → Named → List Event
-defined b es x = also es (event.Defines x.0 x.1 b)
+abbrev pub defined : Binding → List NameUse → Named → List NameUse
+defined b es x = also es (name_use.Defines x.0 x.1 b)
 
 abbrev pub literal_by : Kind → Token → Literal
 literal_by k.Number t = literal.Number (pos t.number)
@@ -149,10 +149,10 @@ abbrev pub literal_of : Token → Literal
 literal_of t = literal_by t.kind t
 
 -- a literal that is read, and one that a state variable holds
-abbrev pub literal_expr : List Event → Literal → Found Expr
+abbrev pub literal_expr : List NameUse → Literal → Found Expr
 literal_expr es c = (expr.Literal c, es)
 
-abbrev pub literal_constant : List Event → Literal → Found Constant
+abbrev pub literal_constant : List NameUse → Literal → Found Constant
 literal_constant es c = (constant.Literal c, es)
 
 abbrev pub negative_of : Token → Literal
@@ -213,8 +213,8 @@ abbrev pub call_of : Named → Found (List Expr) → Found Expr
 call_of x ts = (called (built_in x.1) x.1 ts.0, ts.1)
 
 -- a name that is read
-abbrev pub used : List Event → Named → Found Expr
-used es x = (expr.Name x.1, also es (event.Uses x.0 x.1))
+abbrev pub used : List NameUse → Named → Found Expr
+used es x = (expr.Name x.1, also es (name_use.Uses x.0 x.1))
 
 -- a method's name with its arguments
 abbrev pub Call : Type 0
@@ -236,37 +236,37 @@ array_of ts = (expr.Array ts.0, ts.1)
 abbrev pub field_of : Named → Found Expr → Found (List ℕ × Expr)
 field_of x t = ((x.1, t.0), t.1)
 
-abbrev pub shorthand_of : List Event → Named → Found (List ℕ × Expr)
-shorthand_of es x = ((x.1, expr.Name x.1), also es (event.Shorthand x.0 x.1))
+abbrev pub shorthand_of : List NameUse → Named → Found (List ℕ × Expr)
+shorthand_of es x = ((x.1, expr.Name x.1), also es (name_use.Shorthand x.0 x.1))
 
 abbrev pub record_of : Found (List (List ℕ × Expr)) → Found Expr
-record_of fs = (expr.Record fs.0, also fs.1 event.Closes)
+record_of fs = (expr.Record fs.0, also fs.1 name_use.Closes)
 
-abbrev pub method_of : Named → Found (List Expr) → Found Step
+abbrev pub method_of : Named → Found (List Expr) → Found Access
 method_of x ts = (step.Method x.1 ts.0, ts.1)
 
-abbrev pub field_step : List Event → Named → Found Step
-field_step es x = (step.Field x.1, es)
+abbrev pub field_access : List NameUse → Named → Found Access
+field_access es x = (step.Field x.1, es)
 
-abbrev pub index_of : Found Expr → Found Step
+abbrev pub index_of : Found Expr → Found Access
 index_of t = (step.Index t.0, t.1)
 
 -- an expression and the steps behind it so far; without a step it's what stands before them
-abbrev pub Stepped : Type 0
-Stepped = Found (Expr × List Step)
+abbrev pub Accessed : Type 0
+Accessed = Found (Expr × List Access)
 
-abbrev pub unstepped : Found Expr → Stepped
-unstepped t = ((t.0, []), t.1)
+abbrev pub unaccessed : Found Expr → Accessed
+unaccessed t = ((t.0, []), t.1)
 
-abbrev pub step_more : Stepped → Found Step → Stepped
-step_more s x = ((s.0.0, s.0.1 ++ x.0 ∷ []), x.1)
+abbrev pub access_more : Accessed → Found Access → Accessed
+access_more s x = ((s.0.0, s.0.1 ++ x.0 ∷ []), x.1)
 
-abbrev pub with_steps : Expr → List Step → Expr
-with_steps t [] = t
-with_steps t (x ∷ xs) = expr.Steps t (x ∷ xs)
+abbrev pub with_accesses : Expr → List Access → Expr
+with_accesses t [] = t
+with_accesses t (x ∷ xs) = expr.Accesses t (x ∷ xs)
 
-abbrev pub stepped : Stepped → Found Expr
-stepped s = (with_steps s.0.0 s.0.1, s.1)
+abbrev pub accessed : Accessed → Found Expr
+accessed s = (with_accesses s.0.0 s.0.1, s.1)
 
 abbrev pub unary_of : Unary → Found Expr → Found Expr
 unary_of o t = (expr.Unary o t.0, t.1)
@@ -299,7 +299,7 @@ declaring _ x t = stmt.Const x t
 
 -- the name is known from the end of its declaration on
 abbrev pub declaration_of : Binding → Named → Found Expr → Found Stmt
-declaration_of b x t = (declaring b x.1 t.0, also t.1 (event.Binds x.1 b))
+declaration_of b x t = (declaring b x.1 t.0, also t.1 (name_use.Binds x.1 b))
 
 abbrev pub assign_of : Named → Found Expr → Found Stmt
 assign_of x t = (stmt.Assign x.1 t.0, t.1)
@@ -310,14 +310,14 @@ run_of t = (stmt.Run t.0, t.1)
 abbrev pub return_of : Found Expr → Found Stmt
 return_of t = (stmt.Return (Some t.0), t.1)
 
-abbrev pub return_nothing : List Event → Found Stmt
+abbrev pub return_nothing : List NameUse → Found Stmt
 return_nothing es = (stmt.Return None, es)
 
 abbrev pub throw_of : Found Expr → Found Stmt
 throw_of t = (stmt.Throw t.0, t.1)
 
 abbrev pub block_of : Found (List Stmt) → Found (List Stmt)
-block_of ss = (ss.0, also ss.1 event.Closes)
+block_of ss = (ss.0, also ss.1 name_use.Closes)
 
 -- a condition with its block
 abbrev pub branch_of : Expr → Found (List Stmt) → Found Branch
@@ -331,20 +331,20 @@ abbrev pub Header : Type 0
 Header = List ℕ × Expr
 
 abbrev pub header_of : Named → Found Expr → Found Header
-header_of x t = ((x.1, t.0), also t.1 (event.Binds x.1 binding.Constant))
+header_of x t = ((x.1, t.0), also t.1 (name_use.Binds x.1 binding.Constant))
 
 abbrev pub for_of : Header → Found (List Stmt) → Found Stmt
-for_of h b = (stmt.ForOf h.0 h.1 b.0, also b.1 event.Closes)
+for_of h b = (stmt.ForOf h.0 h.1 b.0, also b.1 name_use.Closes)
 
 -- a `catch`'s name is outer to its block
-abbrev pub caught : List Event → Named → List Event
-caught es x = also (also (also es event.Opens) (event.Declares x.0 x.1)) (event.Binds x.1 binding.Variable)
+abbrev pub caught : List NameUse → Named → List NameUse
+caught es x = also (also (also es name_use.Opens) (name_use.Declares x.0 x.1)) (name_use.Binds x.1 binding.Variable)
 
 abbrev pub Handler : Type 0
 Handler = List ℕ × List Stmt
 
 abbrev pub handler_of : Named → Found (List Stmt) → Found Handler
-handler_of x b = ((x.1, b.0), also b.1 event.Closes)
+handler_of x b = ((x.1, b.0), also b.1 name_use.Closes)
 
 abbrev pub try_of : List Stmt → Found Handler → Found Stmt
 try_of b h = (stmt.Try b h.0.0 h.0.1, h.1)
@@ -363,11 +363,11 @@ abbrev pub constant_array_of : Found (List Constant) → Found Constant
 constant_array_of ts = (constant.Array ts.0, ts.1)
 
 abbrev pub constant_record_of : Found (List (List ℕ × Constant)) → Found Constant
-constant_record_of fs = (constant.Record fs.0, also fs.1 event.Closes)
+constant_record_of fs = (constant.Record fs.0, also fs.1 name_use.Closes)
 
 -- parameters are outer to the block
 abbrev pub function_of : List ℕ → List (List ℕ) → Found (List Stmt) → Found Function
-function_of x xs b = (record { name = x; params = xs; body = b.0 }, also b.1 event.Closes)
+function_of x xs b = (record { name = x; params = xs; body = b.0 }, also b.1 name_use.Closes)
 
 abbrev pub variable_of : List ℕ → Found Constant → Found Variable
 variable_of x t = (record { name = x; initial = t.0 }, t.1)

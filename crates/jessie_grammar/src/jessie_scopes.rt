@@ -1,8 +1,6 @@
-//! The names of a contract text: what a text does with names, in its order, and the first of it that it
-//! may not do. Its one contract is `scopes::first_fault`'s: the first fault is that of its definition
-//! (specs/Scopes.antt). What this means in the text's events are the laws of `laws`.
+//! What a contract text does with names, in its order, and the first of it that it may not do.
 
-pub mod event;
 pub mod laws;
+pub mod name_use;
 mod reserved;
 pub mod scopes;

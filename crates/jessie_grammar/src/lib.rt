@@ -1,5 +1,5 @@
-//! The grammar of the contract language: tokens, names and their scopes, the tree of a module, the
-//! rules by which a text is read, and that it comes to nothing else.
+//! The grammar of the contract language: tokens, names and their scopes, the tree of a module, and
+//! the rules by which a text is read.
 #![tactic(auto)]
 
 pub mod jessie_language;
@@ -8,4 +8,9 @@ pub mod jessie_scopes;
 pub mod jessie_texts;
 pub mod syntax;
 
-pub use host_text as host_text_lib;
+/// What `host_text` gives to those above.
+pub mod host_text_lib {
+    pub mod text {
+        pub use host_text::text::Text;
+    }
+}

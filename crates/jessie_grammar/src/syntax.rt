@@ -1,5 +1,4 @@
-// The trees of a module of the contract language. What brackets don't count is a list: the operators of
-// one level, the steps behind an expression, the conditions of an if, the statements of a block.
+//! The trees of a module of the contract language, where what brackets don't count is a list.
 use host_text::text::Text;
 use sqlite_items::{Boxed, Items};
 
@@ -88,8 +87,8 @@ pub enum Expr {
     /// A record: its fields in the text's order. A field without an expression of its own reads the
     /// name.
     Record(Items<(Text, Expr)>),
-    /// What stands before the steps, and the steps behind it, one or more.
-    Steps(Boxed<Expr>, Items<Step>),
+    /// What stands before the accesses, and the accesses behind it, one or more.
+    Accesses(Boxed<Expr>, Items<Access>),
     Unary(Unary, Boxed<Expr>),
     /// A first operand, and one or more operators of one level with the operand behind each.
     Chain(Boxed<Expr>, Items<(Operator, Expr)>),
@@ -97,10 +96,10 @@ pub enum Expr {
     Choice(Boxed<Expr>, Boxed<Expr>, Boxed<Expr>),
 }
 
-/// A step behind an expression.
+/// An access behind an expression: to a field, a method or a part.
 #[derive(Drop)]
 #[cycle(expression)]
-pub enum Step {
+pub enum Access {
     /// `.name`
     Field(Text),
     /// A call of a method of an object: `.name(arguments)`.

@@ -1,7 +1,4 @@
-//! A module of the contract language as it is kept to be run: with an index of its functions by name,
-//! so that none is found by a walk over all of them. Its one contract: it is seen as its module, and
-//! the function found by a name is the one that the rules find.
-
+//! A module as it is kept to be run, with an index of its functions by name.
 ghost use Rattle.std.specs.Prelude.{◌≡◌, IfErr, IfOk, OnOk, option_copied, option_map, slice_get};
 ghost use Rattle.jessie_index.specs.Index.{IsIndexOf, IsPut, first_place};
 ghost use Rattle.jessie_semantics.specs.Rules.{find_routine};

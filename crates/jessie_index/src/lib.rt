@@ -1,5 +1,5 @@
-//! Names found without a walk over all: a function's own names with their values, the innermost
-//! last, and a module's functions by name.
+//! Names found without a walk over all: a function's own names with their values, and a module's
+//! functions.
 #![tactic(auto)]
 
 pub mod index;

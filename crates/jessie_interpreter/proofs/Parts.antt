@@ -8,12 +8,12 @@ use Rattle.jessie_machine.specs.jessie_grammar.declared.syntax.Unary.{Unary}
 use Rattle.jessie_machine.specs.jessie_grammar.declared.syntax.Operator.{Operator}
 use Rattle.jessie_machine.specs.jessie_grammar.declared.syntax.Expr.{Expr}
 use Rattle.jessie_machine.specs.jessie_grammar.declared.syntax.Expr as E
-use Rattle.jessie_machine.specs.jessie_grammar.declared.syntax.Step.{Step}
-use Rattle.jessie_machine.specs.jessie_grammar.declared.syntax.Step as P
+use Rattle.jessie_machine.specs.jessie_grammar.declared.syntax.Access.{Access}
+use Rattle.jessie_machine.specs.jessie_grammar.declared.syntax.Access as P
 use Rattle.jessie_machine.specs.jessie_grammar.declared.syntax.Stmt.{Stmt}
 use Rattle.jessie_machine.specs.jessie_grammar.declared.syntax.Stmt as S
 use Rattle.jessie_machine.specs.jessie_grammar.declared.syntax.Branch.{Branch}
-use Rattle.jessie_machine.proofs.jessie_grammar.Views.{term-Call, term-BuiltIn, term-AmountMath, term-Send, term-Array, term-Record, term-Steps, term-Unary, term-Chain, term-Choice, link-Method, statement-If, statement-While, statement-ForOf, statement-Try, way-of}
+use Rattle.jessie_machine.proofs.jessie_grammar.Views.{term-Call, term-BuiltIn, term-AmountMath, term-Send, term-Array, term-Record, term-Accesses, term-Unary, term-Chain, term-Choice, link-Method, statement-If, statement-While, statement-ForOf, statement-Try, way-of}
 use Rattle.jessie_machine.specs.jessie_values.declared.reasons.Reason.TheVariants.{TooDeep}
 use Rattle.jessie_machine.specs.jessie_values.Reasons.{bad_step}
 use Rattle.jessie_machine.specs.jessie_values.Dispatch.{operate}
@@ -40,8 +40,8 @@ array_at e es xs p q = ap term_view p ∙ (term-Array es ∙ ap (λ l. listing (
 pub record_at : (e : Expr) (es xs : List (List ℕ × Expr)) → e ≡ E.Record es → xs ≡ es → term_view e ≡ composed (named_terms_view xs)
 record_at e es xs p q = ap term_view p ∙ (term-Record es ∙ ap (λ l. composed (named_terms_view l)) (sym q))
 
-pub steps_at : (e a x : Expr) (ks ys : List Step) → e ≡ E.Steps a ks → x ≡ a → ys ≡ ks → term_view e ≡ linked (term_view x) (links_view ys)
-steps_at e a x ks ys p q r = ap term_view p ∙ (term-Steps a ks ∙ (ap (λ z. linked (term_view z) (links_view ks)) (sym q) ∙ ap (λ l. linked (term_view x) (links_view l)) (sym r)))
+pub steps_at : (e a x : Expr) (ks ys : List Access) → e ≡ E.Accesses a ks → x ≡ a → ys ≡ ks → term_view e ≡ linked (term_view x) (links_view ys)
+steps_at e a x ks ys p q r = ap term_view p ∙ (term-Accesses a ks ∙ (ap (λ z. linked (term_view z) (links_view ks)) (sym q) ∙ ap (λ l. linked (term_view x) (links_view l)) (sym r)))
 
 pub unary_at : (e a x : Expr) (u : Unary) → e ≡ E.Unary u a → x ≡ a → term_view e ≡ unary u (term_view x)
 unary_at e a x u p q = ap term_view p ∙ (term-Unary u a ∙ ap (λ z. unary u (term_view z)) (sym q))
@@ -52,7 +52,7 @@ chain_at e a x ks ys p q r = ap term_view p ∙ (term-Chain a ks ∙ (ap (λ z. 
 pub choice_at : (e a b d x y z : Expr) → e ≡ E.Choice a b d → x ≡ a → y ≡ b → z ≡ d → term_view e ≡ choice (term_view x) (term_view y) (term_view z)
 choice_at e a b d x y z p q r s = ap term_view p ∙ (term-Choice a b d ∙ (ap (λ w. choice (term_view w) (term_view b) (term_view d)) (sym q) ∙ (ap (λ w. choice (term_view x) (term_view w) (term_view d)) (sym r) ∙ ap (λ w. choice (term_view x) (term_view y) (term_view w)) (sym s))))
 
-pub method_at : (k : Step) (x : List ℕ) (es xs : List Expr) → k ≡ P.Method x es → xs ≡ es → link_view k ≡ method x (terms_view xs)
+pub method_at : (k : Access) (x : List ℕ) (es xs : List Expr) → k ≡ P.Method x es → xs ≡ es → link_view k ≡ method x (terms_view xs)
 method_at k x es xs p q = ap link_view p ∙ (link-Method x es ∙ ap (λ l. method x (terms_view l)) (sym q))
 
 pub if_at : (s : Stmt) (ws vs : List Branch) (b y : List Stmt) → s ≡ S.If ws b → vs ≡ ws → y ≡ b → statement_view s ≡ choose (branches_view vs) (block_view y)
@@ -86,11 +86,11 @@ named_open m vs xs i x h e = ap (λ l. named_exprs m (named_terms_view l) vs) (o
 pub named_end : (m : Program) (vs : List (List ℕ × Tree)) (xs : List (List ℕ × Expr)) (i : ℕ) → length xs ≤ i → named_exprs m (named_terms_view (drop i xs)) vs ≡ pure vs
 named_end m vs xs i h = ap (λ l. named_exprs m (named_terms_view l) vs) (drop_all i xs h)
 
-pub links_open : (m : Program) (v : Tree) (xs : List Step) (i : ℕ) (x : Step) → i < length xs → x ≡ get_or xs i x
+pub links_open : (m : Program) (v : Tree) (xs : List Access) (i : ℕ) (x : Access) → i < length xs → x ≡ get_or xs i x
     → links m (links_view (drop i xs)) v ≡ (one_link m (link_view x) v >>= (λ w. links m (links_view (drop (i + 1) xs)) w))
 links_open m v xs i x h e = ap (λ l. links m (links_view l) v) (opened xs i x h e)
 
-pub links_end : (m : Program) (v : Tree) (xs : List Step) (i : ℕ) → length xs ≤ i → links m (links_view (drop i xs)) v ≡ pure v
+pub links_end : (m : Program) (v : Tree) (xs : List Access) (i : ℕ) → length xs ≤ i → links m (links_view (drop i xs)) v ≡ pure v
 links_end m v xs i h = ap (λ l. links m (links_view l) v) (drop_all i xs h)
 
 pub operands_open : (m : Program) (v : Tree) (xs : List (Operator × Expr)) (i : ℕ) (x : Operator × Expr) → i < length xs → x ≡ get_or xs i x

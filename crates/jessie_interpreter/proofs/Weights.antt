@@ -5,7 +5,7 @@ use Rattle.std.proofs.Math.Nat.{suc-mul}
 use Rattle.jessie_machine.specs.jessie_grammar.Syntax.{Term, literal, name, call, built_in, amount_math, send, listing, composed, linked, unary, chain, choice, Terms, no_terms, term, NamedTerms, no_named, named_term, Operands, no_operands, operand, Link, at_field, method, at_index, Links, no_links, link, Statement, declare_const, declare_let, assign, choose, repeat, each, give, give_nothing, raise, attempt, run, Branches, no_branches, branch, Block, done, step, Routine, Way, term_view, terms_view, named_terms_view, operands_view, link_view, links_view, statement_view, block_view, way_view, branches_view}
 use Rattle.jessie_machine.specs.jessie_grammar.declared.syntax.Operator.{Operator}
 use Rattle.jessie_machine.specs.jessie_grammar.declared.syntax.Expr.{Expr}
-use Rattle.jessie_machine.specs.jessie_grammar.declared.syntax.Step.{Step}
+use Rattle.jessie_machine.specs.jessie_grammar.declared.syntax.Access.{Access}
 use Rattle.jessie_machine.specs.jessie_grammar.declared.syntax.Stmt.{Stmt}
 use Rattle.jessie_machine.specs.jessie_grammar.declared.syntax.Branch.{Branch}
 use Rattle.jessie_machine.proofs.jessie_grammar.Views.{way-of}
@@ -88,7 +88,7 @@ operand_falls [] i x h at = absurd (omega arith)
 operand_falls (y ∷ ys) zero x h at = subst (λ z. weight (term_view z.1) + 1 < weight (term_view y.1) + operands_weight (operands_view ys) + 2) (sym at) (omega arith)
 operand_falls (y ∷ ys) (suc i) x h at = let r = operand_falls ys i x (omega arith) at in omega (arith, r)
 
-pub link_falls : (xs : List Step) (i : ℕ) (x : Step) → i < length xs → x ≡ get_or xs i x → link_weight (link_view x) < links_weight (links_view xs)
+pub link_falls : (xs : List Access) (i : ℕ) (x : Access) → i < length xs → x ≡ get_or xs i x → link_weight (link_view x) < links_weight (links_view xs)
 link_falls [] i x h at = absurd (omega arith)
 link_falls (y ∷ ys) zero x h at = subst (λ z. link_weight (link_view z) < link_weight (link_view y) + links_weight (links_view ys) + 1) (sym at) (omega arith)
 link_falls (y ∷ ys) (suc i) x h at = let r = link_falls ys i x (omega arith) at in omega (arith, r)

@@ -1,4 +1,4 @@
-// Conditions.
+//! Conditions of an `if`, a `while` and a choice.
 ghost use Rattle.jessie_machine.specs.jessie_semantics.Actions.{State};
 ghost use Rattle.jessie_machine.specs.jessie_semantics.Rules.{worked};
 ghost use Rattle.jessie_machine.specs.jessie_semantics.Runs.{Computes};

@@ -1,4 +1,4 @@
-// A whole evaluation.
+//! A whole evaluation of a function of a module.
 ghost use Rattle.std.specs.Prelude.{◌≡◌, ◌≤◌, ◌<◌, length, option_map, IfOk, OnErr, Ok};
 ghost use Rattle.jessie_machine.specs.host_data.View.{tree, trees};
 ghost use Rattle.jessie_machine.specs.jessie_grammar.Syntax.{routines, variable_names};

@@ -1,4 +1,4 @@
-// A function for each form, down the tree as it was read.
+//! A function for each form of the language, down the tree as it was read.
 ghost use Rattle.std.specs.Prelude.{[], ◌≤◌, false};
 ghost use Rattle.jessie_machine.specs.host_data.View.{tree, trees};
 ghost use Rattle.jessie_machine.specs.jessie_grammar.Syntax.{routines, term_view, terms_view, named_terms_view, operands_view, link_view, links_view, return_view, statement_view, branches_view, block_view};
@@ -16,7 +16,7 @@ use jessie_machine::host::Powers;
 use jessie_machine::host_data_lib::data::Data;
 use jessie_machine::host_text_lib::text::Text;
 use jessie_machine::jessie_grammar_lib::syntax::{
-    Branch, BuiltIn, Expr, Operator, Step, Stmt, Unary,
+    Access, Branch, BuiltIn, Expr, Operator, Stmt, Unary,
 };
 use jessie_machine::jessie_index_lib::jessie_module_index::IndexedModule;
 use jessie_machine::jessie_values_lib::operators::truth;
@@ -111,7 +111,7 @@ fn run_expr<P: Powers>(
             machine,
             parts.as_slice(),
         ),
-        Expr::Steps(first, rest) => run_steps(
+        Expr::Accesses(first, rest) => run_accesses(
             alloc,
             powers,
             module,
@@ -338,7 +338,7 @@ fn run_record<P: Powers>(
 /// What the steps behind an expression come to, from left to right.
 #[cycle(run)]
 #[inline(never)]
-fn run_steps<P: Powers>(
+fn run_accesses<P: Powers>(
     alloc: Global,
     powers: &mut P,
     module: &IndexedModule,
@@ -346,7 +346,7 @@ fn run_steps<P: Powers>(
     values: &[Data],
     machine: &mut Machine,
     first: &Expr,
-    rest: &[Step],
+    rest: &[Access],
 ) -> Result<Data, Stop>
     requires { machine.old.meter ≤ P.room powers.old }
     ensures runs { Runs P.answers powers.old powers.new (behind (expr (running «module».now room) (term_view first.now)) (links (running «module».now room) (links_view rest.now))) (here «module».now values.now machine.old) (come tree result) (here «module».now values.now machine.new) }
@@ -354,7 +354,7 @@ fn run_steps<P: Powers>(
 {
     let mut data = run_expr(alloc, powers, module, room, values, machine, first)?;
     for part in rest {
-        data = run_step(alloc, powers, module, room, values, machine, data, part)?;
+        data = run_access(alloc, powers, module, room, values, machine, data, part)?;
     }
     Ok(data)
 }
@@ -362,7 +362,7 @@ fn run_steps<P: Powers>(
 /// A step behind a value.
 #[cycle(run)]
 #[inline]
-fn run_step<P: Powers>(
+fn run_access<P: Powers>(
     alloc: Global,
     powers: &mut P,
     module: &IndexedModule,
@@ -370,15 +370,15 @@ fn run_step<P: Powers>(
     values: &[Data],
     machine: &mut Machine,
     data: Data,
-    part: &Step,
+    part: &Access,
 ) -> Result<Data, Stop>
     requires { machine.old.meter ≤ P.room powers.old }
     ensures runs { Runs P.answers powers.old powers.new (one_link (running «module».now room) (link_view part.now) (tree «data»)) (here «module».now values.now machine.old) (come tree result) (here «module».now values.now machine.new) }
     ensures fits { machine.new.meter ≤ P.room powers.new }
 {
     match part {
-        Step::Field(name) => run_field(machine, data, name),
-        Step::Method(name, args) => run_method(
+        Access::Field(name) => run_field(machine, data, name),
+        Access::Method(name, args) => run_method(
             alloc,
             powers,
             module,
@@ -389,7 +389,9 @@ fn run_step<P: Powers>(
             name,
             args.as_slice(),
         ),
-        Step::Index(index) => run_index(alloc, powers, module, room, values, machine, data, index),
+        Access::Index(index) => run_index(
+            alloc, powers, module, room, values, machine, data, index,
+        ),
     }
 }
 

@@ -1,4 +1,4 @@
-// What a call of the host costs that is shown the first of some arguments.
+//! What a call of the host costs that is shown the first of some arguments.
 ghost use Rattle.std.specs.Prelude.{◌≡◌, ◌≤◌, List, ℕ, take};
 ghost use Rattle.jessie_semantics.specs.host_data.Tree.{Tree};
 ghost use Rattle.jessie_semantics.specs.host_data.View.{trees};
@@ -19,7 +19,7 @@ const CALL: u64 = 100;
 const SHOWN: usize = 3;
 
 /// The arguments that the host is shown.
-fn shown(args: &[Data]) -> &[Data]
+fn shown_arguments(args: &[Data]) -> &[Data]
     ensures { result.now ≡ take 3 args.now }
 {
     if args.len() <= SHOWN {
@@ -36,7 +36,7 @@ pub fn left_after(meter: u64, args: &[Data]) -> Option<u64>
     if meter < CALL {
         return None;
     }
-    pay_items(meter - CALL, shown(args))
+    pay_items(meter - CALL, shown_arguments(args))
 }
 
 /// Takes a bill off the meter, of which it is known what it leaves.

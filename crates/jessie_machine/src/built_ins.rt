@@ -1,4 +1,4 @@
-// The functions of the language itself.
+//! The functions of the language itself.
 ghost use Rattle.std.specs.Prelude.{◌≡◌, ◌≤◌, List, ℕ, Result};
 ghost use Rattle.jessie_semantics.specs.host_data.Tree.{Tree};
 ghost use Rattle.jessie_semantics.specs.host_data.View.{tree, trees};
@@ -11,9 +11,9 @@ ghost use Rattle.jessie_machine.specs.Stops.{come};
 ghost use Rattle.jessie_machine.specs.Machine.{state};
 
 use crate::host::Powers;
-use crate::later::{call_far, call_when};
 use crate::machine::Machine;
 use crate::stop::{Stop, bad, fault_stop};
+use crate::when_far::{call_far, call_when};
 use jessie_index::jessie_grammar_lib::syntax::BuiltIn;
 use jessie_index::jessie_values_lib::built_ins::{harden, keys, len, push, put};
 use jessie_index::jessie_values_lib::reasons::{Reason, ValueFault};

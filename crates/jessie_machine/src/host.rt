@@ -1,4 +1,4 @@
-// The host, as an evaluation sees it.
+//! The host, as an evaluation sees it.
 ghost use Rattle.std.specs.Prelude.{IfOk, MatchResult, ℕ, ◌+◌, ◌≤◌};
 ghost use Rattle.jessie_semantics.specs.host_data.View.{tree, trees};
 ghost use Rattle.jessie_semantics.specs.Play.{Exchange, call, send, when, far, cost, reply_size};
@@ -15,7 +15,7 @@ pub type NoMemory = AllocError;
 
 /// What the host answers to a call.
 #[derive(Drop)]
-pub enum Answer {
+pub enum Reply {
     Value(Data),
     /// A refusal, as the data that is thrown.
     Refused(Data),
@@ -34,30 +34,25 @@ pub trait Powers {
     ghost room: { Self → ℕ };
 
     /// Calls a method of an object.
-    fn call(&mut self, target: Obj, method: &str, args: Vec<Data>) -> Result<Answer, NoMemory>
+    fn call(&mut self, target: Obj, method: &str, args: Vec<Data>) -> Result<Reply, NoMemory>
         requires { cost (call target method.now (trees args.items)) ≤ room self.old }
         ensures answered { IfOk result (λ a. answers self.old (answered_with (call target method.now (trees args.items)) a) self.new) }
         ensures left { MatchResult result (λ a. room self.old ≤ room self.new + (cost (call target method.now (trees args.items)) + reply_size (reply_of a))) (λ e. room self.old ≤ room self.new) };
 
     /// Queues a call of a method of an object, which is answered with a promise.
-    fn send(&mut self, target: Obj, method: &str, args: Vec<Data>) -> Result<Answer, NoMemory>
+    fn send(&mut self, target: Obj, method: &str, args: Vec<Data>) -> Result<Reply, NoMemory>
         requires { cost (send target method.now (trees args.items)) ≤ room self.old }
         ensures answered { IfOk result (λ a. answers self.old (answered_with (send target method.now (trees args.items)) a) self.new) }
         ensures left { MatchResult result (λ a. room self.old ≤ room self.new + (cost (send target method.now (trees args.items)) + reply_size (reply_of a))) (λ e. room self.old ≤ room self.new) };
 
     /// Asks that a function hear of a promise, with data for it.
-    fn when(&mut self, promise: Obj, f: &str, held: Data) -> Result<Answer, NoMemory>
+    fn when(&mut self, promise: Obj, f: &str, held: Data) -> Result<Reply, NoMemory>
         requires { cost (when promise f.now (tree held)) ≤ room self.old }
         ensures answered { IfOk result (λ a. answers self.old (answered_with (when promise f.now (tree held)) a) self.new) }
         ensures left { MatchResult result (λ a. room self.old ≤ room self.new + (cost (when promise f.now (tree held)) + reply_size (reply_of a))) (λ e. room self.old ≤ room self.new) };
 
     /// Makes a facet: its name, its methods each with its function, and data for them.
-    fn far(
-        &mut self,
-        name: &str,
-        methods: Vec<(Text, Text)>,
-        held: Data,
-    ) -> Result<Answer, NoMemory>
+    fn far(&mut self, name: &str, methods: Vec<(Text, Text)>, held: Data) -> Result<Reply, NoMemory>
         requires { cost (far name.now methods.items (tree held)) ≤ room self.old }
         ensures answered { IfOk result (λ a. answers self.old (answered_with (far name.now methods.items (tree held)) a) self.new) }
         ensures left { MatchResult result (λ a. room self.old ≤ room self.new + (cost (far name.now methods.items (tree held)) + reply_size (reply_of a))) (λ e. room self.old ≤ room self.new) };

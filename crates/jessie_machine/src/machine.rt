@@ -1,4 +1,4 @@
-// Where an evaluation stands, and what is taken off the meter.
+//! Where an evaluation stands, and what is taken off its meter.
 ghost use Rattle.std.specs.Prelude.{◌≡◌, ◌≤◌, ◌+◌, ◌-◌, List, ℕ, length, IsOk};
 ghost use Rattle.jessie_semantics.specs.host_data.Tree.{Tree, size, items_size};
 ghost use Rattle.jessie_semantics.specs.host_data.View.{tree, trees, items_of};
@@ -11,7 +11,7 @@ ghost use Rattle.jessie_machine.specs.Host.{reply_of};
 ghost use Rattle.jessie_machine.specs.Stops.{come};
 ghost use Rattle.jessie_machine.specs.Machine.{state, end_of};
 
-use crate::host::Answer;
+use crate::host::Reply;
 use crate::stop::{Stop, throw_data};
 use jessie_index::jessie_grammar_lib::syntax::Literal;
 use jessie_index::jessie_values_lib::literals::literal_data;
@@ -97,18 +97,18 @@ pub fn take_call(machine: &mut Machine, shown: &[Data]) -> Result<(), Stop>
     Ok(())
 }
 
-/// Takes the size of the answer, which is a value or is thrown.
+/// Takes the size of the reply, which is a value or is thrown.
 #[inline(never)]
-pub fn settle(alloc: Global, machine: &mut Machine, answer: Answer) -> Result<Data, Stop>
-    ensures does { (names : List (List ℕ)) (values : List Tree) → Computes (heard (reply_of answer)) (state names values machine.old) (come tree result) (state names values machine.new) }
-    ensures left { machine.new.meter ≤ machine.old.meter - reply_size (reply_of answer) }
+pub fn settle(alloc: Global, machine: &mut Machine, reply: Reply) -> Result<Data, Stop>
+    ensures does { (names : List (List ℕ)) (values : List Tree) → Computes (heard (reply_of reply)) (state names values machine.old) (come tree result) (state names values machine.new) }
+    ensures left { machine.new.meter ≤ machine.old.meter - reply_size (reply_of reply) }
 {
-    match answer {
-        Answer::Value(data) => {
+    match reply {
+        Reply::Value(data) => {
             take_size(machine, &data)?;
             Ok(data)
         }
-        Answer::Refused(data) => {
+        Reply::Refused(data) => {
             take_size(machine, &data)?;
             Err(throw_data(alloc, data))
         }

@@ -1,4 +1,4 @@
-// Names and what they stand for.
+//! Names and what they stand for.
 ghost use Rattle.std.specs.Prelude.{◌≡◌, ◌≤◌, ◌<◌, ◌++◌, ◌∷◌, [], ℕ, List, Some, length, map, option_map, slice_get, IfOk, IfSome, OnOk};
 ghost use Rattle.jessie_semantics.specs.host_data.Tree.{Tree, number as number_tree};
 ghost use Rattle.jessie_semantics.specs.host_data.View.{tree, trees, named_trees};

@@ -1,5 +1,5 @@
-// Numbers at hand: a literal, one of the function's own names that holds one, and what arithmetic makes of
-// such, worked at once. Where something else comes, or a charge is missing, nothing is worked.
+//! Arithmetic on numbers at hand, worked at once, or not at all where something else comes or a
+//! charge is missing.
 ghost use Rattle.std.specs.Int.{w128};
 ghost use Rattle.std.specs.Prelude.{FitsSigned, ◌≡◌, ◌≤◌, ◌+◌, ℕ, List, Ok, IfSome, Some, true, false};
 ghost use Rattle.jessie_semantics.specs.host_data.Tree.{Tree, boolean as boolean_tree, number as number_tree};
@@ -56,7 +56,7 @@ pub struct TestAtHand {
 }
 
 /// What an operator makes of two numbers, where that is a number.
-fn number_made(operator: Operator, a: i128, b: i128) -> Option<i128>
+fn number_of_two(operator: Operator, a: i128, b: i128) -> Option<i128>
     ensures { IfSome result (λ n. operate operator (number_tree a) (number_tree b)
         ≡ Ok (number_tree n)) }
 {
@@ -307,11 +307,11 @@ fn number_behind(
     if !operand_number(depth, locals, meter, right, &mut behind) {
         return false;
     }
-    put_number(number_made(operator, *number, behind), number)
+    put_number(number_of_two(operator, *number, behind), number)
 }
 
 /// How two numbers compare.
-fn compared(
+fn comparison(
     locals: &Locals<Data>,
     meter: &mut u64,
     first: &Expr,
@@ -368,7 +368,7 @@ pub fn chain_at_hand(
     let mut left = machine.meter;
     if let [(operator, second)] = rest {
         if compares(*operator) {
-            let holds = compared(&machine.locals, &mut left, first, *operator, second)?;
+            let holds = comparison(&machine.locals, &mut left, first, *operator, second)?;
             let value = Worked::Truth(holds);
             return Some(ChainAtHand { value, left });
         }
@@ -401,7 +401,7 @@ pub fn test_at_hand(machine: &Machine, condition: &Expr) -> Option<TestAtHand>
         Expr::Chain(first, rest) => match rest.as_slice() {
             [(operator, second)] => {
                 let mut left = machine.meter;
-                let holds = compared(&machine.locals, &mut left, first.get(), *operator, second)?;
+                let holds = comparison(&machine.locals, &mut left, first.get(), *operator, second)?;
                 Some(TestAtHand { holds, left })
             }
             _ => None,

@@ -1,10 +1,11 @@
-// What operators, steps and the language's own functions make of values, as steps of an evaluation.
+//! What operators, accesses and the language's own functions make of values, as steps of an
+//! evaluation.
 ghost use Rattle.std.specs.Prelude.{◌≤◌, ℕ, List, Result};
 ghost use Rattle.jessie_semantics.specs.host_data.Tree.{Tree};
 ghost use Rattle.jessie_semantics.specs.host_data.View.{tree, trees, named_trees};
 ghost use Rattle.jessie_index.specs.jessie_values.Operators.{truth};
 ghost use Rattle.jessie_index.specs.jessie_values.Dispatch.{operate, skips, unary};
-ghost use Rattle.jessie_index.specs.jessie_values.Steps.{field_at, index_at, list_items};
+ghost use Rattle.jessie_index.specs.jessie_values.Accesses.{field_at, index_at, list_items};
 ghost use Rattle.jessie_index.specs.jessie_values.Records.{made_array, made_record};
 ghost use Rattle.jessie_semantics.specs.AmountMath.{amount_call};
 ghost use Rattle.jessie_semantics.specs.Refusals.{Fails};
@@ -18,10 +19,10 @@ ghost use Rattle.jessie_machine.specs.Machine.{all_seen, state};
 use crate::machine::{Machine, take};
 use crate::stop::{Stop, bad, fault_stop, throw_data};
 use jessie_index::jessie_grammar_lib::syntax::{Operator, Unary};
+use jessie_index::jessie_values_lib::accesses::{field_at, index_at, list_items};
 use jessie_index::jessie_values_lib::dispatch::{operate, skips, unary};
 use jessie_index::jessie_values_lib::operators::truth;
-use jessie_index::jessie_values_lib::records::{made_array, made_record};
-use jessie_index::jessie_values_lib::steps::{field_at, index_at, list_items};
+use jessie_index::jessie_values_lib::records::{array_data, record_data};
 use jessie_semantics::functions::call_amount_math;
 use jessie_semantics::host_data_lib::data::Data;
 use jessie_semantics::host_text_lib::text::Text;
@@ -119,7 +120,7 @@ pub fn parts(data: Data) -> Result<Vec<Data>, Stop>
 pub fn make_array(items: Vec<Data>) -> Result<Data, Stop>
     ensures { (s : State) → Computes (worked (made_array (trees items.items))) s (come tree result) s }
 {
-    match made_array(items) {
+    match array_data(items) {
         Ok(data) => Ok(data),
         Err(reason) => Err(bad(reason)),
     }
@@ -130,7 +131,7 @@ pub fn make_array(items: Vec<Data>) -> Result<Data, Stop>
 pub fn make_record(alloc: Global, fields: Vec<(Text, Data)>) -> Result<Data, Stop>
     ensures { (s : State) → Computes (worked (made_record (named_trees «fields».items))) s (come tree result) s }
 {
-    match made_record(alloc, fields) {
+    match record_data(alloc, fields) {
         Ok(data) => Ok(data),
         Err(fault) => Err(fault_stop(fault)),
     }

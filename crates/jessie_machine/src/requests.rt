@@ -1,4 +1,4 @@
-// Calls of the host.
+//! Calls of methods, and sends to objects, of which the host is asked.
 ghost use Rattle.std.specs.Prelude.{ℕ, List, ◌≤◌};
 ghost use Rattle.jessie_semantics.specs.host_data.Tree.{Tree};
 ghost use Rattle.jessie_semantics.specs.host_data.View.{tree, trees};
@@ -33,8 +33,8 @@ pub fn call_method<P: Powers>(
         return Err(bad(Reason::WrongKind));
     };
     take_call(machine, args.as_slice())?;
-    let answer = powers.call(object, method.as_str(), args)?;
-    settle(alloc, machine, answer)
+    let reply = powers.call(object, method.as_str(), args)?;
+    settle(alloc, machine, reply)
 }
 
 /// Sends an object of the host a method's call.
@@ -55,6 +55,6 @@ pub fn send_method<P: Powers>(
         return Err(bad(Reason::WrongKind));
     };
     take_call(machine, args.as_slice())?;
-    let answer = powers.send(receiver, method.as_str(), args)?;
-    settle(alloc, machine, answer)
+    let reply = powers.send(receiver, method.as_str(), args)?;
+    settle(alloc, machine, reply)
 }

@@ -1,4 +1,4 @@
-// What keeps an evaluation from coming to a value.
+//! What keeps an evaluation from coming to a value.
 ghost use Rattle.std.specs.Prelude.{◌≡◌, IfOk};
 ghost use Rattle.jessie_semantics.specs.host_data.View.{tree};
 ghost use Rattle.jessie_index.specs.jessie_values.Reasons.{bad_step};

@@ -1,4 +1,4 @@
-// Declarations of their parts.
+//! Parameters, state variables and functions put behind those that were found.
 ghost use Rattle.std.specs.Prelude.{◌≡◌, [], ◌∷◌, ◌++◌, OnOk};
 
 use jessie_grammar::host_text_lib::text::Text;

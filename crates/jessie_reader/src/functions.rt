@@ -1,18 +1,18 @@
-// The names and parameters of functions, and what is made of a function that was read.
+//! The names and parameters of functions, and what is made of a function that was read.
 ghost use Rattle.std.specs.Prelude.{[], ◌∷◌, ◌≡◌, OnOk};
 ghost use Rattle.jessie_grammar.specs.Parse.{Gives, loop as looping, bracketed};
 ghost use Rattle.jessie_grammar.specs.Rules as rules;
 ghost use Rattle.jessie_grammar.specs.Words as words;
 
 use crate::build::{add_function, add_param};
-use jessie_expressions::jessie_terminals_lib::deeds::{binds, declares, defines};
 use jessie_expressions::jessie_terminals_lib::kinds::{is, is_word};
-use jessie_expressions::jessie_terminals_lib::names::declared;
+use jessie_expressions::jessie_terminals_lib::name_uses::{binds, declares, defines};
+use jessie_expressions::jessie_terminals_lib::names::declared_name;
 use jessie_expressions::jessie_terminals_lib::symbols::{expect, open};
 use jessie_grammar::host_text_lib::text::Text;
 use jessie_grammar::jessie_language::fault::ParseError;
 use jessie_grammar::jessie_lexer::token::{Kind, Token, peek};
-use jessie_grammar::jessie_scopes::event::{Binding, Event};
+use jessie_grammar::jessie_scopes::name_use::{Binding, NameUse};
 use jessie_grammar::syntax::{Module, Stmt};
 use sqlite_items::Items;
 use std::alloc::{AllocError, Global};
@@ -29,14 +29,14 @@ fn param<'a>(
     alloc: Global,
     tokens: &'a [Token],
     count: usize,
-    events: &mut Items<Event>,
+    name_uses: &mut Items<NameUse>,
 ) -> Result<(&'a Token, &'a [Token]), ParseError>
-    ensures { Gives (λ x. ((x.0.now.text, events.new), x.1.now)) result
-        (rules.param count events.old tokens.now) }
+    ensures { Gives (λ x. ((x.0.now.text, name_uses.new), x.1.now)) result
+        (rules.param count name_uses.old tokens.now) }
 {
-    let (name, rest) = declared(tokens, count < MOST_PARAMS)?;
-    declares(alloc, name, events)?;
-    binds(alloc, name, Binding::Variable, events)?;
+    let (name, rest) = declared_name(tokens, count < MOST_PARAMS)?;
+    declares(alloc, name, name_uses)?;
+    binds(alloc, name, Binding::Variable, name_uses)?;
     Ok((name, rest))
 }
 
@@ -46,13 +46,13 @@ fn next_param<'a>(
     alloc: Global,
     tokens: &'a [Token],
     found: &mut Items<Text>,
-    events: &mut Items<Event>,
+    name_uses: &mut Items<NameUse>,
 ) -> Result<&'a [Token], ParseError>
-    ensures { Gives (λ rest. ((found.new, events.new), rest.now)) result
-        (rules.next_param (found.old, events.old) tokens.now) }
+    ensures { Gives (λ rest. ((found.new, name_uses.new), rest.now)) result
+        (rules.next_param (found.old, name_uses.old) tokens.now) }
 {
     let rest = expect(tokens, Kind::Comma)?;
-    let (name, rest) = param(alloc, rest, found.len(), events)?;
+    let (name, rest) = param(alloc, rest, found.len(), name_uses)?;
     add_param(alloc, name, found)?;
     Ok(rest)
 }
@@ -62,15 +62,15 @@ fn more_params<'a>(
     alloc: Global,
     tokens: &'a [Token],
     found: &mut Items<Text>,
-    events: &mut Items<Event>,
+    name_uses: &mut Items<NameUse>,
 ) -> Result<&'a [Token], ParseError>
-    ensures { Gives (λ rest. ((found.new, events.new), rest.now)) result
-        (looping words.always (Kind.Comma ∷ []) rules.next_param (found.old, events.old)
+    ensures { Gives (λ rest. ((found.new, name_uses.new), rest.now)) result
+        (looping words.always (Kind.Comma ∷ []) rules.next_param (found.old, name_uses.old)
         tokens.now) }
 {
     let mut rest = tokens;
     'params: while is(rest, Kind::Comma) {
-        let after = next_param(alloc, rest, found, events)?;
+        let after = next_param(alloc, rest, found, name_uses)?;
         rest = after;
     }
     Ok(rest)
@@ -80,18 +80,18 @@ fn more_params<'a>(
 fn params<'a>(
     alloc: Global,
     tokens: &'a [Token],
-    events: &mut Items<Event>,
+    name_uses: &mut Items<NameUse>,
 ) -> Result<(Items<Text>, &'a [Token]), ParseError>
-    ensures { Gives (λ x. ((x.0, events.new), x.1.now)) result
-        (rules.params events.old tokens.now) }
+    ensures { Gives (λ x. ((x.0, name_uses.new), x.1.now)) result
+        (rules.params name_uses.old tokens.now) }
 {
     let mut found = Items::new(alloc);
     if !is_word(peek(tokens)) {
         return Ok((found, tokens));
     }
-    let (first, rest) = param(alloc, tokens, 0, events)?;
+    let (first, rest) = param(alloc, tokens, 0, name_uses)?;
     add_param(alloc, first, &mut found)?;
-    let rest = more_params(alloc, rest, &mut found, events)?;
+    let rest = more_params(alloc, rest, &mut found, name_uses)?;
     Ok((found, rest))
 }
 
@@ -101,19 +101,19 @@ pub fn bracketed_params<'a>(
     alloc: Global,
     tokens: &'a [Token],
     room: u32,
-    events: &mut Items<Event>,
+    name_uses: &mut Items<NameUse>,
 ) -> Result<(Items<Text>, &'a [Token]), ParseError>
-    ensures { Gives (λ x. ((x.0, events.new), x.1.now)) result
-        (bracketed room Kind.LeftParen Kind.RightParen (rules.params events.old) tokens.now) }
+    ensures { Gives (λ x. ((x.0, name_uses.new), x.1.now)) result
+        (bracketed room Kind.LeftParen Kind.RightParen (rules.params name_uses.old) tokens.now) }
 {
     let rest = open(tokens, room, Kind::LeftParen)?;
-    let (found, rest) = params(alloc, rest, events)?;
+    let (found, rest) = params(alloc, rest, name_uses)?;
     let rest = expect(rest, Kind::RightParen)?;
     Ok((found, rest))
 }
 
 #[tactic(auto, unfolding(jessie_grammar::specs::Rules::exported))]
-fn exported(tokens: &[Token]) -> Result<&[Token], ParseError>
+fn export_mark(tokens: &[Token]) -> Result<&[Token], ParseError>
     ensures { Gives (λ rest. (tt, rest.now)) result (rules.exported tokens.now) }
 {
     if is(tokens, Kind::Export) {
@@ -129,9 +129,9 @@ pub fn heading(tokens: &[Token], count: usize) -> Result<(&Token, &[Token]), Par
     ensures { Gives (λ x. (words.spotted x.0.now, x.1.now)) result
         (rules.heading count tokens.now) }
 {
-    let rest = exported(tokens)?;
+    let rest = export_mark(tokens)?;
     let rest = expect(rest, Kind::Const)?;
-    let (name, rest) = declared(rest, count < MOST_FUNCTIONS)?;
+    let (name, rest) = declared_name(rest, count < MOST_FUNCTIONS)?;
     let rest = expect(rest, Kind::Equals)?;
     Ok((name, rest))
 }
@@ -140,13 +140,13 @@ pub fn heading(tokens: &[Token], count: usize) -> Result<(&Token, &[Token]), Par
 pub fn begin_function(
     alloc: Global,
     name: &Token,
-    events: &mut Items<Event>,
+    name_uses: &mut Items<NameUse>,
 ) -> Result<(), AllocError>
     ensures { OnOk result (let x = words.spotted name.now in
-        events.new ≡ words.also (words.defined Binding.Function events.old x) Event.Opens) }
+        name_uses.new ≡ words.also (words.defined Binding.Function name_uses.old x) NameUse.Opens) }
 {
-    defines(alloc, name, Binding::Function, events)?;
-    events.push(Event::Opens)
+    defines(alloc, name, Binding::Function, name_uses)?;
+    name_uses.push(NameUse::Opens)
 }
 
 /// A function ends, and is one more of the module.
@@ -156,12 +156,12 @@ pub fn end_function(
     params: Items<Text>,
     body: Items<Stmt>,
     tree: &mut Module,
-    events: &mut Items<Event>,
+    name_uses: &mut Items<NameUse>,
 ) -> Result<(), AllocError>
     ensures { OnOk result (let x = words.spotted name.now in
-        (tree.new, events.new) ≡ words.add_function tree.old
-        (words.function_of x.1 params (body, events.old))) }
+        (tree.new, name_uses.new) ≡ words.add_function tree.old
+        (words.function_of x.1 params (body, name_uses.old))) }
 {
     add_function(alloc, name, params, body, tree)?;
-    events.push(Event::Closes)
+    name_uses.push(NameUse::Closes)
 }

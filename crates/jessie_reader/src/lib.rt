@@ -1,5 +1,5 @@
-//! The reader of contract texts: of any bytes, the module that they are by the rules of the
-//! grammar, or their first refusal, with its place and kind.
+//! The reader of contract texts: of any bytes, the module that they are by the grammar, or their
+//! first refusal.
 #![tactic(auto)]
 
 pub mod block;

@@ -1,5 +1,4 @@
-// Functions, and the module that the tokens of a text are. Each function answers the tokens after what it
-// read; what the text does with names goes behind the events.
+//! The module that the tokens of a text are, function by function.
 ghost use Rattle.std.specs.Prelude.{[], ◌∷◌, ◌≡◌};
 ghost use Rattle.jessie_grammar.specs.Parse.{Gives, loop as looping};
 ghost use Rattle.jessie_grammar.specs.Rules as rules;
@@ -9,10 +8,10 @@ use crate::block::block;
 use crate::functions::{begin_function, bracketed_params, end_function, heading};
 use crate::variables::variable;
 use jessie_expressions::jessie_terminals_lib::kinds::{begins_item, is};
-use jessie_expressions::jessie_terminals_lib::symbols::{expect, refused};
+use jessie_expressions::jessie_terminals_lib::symbols::{expect, refusal};
 use jessie_grammar::jessie_language::fault::ParseError;
 use jessie_grammar::jessie_lexer::token::{Kind, Token, peek};
-use jessie_grammar::jessie_scopes::event::Event;
+use jessie_grammar::jessie_scopes::name_use::NameUse;
 use jessie_grammar::syntax::{Module, Stmt};
 use sqlite_items::Items;
 use std::alloc::Global;
@@ -23,13 +22,13 @@ fn ending_block<'a>(
     alloc: Global,
     tokens: &'a [Token],
     room: u32,
-    events: &mut Items<Event>,
+    name_uses: &mut Items<NameUse>,
 ) -> Result<(Items<Stmt>, &'a [Token]), ParseError>
-    ensures { Gives (λ x. ((x.0, events.new), x.1.now)) result
-        (rules.ending_block (rules.block room) events.old tokens.now) }
+    ensures { Gives (λ x. ((x.0, name_uses.new), x.1.now)) result
+        (rules.ending_block (rules.block room) name_uses.old tokens.now) }
 {
     let rest = expect(tokens, Kind::Arrow)?;
-    let (body, rest) = block(alloc, rest, room, events)?;
+    let (body, rest) = block(alloc, rest, room, name_uses)?;
     let rest = expect(rest, Kind::Semicolon)?;
     Ok((body, rest))
 }
@@ -41,16 +40,16 @@ fn function<'a>(
     tokens: &'a [Token],
     room: u32,
     tree: &mut Module,
-    events: &mut Items<Event>,
+    name_uses: &mut Items<NameUse>,
 ) -> Result<&'a [Token], ParseError>
-    ensures { Gives (λ rest. ((tree.new, events.new), rest.now)) result
-        (rules.function room (tree.old, events.old) tokens.now) }
+    ensures { Gives (λ rest. ((tree.new, name_uses.new), rest.now)) result
+        (rules.function room (tree.old, name_uses.old) tokens.now) }
 {
     let (name, rest) = heading(tokens, tree.functions.len())?;
-    begin_function(alloc, name, events)?;
-    let (params, rest) = bracketed_params(alloc, rest, room, events)?;
-    let (body, rest) = ending_block(alloc, rest, room, events)?;
-    end_function(alloc, name, params, body, tree, events)?;
+    begin_function(alloc, name, name_uses)?;
+    let (params, rest) = bracketed_params(alloc, rest, room, name_uses)?;
+    let (body, rest) = ending_block(alloc, rest, room, name_uses)?;
+    end_function(alloc, name, params, body, tree, name_uses)?;
     Ok(rest)
 }
 
@@ -61,15 +60,15 @@ fn item<'a>(
     tokens: &'a [Token],
     room: u32,
     tree: &mut Module,
-    events: &mut Items<Event>,
+    name_uses: &mut Items<NameUse>,
 ) -> Result<&'a [Token], ParseError>
-    ensures { Gives (λ rest. ((tree.new, events.new), rest.now)) result
-        (rules.item room (tree.old, events.old) tokens.now) }
+    ensures { Gives (λ rest. ((tree.new, name_uses.new), rest.now)) result
+        (rules.item room (tree.old, name_uses.old) tokens.now) }
 {
     if is(tokens, Kind::Let) {
-        return variable(alloc, tokens, room, tree, events);
+        return variable(alloc, tokens, room, tree, name_uses);
     }
-    function(alloc, tokens, room, tree, events)
+    function(alloc, tokens, room, tree, name_uses)
 }
 
 /// State variables and functions, one after another.
@@ -78,15 +77,15 @@ fn items<'a>(
     tokens: &'a [Token],
     room: u32,
     tree: &mut Module,
-    events: &mut Items<Event>,
+    name_uses: &mut Items<NameUse>,
 ) -> Result<&'a [Token], ParseError>
-    ensures { Gives (λ rest. ((tree.new, events.new), rest.now)) result
-        (looping words.always words.item_begins (rules.item room) (tree.old, events.old)
+    ensures { Gives (λ rest. ((tree.new, name_uses.new), rest.now)) result
+        (looping words.always words.item_begins (rules.item room) (tree.old, name_uses.old)
         tokens.now) }
 {
     let mut rest = tokens;
     'items: while begins_item(peek(rest)) {
-        let after = item(alloc, rest, room, tree, events)?;
+        let after = item(alloc, rest, room, tree, name_uses)?;
         rest = after;
     }
     Ok(rest)
@@ -99,17 +98,17 @@ pub fn parse(
     alloc: Global,
     tokens: &[Token],
     room: u32,
-) -> Result<(Module, Items<Event>), ParseError>
+) -> Result<(Module, Items<NameUse>), ParseError>
     ensures { Gives (λ x. (x, [])) result (rules.text room tokens.now) }
 {
     let mut tree = Module {
         variables: Items::new(alloc),
         functions: Items::new(alloc),
     };
-    let mut events = Items::new(alloc);
-    let rest = items(alloc, tokens, room, &mut tree, &mut events)?;
+    let mut name_uses = Items::new(alloc);
+    let rest = items(alloc, tokens, room, &mut tree, &mut name_uses)?;
     if !rest.is_empty() {
-        return Err(refused(rest));
+        return Err(refusal(rest));
     }
-    Ok((tree, events))
+    Ok((tree, name_uses))
 }

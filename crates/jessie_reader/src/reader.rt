@@ -1,4 +1,4 @@
-// Reading a contract text.
+//! A contract text from its bytes to its module or its refusal.
 ghost use Rattle.std.specs.Prelude.{◌≡◌, length};
 ghost use Rattle.jessie_grammar.specs.Rules as rules;
 ghost use Rattle.jessie_grammar.specs.Texts.{Answer, Comes, most_brackets};
@@ -8,8 +8,8 @@ use crate::module::parse;
 use jessie_grammar::jessie_language::fault::ParseError;
 use jessie_grammar::jessie_lexer::lexer::tokens;
 use jessie_grammar::jessie_lexer::token::Token;
-use jessie_grammar::jessie_texts::answers::{check, refused, refused_token};
-use jessie_grammar::jessie_texts::refused::{ReadError, Refusal};
+use jessie_grammar::jessie_texts::answers::{check, text_refusal, token_refusal};
+use jessie_grammar::jessie_texts::refusal::{ReadError, Refusal};
 use jessie_grammar::syntax::Module;
 use std::alloc::Global;
 
@@ -24,12 +24,12 @@ fn module_of(alloc: Global, total: usize, tokens: &[Token]) -> Result<Module, Re
     ensures { Reads result (by_tokens total tokens.now (rules.text most_brackets tokens.now)) }
 {
     match parse(alloc, tokens, MOST_BRACKETS) {
-        Ok((tree, deeds)) => {
-            check(alloc, total, &tree, deeds.as_slice())?;
+        Ok((tree, name_uses)) => {
+            check(alloc, total, &tree, name_uses.as_slice())?;
             Ok(tree)
         }
         Err(ParseError::NoMemory) => Err(ReadError::NoMemory),
-        Err(ParseError::Refused(limit, left)) => { Err(refused_token(total, tokens, limit, left)) }
+        Err(ParseError::Refused(limit, left)) => { Err(token_refusal(total, tokens, limit, left)) }
     }
 }
 
@@ -39,7 +39,7 @@ fn answer(alloc: Global, bytes: &[u8]) -> Result<Module, ReadError>
     ensures { Reads result (read bytes.now) }
 {
     if bytes.len() > MOST_BYTES {
-        return Err(refused(MOST_BYTES, Refusal::TooLong));
+        return Err(text_refusal(MOST_BYTES, Refusal::TooLong));
     }
     let tokens = tokens(alloc, bytes)?;
     module_of(alloc, bytes.len(), tokens.as_slice())

@@ -3,7 +3,7 @@ use Rattle.std.proofs.Common.{◌≡◌, ℕ, ℤ, zero, suc, ◌+◌, ◌≤◌
 use Rattle.std.specs.Prelude.{Result, Ok, Err, option_map, option_and_then, pos, negsuc, ◌==◌, codes}
 use Rattle.std.proofs.lemmas.Bool.Decides.{nat_tests}
 use Rattle.host_data.specs.amount_math.Content.{Content, entries}
-use Rattle.host_data.specs.amount_math.Worth.{Worth, with_content}
+use Rattle.host_data.specs.amount_math.ValueView.{ValueView, with_content}
 use Rattle.host_data.specs.amount_math.declared.Kind.{Kind}
 use Rattle.host_data.specs.amount_math.declared.Kind.TheVariants.{Nat, Set, Bag}
 use Rattle.host_data.specs.Tree.{Tree, null, boolean, number, text, array, fields, object, function, no_items, item, Fields, no_fields, field, get, field_of, object_of, number_of, nesting, items_nesting, fields_nesting, Ordered, OrderedItems, OrderedFields}
@@ -19,12 +19,12 @@ use Rattle.host_data.specs.declared.refusals.Refusal.TheVariants as q
 use Rattle.jessie_semantics.specs.Refusals.{amount_refusal_tree, bind, wanted, need, read}
 use Rattle.jessie_semantics.specs.Given.{brand_in, worth_in, amount_made, amount_given, amount_of_brand, two_amounts, two_values}
 use Rattle.jessie_semantics.specs.Worths.{checked, in_bounds, first_past, has, sum_in, difference_in, least_in, greatest_in}
-use Rattle.host_data.specs.amount_math.Worth.{bound}
+use Rattle.host_data.specs.amount_math.ValueView.{bound}
 use Rattle.jessie_semantics.specs.AmountMath.{shown, worked, answer, answer_of, argument, function_named, amount_call}
 use Rattle.jessie_semantics.specs.declared.refusals.AmountRefusal.{AmountRefusal}
 use Rattle.jessie_semantics.specs.declared.refusals.AmountRefusal.TheVariants.{Refused, Overlap}
-use Rattle.jessie_semantics.specs.declared.given.OneAmount.{OneAmount}
-use Rattle.jessie_semantics.specs.declared.given.TwoAmounts.{TwoAmounts}
+use Rattle.jessie_semantics.specs.declared.amount_arguments.OneAmount.{OneAmount}
+use Rattle.jessie_semantics.specs.declared.amount_arguments.TwoAmounts.{TwoAmounts}
 use Rattle.jessie_semantics.specs.declared.functions.AmountFunction.{AmountFunction}
 use Rattle.jessie_semantics.specs.declared.functions.AmountFunction.TheVariants as f
 use Rattle.jessie_semantics.specs.Keeping.{Known, Within, ItemsWithin, AllHave}
@@ -121,8 +121,8 @@ pub record AmountsKept (W : Tree → Type 0) : Type 0 where
   pub nothing_given : W null
   pub truths : (b : Bool) → W (boolean b)
   pub fields_have : (x : List ℕ) (t : Tree) → W t → OptionHas W (field_of x t)
-  pub values : (w : Worth) → W (value_tree w)
-  pub amount_trees : (n : ℕ) (w : Worth) → W (brand_tree w.kind n) → W (amount_tree (record { brand = n; value = w }))
+  pub values : (w : ValueView) → W (value_tree w)
+  pub amount_trees : (n : ℕ) (w : ValueView) → W (brand_tree w.kind n) → W (amount_tree (record { brand = n; value = w }))
   pub refusals : (r : AmountRefusal) → W (amount_refusal_tree r)
 
 module _ (W : Tree → Type 0) (k : AmountsKept W) where
@@ -199,7 +199,7 @@ module _ (W : Tree → Type 0) (k : AmountsKept W) where
       (λ x e. step_on (λ y. y.kind ≡ a.kind) Two _ _ (worth_has a.kind b.value)
       (λ y q. (subst (λ kind. BrandHas kind a.brand) (sym e) i, subst (λ kind. BrandHas kind a.brand) (sym q) i))))))
 
-  shown_has : (n : ℕ) (w : Worth) → BrandHas w.kind n → W (shown n w)
+  shown_has : (n : ℕ) (w : ValueView) → BrandHas w.kind n → W (shown n w)
   shown_has n w h = k.amount_trees n w h
 
   one_shown : (r : Result OneAmount AmountRefusal) (g : OneAmount → Tree) → ResultHas One r → ((a : OneAmount) → One a → W (g a)) → ResultHas W (bind r (λ a. Ok (g a)))
@@ -208,17 +208,17 @@ module _ (W : Tree → Type 0) (k : AmountsKept W) where
   two_tested : (r : Result TwoAmounts AmountRefusal) (g : TwoAmounts → Bool) → ResultHas W (bind r (λ a. Ok (boolean (g a))))
   two_tested r g = step_on Any W r _ (any r) (λ a _. k.truths (g a))
 
-  abbrev Keeps : (Worth → Worth → Result Worth AmountRefusal) → Type 0
-  Keeps g = (a b : Worth) (n : ℕ) → BrandHas a.kind n → BrandHas b.kind n → ResultHas (λ w. BrandHas w.kind n) (g a b)
+  abbrev Keeps : (ValueView → ValueView → Result ValueView AmountRefusal) → Type 0
+  Keeps g = (a b : ValueView) (n : ℕ) → BrandHas a.kind n → BrandHas b.kind n → ResultHas (λ w. BrandHas w.kind n) (g a b)
 
-  two_worked : (g : Worth → Worth → Result Worth AmountRefusal) (v w : Tree) → W v → Keeps g → ResultHas W (worked g v w)
+  two_worked : (g : ValueView → ValueView → Result ValueView AmountRefusal) (v w : Tree) → W v → Keeps g → ResultHas W (worked g v w)
   two_worked g v w h i = step_on Two W _ _ (two_have v w h) (λ a j. step_on (λ x. BrandHas x.kind a.brand) W _ _ (i a.left a.right a.brand j.0 j.1) (λ x q. shown_has a.brand x q))
 
-  bounded : (w : Worth) (o : Option (List ℕ)) (n : ℕ) → BrandHas w.kind n → ResultHas (λ x. BrandHas x.kind n) (in_bounds w o)
+  bounded : (w : ValueView) (o : Option (List ℕ)) (n : ℕ) → BrandHas w.kind n → ResultHas (λ x. BrandHas x.kind n) (in_bounds w o)
   bounded w (Some x) n h = tt
   bounded w None n h = picked (λ x. BrandHas x.kind n) _ (Ok w) (Err _) h tt
 
-  checked_has : (w : Worth) (n : ℕ) → BrandHas w.kind n → ResultHas (λ x. BrandHas x.kind n) (checked w)
+  checked_has : (w : ValueView) (n : ℕ) → BrandHas w.kind n → ResultHas (λ x. BrandHas x.kind n) (checked w)
   unfolding checked
   checked_has w n h = bounded w (first_past (bound w.kind) w.content) n h
 
@@ -280,43 +280,21 @@ content_within K Nat c = tt
 content_within K Set c = keys_within K (entries c)
 content_within K Bag c = counted_within K (entries c)
 
-value_within : (K : Known) (w : Worth) → Within K (value_tree w)
+value_within : (K : Known) (w : ValueView) → Within K (value_tree w)
 unfolding value_tree
 value_within K w = content_within K w.kind w.content
 
-amount_within : (K : Known) (n : ℕ) (w : Worth) → Within K (brand_tree w.kind n) → Within K (amount_tree (record { brand = n; value = w }))
+amount_within : (K : Known) (n : ℕ) (w : ValueView) → Within K (brand_tree w.kind n) → Within K (amount_tree (record { brand = n; value = w }))
 unfolding amount_tree
 amount_within K n w h = (h, (value_within K w, tt))
 
 shown_within : (K : Known) (r : Refusal) → ItemsWithin K (items_of (shown_by r))
-shown_within K q.BadLine = tt
-shown_within K (q.BadField x) = (tt, tt)
-shown_within K (q.BadLabel x) = (tt, tt)
-shown_within K (q.BadKeyword x) = (tt, tt)
-shown_within K (q.UnknownName x) = (tt, tt)
-shown_within K (q.NameTaken x) = (tt, tt)
-shown_within K q.Pending = tt
-shown_within K (q.Broken x) = (tt, tt)
-shown_within K (q.WrongObject x) = (tt, tt)
 shown_within K (q.NoMethod x) = (tt, tt)
 shown_within K (q.BadArgs x) = (tt, tt)
-shown_within K q.LocalOnly = tt
 shown_within K q.BadValue = tt
 shown_within K (q.WrongBrand x) = (tt, tt)
 shown_within K (q.NotEnough x y) = (value_within K x, (value_within K y, tt))
 shown_within K (q.TooMuch x y) = (tt, (tt, tt))
-shown_within K (q.DeadPayment x) = (tt, tt)
-shown_within K (q.RepeatedPayment x) = (tt, tt)
-shown_within K (q.WrongAmount x y) = (value_within K x, (value_within K y, tt))
-shown_within K (q.NotInvitation x) = (tt, tt)
-shown_within K (q.Closed x) = (tt, tt)
-shown_within K (q.KeywordMismatch x) = (tt, tt)
-shown_within K q.BadExit = tt
-shown_within K (q.NotOnDemand x) = (tt, tt)
-shown_within K (q.SeatExited x) = (tt, tt)
-shown_within K (q.Limit x) = (tt, tt)
-shown_within K (q.TextRefused x y) = (tt, (tt, tt))
-shown_within K (q.Spent x) = (tt, tt)
 
 refusal_within : (K : Known) (r : AmountRefusal) → Within K (amount_refusal_tree r)
 unfolding amount_refusal_tree refusal_tree
@@ -386,52 +364,30 @@ content_form Nat c = (tt, omega arith)
 content_form Set c = (keys_ordered (entries c), deeper _ 1 (keys_flat (entries c)))
 content_form Bag c = (counted_ordered (entries c), deeper _ 1 (counted_flat (entries c)))
 
-value_form : (w : Worth) → Shallow 2 (value_tree w)
+value_form : (w : ValueView) → Shallow 2 (value_tree w)
 unfolding value_tree
 value_form w = content_form w.kind w.content
 
 within_form : (n : ℕ) (t : Tree) → n ≤ 32 → Shallow n t → InForm t
 within_form n t h i = (i.0, let q = i.1 in omega (arith, q))
 
-amount_form : (n : ℕ) (w : Worth) → InForm (amount_tree (record { brand = n; value = w }))
+amount_form : (n : ℕ) (w : ValueView) → InForm (amount_tree (record { brand = n; value = w }))
 unfolding amount_tree
 amount_form n w = let v = value_form w in within_form 3 (amount_tree (record { brand = n; value = w })) (omega arith) ((tt, refl, (v.0, tt, tt)), deeper _ 2 (most_both 0 _ 2 (omega arith) (most_both (nesting (value_tree w)) 0 2 v.1 (omega arith))))
 
 abbrev ShownFlat : Refusal → Type 0
 ShownFlat r = OrderedItems (items_of (shown_by r)) × (items_nesting (items_of (shown_by r)) ≤ 2)
 
-two_shown : (x y : Worth) → OrderedItems (item (value_tree x) (item (value_tree y) no_items)) × (items_nesting (item (value_tree x) (item (value_tree y) no_items)) ≤ 2)
+two_shown : (x y : ValueView) → OrderedItems (item (value_tree x) (item (value_tree y) no_items)) × (items_nesting (item (value_tree x) (item (value_tree y) no_items)) ≤ 2)
 two_shown x y = let v = value_form x in let w = value_form y in ((v.0, (w.0, tt)), most_both (nesting (value_tree x)) _ 2 v.1 (most_both (nesting (value_tree y)) 0 2 w.1 (omega arith)))
 
 shown_form : (r : Refusal) → ShownFlat r
-shown_form q.BadLine = (tt, omega arith)
-shown_form (q.BadField x) = ((tt, tt), omega arith)
-shown_form (q.BadLabel x) = ((tt, tt), omega arith)
-shown_form (q.BadKeyword x) = ((tt, tt), omega arith)
-shown_form (q.UnknownName x) = ((tt, tt), omega arith)
-shown_form (q.NameTaken x) = ((tt, tt), omega arith)
-shown_form q.Pending = (tt, omega arith)
-shown_form (q.Broken x) = ((tt, tt), omega arith)
-shown_form (q.WrongObject x) = ((tt, tt), omega arith)
 shown_form (q.NoMethod x) = ((tt, tt), omega arith)
 shown_form (q.BadArgs x) = ((tt, tt), omega arith)
-shown_form q.LocalOnly = (tt, omega arith)
 shown_form q.BadValue = (tt, omega arith)
 shown_form (q.WrongBrand x) = ((tt, tt), omega arith)
 shown_form (q.NotEnough x y) = two_shown x y
 shown_form (q.TooMuch x y) = ((tt, (tt, tt)), omega arith)
-shown_form (q.DeadPayment x) = ((tt, tt), omega arith)
-shown_form (q.RepeatedPayment x) = ((tt, tt), omega arith)
-shown_form (q.WrongAmount x y) = two_shown x y
-shown_form (q.NotInvitation x) = ((tt, tt), omega arith)
-shown_form (q.Closed x) = ((tt, tt), omega arith)
-shown_form (q.KeywordMismatch x) = ((tt, tt), omega arith)
-shown_form q.BadExit = (tt, omega arith)
-shown_form (q.NotOnDemand x) = ((tt, tt), omega arith)
-shown_form (q.SeatExited x) = ((tt, tt), omega arith)
-shown_form (q.Limit x) = ((tt, tt), omega arith)
-shown_form (q.TextRefused x y) = ((tt, (tt, tt)), omega arith)
-shown_form (q.Spent x) = ((tt, tt), omega arith)
 
 refusal_form : (r : AmountRefusal) → InForm (amount_refusal_tree r)
 unfolding amount_refusal_tree refusal_tree
@@ -483,43 +439,21 @@ content_named Nat c = tt
 content_named Set c = keys_named (entries c)
 content_named Bag c = counted_named (entries c)
 
-value_named : (w : Worth) → HasFieldNames (value_tree w)
+value_named : (w : ValueView) → HasFieldNames (value_tree w)
 unfolding value_tree
 value_named w = content_named w.kind w.content
 
-amount_named : (n : ℕ) (w : Worth) → HasFieldNames (amount_tree (record { brand = n; value = w }))
+amount_named : (n : ℕ) (w : ValueView) → HasFieldNames (amount_tree (record { brand = n; value = w }))
 unfolding amount_tree
 amount_named n w = (refl, tt, (refl, value_named w, tt))
 
 shown_named : (r : Refusal) → NamedItems (shown_by r)
-shown_named q.BadLine = tt
-shown_named (q.BadField x) = (tt, tt)
-shown_named (q.BadLabel x) = (tt, tt)
-shown_named (q.BadKeyword x) = (tt, tt)
-shown_named (q.UnknownName x) = (tt, tt)
-shown_named (q.NameTaken x) = (tt, tt)
-shown_named q.Pending = tt
-shown_named (q.Broken x) = (tt, tt)
-shown_named (q.WrongObject x) = (tt, tt)
 shown_named (q.NoMethod x) = (tt, tt)
 shown_named (q.BadArgs x) = (tt, tt)
-shown_named q.LocalOnly = tt
 shown_named q.BadValue = tt
 shown_named (q.WrongBrand x) = (tt, tt)
 shown_named (q.NotEnough x y) = (value_named x, (value_named y, tt))
 shown_named (q.TooMuch x y) = (tt, (tt, tt))
-shown_named (q.DeadPayment x) = (tt, tt)
-shown_named (q.RepeatedPayment x) = (tt, tt)
-shown_named (q.WrongAmount x y) = (value_named x, (value_named y, tt))
-shown_named (q.NotInvitation x) = (tt, tt)
-shown_named (q.Closed x) = (tt, tt)
-shown_named (q.KeywordMismatch x) = (tt, tt)
-shown_named q.BadExit = tt
-shown_named (q.NotOnDemand x) = (tt, tt)
-shown_named (q.SeatExited x) = (tt, tt)
-shown_named (q.Limit x) = (tt, tt)
-shown_named (q.TextRefused x y) = (tt, (tt, tt))
-shown_named (q.Spent x) = (tt, tt)
 
 refusal_named : (r : AmountRefusal) → HasFieldNames (amount_refusal_tree r)
 unfolding amount_refusal_tree refusal_tree

@@ -21,7 +21,7 @@ use Rattle.jessie_values.specs.Reasons.{bad_step}
 use Rattle.jessie_values.specs.Outcomes.{◌>>=◌, of_kind, there}
 use Rattle.jessie_values.specs.Operators.{truth, most_bytes, in_range, in_size, of_both, divided, order_of, sameness}
 use Rattle.jessie_values.specs.Dispatch.{operate, unary}
-use Rattle.jessie_values.specs.Steps.{field_at, index_at, list_items, place_in}
+use Rattle.jessie_values.specs.Accesses.{field_at, index_at, list_items, place_in}
 use Rattle.jessie_values.specs.Records.{deepest, made, made_array, made_record}
 use Rattle.jessie_values.specs.BuiltIns.{first, second, third, keys_in, length_in, pushed, changed, replaced}
 use Rattle.jessie_values.specs.Requests.{is_promise, promise_of, facet_name, functions_in, methods_of, when_call, far_call}

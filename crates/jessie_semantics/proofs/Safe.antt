@@ -20,7 +20,7 @@ use Rattle.jessie_values.specs.Outcomes.{of_kind}
 use Rattle.jessie_values.specs.Operators.{truth}
 use Rattle.jessie_values.specs.Dispatch.{operate, skips}
 use Rattle.jessie_values.specs.Dispatch.{unary as unary_value}
-use Rattle.jessie_values.specs.Steps.{field_at, index_at, list_items}
+use Rattle.jessie_values.specs.Accesses.{field_at, index_at, list_items}
 use Rattle.jessie_values.specs.Records.{made_array, made_record}
 use Rattle.jessie_values.specs.BuiltIns.{harden, keys, len, push}
 use Rattle.jessie_values.specs.BuiltIns.{put as put_part}

@@ -12,7 +12,7 @@ use Rattle.host_data.specs.amount_math.Content.{Content, count, count-sum, count
 use Rattle.host_data.specs.amount_math.Entries.{Entries, IsRising}
 use Rattle.host_data.specs.amount_math.Held.{keys_of-sum}
 use Rattle.host_data.specs.amount_math.Totals.{first, less, second}
-use Rattle.host_data.specs.amount_math.Worth.{IsFirstPast, IsPutRefusal, IsValue, PassesBound, PassesKeys, Worth, bag_bound, bound, fits_from_value, keys_of, most_keys, nat_bound}
+use Rattle.host_data.specs.amount_math.ValueView.{IsFirstPast, IsPutRefusal, IsValue, PassesBound, PassesKeys, ValueView, bag_bound, bound, fits_from_value, keys_of, most_keys, nat_bound}
 use Rattle.host_data.specs.amount_math.declared.Kind.{Kind}
 use Rattle.host_data.specs.amount_math.declared.Kind.TheVariants.{Nat, Set, Bag}
 use Rattle.host_data.specs.amount_math.declared.PutFault.{PutFault}
@@ -65,7 +65,7 @@ few Nat c v = refl
 few Set c v = le-leb (keys_of c) most_keys v.keyed.few
 few Bag c v = le-leb (keys_of c) most_keys v.keyed.few
 
-pub value_passes : (w : Worth) → IsValue w.kind w.content → checked w ≡ Ok w
+pub value_passes : (w : ValueView) → IsValue w.kind w.content → checked w ≡ Ok w
 unfolding checked
 value_passes w v =
     let fits = fits_from_value w.kind w.content v in
@@ -74,7 +74,7 @@ value_passes w v =
 
 -- ---- what doesn't pass
 
-abbrev of_kind : Kind → Content → Worth
+abbrev of_kind : Kind → Content → ValueView
 of_kind kind c = record { kind = kind; content = c }
 
 overlaps : (kind : Kind) (c : Content) (k : List ℕ) → kind ≡ Set → IsFirstPast 1 c k → checked (of_kind kind c) ≡ Err (Overlap k)
@@ -106,7 +106,7 @@ passes_keys kind c over ne p =
     ∙ ap (λ b. cond b (Ok w) (Err (too_much (keys_of c) most_keys))) (many kind c ne p.passes)
     ∙ ap (λ n. Err (too_much n most_keys)) (sym p.counted) ∙ ap (λ n. Err (too_much over.sum n)) (sym p.bounded)
 
-pub refused : (w : Worth) (fault : PutFault) → IsPutRefusal w.kind w.content fault → Fails (told fault) (checked w)
+pub refused : (w : ValueView) (fault : PutFault) → IsPutRefusal w.kind w.content fault → Fails (told fault) (checked w)
 refused w (put_fault.Overlap key) h = overlaps w.kind w.content key h.0 h.1
 refused w (put_fault.TooMuch over) h = elim h as (λ _. checked w ≡ Err (too_much over.sum over.bound)) [
   | inl p ↦ passes w.kind w.content over p.0 p.1

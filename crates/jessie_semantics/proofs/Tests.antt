@@ -3,7 +3,7 @@ use Rattle.std.proofs.Common.{◌≡◌, ℕ, List, [], ◌∷◌, Bool, true, f
 use Rattle.std.proofs.lemmas.Bool.{false≢true}
 use Rattle.host_data.specs.amount_math.Content.{Content, Contains, count, count_listed, count-difference, count-nothing, difference, entries, listed, nothing, same_content}
 use Rattle.host_data.specs.amount_math.Entries.{Entries}
-use Rattle.host_data.specs.amount_math.Worth.{Worth}
+use Rattle.host_data.specs.amount_math.ValueView.{ValueView}
 use Rattle.host_data.proofs.amount_math.Listed.{no_entries}
 use Rattle.jessie_semantics.specs.Worths.{are_none, has, is_nothing}
 
@@ -20,11 +20,11 @@ is_nothing-true c h = same_content c nothing (λ k. count_listed c k ∙ none_li
 pub true-is_nothing : (c : Content) → c ≡ nothing → is_nothing c ≡ true
 true-is_nothing c e = ap is_nothing e ∙ nothing_is
 
-pub has-true : (a b : Worth) → has a b ≡ true → Contains a.content b.content
+pub has-true : (a b : ValueView) → has a b ≡ true → Contains a.content b.content
 unfolding has
 has-true a b h = record { each = λ k. omega (arith, count-difference b.content a.content k, ap (λ c. count c k) (is_nothing-true (difference b.content a.content) h), count-nothing k) }
 
-pub true-has : (a b : Worth) → Contains a.content b.content → has a b ≡ true
+pub true-has : (a b : ValueView) → Contains a.content b.content → has a b ≡ true
 unfolding has
 true-has a b h = true-is_nothing (difference b.content a.content) (same_content _ _ (λ k. omega (arith, count-difference b.content a.content k, h.each k, count-nothing k)))
 

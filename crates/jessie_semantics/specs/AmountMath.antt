@@ -2,7 +2,7 @@
 use Rattle.std.specs.Prelude.{ℕ, List, ◌&&◌, Option, Some, None, Result, Ok, Err, if◌then◌else◌, slice_index_or, codes}
 use Rattle.std.specs.Str.{bytes_eq}
 use Rattle.host_data.specs.amount_math.Content.{nothing}
-use Rattle.host_data.specs.amount_math.Worth.{Worth}
+use Rattle.host_data.specs.amount_math.ValueView.{ValueView}
 use Rattle.host_data.specs.Tree.{Tree, null, boolean}
 use Rattle.host_data.specs.Values.{amount_tree, value_tree}
 use Rattle.host_data.specs.declared.refusals.Refusal.TheVariants.{NoMethod}
@@ -15,7 +15,7 @@ use Rattle.jessie_semantics.specs.Given.{amount_given, amount_made, amount_of_br
 use Rattle.jessie_semantics.specs.declared.worths.Operation.TheVariants.{Sum, Difference, Least, Greatest}
 use Rattle.jessie_semantics.specs.Worths.{has, is_nothing, value_of_two}
 
-abbrev pub shown : ℕ → Worth → Tree
+abbrev pub shown : ℕ → ValueView → Tree
 shown brand w = amount_tree (record { brand = brand; value = w })
 
 abbrev pub made : Tree → Tree → Result Tree AmountRefusal
@@ -37,7 +37,7 @@ abbrev pub equality : Tree → Tree → Result Tree AmountRefusal
 equality v w = two_amounts v w >>= λ two. Ok (boolean (has two.left two.right && has two.right two.left))
 
 -- an amount of the brand of two, which a function makes of their values
-abbrev pub worked : (Worth → Worth → Result Worth AmountRefusal) → Tree → Tree → Result Tree AmountRefusal
+abbrev pub worked : (ValueView → ValueView → Result ValueView AmountRefusal) → Tree → Tree → Result Tree AmountRefusal
 worked f v w = two_amounts v w >>= λ two. f two.left two.right >>= λ x. Ok (shown two.brand x)
 
 abbrev pub coerced : Tree → Tree → Result Tree AmountRefusal

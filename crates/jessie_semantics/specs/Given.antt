@@ -1,20 +1,20 @@
 -- Brands and amounts that are read from arguments. Refused are, in this order, what has not the form of a brand or an amount, by its place; two brands; and data that is no value of the brand's kind, the first argument's first.
 use Rattle.std.specs.Prelude.{◌==◌, Option, option_map, option_and_then, Result, Ok}
-use Rattle.host_data.specs.amount_math.Worth.{Worth}
+use Rattle.host_data.specs.amount_math.ValueView.{ValueView}
 use Rattle.host_data.specs.amount_math.declared.Kind.{Kind}
 use Rattle.host_data.specs.Tree.{Tree, object_of}
 use Rattle.host_data.specs.Amounts.{AmountData, amount_fields, kind_of_brand, value_in}
 use Rattle.jessie_semantics.specs.declared.refusals.AmountRefusal.{AmountRefusal}
 use Rattle.jessie_semantics.specs.Refusals.{◌>>=◌, ◌>>◌, bad_args, need, read, wanted, wrong_brand}
-use Rattle.jessie_semantics.specs.declared.given.GivenBrand.{GivenBrand}
-use Rattle.jessie_semantics.specs.declared.given.OneAmount.{OneAmount}
-use Rattle.jessie_semantics.specs.declared.given.TwoAmounts.{TwoAmounts}
+use Rattle.jessie_semantics.specs.declared.amount_arguments.GivenBrand.{GivenBrand}
+use Rattle.jessie_semantics.specs.declared.amount_arguments.OneAmount.{OneAmount}
+use Rattle.jessie_semantics.specs.declared.amount_arguments.TwoAmounts.{TwoAmounts}
 
 abbrev pub brand_in : Tree → Option GivenBrand
 brand_in t = option_and_then (λ o. option_map (λ kind. record { number = o.number; kind = kind }) (kind_of_brand o.kind)) (object_of t)
 
 -- a value of the kind
-abbrev pub worth_in : Kind → Tree → Result Worth AmountRefusal
+abbrev pub worth_in : Kind → Tree → Result ValueView AmountRefusal
 worth_in kind t = read (value_in kind t)
 
 -- a brand, and data that is a value of its kind

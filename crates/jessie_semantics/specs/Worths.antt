@@ -2,7 +2,7 @@
 use Rattle.std.specs.Prelude.{ℕ, List, [], ◌∷◌, map, Bool, true, false, nat_lt, nat_le, Option, Some, None, Result, Ok, Err, if◌then◌else◌}
 use Rattle.std.specs.List.{find}
 use Rattle.host_data.specs.amount_math.Content.{Content, count, difference, entries, sum}
-use Rattle.host_data.specs.amount_math.Worth.{Worth, bag_bound, bound, keys_of, most_keys, nat_bound, with_content}
+use Rattle.host_data.specs.amount_math.ValueView.{ValueView, bag_bound, bound, keys_of, most_keys, nat_bound, with_content}
 use Rattle.host_data.specs.amount_math.declared.Kind.{Kind}
 use Rattle.host_data.specs.amount_math.declared.Kind.TheVariants.{Nat, Set, Bag}
 use Rattle.host_data.specs.declared.refusals.Refusal.TheVariants as refusals
@@ -24,7 +24,7 @@ abbrev pub is_nothing : Content → Bool
 is_nothing c = are_none (elements c)
 
 -- nothing is left of the other that the one hasn't
-unfoldable pub has : Worth → Worth → Bool
+unfoldable pub has : ValueView → ValueView → Bool
 has a b = is_nothing (difference b.content a.content)
 
 -- the first element, in byte order, of which there are more than the most
@@ -43,31 +43,31 @@ has_few Set c = nat_le (keys_of c) most_keys
 has_few Bag c = nat_le (keys_of c) most_keys
 
 -- counts are tested first, then keys
-abbrev pub in_bounds : Worth → Option (List ℕ) → Result Worth AmountRefusal
+abbrev pub in_bounds : ValueView → Option (List ℕ) → Result ValueView AmountRefusal
 in_bounds w (Some k) = Err (past_refusal w.kind w.content k)
 in_bounds w None = if has_few w.kind w.content then Ok w else Err (too_much (keys_of w.content) most_keys)
 
-unfoldable pub checked : Worth → Result Worth AmountRefusal
+unfoldable pub checked : ValueView → Result ValueView AmountRefusal
 checked w = in_bounds w (first_past (bound w.kind) w.content)
 
-abbrev pub sum_in : Worth → Worth → Result Worth AmountRefusal
+abbrev pub sum_in : ValueView → ValueView → Result ValueView AmountRefusal
 sum_in a b = checked (with_content a (sum a.content b.content))
 
-abbrev pub not_enough : Worth → Worth → AmountRefusal
+abbrev pub not_enough : ValueView → ValueView → AmountRefusal
 not_enough a b = Refused (refusals.NotEnough a b)
 
 -- one less the other, which it must have
-abbrev pub difference_in : Worth → Worth → Result Worth AmountRefusal
+abbrev pub difference_in : ValueView → ValueView → Result ValueView AmountRefusal
 difference_in a b = if has a b then Ok (with_content a (difference a.content b.content)) else Err (not_enough a b)
 
 -- the one of the two that the other has, and the one that has the other
-abbrev pub least_in : Worth → Worth → Result Worth AmountRefusal
+abbrev pub least_in : ValueView → ValueView → Result ValueView AmountRefusal
 least_in a b = if has b a then Ok a else if has a b then Ok b else Err (not_enough a b)
 
-abbrev pub greatest_in : Worth → Worth → Result Worth AmountRefusal
+abbrev pub greatest_in : ValueView → ValueView → Result ValueView AmountRefusal
 greatest_in a b = if has a b then Ok a else if has b a then Ok b else Err (not_enough a b)
 
-abbrev pub value_of_two : Operation → Worth → Worth → Result Worth AmountRefusal
+abbrev pub value_of_two : Operation → ValueView → ValueView → Result ValueView AmountRefusal
 value_of_two Sum a b = sum_in a b
 value_of_two Difference a b = difference_in a b
 value_of_two Least a b = least_in a b

@@ -7,7 +7,9 @@ ghost use Rattle.jessie_semantics.specs.AmountMath.{amount_call, answer, answer_
 ghost use Rattle.jessie_semantics.specs.Refusals.{Answers};
 ghost use Rattle.jessie_semantics.specs.Worths.{value_of_two};
 
-use crate::given::{amount_given, amount_made, amount_of_brand, brand_wanted, two_amounts};
+use crate::amount_arguments::{
+    amount_of_brand, amount_of_value, given_amount, two_amounts, wanted_brand,
+};
 use crate::refusals::{AmountFault, AmountRefusal, put};
 use crate::worths::{Operation, has, is_nothing, value_of_two};
 use host_data::amount_math_lib::Value;
@@ -103,23 +105,23 @@ fn answer(
     ensures { Answers tree result (answer function (tree first.now) (tree second.now)) }
 {
     match function {
-        AmountFunction::Make => made(alloc, first, second),
-        AmountFunction::MakeEmpty => made_empty(alloc, first),
-        AmountFunction::MakeEmptyFromAmount => emptied(alloc, first),
+        AmountFunction::Make => make(alloc, first, second),
+        AmountFunction::MakeEmpty => make_empty(alloc, first),
+        AmountFunction::MakeEmptyFromAmount => make_empty_from(alloc, first),
         AmountFunction::IsEmpty => emptiness(alloc, first),
         AmountFunction::IsGte => containment(alloc, first, second),
         AmountFunction::IsEqual => equality(alloc, first, second),
-        AmountFunction::Add => worked(alloc, Operation::Sum, first, second),
-        AmountFunction::Subtract => worked(alloc, Operation::Difference, first, second),
-        AmountFunction::Min => worked(alloc, Operation::Least, first, second),
-        AmountFunction::Max => worked(alloc, Operation::Greatest, first, second),
-        AmountFunction::Coerce => coerced(alloc, first, second),
+        AmountFunction::Add => amount_of_two(alloc, Operation::Sum, first, second),
+        AmountFunction::Subtract => amount_of_two(alloc, Operation::Difference, first, second),
+        AmountFunction::Min => amount_of_two(alloc, Operation::Least, first, second),
+        AmountFunction::Max => amount_of_two(alloc, Operation::Greatest, first, second),
+        AmountFunction::Coerce => coerce(alloc, first, second),
         AmountFunction::GetValue => value_of(alloc, first, second),
     }
 }
 
 /// What was made, unless memory ran out.
-fn answered(made: Result<Data, AllocError>) -> Result<Data, AmountFault>
+fn or_no_memory(made: Result<Data, AllocError>) -> Result<Data, AmountFault>
     ensures ok { IfOk made (λ value. result ≡ Ok value) }
     ensures err { OnErr made (result ≡ Err AmountFault.NoMemory) }
 {
@@ -131,7 +133,7 @@ fn answered(made: Result<Data, AllocError>) -> Result<Data, AmountFault>
 
 /// An amount, as data.
 #[tactic(auto, unfolding(host_data::specs::Values::amount_tree))]
-fn shown(alloc: Global, brand: u32, value: &Value) -> Result<Data, AllocError>
+fn amount_data(alloc: Global, brand: u32, value: &Value) -> Result<Data, AllocError>
     ensures { IfOk result (λ made. tree made ≡ shown brand value.now) }
 {
     let named = object_data(ObjKind::Brand(value.kind()), brand);
@@ -142,34 +144,34 @@ fn shown(alloc: Global, brand: u32, value: &Value) -> Result<Data, AllocError>
 }
 
 #[tactic(auto, unfolding(crate::specs::Refusals::bind))]
-fn made(alloc: Global, brand: &Data, value: &Data) -> Result<Data, AmountFault>
+fn make(alloc: Global, brand: &Data, value: &Data) -> Result<Data, AmountFault>
     ensures { Answers tree result (made (tree brand.now) (tree value.now)) }
 {
-    let amount = amount_made(alloc, brand, value)?;
-    answered(shown(alloc, amount.brand, &amount.value))
+    let amount = amount_of_value(alloc, brand, value)?;
+    or_no_memory(amount_data(alloc, amount.brand, &amount.value))
 }
 
 #[tactic(auto, unfolding(crate::specs::Refusals::bind))]
-fn made_empty(alloc: Global, brand: &Data) -> Result<Data, AmountFault>
+fn make_empty(alloc: Global, brand: &Data) -> Result<Data, AmountFault>
     ensures { Answers tree result (made_empty (tree brand.now)) }
 {
-    let own = brand_wanted(brand)?;
-    answered(shown(alloc, own.number, &Value::empty(own.kind)))
+    let own = wanted_brand(brand)?;
+    or_no_memory(amount_data(alloc, own.number, &Value::empty(own.kind)))
 }
 
 #[tactic(auto, unfolding(crate::specs::Refusals::bind))]
-fn emptied(alloc: Global, given: &Data) -> Result<Data, AmountFault>
+fn make_empty_from(alloc: Global, given: &Data) -> Result<Data, AmountFault>
     ensures { Answers tree result (emptied (tree given.now)) }
 {
-    let amount = amount_given(alloc, given)?;
-    answered(shown(alloc, amount.brand, &Value::empty(amount.value.kind())))
+    let amount = given_amount(alloc, given)?;
+    or_no_memory(amount_data(alloc, amount.brand, &Value::empty(amount.value.kind())))
 }
 
 #[tactic(auto, unfolding(crate::specs::Refusals::bind))]
 fn emptiness(alloc: Global, given: &Data) -> Result<Data, AmountFault>
     ensures { Answers tree result (emptiness (tree given.now)) }
 {
-    let amount = amount_given(alloc, given)?;
+    let amount = given_amount(alloc, given)?;
     Ok(Data::Bool(is_nothing(&amount.value)))
 }
 
@@ -191,7 +193,7 @@ fn equality(alloc: Global, first: &Data, second: &Data) -> Result<Data, AmountFa
 
 /// The amount of the brand of two that a function makes of their values.
 #[tactic(auto, unfolding(crate::specs::Refusals::bind))]
-fn worked(
+fn amount_of_two(
     alloc: Global,
     operation: Operation,
     first: &Data,
@@ -202,15 +204,15 @@ fn worked(
     let two = two_amounts(alloc, first, second)?;
     let brand = two.brand;
     let value = value_of_two(operation, two)?;
-    answered(shown(alloc, brand, &value))
+    or_no_memory(amount_data(alloc, brand, &value))
 }
 
 #[tactic(auto, unfolding(crate::specs::Refusals::bind))]
-fn coerced(alloc: Global, brand: &Data, given: &Data) -> Result<Data, AmountFault>
+fn coerce(alloc: Global, brand: &Data, given: &Data) -> Result<Data, AmountFault>
     ensures { Answers tree result (coerced (tree brand.now) (tree given.now)) }
 {
     let amount = amount_of_brand(alloc, brand, given)?;
-    answered(shown(alloc, amount.brand, &amount.value))
+    or_no_memory(amount_data(alloc, amount.brand, &amount.value))
 }
 
 #[tactic(auto, unfolding(crate::specs::Refusals::bind))]
@@ -218,5 +220,5 @@ fn value_of(alloc: Global, brand: &Data, given: &Data) -> Result<Data, AmountFau
     ensures { Answers tree result (value_of (tree brand.now) (tree given.now)) }
 {
     let amount = amount_of_brand(alloc, brand, given)?;
-    answered(value_data(alloc, &amount.value))
+    or_no_memory(value_data(alloc, &amount.value))
 }

@@ -1,5 +1,5 @@
-// What the rules mean: each law holds of every module, function, list of arguments, list of state
-// values, meter and list of answers. The functions do nothing; their contracts are the laws.
+//! What the rules of evaluation mean, of every module, function, list of arguments, state, meter
+//! and list of replies: functions that do nothing, whose contracts are the laws.
 ghost use Rattle.std.specs.Prelude.{ℕ, List, length, ◌≤◌};
 ghost use Rattle.host_data.specs.Tree.{Tree};
 ghost use Rattle.jessie_values.specs.jessie_grammar.Syntax.{Routine};

@@ -112,7 +112,7 @@ pub(crate) fn wrong_brand(brand: u32) -> AmountFault
 }
 
 /// Why a value isn't added to another.
-pub(crate) fn told(fault: PutFault) -> AmountFault
+pub(crate) fn put_fault(fault: PutFault) -> AmountFault
     requires { IsSmall fault }
     ensures { result ≡ told fault }
 {

@@ -5,8 +5,8 @@ ghost use Rattle.host_data.specs.amount_math.Content.{Contains};
 ghost use Rattle.jessie_semantics.specs.Refusals.{Answers};
 ghost use Rattle.jessie_semantics.specs.Worths.{difference_in, greatest_in, has, is_nothing, least_in, not_enough, sum_in, value_of_two};
 
-use crate::given::TwoAmounts;
-use crate::refusals::{AmountFault, AmountRefusal, told};
+use crate::amount_arguments::TwoAmounts;
+use crate::refusals::{AmountFault, AmountRefusal, put_fault};
 use host_data::amount_math_lib::Value;
 use host_data::refusals::Refusal;
 
@@ -69,7 +69,7 @@ fn sum_in(mut left: Value, right: Value) -> Result<Value, AmountFault>
     let _other = right.kind();
     match left.absorb(right) {
         Ok(()) => Ok(left),
-        Err((_, fault)) => Err(told(fault)),
+        Err((_, fault)) => Err(put_fault(fault)),
     }
 }
 

@@ -1,4 +1,4 @@
-// The statements of a block, one more each, and the branches of an `if` that may go on.
+//! Statements put behind those of a block, and branches behind those of an `if` that may go on.
 ghost use Rattle.std.specs.Prelude.{◌≡◌, [], ◌∷◌, ◌++◌, OnOk};
 ghost use Rattle.jessie_grammar.specs.Words as words;
 

@@ -1,4 +1,4 @@
-// Constants of their parts.
+//! Constants made of their parts.
 ghost use Rattle.std.specs.Prelude.{◌≡◌, [], ◌∷◌, ◌++◌, IfOk, OnOk};
 
 use jessie_grammar::host_text_lib::text::Text;

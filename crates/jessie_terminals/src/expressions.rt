@@ -1,11 +1,11 @@
-// Expressions of their parts.
+//! Expressions made of their parts.
 ghost use Rattle.std.specs.Prelude.{◌≡◌, [], ◌∷◌, ◌++◌, IfOk, OnOk};
 ghost use Rattle.std.specs.Str.{bytes_eq};
 ghost use Rattle.jessie_grammar.specs.Words as words;
 
 use jessie_grammar::host_text_lib::text::Text;
 use jessie_grammar::jessie_lexer::token::Token;
-use jessie_grammar::syntax::{BuiltIn, Expr, Literal, Operator, Step, Unary};
+use jessie_grammar::syntax::{Access, BuiltIn, Expr, Literal, Operator, Unary};
 use sqlite_items::{Boxed, Items};
 use std::alloc::{AllocError, Global};
 
@@ -136,18 +136,18 @@ pub fn choice_expression(
     Boxed::new(alloc, Expr::Choice(condition, first, second))
 }
 
-/// The expression with the steps behind it, if there are any.
-pub fn with_steps(
+/// The expression with the accesses behind it, if there are any.
+pub fn with_accesses(
     alloc: Global,
     first: Boxed<Expr>,
-    steps: Items<Step>,
+    steps: Items<Access>,
 ) -> Result<Boxed<Expr>, AllocError>
-    ensures { IfOk result (λ tree. tree ≡ words.with_steps first steps) }
+    ensures { IfOk result (λ tree. tree ≡ words.with_accesses first steps) }
 {
     if steps.is_empty() {
         return Ok(first);
     }
-    Boxed::new(alloc, Expr::Steps(first, steps))
+    Boxed::new(alloc, Expr::Accesses(first, steps))
 }
 
 /// The operand with the operators behind it, if there are any.
@@ -195,34 +195,34 @@ pub fn add_operand(
     found.push((operator, operand.into_inner()))
 }
 
-/// One step more: a field's name.
-pub fn add_field_step(
+/// One access more: a field's name.
+pub fn add_field_access(
     alloc: Global,
     name: &Token,
-    found: &mut Items<Step>,
+    found: &mut Items<Access>,
 ) -> Result<(), AllocError>
-    ensures { OnOk result (found.new ≡ found.old ++ Step.Field name.now.text ∷ []) }
+    ensures { OnOk result (found.new ≡ found.old ++ Access.Field name.now.text ∷ []) }
 {
     let name = name.text.copy(alloc)?;
-    found.push(Step::Field(name))
+    found.push(Access::Field(name))
 }
 
-/// One step more: a call of a method.
-pub fn add_method_step(
+/// One access more: a call of a method.
+pub fn add_method_access(
     alloc: Global,
     name: &Token,
     arguments: Items<Expr>,
-    found: &mut Items<Step>,
+    found: &mut Items<Access>,
 ) -> Result<(), AllocError>
-    ensures { OnOk result (found.new ≡ found.old ++ Step.Method name.now.text arguments ∷ []) }
+    ensures { OnOk result (found.new ≡ found.old ++ Access.Method name.now.text arguments ∷ []) }
 {
     let name = name.text.copy(alloc)?;
-    found.push(Step::Method(name, arguments))
+    found.push(Access::Method(name, arguments))
 }
 
-/// One step more: an index.
-pub fn add_index_step(index: Boxed<Expr>, found: &mut Items<Step>) -> Result<(), AllocError>
-    ensures { OnOk result (found.new ≡ found.old ++ Step.Index index ∷ []) }
+/// One access more: an index.
+pub fn add_index_access(index: Boxed<Expr>, found: &mut Items<Access>) -> Result<(), AllocError>
+    ensures { OnOk result (found.new ≡ found.old ++ Access.Index index ∷ []) }
 {
-    found.push(Step::Index(index.into_inner()))
+    found.push(Access::Index(index.into_inner()))
 }

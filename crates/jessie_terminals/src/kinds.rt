@@ -1,4 +1,4 @@
-// Which kinds of tokens begin what.
+//! Which kinds of tokens begin what.
 ghost use Rattle.std.specs.Prelude.{[], ◌∷◌, ◌≡◌, ◌<◌};
 ghost use Rattle.jessie_grammar.specs.Tokens.{kind as first_kind, has};
 ghost use Rattle.jessie_grammar.specs.Words as words;
@@ -79,9 +79,9 @@ pub fn repeats(level: u8) -> bool
     !(level == 2 || level == 3)
 }
 
-/// Whether a step behind an expression begins so.
-pub fn begins_step(kind: Kind) -> bool
-    ensures { result ≡ has words.step_begins kind }
+/// Whether an access behind an expression begins so.
+pub fn begins_access(kind: Kind) -> bool
+    ensures { result ≡ has words.access_begins kind }
 {
     let n = number_of(kind);
     n == 23 || n == 30

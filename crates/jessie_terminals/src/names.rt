@@ -1,4 +1,4 @@
-// Names: each is lent as the token that it is.
+//! Names where one may stand, each lent as the token that it is.
 ghost use Rattle.std.specs.Prelude.{[], ◌∷◌, ◌≡◌, length, None, Some};
 ghost use Rattle.jessie_grammar.specs.Parse.{Gives, one};
 ghost use Rattle.jessie_grammar.specs.StatementList.{names_after};
@@ -6,7 +6,7 @@ ghost use Rattle.jessie_grammar.specs.Rules as rules;
 ghost use Rattle.jessie_grammar.specs.Words as words;
 
 use crate::kinds::{is_free_word, is_leading_word, is_word};
-use crate::symbols::{beyond, refused};
+use crate::symbols::{limit_refusal, refusal};
 use jessie_grammar::jessie_language::fault::{Limit, ParseError};
 use jessie_grammar::jessie_lexer::token::Token;
 
@@ -14,7 +14,7 @@ use jessie_grammar::jessie_lexer::token::Token;
 const LONGEST_NAME: usize = 64;
 
 /// The limit that a name breaks.
-fn long(token: &Token) -> Option<Limit>
+fn length_limit(token: &Token) -> Option<Limit>
     ensures { result ≡ words.long token.now }
 {
     if token.text.len() <= LONGEST_NAME {
@@ -25,7 +25,7 @@ fn long(token: &Token) -> Option<Limit>
 }
 
 /// The limit that a declared name breaks, where one more may be declared or not.
-fn declaring(token: &Token, more: bool) -> Option<Limit>
+fn declaration_limit(token: &Token, more: bool) -> Option<Limit>
     ensures { result ≡ words.declared more token.now }
 {
     if LONGEST_NAME < token.text.len() {
@@ -40,11 +40,11 @@ pub fn name(tokens: &[Token]) -> Result<(&Token, &[Token]), ParseError>
     ensures { Gives (λ x. (words.spotted x.0.now, x.1.now)) result (rules.name tokens.now) }
 {
     match tokens {
-        [token, rest @ ..] if is_word(token.kind) => match long(token) {
+        [token, rest @ ..] if is_word(token.kind) => match length_limit(token) {
             None => Ok((token, rest)),
-            Some(limit) => Err(beyond(tokens, limit)),
+            Some(limit) => Err(limit_refusal(tokens, limit)),
         },
-        _ => Err(refused(tokens)),
+        _ => Err(refusal(tokens)),
     }
 }
 
@@ -54,11 +54,11 @@ pub fn free_name(tokens: &[Token]) -> Result<(&Token, &[Token]), ParseError>
         (one words.free_words words.spotted words.long tokens.now) }
 {
     match tokens {
-        [token, rest @ ..] if is_free_word(token.kind) => match long(token) {
+        [token, rest @ ..] if is_free_word(token.kind) => match length_limit(token) {
             None => Ok((token, rest)),
-            Some(limit) => Err(beyond(tokens, limit)),
+            Some(limit) => Err(limit_refusal(tokens, limit)),
         },
-        _ => Err(refused(tokens)),
+        _ => Err(refusal(tokens)),
     }
 }
 
@@ -68,24 +68,24 @@ pub fn leading_name(tokens: &[Token], after_if: bool) -> Result<(&Token, &[Token
         (one (names_after after_if) words.spotted words.long tokens.now) }
 {
     match tokens {
-        [token, rest @ ..] if is_leading_word(token.kind, after_if) => match long(token) {
+        [token, rest @ ..] if is_leading_word(token.kind, after_if) => match length_limit(token) {
             None => Ok((token, rest)),
-            Some(limit) => Err(beyond(tokens, limit)),
+            Some(limit) => Err(limit_refusal(tokens, limit)),
         },
-        _ => Err(refused(tokens)),
+        _ => Err(refusal(tokens)),
     }
 }
 
 /// A name that is declared where one more may be declared or not.
-pub fn declared(tokens: &[Token], more: bool) -> Result<(&Token, &[Token]), ParseError>
+pub fn declared_name(tokens: &[Token], more: bool) -> Result<(&Token, &[Token]), ParseError>
     ensures { Gives (λ x. (words.spotted x.0.now, x.1.now)) result
         (one words.words words.spotted (words.declared more) tokens.now) }
 {
     match tokens {
-        [token, rest @ ..] if is_word(token.kind) => match declaring(token, more) {
+        [token, rest @ ..] if is_word(token.kind) => match declaration_limit(token, more) {
             None => Ok((token, rest)),
-            Some(limit) => Err(beyond(tokens, limit)),
+            Some(limit) => Err(limit_refusal(tokens, limit)),
         },
-        _ => Err(refused(tokens)),
+        _ => Err(refusal(tokens)),
     }
 }

@@ -1,9 +1,9 @@
-// Statements of their parts.
+//! Statements made of their parts.
 ghost use Rattle.std.specs.Prelude.{◌≡◌, None, Some, IfOk};
 ghost use Rattle.jessie_grammar.specs.Words as words;
 
 use jessie_grammar::jessie_lexer::token::Token;
-use jessie_grammar::jessie_scopes::event::Binding;
+use jessie_grammar::jessie_scopes::name_use::Binding;
 use jessie_grammar::syntax::{Expr, Stmt};
 use sqlite_items::{Boxed, Items};
 use std::alloc::{AllocError, Global};

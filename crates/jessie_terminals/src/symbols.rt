@@ -1,4 +1,4 @@
-// Quoted words and marks.
+//! Quoted words and marks.
 ghost use Rattle.std.specs.Prelude.{[], ◌∷◌, ◌≡◌, ◌<◌, length, IfOk, None, Some};
 ghost use Rattle.jessie_grammar.specs.Tokens.{has};
 ghost use Rattle.jessie_grammar.specs.Parse.{Gives, symbol, opening, one, free};
@@ -8,18 +8,18 @@ ghost use Rattle.jessie_grammar.specs.Words as words;
 use crate::kinds::{is_operator, is_sign};
 use jessie_grammar::jessie_language::fault::{Limit, ParseError};
 use jessie_grammar::jessie_lexer::token::{Kind, Token, number_of};
-use jessie_grammar::jessie_scopes::event::Binding;
+use jessie_grammar::jessie_scopes::name_use::Binding;
 use jessie_grammar::syntax::{Operator, Unary};
 
 /// The refusal of the first token, or of the end, as one that no rule goes on with.
-pub fn refused(tokens: &[Token]) -> ParseError
+pub fn refusal(tokens: &[Token]) -> ParseError
     ensures { result ≡ ParseError.Refused None (length tokens.now) }
 {
     ParseError::Refused(None, tokens.len())
 }
 
 /// The refusal of the first token for a limit that it breaks.
-pub fn beyond(tokens: &[Token], limit: Limit) -> ParseError
+pub fn limit_refusal(tokens: &[Token], limit: Limit) -> ParseError
     ensures { result ≡ ParseError.Refused (Some limit) (length tokens.now) }
 {
     ParseError::Refused(Some(limit), tokens.len())
@@ -32,7 +32,7 @@ pub fn expect(tokens: &[Token], kind: Kind) -> Result<&[Token], ParseError>
 {
     match tokens {
         [token, rest @ ..] if number_of(kind) == number_of(token.kind) => Ok(rest),
-        _ => Err(refused(tokens)),
+        _ => Err(refusal(tokens)),
     }
 }
 
@@ -45,11 +45,11 @@ pub fn open(tokens: &[Token], room: u32, kind: Kind) -> Result<&[Token], ParseEr
     match tokens {
         [token, rest @ ..] if number_of(kind) == number_of(token.kind) => {
             if room == 0 {
-                return Err(beyond(tokens, Limit::TooDeep));
+                return Err(limit_refusal(tokens, Limit::TooDeep));
             }
             Ok(rest)
         }
-        _ => Err(refused(tokens)),
+        _ => Err(refusal(tokens)),
     }
 }
 
@@ -68,7 +68,7 @@ pub fn sign(tokens: &[Token]) -> Result<(Unary, &[Token]), ParseError>
 {
     match tokens {
         [token, rest @ ..] if is_sign(token.kind) => Ok((sign_by(token.kind), rest)),
-        _ => Err(refused(tokens)),
+        _ => Err(refusal(tokens)),
     }
 }
 
@@ -101,7 +101,7 @@ pub fn operator(tokens: &[Token], level: u8) -> Result<(Operator, &[Token]), Par
         [token, rest @ ..] if is_operator(token.kind, level) => {
             Ok((operator_by(token.kind), rest))
         }
-        _ => Err(refused(tokens)),
+        _ => Err(refusal(tokens)),
     }
 }
 
@@ -130,6 +130,6 @@ pub fn binding(tokens: &[Token]) -> Result<(Binding, &[Token]), ParseError>
         [token, rest @ ..] if begins_declaration(token.kind) => {
             Ok((binding_by(token.kind), rest))
         }
-        _ => Err(refused(tokens)),
+        _ => Err(refusal(tokens)),
     }
 }

@@ -1,4 +1,4 @@
-// Literals.
+//! Literals.
 ghost use Rattle.std.specs.Prelude.{[], ◌∷◌, ◌≡◌, ◌≤◌, length, IfOk, None, Some};
 ghost use Rattle.jessie_grammar.specs.Tokens.{has};
 ghost use Rattle.jessie_grammar.specs.Lex.{limit};
@@ -6,7 +6,7 @@ ghost use Rattle.jessie_grammar.specs.Parse.{Gives, one};
 ghost use Rattle.jessie_grammar.specs.Words as words;
 
 use crate::kinds::is_literal;
-use crate::symbols::{beyond, refused};
+use crate::symbols::{limit_refusal, refusal};
 use jessie_grammar::jessie_language::fault::{Limit, ParseError};
 use jessie_grammar::jessie_lexer::token::{Kind, Token, number_of};
 use jessie_grammar::syntax::Literal;
@@ -36,11 +36,11 @@ pub fn literal(alloc: Global, tokens: &[Token]) -> Result<(Literal, &[Token]), P
     match tokens {
         [token, rest @ ..] if is_literal(token.kind) => {
             if LARGEST_NUMBER < token.number {
-                return Err(beyond(tokens, Limit::Wide));
+                return Err(limit_refusal(tokens, Limit::Wide));
             }
             Ok((literal_of(alloc, token)?, rest))
         }
-        _ => Err(refused(tokens)),
+        _ => Err(refusal(tokens)),
     }
 }
 
@@ -58,10 +58,10 @@ pub fn negative(tokens: &[Token]) -> Result<(Literal, &[Token]), ParseError>
     match tokens {
         [token, rest @ ..] if is_number(token.kind) => {
             if LARGEST_NUMBER < token.number {
-                return Err(beyond(tokens, Limit::Wide));
+                return Err(limit_refusal(tokens, Limit::Wide));
             }
             Ok((Literal::Number(-(token.number as i128)), rest))
         }
-        _ => Err(refused(tokens)),
+        _ => Err(refusal(tokens)),
     }
 }

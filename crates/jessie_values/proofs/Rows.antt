@@ -7,7 +7,7 @@ use Rattle.jessie_values.specs.declared.reasons.Reason.TheVariants.{WrongKind, O
 use Rattle.jessie_values.specs.BuiltIns.{keys, len, push, put}
 use Rattle.jessie_values.specs.Operators.{difference_of, equality, less, opposite, product_of, quotient_of, rest_of, sum_of}
 use Rattle.jessie_values.specs.Records.{record_of}
-use Rattle.jessie_values.specs.Steps.{field_at, index_at}
+use Rattle.jessie_values.specs.Accesses.{field_at, index_at}
 
 abbrev listing : List Tree → Tree
 listing vs = array (items_of vs)

@@ -7,7 +7,7 @@ use Rattle.jessie_values.specs.declared.reasons.Reason.{Reason}
 use Rattle.jessie_values.specs.declared.reasons.Reason.TheVariants.{WrongKind}
 use Rattle.jessie_values.specs.Outcomes.{◌>>=◌, of_kind, there}
 use Rattle.jessie_values.specs.Records.{made, made_array}
-use Rattle.jessie_values.specs.Steps.{place_in}
+use Rattle.jessie_values.specs.Accesses.{place_in}
 
 -- ---- arguments
 

@@ -3,7 +3,7 @@ pub mod Outcomes
 pub mod Operators
 pub mod Named
 pub mod Records
-pub mod Steps
+pub mod Accesses
 pub mod Literals
 pub mod BuiltIns
 pub mod Requests

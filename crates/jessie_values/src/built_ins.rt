@@ -1,6 +1,5 @@
-//! The built-in functions that ask nothing of the host, on their arguments as they were worked. Of the
-//! arguments a missing one is null, and a surplus one is dropped.
-
+//! The built-in functions that ask nothing of the host; of their arguments a missing one is null,
+//! and a surplus one is dropped.
 ghost use Rattle.std.specs.Prelude.{◌≡◌, IfOk, Ok, map, pos};
 ghost use Rattle.std.specs.Vec.Iter.{into_iter_items};
 ghost use Rattle.host_data.specs.Tree.{number, text};
@@ -10,7 +9,7 @@ ghost use Rattle.jessie_values.specs.Outcomes.{Gives, seen};
 
 use crate::parts::{into_items, place_in, place_of, set_item, set_second};
 use crate::reasons::{Reason, ValueFault};
-use crate::records::{made, made_array};
+use crate::records::{array_data, within_depth};
 use host_data::data::Data;
 use host_data::host_text_lib::text::Text;
 use std::alloc::{AllocError, Global};
@@ -92,17 +91,17 @@ pub fn push(args: Vec<Data>) -> Result<Data, ValueFault>
 {
     let mut args = args.into_iter();
     let array = next_argument(&mut args);
-    pushed(array, next_argument(&mut args))
+    push_value(array, next_argument(&mut args))
 }
 
-fn pushed(array: Data, value: Data) -> Result<Data, ValueFault>
+fn push_value(array: Data, value: Data) -> Result<Data, ValueFault>
     ensures { Gives tree result (pushed (tree array) (tree value)) }
 {
     let Some(mut items) = into_items(array) else {
         return Err(ValueFault::BadStep(Reason::WrongKind));
     };
     items.push(value)?;
-    match made_array(items) {
+    match array_data(items) {
         Ok(array) => Ok(array),
         Err(reason) => Err(ValueFault::BadStep(reason)),
     }
@@ -115,59 +114,59 @@ pub fn put(args: Vec<Data>) -> Result<Data, Reason>
     let mut args = args.into_iter();
     let target = next_argument(&mut args);
     let index = next_argument(&mut args);
-    replaced(target, &index, next_argument(&mut args))
+    replace_part(target, &index, next_argument(&mut args))
 }
 
 /// The array, or the record, with one part changed.
-fn replaced(target: Data, index: &Data, value: Data) -> Result<Data, Reason>
+fn replace_part(target: Data, index: &Data, value: Data) -> Result<Data, Reason>
     ensures { seen tree result ≡ replaced (tree target) (tree index.now) (tree value) }
 {
     match target {
-        Data::Array(items) => replaced_item(items, index, value),
-        Data::Record(fields) => replaced_field(fields, index, value),
+        Data::Array(items) => replace_item(items, index, value),
+        Data::Record(fields) => replace_field(fields, index, value),
         _ => Err(Reason::WrongKind),
     }
 }
 
-fn replaced_item(items: Vec<Data>, index: &Data, value: Data) -> Result<Data, Reason>
+fn replace_item(items: Vec<Data>, index: &Data, value: Data) -> Result<Data, Reason>
     ensures { seen tree result ≡ replaced_item (trees items.items) (tree index.now) (tree value) }
 {
     match index.number() {
-        Some(index) => changed_item(items, index, value),
+        Some(index) => set_item_at(items, index, value),
         None => Err(Reason::WrongKind),
     }
 }
 
-fn changed_item(mut items: Vec<Data>, index: i128, value: Data) -> Result<Data, Reason>
+fn set_item_at(mut items: Vec<Data>, index: i128, value: Data) -> Result<Data, Reason>
     ensures { seen tree result ≡ changed_item (trees items.items) index (tree value) }
 {
     match place_in(items.len(), index) {
         Some(place) => {
             set_item(&mut items, place, value);
-            made_array(items)
+            array_data(items)
         }
         None => Err(Reason::NoField),
     }
 }
 
-fn replaced_field(fields: Vec<(Text, Data)>, index: &Data, value: Data) -> Result<Data, Reason>
+fn replace_field(fields: Vec<(Text, Data)>, index: &Data, value: Data) -> Result<Data, Reason>
     ensures { seen tree result
         ≡ replaced_field (fields_of (named_trees fields.items)) (tree index.now) (tree value) }
 {
     match index.text() {
-        Some(name) => changed_field(fields, name.as_str(), value),
+        Some(name) => set_field(fields, name.as_str(), value),
         None => Err(Reason::WrongKind),
     }
 }
 
-fn changed_field(mut fields: Vec<(Text, Data)>, name: &str, value: Data) -> Result<Data, Reason>
+fn set_field(mut fields: Vec<(Text, Data)>, name: &str, value: Data) -> Result<Data, Reason>
     ensures { seen tree result
         ≡ changed_field (fields_of (named_trees fields.items)) name.now (tree value) }
 {
     match place_of(fields.as_slice(), name) {
         Some(place) => {
             set_second(&mut fields, place, value);
-            made(Data::Record(fields))
+            within_depth(Data::Record(fields))
         }
         None => Err(Reason::NoField),
     }

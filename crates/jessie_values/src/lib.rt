@@ -1,7 +1,8 @@
-//! The pure functions of the contract language over data (operators, steps behind a value, built-in
-//! functions): each gives what its definition says of the trees, or why the step is bad.
+//! The pure functions of the contract language over data: operators, accesses behind a value, and
+//! built-in functions.
 #![tactic(auto)]
 
+pub mod accesses;
 pub mod built_ins;
 pub mod dispatch;
 pub mod literals;
@@ -10,6 +11,19 @@ mod parts;
 pub mod reasons;
 pub mod records;
 pub mod requests;
-pub mod steps;
 
-pub use jessie_grammar as jessie_grammar_lib;
+/// What `jessie_grammar` gives to those above.
+pub mod jessie_grammar_lib {
+    pub mod jessie_texts {
+        pub mod refusal {
+            pub use jessie_grammar::jessie_texts::refusal::{ReadError, TextRefusal};
+        }
+    }
+
+    pub mod syntax {
+        pub use jessie_grammar::syntax::{
+            Access, Branch, BuiltIn, Constant, Expr, Function, Literal, Module, Operator, Stmt,
+            Unary, Variable,
+        };
+    }
+}

@@ -1,6 +1,4 @@
-//! What operators make of values. Each tests the kinds of its sides first. None takes memory but `+` of
-//! two texts.
-
+//! What operators make of values of the kinds that they take.
 ghost use Rattle.std.specs.Prelude.{◌≡◌, ◌+◌, ◌+ℤ◌, ◌≤◌, ◌++◌, ◌↔◌, IfOk, IsTrue, length};
 ghost use Rattle.host_data.specs.View.{tree};
 ghost use Rattle.jessie_values.specs.Operators.{at_least, at_most, difference_of, equality, greater, has_parts, in_range, in_size, inequality, is_same, less, logical_not, most_bytes, opposite, order_of, product_of, quotient_of, rest_of, sameness, sum_of, truth};
@@ -55,7 +53,7 @@ pub fn sum_of(alloc: Global, left: Data, right: &Data) -> Result<Data, ValueFaul
             None => Err(ValueFault::BadStep(Reason::WrongKind)),
         },
         Data::Text(text) => match right.text() {
-            Some(more) => joined(alloc, text, more),
+            Some(more) => joint_text(alloc, text, more),
             None => Err(ValueFault::BadStep(Reason::WrongKind)),
         },
         _ => Err(ValueFault::BadStep(Reason::WrongKind)),
@@ -72,7 +70,7 @@ fn number_sum(a: i128, b: i128) -> Result<Data, Reason>
 }
 
 /// Both texts as one. The length is tested first.
-fn joined(alloc: Global, text: Text, more: &Text) -> Result<Data, ValueFault>
+fn joint_text(alloc: Global, text: Text, more: &Text) -> Result<Data, ValueFault>
     ensures { Gives tree result (in_size (text ++ more.now)) }
 {
     let Some(room) = MOST_BYTES.checked_sub(text.len()) else {
@@ -81,11 +79,11 @@ fn joined(alloc: Global, text: Text, more: &Text) -> Result<Data, ValueFault>
     if more.len() > room {
         return Err(ValueFault::BadStep(Reason::TooLarge));
     }
-    Ok(Data::Text(appended(alloc, text, more)?))
+    Ok(Data::Text(append(alloc, text, more)?))
 }
 
 /// Both texts as one new text, since a text that is made can't be appended to.
-fn appended(alloc: Global, text: Text, more: &Text) -> Result<Text, AllocError>
+fn append(alloc: Global, text: Text, more: &Text) -> Result<Text, AllocError>
     requires { length text + length more.now ≤ most_bytes }
     ensures { IfOk result (λ both. both ≡ text ++ more.now) }
 {

@@ -4,7 +4,7 @@ ghost use Rattle.std.specs.Prelude.{◌≡◌, ◌<◌, IfSome, IsNone, length, 
 ghost use Rattle.host_data.specs.Tree.{list_of, text_of};
 ghost use Rattle.host_data.specs.View.{tree, trees};
 ghost use Rattle.jessie_values.specs.Named.{IsFirstNamed, NotBefore};
-ghost use Rattle.jessie_values.specs.Steps.{place_in};
+ghost use Rattle.jessie_values.specs.Accesses.{place_in};
 
 use host_data::data::Data;
 use host_data::host_text_lib::text::Text;

@@ -1,7 +1,7 @@
 -- In a good world the instance of an invitation was made.
 use Rattle.std.proofs.Common.{ℕ, ◌<◌, length}
 use Rattle.rules.specs.turn_stores.Details.{no_details}
-use Rattle.rules.specs.OfferRows.{inviting}
+use Rattle.rules.specs.Zoe.{inviting}
 use Rattle.ertp_calls.proofs.world_laws.Lists.{all_read}
 use Rattle.rules.specs.world_state.Good.{IsGoodWorld, IsInvitation}
 use Rattle.rules.specs.world_state.Worlds.{State}

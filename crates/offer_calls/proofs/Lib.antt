@@ -1,7 +1,7 @@
 pub mod Inviting
 pub mod KeywordTests
 pub mod Pairs
-pub mod ReadRows
+pub mod ReadShares
 pub mod Steps
 pub mod Strange
 pub mod Values

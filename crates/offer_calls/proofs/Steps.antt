@@ -4,16 +4,16 @@ use Rattle.rules.specs.brands.declared.issuer_record.Issuer.{Issuer}
 use Rattle.refusals.specs.host_data.Amounts.{read_all}
 use Rattle.call_arguments.specs.Exits.{exit_in}
 use Rattle.refusals.specs.host_data.Tree.{Tree}
-use Rattle.rules.specs.proposals.declared.allocations.Row.{Row}
-use Rattle.call_arguments.specs.Records.{RowData, keywords, names}
+use Rattle.rules.specs.proposals.declared.allocations.Share.{Share}
+use Rattle.call_arguments.specs.Records.{ShareData, keywords, names}
 use Rattle.refusals.specs.Codes.{bad_exit, bad_value, keyword_mismatch}
 use Rattle.refusals.specs.Outcomes.{bind, none_such, wanted}
 use Rattle.refusals.specs.declared.codes.Refusal.{Refusal}
-use Rattle.rules.specs.OfferRows.{paid}
+use Rattle.rules.specs.Zoe.{paid}
 use Rattle.rules.specs.Proposals.{least_alone, part, proposed, valued}
 use Rattle.rules.specs.world_state.Worlds.{State}
-use Rattle.offer_calls.specs.Paying.{are_paid, paid_by}
-use Rattle.offer_calls.specs.Reading.{Given, can_stand, given, proposed_by, read_by, rule_of, standing, valued_row, with_give}
+use Rattle.offer_calls.specs.PaymentSteps.{are_paid, paid_by}
+use Rattle.offer_calls.specs.ProposalSteps.{Given, can_stand, given, proposed_by, read_by, rule_of, standing, valued_share, with_give}
 use Rattle.offer_calls.proofs.Values.{valued_each}
 
 -- ---- chains
@@ -34,8 +34,8 @@ bind_bind (Err e) f g = refl
 
 -- ---- the steps
 
-valued_same : {B : Type 0} (rows : List RowData) (f : List Row → Result B Refusal) → bind (wanted (read_all valued_row rows) bad_value) f ≡ bind (valued rows) f
-valued_same rows f = ap (λ r. bind r f) (sym (valued_each rows))
+valued_same : {B : Type 0} (shares : List ShareData) (f : List Share → Result B Refusal) → bind (wanted (read_all valued_share shares) bad_value) f ≡ bind (valued shares) f
+valued_same shares f = ap (λ r. bind r f) (sym (valued_each shares))
 
 -- what is proposed by what was given, as one chain
 proposed_chain : (g : Given) (rule : Tree) → proposed_by g rule ≡ bind (valued g.give) (λ gives. bind (valued g.want) (λ wants. bind (wanted (exit_in rule) bad_exit) (λ exit. bind (none_such (least_alone (keywords g.give) (names g.payments)) keyword_mismatch) (λ _. Ok (record { proposal = record { give = gives; want = wants; exit = exit }; payments = g.payments })))))
@@ -59,7 +59,7 @@ proposed_steps issuers proposal payments =
     bind_same _ _ _ (λ known.
     proposed_chain (record { give = give; want = want; payments = fields }) (part (codes "exit") proposal)))))))))
 
-pub paid_steps : (w : State) (invitation : ℕ) (give : List Row) (given : List (List ℕ × Tree)) → paid_by w invitation give given ≡ paid w invitation give given
+pub paid_steps : (w : State) (invitation : ℕ) (give : List Share) (given : List (List ℕ × Tree)) → paid_by w invitation give given ≡ paid w invitation give given
 unfolding paid_by paid are_paid
 paid_steps w invitation give given =
     bind_same _ _ _ (λ payments.

@@ -2,8 +2,8 @@
 //! next.
 #![tactic(auto)]
 
-pub mod invited;
+pub mod invitation;
 pub mod keywords;
-pub mod offers;
-pub mod paying;
-pub mod proposing;
+pub mod offer;
+pub mod payments;
+pub mod proposal;

@@ -1,7 +1,7 @@
 -- What leads to a promise is settled with it, and a promise that follows another just as that one is.
 use Rattle.std.proofs.Common.{◌≡◌, ◌≢◌, ℕ, ◌<◌, List, [], ◌∷◌, ◌++◌, length, ◌⊎◌, inl, inr, refl, sym, ap, ◌∙◌, subst, arith, map, Option, None, Some, true, Result, Ok, Err, IfOk, OnOk}
 use Rattle.std.proofs.lemmas.List.{get_or_append_left, get_or_push, length-map, map-append}
-use Rattle.promise_store.specs.declared.links.Event.{Event}
+use Rattle.promise_store.specs.declared.links.Consequence.{Consequence}
 use Rattle.promise_store.specs.declared.links.Following.{Following}
 use Rattle.promise_store.specs.declared.links.Outcome.{Outcome}
 use Rattle.promise_store.specs.declared.settlement.Settlement.{Settlement}
@@ -54,7 +54,7 @@ leads_over fs p q _ a here = a
 leads_over fs p q _ a (through n r e l) = through n r e (leads_over fs p q r a l)
 
 -- what is settled with these leads to one of them
-leads_to_one : (l : Linked) (qs : List ℕ) (es : List Event) → IsForest l.follows → Settles l qs es → (n : ℕ) → Among n (settled_in es) → (q : ℕ) × Among q qs × LeadsTo l.follows q n
+leads_to_one : (l : Linked) (qs : List ℕ) (es : List Consequence) → IsForest l.follows → Settles l qs es → (n : ℕ) → Among n (settled_in es) → (q : ℕ) × Among q qs × LeadsTo l.follows q n
 leads_to_one l _ _ h none n m = absurd m
 leads_to_one l _ _ h (first q qs below rest es sb sr e) n m =
     let parts = subst (Among n) (settled_parts l q below rest es e) m in
@@ -70,14 +70,14 @@ leads_to_one l _ _ h (first q qs below rest es sb sr e) n m =
     ]
 
 -- each of these is settled, and so are the followers of each that is
-settled_themselves : (l : Linked) (qs : List ℕ) (es : List Event) → Settles l qs es → (q : ℕ) → Among q qs → Among q (settled_in es)
+settled_themselves : (l : Linked) (qs : List ℕ) (es : List Consequence) → Settles l qs es → (q : ℕ) → Among q qs → Among q (settled_in es)
 settled_themselves l _ _ none q m = absurd m
 settled_themselves l _ _ (first p qs below rest es sb sr e) q m = subst (Among q) (sym (settled_parts l p below rest es e)) (elim m [
   | inl x ↦ inl x
   | inr a ↦ inr (among_right q (settled_in below) (settled_in rest) (settled_themselves l qs rest sr q a))
 ])
 
-followers_settled : (l : Linked) (qs : List ℕ) (es : List Event) → Settles l qs es → (q n : ℕ) → Among q (settled_in es) → Among n (followers l.follows q) → Among n (settled_in es)
+followers_settled : (l : Linked) (qs : List ℕ) (es : List Consequence) → Settles l qs es → (q n : ℕ) → Among q (settled_in es) → Among n (followers l.follows q) → Among n (settled_in es)
 followers_settled l _ _ none q n m a = absurd m
 followers_settled l _ _ (first p qs below rest es sb sr e) q n m a =
     subst (Among n) (sym (settled_parts l p below rest es e)) (elim (subst (Among q) (settled_parts l p below rest es e) m) [
@@ -89,12 +89,12 @@ followers_settled l _ _ (first p qs below rest es sb sr e) q n m a =
     ])
 
 -- what is settled with p is all that leads to it
-leads_to_it : (l : Linked) (p : ℕ) (es : List Event) → IsForest l.follows → Settles l (p ∷ []) es → (n : ℕ) → Among n (settled_in es) → LeadsTo l.follows p n
+leads_to_it : (l : Linked) (p : ℕ) (es : List Consequence) → IsForest l.follows → Settles l (p ∷ []) es → (n : ℕ) → Among n (settled_in es) → LeadsTo l.follows p n
 leads_to_it l p es h s n m =
     let w = leads_to_one l (p ∷ []) es h s n m in
     elim w.1 [ inl e ↦ subst (λ q. LeadsTo l.follows q n) (sym e) w.2 | inr f ↦ absurd f ]
 
-settles_leading : (l : Linked) (p : ℕ) (es : List Event) → Settles l (p ∷ []) es → (n : ℕ) → LeadsTo l.follows p n → Among n (settled_in es)
+settles_leading : (l : Linked) (p : ℕ) (es : List Consequence) → Settles l (p ∷ []) es → (n : ℕ) → LeadsTo l.follows p n → Among n (settled_in es)
 settles_leading l p es s _ here = settled_themselves l (p ∷ []) es s p (inl refl)
 settles_leading l p es s _ (through n q e lead) = followers_settled l (p ∷ []) es s q n (settles_leading l p es s q lead) (follows_among l.follows n q e)
 
@@ -109,7 +109,7 @@ settled_here k (p ∷ ps) os n m = elim (among_or_not n ps) [
 ]
 
 -- promises are settled, and each that follows another is settled as that one is
-pub alike_settled : (l : Linked) (k p : ℕ) (es : List Event) → IsForest l.follows → leader l.follows p ≡ None → AreAlike l.follows l.outcomes → Settles l (p ∷ []) es
+pub alike_settled : (l : Linked) (k p : ℕ) (es : List Consequence) → IsForest l.follows → leader l.follows p ≡ None → AreAlike l.follows l.outcomes → Settles l (p ∷ []) es
     → AreAlike l.follows (with_outcomes k (settled_in es) l.outcomes)
 alike_settled l k p es h free a s = record {
   each = λ n q e.
@@ -147,7 +147,7 @@ state_push ss v (Some k) q h =
     ap settled (ap (λ vs. settlement_at vs k) (map-append settlement_view ss (v ∷ [])) ∙ get_or_append_left views (settlement_view v ∷ []) (broken null) k within)
 
 -- what a promise is settled with goes to all that leads to it, and nothing else changes
-pub settled_with : {R : Type 0} (old new : LinkedTurn) (entries : List R) (ss : List Settlement) (v : Settlement) (p : ℕ) (es : List Event) → IsForest old.now.follows → Settles old.now (p ∷ []) es
+pub settled_with : {R : Type 0} (old new : LinkedTurn) (entries : List R) (ss : List Settlement) (v : Settlement) (p : ℕ) (es : List Consequence) → IsForest old.now.follows → Settles old.now (p ∷ []) es
     → are_numbered (length ss) old.now.outcomes ≡ true → new ≡ links_changed (settling (length ss) (settled_in es)) old
     → AreSettledWith (settled (settlement_view v)) p (record { links = old.now; entries = entries; settlements = map settlement_view ss }) (record { links = new.now; entries = entries; settlements = map settlement_view (ss ++ v ∷ []) })
 settled_with old new entries ss v p es h settles numbered is =
@@ -164,7 +164,7 @@ settled_with old new entries ss v p es h settles numbered is =
     }
 
 -- and so does a settlement that is there
-pub settled_as : {R E V : Type 0} (items : V → List Event) (r : Result V E) (old new : LinkedTurn) (entries : List R) (views : List SettlementView) (k p t : ℕ) → IsForest old.now.follows
+pub settled_as : {R E V : Type 0} (items : V → List Consequence) (r : Result V E) (old new : LinkedTurn) (entries : List R) (views : List SettlementView) (k p t : ℕ) → IsForest old.now.follows
     → settlement_of old.now.outcomes t ≡ Some k → IfOk r (λ v. Settles old.now (p ∷ []) (items v)) → IfOk r (λ v. new ≡ links_changed (settling k (settled_in (items v))) old)
     → OnOk r (AreSettledWith (state_of views (settlement_of old.now.outcomes t) (leader old.now.follows t)) p (record { links = old.now; entries = entries; settlements = views }) (record { links = new.now; entries = entries; settlements = views }))
 settled_as items (Err e) old new entries views k p t h there settles is = tt

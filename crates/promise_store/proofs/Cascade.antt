@@ -5,13 +5,13 @@ use Rattle.std.proofs.lemmas.List.{append-nil, append_assoc, map-append, reverse
 use Rattle.std.proofs.lemmas.List.Sums.{sum_by-append, sum_by-cons}
 use Rattle.std.proofs.lemmas.List.Sorted.{sum_by-IsPermutation, IsPermutation-reverse}
 use Rattle.promise_store.specs.declared.links.Following.{Following}
-use Rattle.promise_store.specs.declared.links.Event.{Event}
-use Rattle.promise_store.specs.declared.links.Event.TheVariants.{Settled}
-use Rattle.promise_store.specs.declared.links.Step.{Step}
-use Rattle.promise_store.specs.declared.links.Step.TheVariants.{Settle, Notify}
+use Rattle.promise_store.specs.declared.links.Consequence.{Consequence}
+use Rattle.promise_store.specs.declared.links.Consequence.TheVariants.{Settled}
+use Rattle.promise_store.specs.declared.links.Todo.{Todo}
+use Rattle.promise_store.specs.declared.links.Todo.TheVariants.{Settle, Notify}
 use Rattle.promise_store.specs.Linked.{Linked, leader, followers, IsForest}
 use Rattle.promise_store.specs.Cascade.{Settles, none, first, notifications}
-use Rattle.promise_store.specs.Steps.{settle_step, further, shown}
+use Rattle.promise_store.specs.Steps.{settle_todo, further, shown}
 use Rattle.promise_store.proofs.Forest.{height, limit, height_within, higher}
 use Rattle.promise_store.proofs.Changes.{each_at, followers_here, followers_other, leader_here, leader_other}
 
@@ -62,46 +62,46 @@ weighs_at fs p (suc d) h e = omega (arith, sum_led fs p d (followers fs p) h (le
 pub weighs : (fs : List Following) (p : ℕ) → IsForest fs → whole_weight fs p ≡ 2 + sum_by (whole_weight fs) (followers fs p)
 weighs fs p h = weighs_at fs p (limit fs - height fs p) h refl
 
-abbrev pub step_weight : List Following → Step → ℕ
+abbrev pub step_weight : List Following → Todo → ℕ
 step_weight fs (Settle p) = whole_weight fs p
 step_weight fs (Notify p) = 1
 
-sum_steps : (fs : List Following) (qs : List ℕ) → sum_by (step_weight fs) (map settle_step qs) ≡ sum_by (whole_weight fs) qs
+sum_steps : (fs : List Following) (qs : List ℕ) → sum_by (step_weight fs) (map settle_todo qs) ≡ sum_by (whole_weight fs) qs
 sum_steps fs [] = refl
-sum_steps fs (q ∷ qs) = omega (arith, sum_steps fs qs, sum_by-cons (step_weight fs) (Settle q) (map settle_step qs), sum_by-cons (whole_weight fs) q qs)
+sum_steps fs (q ∷ qs) = omega (arith, sum_steps fs qs, sum_by-cons (step_weight fs) (Settle q) (map settle_todo qs), sum_by-cons (whole_weight fs) q qs)
 
-lighter : (l : Linked) (s : Step) → IsForest l.follows → sum_by (step_weight l.follows) (further l s) < step_weight l.follows s
+lighter : (l : Linked) (s : Todo) → IsForest l.follows → sum_by (step_weight l.follows) (further l s) < step_weight l.follows s
 lighter l (Settle p) h =
     let qs = followers l.follows p in
-    omega (arith, weighs l.follows p h, sum_by-cons (step_weight l.follows) (Notify p) (map settle_step (reverse qs)), sum_steps l.follows (reverse qs), sum_by-IsPermutation (whole_weight l.follows) qs (reverse qs) (IsPermutation-reverse qs))
+    omega (arith, weighs l.follows p h, sum_by-cons (step_weight l.follows) (Notify p) (map settle_todo (reverse qs)), sum_steps l.follows (reverse qs), sum_by-IsPermutation (whole_weight l.follows) qs (reverse qs) (IsPermutation-reverse qs))
 lighter l (Notify p) h = omega arith
 
-pub lighter_todo : (l : Linked) (s : Step) (todo : List Step) → IsForest l.follows → sum_by (step_weight l.follows) (todo ++ further l s) < sum_by (step_weight l.follows) (todo ++ s ∷ [])
+pub lighter_todo : (l : Linked) (s : Todo) (todo : List Todo) → IsForest l.follows → sum_by (step_weight l.follows) (todo ++ further l s) < sum_by (step_weight l.follows) (todo ++ s ∷ [])
 lighter_todo l s todo h =
     omega (arith, lighter l s h, sum_by-append (step_weight l.follows) todo (further l s), sum_by-append (step_weight l.follows) todo (s ∷ []), sum_by-cons (step_weight l.follows) s [])
 
 -- these steps, the next first, come to these events
-abbrev pub Remains : Linked → List Step → List Event → Type 0
+abbrev pub Remains : Linked → List Todo → List Consequence → Type 0
 Remains l [] rest = rest ≡ []
-Remains l (Settle p ∷ steps) rest = (es : List Event) × (more : List Event) × Settles l (p ∷ []) es × Remains l steps more × (rest ≡ es ++ more)
-Remains l (Notify p ∷ steps) rest = (more : List Event) × Remains l steps more × (rest ≡ notifications l p ++ more)
+Remains l (Settle p ∷ steps) rest = (es : List Consequence) × (more : List Consequence) × Settles l (p ∷ []) es × Remains l steps more × (rest ≡ es ++ more)
+Remains l (Notify p ∷ steps) rest = (more : List Consequence) × Remains l steps more × (rest ≡ notifications l p ++ more)
 
-settles_none : (l : Linked) (es : List Event) → Settles l [] es → es ≡ []
+settles_none : (l : Linked) (es : List Consequence) → Settles l [] es → es ≡ []
 settles_none l _ none = refl
 
-joins : (l : Linked) (q : ℕ) (qs : List ℕ) (es fs : List Event) → Settles l (q ∷ []) es → Settles l qs fs → Settles l (q ∷ qs) (es ++ fs)
+joins : (l : Linked) (q : ℕ) (qs : List ℕ) (es fs : List Consequence) → Settles l (q ∷ []) es → Settles l qs fs → Settles l (q ∷ qs) (es ++ fs)
 joins l q qs es fs (first _ _ below rest _ sb sr e) s =
     let empty = settles_none l rest sr in
     first q qs below fs (es ++ fs) sb s
     (ap (λ xs. xs ++ fs) (e ∙ ap (λ xs. Settled q ∷ below ++ notifications l q ++ xs) empty) ∙ ap (λ xs. Settled q ∷ xs) (ap (λ xs. xs ++ fs) (append-nil (below ++ notifications l q))))
 
-split_settles : (l : Linked) (qs : List ℕ) (steps : List Step) (rest : List Event) → Remains l (map settle_step qs ++ steps) rest → (es : List Event) × (more : List Event) × Settles l qs es × Remains l steps more × (rest ≡ es ++ more)
+split_settles : (l : Linked) (qs : List ℕ) (steps : List Todo) (rest : List Consequence) → Remains l (map settle_todo qs ++ steps) rest → (es : List Consequence) × (more : List Consequence) × Settles l qs es × Remains l steps more × (rest ≡ es ++ more)
 split_settles l [] steps rest r = ([], rest, none, r, refl)
 split_settles l (q ∷ qs) steps rest r =
     let s = split_settles l qs steps r.1 r.3 in
     (r.0 ++ s.0, s.1, joins l q qs r.0 s.0 r.2 s.2, s.3, r.4 ∙ (ap (λ xs. r.0 ++ xs) s.4 ∙ sym (append_assoc r.0 s.0 s.1)))
 
-settled_first : (l : Linked) (p : ℕ) (steps : List Step) (rest : List Event) → Remains l (map settle_step (followers l.follows p) ++ Notify p ∷ steps) rest → Remains l (Settle p ∷ steps) (Settled p ∷ rest)
+settled_first : (l : Linked) (p : ℕ) (steps : List Todo) (rest : List Consequence) → Remains l (map settle_todo (followers l.follows p) ++ Notify p ∷ steps) rest → Remains l (Settle p ∷ steps) (Settled p ∷ rest)
 settled_first l p steps rest r =
     let s = split_settles l (followers l.follows p) (Notify p ∷ steps) rest r in
     let n = s.3 in
@@ -113,26 +113,26 @@ settled_first l p steps rest r =
       ap (λ xs. Settled p ∷ xs) (s.4 ∙ (ap (λ xs. s.0 ++ xs) n.2 ∙ (sym (append_assoc s.0 (notifications l p) n.0) ∙ ap (λ xs. xs ++ n.0) (sym (append-nil (s.0 ++ notifications l p)))))),
     )
 
-map_reverse : (qs : List ℕ) → reverse (map settle_step qs) ≡ map settle_step (reverse qs)
+map_reverse : (qs : List ℕ) → reverse (map settle_todo qs) ≡ map settle_todo (reverse qs)
 map_reverse [] = refl
 map_reverse (q ∷ qs) =
-    reverse-append (Settle q ∷ []) (map settle_step qs)
+    reverse-append (Settle q ∷ []) (map settle_todo qs)
     ∙ (ap (λ xs. xs ++ Settle q ∷ []) (map_reverse qs)
-    ∙ (sym (map-append settle_step (reverse qs) (q ∷ []))
-    ∙ ap (map settle_step) (sym (reverse-append (q ∷ []) qs))))
+    ∙ (sym (map-append settle_todo (reverse qs) (q ∷ []))
+    ∙ ap (map settle_todo) (sym (reverse-append (q ∷ []) qs))))
 
-turned : (qs : List ℕ) → reverse (map settle_step (reverse qs)) ≡ map settle_step qs
-turned qs = map_reverse (reverse qs) ∙ ap (map settle_step) (reverse-reverse qs)
+turned : (qs : List ℕ) → reverse (map settle_todo (reverse qs)) ≡ map settle_todo qs
+turned qs = map_reverse (reverse qs) ∙ ap (map settle_todo) (reverse-reverse qs)
 
-turned_todo : (p : ℕ) (qs : List ℕ) (todo : List Step) → reverse (todo ++ Notify p ∷ map settle_step (reverse qs)) ≡ map settle_step qs ++ (Notify p ∷ reverse todo)
+turned_todo : (p : ℕ) (qs : List ℕ) (todo : List Todo) → reverse (todo ++ Notify p ∷ map settle_todo (reverse qs)) ≡ map settle_todo qs ++ (Notify p ∷ reverse todo)
 turned_todo p qs todo =
-    let back = map settle_step (reverse qs) in
+    let back = map settle_todo (reverse qs) in
     reverse-append todo (Notify p ∷ back)
     ∙ (ap (λ xs. xs ++ reverse todo) (reverse-append (Notify p ∷ []) back ∙ ap (λ xs. xs ++ Notify p ∷ []) (turned qs))
-    ∙ append_assoc (map settle_step qs) (Notify p ∷ []) (reverse todo))
+    ∙ append_assoc (map settle_todo qs) (Notify p ∷ []) (reverse todo))
 
 -- a step is taken
-pub taken : (l : Linked) (s : Step) (todo : List Step) (rest : List Event) → Remains l (reverse (todo ++ further l s)) rest → Remains l (reverse (todo ++ s ∷ [])) (shown l s ++ rest)
+pub taken : (l : Linked) (s : Todo) (todo : List Todo) (rest : List Consequence) → Remains l (reverse (todo ++ further l s)) rest → Remains l (reverse (todo ++ s ∷ [])) (shown l s ++ rest)
 taken l (Settle p) todo rest r =
     subst (λ steps. Remains l steps (Settled p ∷ rest)) (sym (reverse-append todo (Settle p ∷ [])))
     (settled_first l p (reverse todo) rest (subst (λ steps. Remains l steps rest) (turned_todo p (followers l.follows p) todo) r))

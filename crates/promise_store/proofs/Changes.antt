@@ -5,8 +5,8 @@ use Rattle.std.proofs.lemmas.Bool.Decides.{nat_tests}
 use Rattle.std.proofs.lemmas.List.{get_or-set_same, get_or-set_other, get_or-take, take-append-le, length-take-le, length_push, take_all, length-set, append-nil, append_assoc, reverse-append, take_more}
 use Rattle.promise_store.specs.declared.links.Following.{Following}
 use Rattle.promise_store.specs.declared.links.Outcome.{Outcome}
-use Rattle.promise_store.specs.declared.links.Event.{Event}
-use Rattle.promise_store.specs.declared.links.Event.TheVariants.{Settled, Notified}
+use Rattle.promise_store.specs.declared.links.Consequence.{Consequence}
+use Rattle.promise_store.specs.declared.links.Consequence.TheVariants.{Settled, Notified}
 use Rattle.promise_store.specs.Cascade.{settled_in}
 use Rattle.promise_store.specs.Nodes.{Noted, bare, node_at, shorter, settlement_at, with_settlement, without_leader, without_follower, without_request}
 use Rattle.promise_store.specs.Linked.{leader, followers, requests_from, requests, settlement_of, noted_at, outcome, with_outcomes, LeadsTo, here, IsInOrder}
@@ -225,13 +225,13 @@ outcomes_pushed k (p ∷ ps) os =
     ∙ (outcomes_pushed k ps (os ++ outcome k p ∷ [])
     ∙ ap (with_outcomes k ps) (reverse-append os (outcome k p ∷ [])))
 
-pub settled_in_append : (es fs : List Event) → settled_in (es ++ fs) ≡ settled_in es ++ settled_in fs
+pub settled_in_append : (es fs : List Consequence) → settled_in (es ++ fs) ≡ settled_in es ++ settled_in fs
 settled_in_append [] fs = refl
 settled_in_append (Settled p ∷ es) fs = ap (λ (ps : List ℕ). p ∷ ps) (settled_in_append es fs)
 settled_in_append (Notified _ _ ∷ es) fs = settled_in_append es fs
 
 -- one more of the events
-pub settled_in_more : (es : List Event) (i : ℕ) (d : Event) → i < length es → settled_in (take (i + 1) es) ≡ settled_in (take i es) ++ settled_in (get_or es i d ∷ [])
+pub settled_in_more : (es : List Consequence) (i : ℕ) (d : Consequence) → i < length es → settled_in (take (i + 1) es) ≡ settled_in (take i es) ++ settled_in (get_or es i d ∷ [])
 settled_in_more es i d h = ap settled_in (take_more es i d h) ∙ settled_in_append (take i es) (get_or es i d ∷ [])
 
 pub with_settlement_append : (k : ℕ) (ps qs : List ℕ) (nodes : List Noted) → with_settlement k (ps ++ qs) nodes ≡ with_settlement k qs (with_settlement k ps nodes)

@@ -3,8 +3,8 @@ use Rattle.std.proofs.Common.{◌≡◌, ℕ, zero, suc, ◌≢◌, List, [], �
 use Rattle.std.proofs.lemmas.List.{append-nil}
 use Rattle.promise_store.specs.declared.links.Following.{Following}
 use Rattle.promise_store.specs.declared.links.Outcome.{Outcome}
-use Rattle.promise_store.specs.declared.links.Event.{Event}
-use Rattle.promise_store.specs.declared.links.Event.TheVariants.{Settled}
+use Rattle.promise_store.specs.declared.links.Consequence.{Consequence}
+use Rattle.promise_store.specs.declared.links.Consequence.TheVariants.{Settled}
 use Rattle.promise_store.specs.Nodes.{Noted}
 use Rattle.promise_store.specs.Linked.{Linked, leader, followers, requests, settlement_of, outcome, with_outcomes, IsForest, IsInOrder}
 use Rattle.promise_store.specs.Cascade.{Settles, none, first, notified, notifications, settled_in}
@@ -107,14 +107,14 @@ none_notified : (p : ℕ) (rs : List ℕ) → settled_in (map (notified p) rs) �
 none_notified p [] = refl
 none_notified p (r ∷ rs) = none_notified p rs
 
-pub settled_parts : (l : Linked) (q : ℕ) (below rest es : List Event) → es ≡ Settled q ∷ below ++ notifications l q ++ rest → settled_in es ≡ q ∷ (settled_in below ++ settled_in rest)
+pub settled_parts : (l : Linked) (q : ℕ) (below rest es : List Consequence) → es ≡ Settled q ∷ below ++ notifications l q ++ rest → settled_in es ≡ q ∷ (settled_in below ++ settled_in rest)
 settled_parts l q below rest es e =
     ap settled_in e ∙ ap (λ (ps : List ℕ). q ∷ ps)
     (settled_in_append (below ++ notifications l q) rest
     ∙ ap (λ (ps : List ℕ). ps ++ settled_in rest) (settled_in_append below (notifications l q) ∙ (ap (λ (ps : List ℕ). settled_in below ++ ps) (none_notified q (requests l.asked q)) ∙ append-nil (settled_in below))))
 
 -- what is settled with these leads to one of them
-covered : (l : Linked) (qs : List ℕ) (es : List Event) → IsForest l.follows → Settles l qs es → (n : ℕ) → Among n (settled_in es) → (q : ℕ) × Among q qs × Under l.follows n q
+covered : (l : Linked) (qs : List ℕ) (es : List Consequence) → IsForest l.follows → Settles l qs es → (n : ℕ) → Among n (settled_in es) → (q : ℕ) × Among q qs × Under l.follows n q
 covered l _ _ h none n m = absurd m
 covered l _ _ h (first q qs below rest es sb sr e) n m =
     let parts = subst (Among n) (settled_parts l q below rest es e) m in
@@ -153,7 +153,7 @@ ready_below fs os q k h qs t r =
           subst (λ s. IsSome (settlement_of (outcome k q ∷ os) s)) same (subst IsSome (sym (settled_head (outcome k q) os)) refl);
     }
 
-ready_rest : (l : Linked) (os : List Outcome) (q k h : ℕ) (qs : List ℕ) (below : List Event) → IsForest l.follows → IsReady l.follows os (q ∷ qs) h → Settles l (followers l.follows q) below
+ready_rest : (l : Linked) (os : List Outcome) (q k h : ℕ) (qs : List ℕ) (below : List Consequence) → IsForest l.follows → IsReady l.follows os (q ∷ qs) h → Settles l (followers l.follows q) below
     → IsReady l.follows (with_outcomes k (settled_in below) (outcome k q ∷ os)) qs h
 ready_rest l os q k h qs below t r sb =
     let fs = l.follows in
@@ -174,7 +174,7 @@ ready_rest l os q k h qs below t r sb =
       after = λ s p m e. settled_still k (q ∷ settled_in below) os p (r.after s p (inr m) e);
     }
 
-in_order : (l : Linked) (k : ℕ) (qs : List ℕ) (es : List Event) (os : List Outcome) (h : ℕ) → IsForest l.follows → Settles l qs es → IsInOrder l.follows os → IsReady l.follows os qs h → IsInOrder l.follows (with_outcomes k (settled_in es) os)
+in_order : (l : Linked) (k : ℕ) (qs : List ℕ) (es : List Consequence) (os : List Outcome) (h : ℕ) → IsForest l.follows → Settles l qs es → IsInOrder l.follows os → IsReady l.follows os qs h → IsInOrder l.follows (with_outcomes k (settled_in es) os)
 in_order l k _ _ os h t none o r = o
 in_order l k _ _ os h t (first q qs below rest es sb sr e) o r =
     let one : IsInOrder l.follows (outcome k q ∷ os) = (r.free q q (inl refl) (0, refl, omega arith), (λ p x. r.after q p (inl refl) x), o) in
@@ -190,7 +190,7 @@ free_or_settled fs os n p (Some k) e o free u =
     let bad : IsSome {T = ℕ} None = subst IsSome free there in grind arith
 
 -- what hangs on a promise that is pending and follows none is settled once, each after what it follows
-pub settled_in_order : (l : Linked) (k p : ℕ) (es : List Event) → IsForest l.follows → IsInOrder l.follows l.outcomes → leader l.follows p ≡ None → settlement_of l.outcomes p ≡ None
+pub settled_in_order : (l : Linked) (k p : ℕ) (es : List Consequence) → IsForest l.follows → IsInOrder l.follows l.outcomes → leader l.follows p ≡ None → settlement_of l.outcomes p ≡ None
     → Settles l (p ∷ []) es → IsInOrder l.follows (with_outcomes k (settled_in es) l.outcomes)
 settled_in_order l k p es t o top free s = in_order l k (p ∷ []) es l.outcomes (height l.follows p) t s o record {
   level = λ q m. elim m [ inl e ↦ ap (height l.follows) (sym e) | inr f ↦ absurd f ];
@@ -217,7 +217,7 @@ led_below nodes fs asked os p (q ∷ qs) a l = (
 )
 
 -- what is settled was made
-pub settled_below : (nodes : List Noted) (l : Linked) (qs : List ℕ) (es : List Event) → AreNodes nodes l.follows l.asked l.outcomes → AreBelow (length nodes) qs → Settles l qs es → AreBelow (length nodes) (settled_in es)
+pub settled_below : (nodes : List Noted) (l : Linked) (qs : List ℕ) (es : List Consequence) → AreNodes nodes l.follows l.asked l.outcomes → AreBelow (length nodes) qs → Settles l qs es → AreBelow (length nodes) (settled_in es)
 settled_below nodes l _ _ a b none = tt
 settled_below nodes l _ _ a b (first q qs below rest es sb sr e) =
     subst (AreBelow (length nodes)) (sym (settled_parts l q below rest es e)) (

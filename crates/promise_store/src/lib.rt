@@ -7,7 +7,13 @@ mod node;
 mod settlement;
 mod store;
 
-pub use host_data as host_data_lib;
-pub use links::Event;
+/// What `host_data` gives to those above.
+pub mod host_data_lib {
+    pub mod data {
+        pub use host_data::data::{Data, Obj, ObjKind};
+    }
+}
+
+pub use links::Consequence;
 pub use settlement::Settlement;
 pub use store::{FollowFault, MakeFault, Promises, State};

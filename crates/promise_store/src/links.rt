@@ -6,7 +6,7 @@ ghost use Rattle.std.specs.Prelude.{◌≡◌, ◌<◌, ◌≤◌, ◌↔◌, �
 ghost use Rattle.promise_store.specs.Cascade.{Settles, notified, settled_in};
 ghost use Rattle.promise_store.specs.Linked.{IsLinked, LeadsTo, asking, following, followers, leader, links_changed, most_made, none_made, one_more, outcome, requests, settlement_of, settling};
 ghost use Rattle.promise_store.specs.Nodes.{settlement_at, with_settlement, without_follower, without_leader, without_request};
-ghost use Rattle.promise_store.specs.Steps.{further, settle_step, shown};
+ghost use Rattle.promise_store.specs.Steps.{further, settle_todo, shown};
 ghost use Rattle.promise_store.specs.Undone.{UndoesAsked, UndoesFollows, UndoesOutcomes};
 
 use crate::node::Node;
@@ -15,7 +15,7 @@ use std::marker::Model;
 
 /// What comes of a settlement, in order.
 #[derive(Clone, Copy, PartialEq, Eq)]
-pub enum Event {
+pub enum Consequence {
     /// A promise is settled.
     Settled(u32),
     /// A request is answered: it asks for this promise, which is settled.
@@ -202,7 +202,11 @@ impl Links {
 
     /// Settles a promise that is pending and follows none, with all that hangs on it. Answers what
     /// comes of it, in order. On an error all is as before.
-    pub fn settle(&mut self, promise: u32, settlement: usize) -> Result<Vec<Event>, AllocError>
+    pub fn settle(
+        &mut self,
+        promise: u32,
+        settlement: usize,
+    ) -> Result<Vec<Consequence>, AllocError>
         requires made { promise < self.old.now.made }
         requires free { leader self.old.now.follows promise ≡ None }
         requires pending { settlement_of self.old.now.outcomes promise ≡ None }
@@ -217,13 +221,13 @@ impl Links {
     }
 
     /// What comes of settling a promise, in order.
-    fn hanging(&self, promise: u32) -> Result<Vec<Event>, AllocError>
+    fn hanging(&self, promise: u32) -> Result<Vec<Consequence>, AllocError>
         ensures { IfOk result (λ events. Settles self.now.now (promise ∷ []) events.items) }
     {
         self.valid();
         let alloc = *self.nodes.allocator();
         let mut todo = Vec::new(alloc);
-        todo.push(Step::Settle(promise))?;
+        todo.push(Todo::Settle(promise))?;
         let mut events = Vec::new(alloc);
         while let Some(step) = todo.pop() {
             self.take_step(step, &mut todo, &mut events)?;
@@ -234,20 +238,20 @@ impl Links {
     /// Takes a step: adds its events, and the steps that it leads to.
     fn take_step(
         &self,
-        step: Step,
-        todo: &mut Vec<Step>,
-        events: &mut Vec<Event>,
+        step: Todo,
+        todo: &mut Vec<Todo>,
+        events: &mut Vec<Consequence>,
     ) -> Result<(), AllocError>
         ensures todo { OnOk result (todo.new.items ≡ todo.old.items ++ further self.now.now step) }
         ensures events { OnOk result (events.new.items ≡ events.old.items ++ shown self.now.now step) }
     {
         match step {
-            Step::Settle(promise) => {
-                events.push(Event::Settled(promise))?;
-                todo.push(Step::Notify(promise))?;
+            Todo::Settle(promise) => {
+                events.push(Consequence::Settled(promise))?;
+                todo.push(Todo::Notify(promise))?;
                 push_settles(self.followers(promise), todo)
             }
-            Step::Notify(promise) => push_notifications(promise, self.requests(promise), events),
+            Todo::Notify(promise) => push_notifications(promise, self.requests(promise), events),
         }
     }
 
@@ -276,7 +280,7 @@ impl Links {
 
 /// What is still to be done, in settling.
 #[derive(Clone, Copy)]
-enum Step {
+enum Todo {
     /// A promise is settled, with all that hangs on it.
     Settle(u32),
     /// The requests that ask for a promise are answered.
@@ -284,11 +288,11 @@ enum Step {
 }
 
 /// The followers are to be settled, the first of them next.
-fn push_settles(followers: &[u32], todo: &mut Vec<Step>) -> Result<(), AllocError>
-    ensures { OnOk result (todo.new.items ≡ todo.old.items ++ map settle_step (reverse followers.now)) }
+fn push_settles(followers: &[u32], todo: &mut Vec<Todo>) -> Result<(), AllocError>
+    ensures { OnOk result (todo.new.items ≡ todo.old.items ++ map settle_todo (reverse followers.now)) }
 {
     for follower in followers.iter().rev() {
-        todo.push(Step::Settle(*follower))?;
+        todo.push(Todo::Settle(*follower))?;
     }
     Ok(())
 }
@@ -297,12 +301,12 @@ fn push_settles(followers: &[u32], todo: &mut Vec<Step>) -> Result<(), AllocErro
 fn push_notifications(
     promise: u32,
     requests: &[usize],
-    events: &mut Vec<Event>,
+    events: &mut Vec<Consequence>,
 ) -> Result<(), AllocError>
     ensures { OnOk result (events.new.items ≡ events.old.items ++ map (notified promise) requests.now) }
 {
     for request in requests {
-        events.push(Event::Notified {
+        events.push(Consequence::Notified {
             promise,
             request: *request,
         })?;
@@ -313,7 +317,7 @@ fn push_notifications(
 /// Notes what is settled, in order. On an error all is as before.
 fn note_outcomes(
     outcomes: &mut Vec<Outcome>,
-    events: &[Event],
+    events: &[Consequence],
     settlement: usize,
 ) -> Result<(), AllocError>
     ensures ok { OnOk result (outcomes.new.items ≡ outcomes.old.items ++ map (outcome settlement) (settled_in events.now)) }
@@ -330,7 +334,7 @@ fn note_outcomes(
 /// Notes what is settled, in order. On an error some of it is noted.
 fn push_outcomes(
     outcomes: &mut Vec<Outcome>,
-    events: &[Event],
+    events: &[Consequence],
     settlement: usize,
 ) -> Result<(), AllocError>
     ensures ok { OnOk result (outcomes.new.items ≡ outcomes.old.items ++ map (outcome settlement) (settled_in events.now)) }
@@ -345,13 +349,13 @@ fn push_outcomes(
 /// Notes a promise that is settled. On an error nothing is noted.
 fn push_outcome(
     outcomes: &mut Vec<Outcome>,
-    event: Event,
+    event: Consequence,
     settlement: usize,
 ) -> Result<(), AllocError>
     ensures ok { OnOk result (outcomes.new.items ≡ outcomes.old.items ++ map (outcome settlement) (settled_in (event ∷ []))) }
     ensures err { OnErr result (outcomes.new.items ≡ outcomes.old.items) }
 {
-    if let Event::Settled(promise) = event {
+    if let Consequence::Settled(promise) = event {
         outcomes.push(Outcome {
             promise,
             settlement,
@@ -361,7 +365,7 @@ fn push_outcome(
 }
 
 /// Marks what is settled.
-fn mark_outcomes(nodes: &mut Vec<Node>, events: &[Event], settlement: usize)
+fn mark_outcomes(nodes: &mut Vec<Node>, events: &[Consequence], settlement: usize)
     ensures { nodes.new.items ≡ with_settlement settlement (settled_in events.now) nodes.old.items }
 {
     for event in events {
@@ -370,10 +374,10 @@ fn mark_outcomes(nodes: &mut Vec<Node>, events: &[Event], settlement: usize)
 }
 
 /// Marks a promise that is settled.
-fn mark_outcome(nodes: &mut Vec<Node>, event: Event, settlement: usize)
+fn mark_outcome(nodes: &mut Vec<Node>, event: Consequence, settlement: usize)
     ensures { nodes.new.items ≡ with_settlement settlement (settled_in (event ∷ [])) nodes.old.items }
 {
-    if let Event::Settled(promise) = event {
+    if let Consequence::Settled(promise) = event {
         set_settlement(nodes, promise, Some(settlement));
     }
 }

@@ -1,9 +1,6 @@
 //! What a promise is settled with.
 
-ghost use Rattle.std.specs.Prelude.{◌≡◌};
-ghost use Rattle.promise_store.specs.States.{is_final, settlement_view};
-
-use host_data::data::{Data, ObjKind};
+use host_data::data::Data;
 
 /// What a promise is settled with (eventual send: it is fulfilled, or it is broken and the data is
 /// the reason).
@@ -18,18 +15,6 @@ impl Drop for Settlement {
         match self {
             Settlement::Ok(_) => {}
             Settlement::Broken(_) => {}
-        }
-    }
-}
-
-impl Settlement {
-    /// Whether it ends a promise: no other promise would have to be followed.
-    pub fn is_final(&self) -> bool
-        ensures { result ≡ is_final (settlement_view self.now) }
-    {
-        match self {
-            Settlement::Ok(Data::Object(object)) => !matches!(object.kind, ObjKind::Promise),
-            _ => true,
         }
     }
 }

@@ -10,7 +10,7 @@ ghost use Rattle.promise_store.specs.Turns.{AreSettledWith, ComesOfFollowing, an
 ghost use Rattle.promise_store.specs.declared.store.FollowFault.TheVariants as faults;
 ghost use Rattle.promise_store.specs.declared.store.MakeFault.TheVariants as make_faults;
 
-use crate::links::{Event, Links};
+use crate::links::{Consequence, Links};
 use crate::settlement::Settlement;
 use std::alloc::{AllocError, Global};
 
@@ -128,7 +128,11 @@ impl<R: Drop> Promises<R> {
     /// answers the requests that ask for each after that. Every promise that leads to it is settled
     /// with the same, and each other is what it was. Answers what comes of it, in order. For want of
     /// memory the settlement comes back, and all is as before.
-    pub fn settle(&mut self, promise: u32, settlement: Settlement) -> Result<Vec<Event>, Settlement>
+    pub fn settle(
+        &mut self,
+        promise: u32,
+        settlement: Settlement,
+    ) -> Result<Vec<Consequence>, Settlement>
         requires made { promise < (links_now self.old).made }
         requires is_pending { state_at (now_of self.old) promise ≡ pending }
         requires is_final { IsTrue (is_final (settlement_view settlement)) }
@@ -153,7 +157,7 @@ impl<R: Drop> Promises<R> {
     /// it). Where that one is settled, it is settled at once with the same, with all that hangs on
     /// it, and what comes of it is answered, in order. A promise that would follow itself, at once
     /// or through others, is refused. On an error all is as before.
-    pub fn follow(&mut self, promise: u32, target: u32) -> Result<Vec<Event>, FollowFault>
+    pub fn follow(&mut self, promise: u32, target: u32) -> Result<Vec<Consequence>, FollowFault>
         requires promise_made { promise < (links_now self.old).made }
         requires target_made { target < (links_now self.old).made }
         requires is_pending { state_at (now_of self.old) promise ≡ pending }
@@ -181,7 +185,7 @@ impl<R: Drop> Promises<R> {
     /// Asks to be told when a promise is settled; the entry is what the request holds. Where the
     /// promise is settled, the request is answered at once. For want of memory the entry comes
     /// back, and all is as before.
-    pub fn when(&mut self, promise: u32, entry: R) -> Result<Option<Event>, R>
+    pub fn when(&mut self, promise: u32, entry: R) -> Result<Option<Consequence>, R>
         requires { promise < (links_now self.old).made }
         ensures event { IfOk result (λ event. event ≡ answer_at_once (links_now self.old) promise) }
         ensures ok { OnOk result (Becomes (with_request promise entry) self.old self.new) }
@@ -219,7 +223,7 @@ fn settle_with_next(
     links: &mut Links,
     settlements: &mut Vec<Settlement>,
     promise: u32,
-) -> Result<Vec<Event>, AllocError>
+) -> Result<Vec<Consequence>, AllocError>
     requires made { promise < links.old.now.made }
     requires free { leader links.old.now.follows promise ≡ None }
     requires pending { settlement_of links.old.now.outcomes promise ≡ None }
@@ -238,7 +242,7 @@ fn follow_settled(
     links: &mut Links,
     promise: u32,
     settlement: usize,
-) -> Result<Vec<Event>, FollowFault>
+) -> Result<Vec<Consequence>, FollowFault>
     requires made { promise < links.old.now.made }
     requires free { leader links.old.now.follows promise ≡ None }
     requires pending { settlement_of links.old.now.outcomes promise ≡ None }
@@ -259,7 +263,7 @@ fn ask_next<R: Drop>(
     links: &mut Links,
     entries: &mut Vec<R>,
     promise: u32,
-) -> Result<Option<Event>, AllocError>
+) -> Result<Option<Consequence>, AllocError>
     requires made { promise < links.old.now.made }
     ensures event { IfOk result (λ event. event ≡ answer_at_once links.old.now promise) }
     ensures ok { OnOk result (links.new ≡ links_changed (asking promise) links.old) }
@@ -270,7 +274,7 @@ fn ask_next<R: Drop>(
     entries.reserve(1)?;
     let request = links.ask(promise)?;
     match links.settlement(promise) {
-        Some(_) => Ok(Some(Event::Notified { promise, request })),
+        Some(_) => Ok(Some(Consequence::Notified { promise, request })),
         None => Ok(None),
     }
 }

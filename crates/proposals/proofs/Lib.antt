@@ -1,5 +1,5 @@
-pub mod RowLists
-pub mod RowsKeyed
+pub mod ShareLists
+pub mod SharesKeyed
 pub mod SlotLists
 pub mod Coverings
 pub mod Leasts

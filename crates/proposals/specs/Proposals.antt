@@ -1,8 +1,8 @@
 -- The numbers that stand for a proposal, which a model needs.
 use Rattle.std.specs.Prelude.{◌≡◌, ℕ, zero, suc, List, refl}
 use Rattle.std.specs.Coded.{Coded, code_by, coded×, coded_list, coded_ℕ}
-use Rattle.proposals.specs.Rows.{coded_row}
-use Rattle.proposals.specs.declared.allocations.Row.{Row}
+use Rattle.proposals.specs.Shares.{coded_share}
+use Rattle.proposals.specs.declared.allocations.Share.{Share}
 use Rattle.proposals.specs.declared.offers.Exit.{Exit}
 use Rattle.proposals.specs.declared.offers.Exit.TheVariants.{AfterDeadline, OnDemand, Waived}
 use Rattle.proposals.specs.declared.offers.Proposal.{Proposal}
@@ -26,4 +26,4 @@ abbrev pub coded_exit : Coded Exit
 coded_exit = code_by ℕ coded_ℕ exit_number exit_of exit_back
 
 abbrev pub coded_proposal : Coded Proposal
-coded_proposal = code_by (List Row × (List Row × Exit)) (coded× (coded_list coded_row) (coded× (coded_list coded_row) coded_exit)) (λ p. (p.give, (p.want, p.exit))) (λ p. record { give = p.0; want = p.1.0; exit = p.1.1 }) (λ _. refl)
+coded_proposal = code_by (List Share × (List Share × Exit)) (coded× (coded_list coded_share) (coded× (coded_list coded_share) coded_exit)) (λ p. (p.give, (p.want, p.exit))) (λ p. record { give = p.0; want = p.1.0; exit = p.1.1 }) (λ _. refl)

@@ -3,7 +3,7 @@
 ghost use Rattle.std.specs.Prelude.{◌≡◌, ◌<◌, ◌↔◌, ◌++◌, ◌∷◌, [], None, length, string_bytes, IfOk, IsTrue, OnErr, OnOk};
 ghost use Rattle.std.specs.Option.{option_copied};
 ghost use Rattle.indexmap.specs.IndexMap.{values};
-ghost use Rattle.proposals.specs.Rows.{AreKeyed, AreRows, amount_under, most_rows, row_of};
+ghost use Rattle.proposals.specs.Shares.{AreKeyed, AreShares, amount_under, most_shares, keyed_share};
 
 use host_data::amount_math_lib::Amount;
 use host_data::host_text_lib::keyword::Keyword;
@@ -11,30 +11,30 @@ use indexmap::IndexMap;
 use std::alloc::{AllocError, Global};
 use std::marker::Model;
 
-/// The most rows of an allocation (own).
-pub const MOST_ROWS: usize = 64;
+/// The most shares of an allocation (own).
+pub const MOST_SHARES: usize = 64;
 
 /// An amount under a keyword.
-pub struct Row {
+pub struct Share {
     pub keyword: Keyword,
     pub amount: Amount,
 }
 
-impl Drop for Row {
+impl Drop for Share {
     fn drop(self) {
-        let Row {
+        let Share {
             keyword: _,
             amount: _,
         } = self;
     }
 }
 
-impl Row {
+impl Share {
     /// A copy. The keyword and the keys of a value take memory.
-    pub fn copy(&self, alloc: Global) -> Result<Row, AllocError>
+    pub fn copy(&self, alloc: Global) -> Result<Share, AllocError>
         ensures { IfOk result (λ copy. copy ≡ self.now) }
     {
-        Ok(Row {
+        Ok(Share {
             keyword: self.keyword.copy(alloc)?,
             amount: Amount {
                 brand: self.amount.brand,
@@ -45,87 +45,87 @@ impl Row {
 }
 
 /// A record from keyword to amount (Zoe's AmountKeywordRecord). It keeps the order of adding (own).
-/// Contracts see it as its rows.
+/// Contracts see it as its shares.
 pub struct Allocation {
-    /// Each row by the text of its keyword.
-    rows: IndexMap<String, Row>,
+    /// Each share by the text of its keyword.
+    shares: IndexMap<String, Share>,
 }
 
 impl Drop for Allocation {
     fn drop(self) {
-        let Allocation { rows: _ } = self;
+        let Allocation { shares: _ } = self;
     }
 }
 
 impl Model for Allocation {
     ghost use Rattle.std.specs.Prelude.{List};
     ghost use Rattle.std.specs.Coded.{coded_list};
-    ghost use Rattle.proposals.specs.declared.allocations.Row.{Row};
+    ghost use Rattle.proposals.specs.declared.allocations.Share.{Share};
     ghost use Rattle.indexmap.specs.IndexMap.{values};
-    ghost use Rattle.proposals.specs.Rows.{AreKeyed, coded_row};
+    ghost use Rattle.proposals.specs.Shares.{AreKeyed, coded_share};
 
-    ghost Value = { List Row };
+    ghost Value = { List Share };
 
-    ghost coded = { coded_list coded_row };
+    ghost coded = { coded_list coded_share };
 
-    ghost view = { λ a. values a.rows };
+    ghost view = { λ a. values a.shares };
 
-    ghost invariant = { λ a. AreKeyed a.rows.entries };
+    ghost invariant = { λ a. AreKeyed a.shares.entries };
 }
 
 impl Allocation {
-    /// An allocation without rows.
+    /// An allocation without shares.
     pub fn new(alloc: Global) -> Allocation
         ensures { result ≡ [] }
     {
         Allocation {
-            rows: IndexMap::new(alloc),
+            shares: IndexMap::new(alloc),
         }
     }
 
-    /// The allocation of rows, each of a keyword of its own.
-    pub fn from_rows(alloc: Global, rows: Vec<Row>) -> Result<Allocation, AllocError>
-        requires { AreRows rows.items }
-        ensures { IfOk result (λ a. a ≡ rows.items) }
+    /// The allocation of shares, each of a keyword of its own.
+    pub fn from_shares(alloc: Global, shares: Vec<Share>) -> Result<Allocation, AllocError>
+        requires { AreShares shares.items }
+        ensures { IfOk result (λ a. a ≡ shares.items) }
     {
         let mut made = Allocation::new(alloc);
-        for row in rows {
-            made.add(alloc, row)?;
+        for share in shares {
+            made.add(alloc, share)?;
         }
         Ok(made)
     }
 
-    /// How many rows it has.
+    /// How many shares it has.
     pub fn len(&self) -> usize
         ensures { result ≡ length self.now }
     {
-        self.rows.len()
+        self.shares.len()
     }
 
-    /// Whether it has no rows.
+    /// Whether it has no shares.
     pub fn is_empty(&self) -> bool
         ensures { IsTrue result ↔ (self.now ≡ []) }
     {
-        self.rows.is_empty()
+        self.shares.is_empty()
     }
 
-    /// Its rows, in their order.
-    pub fn rows(&self) -> &[Row]
+    /// Its shares, in their order.
+    pub fn shares(&self) -> &[Share]
         ensures value { result.now ≡ self.now }
-        ensures rows { AreRows self.now }
+        ensures shares { AreShares self.now }
     {
-        self.rows.values().as_slice()
+        self.shares.values().as_slice()
     }
 
     /// What stands under a keyword.
     pub fn get(&self, keyword: &Keyword) -> Option<&Amount>
         ensures { option_copied result ≡ amount_under keyword.now self.now }
     {
-        let row = self.rows.get(keyword.as_str())?;
-        Some(&row.amount)
+        let share = self.shares.get(keyword.as_str())?;
+        Some(&share.amount)
     }
 
-    /// Adds a row of a keyword that isn't there, last. On an error all is as before.
+    /// Adds a share of a keyword that isn't there, last. On an error all is as before.
     pub fn push(
         &mut self,
         alloc: Global,
@@ -133,32 +133,32 @@ impl Allocation {
         amount: Amount,
     ) -> Result<(), AllocError>
         requires free { amount_under keyword self.old ≡ None }
-        requires room { length self.old < most_rows }
-        ensures ok { OnOk result (self.new ≡ self.old ++ row_of keyword amount ∷ []) }
+        requires room { length self.old < most_shares }
+        ensures ok { OnOk result (self.new ≡ self.old ++ keyed_share keyword amount ∷ []) }
         ensures err { OnErr result (self.new ≡ self.old) }
     {
-        self.add(alloc, Row { keyword, amount })
+        self.add(alloc, Share { keyword, amount })
     }
 
-    /// Adds a row of a keyword that isn't there, last. On an error all is as before.
-    fn add(&mut self, alloc: Global, row: Row) -> Result<(), AllocError>
-        requires free { amount_under row.keyword self.old ≡ None }
-        requires room { length self.old < most_rows }
-        ensures ok { OnOk result (self.new ≡ self.old ++ row ∷ []) }
+    /// Adds a share of a keyword that isn't there, last. On an error all is as before.
+    fn add(&mut self, alloc: Global, share: Share) -> Result<(), AllocError>
+        requires free { amount_under share.keyword self.old ≡ None }
+        requires room { length self.old < most_shares }
+        ensures ok { OnOk result (self.new ≡ self.old ++ share ∷ []) }
         ensures err { OnErr result (self.new ≡ self.old) }
     {
-        let name = String::from_str(alloc, row.keyword.as_str())?;
-        insert(&mut self.rows, name, row)
+        let name = String::from_str(alloc, share.keyword.as_str())?;
+        insert(&mut self.shares, name, share)
     }
 
-    /// Adds a copy of a row of a keyword that isn't there, last. On an error all is as before.
-    fn add_copy(&mut self, alloc: Global, row: &Row) -> Result<(), AllocError>
-        requires free { amount_under row.now.keyword self.old ≡ None }
-        requires room { length self.old < most_rows }
-        ensures ok { OnOk result (self.new ≡ self.old ++ row.now ∷ []) }
+    /// Adds a copy of a share of a keyword that isn't there, last. On an error all is as before.
+    fn add_copy(&mut self, alloc: Global, share: &Share) -> Result<(), AllocError>
+        requires free { amount_under share.now.keyword self.old ≡ None }
+        requires room { length self.old < most_shares }
+        ensures ok { OnOk result (self.new ≡ self.old ++ share.now ∷ []) }
         ensures err { OnErr result (self.new ≡ self.old) }
     {
-        let copy = row.copy(alloc)?;
+        let copy = share.copy(alloc)?;
         self.add(alloc, copy)
     }
 
@@ -167,24 +167,28 @@ impl Allocation {
         ensures { IfOk result (λ copy. copy ≡ self.now) }
     {
         let mut made = Allocation::new(alloc);
-        for row in self.rows() {
-            made.add_copy(alloc, row)?;
+        for share in self.shares() {
+            made.add_copy(alloc, share)?;
         }
         Ok(made)
     }
 }
 
-/// Enters a row under the text of its keyword, which isn't there, last. On an error all is as before.
-fn insert(rows: &mut IndexMap<String, Row>, name: String, row: Row) -> Result<(), AllocError>
-    requires named { string_bytes name ≡ row.keyword }
-    requires keyed { AreKeyed rows.old.entries }
-    requires free { amount_under row.keyword (values rows.old) ≡ None }
-    requires room { length (values rows.old) < most_rows }
-    ensures ok { OnOk result (values rows.new ≡ values rows.old ++ row ∷ []) }
-    ensures err { OnErr result (values rows.new ≡ values rows.old) }
-    ensures keyed { AreKeyed rows.new.entries }
+/// Enters a share under the text of its keyword, which isn't there, last. On an error all is as before.
+fn insert(
+    shares: &mut IndexMap<String, Share>,
+    name: String,
+    share: Share,
+) -> Result<(), AllocError>
+    requires named { string_bytes name ≡ share.keyword }
+    requires keyed { AreKeyed shares.old.entries }
+    requires free { amount_under share.keyword (values shares.old) ≡ None }
+    requires room { length (values shares.old) < most_shares }
+    ensures ok { OnOk result (values shares.new ≡ values shares.old ++ share ∷ []) }
+    ensures err { OnErr result (values shares.new ≡ values shares.old) }
+    ensures keyed { AreKeyed shares.new.entries }
 {
-    match rows.insert(name, row) {
+    match shares.insert(name, share) {
         Ok(_) => Ok(()),
         Err(_) => Err(AllocError),
     }

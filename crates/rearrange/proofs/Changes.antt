@@ -5,15 +5,15 @@ use Rattle.std.proofs.lemmas.List.Sums.{sum_by-append, sum_by-cons}
 use Rattle.refusals.specs.amount_math.Content.{entries}
 use Rattle.refusals.specs.amount_math.Entries.{Entries, tally}
 use Rattle.refusals.proofs.amount_math.Listed.{tally-append}
-use Rattle.proposals.specs.declared.allocations.Row.{Row}
+use Rattle.proposals.specs.declared.allocations.Share.{Share}
 use Rattle.proposals.specs.declared.plans.SeatState.{SeatState}
 use Rattle.proposals.specs.declared.plans.Touched.{Touched}
-use Rattle.rearrange.specs.Parts.{HaveChange, HaveEntries, HaveMore, HaveRow, HaveRows, HaveTouched, entries_count}
-use Rattle.rearrange.specs.Sums.{all_touched, count_after, count_before, row_count, rows_count, touched_of}
+use Rattle.rearrange.specs.Parts.{HaveChange, HaveEntries, HaveMore, HaveShare, HaveShares, HaveTouched, entries_count}
+use Rattle.rearrange.specs.Sums.{all_touched, count_after, count_before, share_count, shares_count, touched_of}
 use Rattle.rearrange.specs.declared.parts.Part.{Part}
 use Rattle.rearrange.specs.declared.parts.Side.TheVariants.{Before, After}
-use Rattle.rearrange.specs.declared.sums.SeatRows.{SeatRows}
-use Rattle.rearrange.proofs.PartCounts.{entries_count-row, tally-entries}
+use Rattle.rearrange.specs.declared.sums.SeatShares.{SeatShares}
+use Rattle.rearrange.proofs.PartCounts.{entries_count-share, tally-entries}
 
 -- what is added on both sides
 pub added_on : (f g : ℕ × List ℕ → ℕ) (old mid new : List Part) → HaveMore Before f old mid → HaveMore After g mid new → HaveChange f g old new
@@ -60,35 +60,35 @@ entries_count-append brand x xs ys = by (brand == x.0) (tally (xs ++ ys) x.1) (t
     by true s m n e = e
     by false s m n e = refl
 
-pub rows_count-append : (x : ℕ × List ℕ) (xs ys : List Row) → rows_count x.0 x.1 (xs ++ ys) ≡ rows_count x.0 x.1 xs + rows_count x.0 x.1 ys
-rows_count-append x xs ys = sum_by-append (row_count x.0 x.1) xs ys
+pub shares_count-append : (x : ℕ × List ℕ) (xs ys : List Share) → shares_count x.0 x.1 (xs ++ ys) ≡ shares_count x.0 x.1 xs + shares_count x.0 x.1 ys
+shares_count-append x xs ys = sum_by-append (share_count x.0 x.1) xs ys
 
--- a row against the first of those after
-pub pair_passed : (row first : Row) (after rest : List Row) (old new : List Part) → after ≡ first ∷ rest → HaveRow row first old new → HaveRows (row ∷ rest) after old new
-pair_passed row first after rest old new whole pair = record {
-  each = λ x. omega (arith, pair.each x, ap (rows_count x.0 x.1) whole, sum_by-cons (row_count x.0 x.1) first rest, sum_by-cons (row_count x.0 x.1) row rest);
+-- a share against the first of those after
+pub pair_passed : (share first : Share) (after rest : List Share) (old new : List Part) → after ≡ first ∷ rest → HaveShare share first old new → HaveShares (share ∷ rest) after old new
+pair_passed share first after rest old new whole pair = record {
+  each = λ x. omega (arith, pair.each x, ap (shares_count x.0 x.1) whole, sum_by-cons (share_count x.0 x.1) first rest, sum_by-cons (share_count x.0 x.1) share rest);
 }
 
--- a row against none
-pub row_passed : (row : Row) (after : List Row) (old new : List Part) → HaveMore Before (λ x. row_count x.0 x.1 row) old new → HaveRows (row ∷ after) after old new
-row_passed row after old new more = record {
-  each = λ x. omega (arith, more.before x, more.after x, sum_by-cons (row_count x.0 x.1) row after);
+-- a share against none
+pub share_passed : (share : Share) (after : List Share) (old new : List Part) → HaveMore Before (λ x. share_count x.0 x.1 share) old new → HaveShares (share ∷ after) after old new
+share_passed share after old new more = record {
+  each = λ x. omega (arith, more.before x, more.after x, sum_by-cons (share_count x.0 x.1) share after);
 }
 
--- the entries of two rows of one brand
-pub rows_changed : (row other : Row) (old new : List Part) → row.amount.brand ≡ other.amount.brand → HaveEntries row.amount.brand (entries row.amount.value.content) (entries other.amount.value.content) old new → HaveRow row other old new
-rows_changed row other old new brand change = record {
+-- the entries of two shares of one brand
+pub shares_changed : (share other : Share) (old new : List Part) → share.amount.brand ≡ other.amount.brand → HaveEntries share.amount.brand (entries share.amount.value.content) (entries other.amount.value.content) old new → HaveShare share other old new
+shares_changed share other old new brand change = record {
   each = λ x. omega (
     arith,
     change.each x,
-    entries_count-row row (entries row.amount.value.content) (tally-entries row.amount.value.content) x,
-    entries_count-row other (entries other.amount.value.content) (tally-entries other.amount.value.content) x,
+    entries_count-share share (entries share.amount.value.content) (tally-entries share.amount.value.content) x,
+    entries_count-share other (entries other.amount.value.content) (tally-entries other.amount.value.content) x,
     ap (λ b. entries_count b x (entries other.amount.value.content)) brand,
   );
 }
 
 -- one seat after another
-pub all_changed : (states : List SeatState) (list : List SeatRows) (i : ℕ) (s : SeatRows) (mid new : List Part) → i < length list → s ≡ get_or list i s → HaveTouched (all_touched states (take i list)) [] mid → HaveRows (touched_of states s).before (touched_of states s).after mid new → HaveTouched (all_touched states (take (i + 1) list)) [] new
+pub all_changed : (states : List SeatState) (list : List SeatShares) (i : ℕ) (s : SeatShares) (mid new : List Part) → i < length list → s ≡ get_or list i s → HaveTouched (all_touched states (take i list)) [] mid → HaveShares (touched_of states s).before (touched_of states s).after mid new → HaveTouched (all_touched states (take (i + 1) list)) [] new
 all_changed states list i s mid new lt is all seat =
     let whole : all_touched states (take (i + 1) list) ≡ all_touched states (take i list) ++ touched_of states s ∷ [] =
     ap (map (touched_of states)) (take_more list i s lt ∙ ap (λ x. take i list ++ x ∷ []) (sym is)) ∙ map-append (touched_of states) (take i list) (s ∷ [])
@@ -99,8 +99,8 @@ all_changed states list i s mid new lt is all seat =
         all.each x,
         seat.each x,
         ap (count_before x.0 x.1) whole,
-        sum_by-append (λ (t : Touched). rows_count x.0 x.1 t.before) (all_touched states (take i list)) (touched_of states s ∷ []),
+        sum_by-append (λ (t : Touched). shares_count x.0 x.1 t.before) (all_touched states (take i list)) (touched_of states s ∷ []),
         ap (count_after x.0 x.1) whole,
-        sum_by-append (λ (t : Touched). rows_count x.0 x.1 t.after) (all_touched states (take i list)) (touched_of states s ∷ []),
+        sum_by-append (λ (t : Touched). shares_count x.0 x.1 t.after) (all_touched states (take i list)) (touched_of states s ∷ []),
       );
     }

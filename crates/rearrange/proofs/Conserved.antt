@@ -13,28 +13,28 @@ use Rattle.refusals.specs.amount_math.Content.{key_cmp}
 use Rattle.proposals.specs.declared.plans.SeatState.{SeatState}
 use Rattle.proposals.specs.declared.plans.Touched.{Touched}
 use Rattle.rearrange.specs.Parts.{AreEven, HaveAll, HaveMore, HaveSeat, HaveTouched, IsFirstUneven, is_at, parts_after, parts_before}
-use Rattle.rearrange.specs.Sums.{AreConserved, IsFirstUnkept, all_touched, count_after, count_before, rows_count, touched_of}
+use Rattle.rearrange.specs.Sums.{AreConserved, IsFirstUnkept, all_touched, count_after, count_before, shares_count, touched_of}
 use Rattle.rearrange.specs.declared.parts.Part.{Part}
 use Rattle.rearrange.specs.declared.parts.Side.TheVariants.{Before, After}
-use Rattle.rearrange.specs.declared.sums.SeatRows.{SeatRows}
+use Rattle.rearrange.specs.declared.sums.SeatShares.{SeatShares}
 use Rattle.rearrange.specs.declared.sums.Unkept.{Unkept}
 
 -- what a seat has before and then what it has after
-pub seat_on : (t : Touched) (old mid new : List Part) → HaveMore Before (λ x. rows_count x.0 x.1 t.before) old mid → HaveMore After (λ x. rows_count x.0 x.1 t.after) mid new → HaveSeat old t new
+pub seat_on : (t : Touched) (old mid new : List Part) → HaveMore Before (λ x. shares_count x.0 x.1 t.before) old mid → HaveMore After (λ x. shares_count x.0 x.1 t.after) mid new → HaveSeat old t new
 seat_on t old mid new a b = record {
   before = λ x. omega (arith, a.before x, b.before x);
   after = λ x. omega (arith, a.after x, b.after x);
 }
 
 -- one seat after another
-pub all_on : (states : List SeatState) (list : List SeatRows) (i : ℕ) (s : SeatRows) (mid new : List Part) → i < length list → s ≡ get_or list i s → HaveAll [] (all_touched states (take i list)) mid → HaveSeat mid (touched_of states s) new → HaveAll [] (all_touched states (take (i + 1) list)) new
+pub all_on : (states : List SeatState) (list : List SeatShares) (i : ℕ) (s : SeatShares) (mid new : List Part) → i < length list → s ≡ get_or list i s → HaveAll [] (all_touched states (take i list)) mid → HaveSeat mid (touched_of states s) new → HaveAll [] (all_touched states (take (i + 1) list)) new
 all_on states list i s mid new lt is all seat =
     let whole : all_touched states (take (i + 1) list) ≡ all_touched states (take i list) ++ touched_of states s ∷ [] =
     ap (map (touched_of states)) (take_more list i s lt ∙ ap (λ x. take i list ++ x ∷ []) (sym is)) ∙ map-append (touched_of states) (take i list) (s ∷ [])
     in
     record {
-      before = λ x. omega (arith, all.before x, seat.before x, ap (count_before x.0 x.1) whole, sum_by-append (λ (t : Touched). rows_count x.0 x.1 t.before) (all_touched states (take i list)) (touched_of states s ∷ []));
-      after = λ x. omega (arith, all.after x, seat.after x, ap (count_after x.0 x.1) whole, sum_by-append (λ (t : Touched). rows_count x.0 x.1 t.after) (all_touched states (take i list)) (touched_of states s ∷ []));
+      before = λ x. omega (arith, all.before x, seat.before x, ap (count_before x.0 x.1) whole, sum_by-append (λ (t : Touched). shares_count x.0 x.1 t.before) (all_touched states (take i list)) (touched_of states s ∷ []));
+      after = λ x. omega (arith, all.after x, seat.after x, ap (count_after x.0 x.1) whole, sum_by-append (λ (t : Touched). shares_count x.0 x.1 t.after) (all_touched states (take i list)) (touched_of states s ∷ []));
     }
 
 -- ---- sorted

@@ -11,7 +11,7 @@ use Rattle.rearrange.specs.Slots.{is_safe}
 use Rattle.rearrange.specs.Told.{plan_told}
 use Rattle.proposals.specs.OfferSafety.{IsOfferSafe}
 use Rattle.proposals.specs.Leasts.{least}
-use Rattle.proposals.specs.Rows.{most_rows}
+use Rattle.proposals.specs.Shares.{most_shares}
 use Rattle.proposals.specs.declared.plans.SeatState.{SeatState}
 use Rattle.proposals.specs.declared.plans.Touched.{Touched}
 use Rattle.rearrange.specs.Plans.{IsPlanRefusal}
@@ -24,6 +24,8 @@ use Rattle.refusals.specs.Codes.{limit, not_offer_safe}
 use Rattle.refusals.specs.Outcomes.{Fails, ◌>>◌, bind, need, none_such}
 use Rattle.refusals.specs.declared.codes.Refusal.{Refusal}
 use Rattle.refusals.specs.declared.codes.Refusal.TheVariants.{NotConserved}
+use Rattle.refusals.specs.declared.stops.Stop.{Stop}
+use Rattle.refusals.specs.declared.stops.Stop.TheVariants as stops
 use Rattle.rearrange.proofs.TestedConservation.{Named, if_conserved}
 use Rattle.rearrange.proofs.Leasts.{AllFrom, least_is}
 use Rattle.rearrange.proofs.Slots.{if_safe, safe_if}
@@ -105,40 +107,44 @@ module _ (states : List SeatState) where
 
 -- ---- size
 
-all_small : (ts : List Touched) → AllByRecursion (λ (t : Touched). length t.after ≤ most_rows) ts → list_all is_small ts ≡ true
+all_small : (ts : List Touched) → AllByRecursion (λ (t : Touched). length t.after ≤ most_shares) ts → list_all is_small ts ≡ true
 all_small [] all = refl
-all_small (t ∷ ts) all = and_from (is_small t) (list_all is_small ts) (le-leb (length t.after) most_rows all.0) (all_small ts all.1)
+all_small (t ∷ ts) all = and_from (is_small t) (list_all is_small ts) (le-leb (length t.after) most_shares all.0) (all_small ts all.1)
 
-some_large : (ts : List Touched) → Any (λ (t : Touched). most_rows < length t.after) ts → list_all is_small ts ≡ false
-some_large ts any = list_all_at is_small ts any.0 any.1 any.2 (ap is_small any.3 ∙ lt-leb (length any.1.after) most_rows any.4)
+some_large : (ts : List Touched) → Any (λ (t : Touched). most_shares < length t.after) ts → list_all is_small ts ≡ false
+some_large ts any = list_all_at is_small ts any.0 any.1 any.2 (ap is_small any.3 ∙ lt-leb (length any.1.after) most_shares any.4)
 
 -- ---- all three
 
 module _ (states : List SeatState) (touched : List Touched) where
   abbrev after_kept : Option ℕ → Bool → Test
-  after_kept unsafe small = none_such unsafe not_offer_safe >> need small (limit most_rows)
+  after_kept unsafe small = none_such unsafe not_offer_safe >> need small (limit most_shares)
 
   past_kept : AreConserved touched → keeps states touched ≡ after_kept (least_unsafe states touched) (list_all is_small touched)
   unfolding keeps bind none_such
   past_kept kept = ap (λ o. bind (none_such o NotConserved) (λ _. after_kept (least_unsafe states touched) (list_all is_small touched))) (if_conserved touched kept)
 
-  past_safe : AreConserved touched → AreSafe states touched → keeps states touched ≡ need (list_all is_small touched) (limit most_rows)
+  past_safe : AreConserved touched → AreSafe states touched → keeps states touched ≡ need (list_all is_small touched) (limit most_shares)
   unfolding bind none_such
   past_safe kept safe = past_kept kept ∙ ap (λ o. after_kept o (list_all is_small touched)) (safe_none states touched safe)
 
-  pub plan_passes : AreConserved touched → AreSafe states touched → All (λ t. length t.after ≤ most_rows) touched → keeps states touched ≡ Ok tt
+  pub plan_passes : AreConserved touched → AreSafe states touched → All (λ t. length t.after ≤ most_shares) touched → keeps states touched ≡ Ok tt
   unfolding need
   plan_passes kept safe small =
       past_safe kept safe
-      ∙ ap (λ b. need b (limit most_rows)) (all_small touched (recursion_from_All (λ (t : Touched). length t.after ≤ most_rows) touched small))
+      ∙ ap (λ b. need b (limit most_shares)) (all_small touched (recursion_from_All (λ (t : Touched). length t.after ≤ most_shares) touched small))
 
   pub plan_fails : (fault : PlanFault) → IsPlanRefusal states touched fault → Fails (plan_told fault) (keeps states touched)
   unfolding keeps bind none_such need
   plan_fails (plan.NotConserved u) is = ap (λ o. bind (none_such o NotConserved) (λ _. after_kept (least_unsafe states touched) (list_all is_small touched))) (unkept_first touched u is)
   plan_fails (plan.NotOfferSafe seat) is = past_kept is.0 ∙ ap (λ o. after_kept o (list_all is_small touched)) (unsafe_least states seat touched is.1)
-  plan_fails plan.Limit is = past_safe is.0 is.1.0 ∙ ap (λ b. need b (limit most_rows)) (some_large touched is.1.1)
+  plan_fails plan.Limit is = past_safe is.0 is.1.0 ∙ ap (λ b. need b (limit most_shares)) (some_large touched is.1.1)
   plan_fails plan.NoMemory is = tt
   plan_fails (plan.Seats fault) is = absurd is
-  plan_fails (plan.NotEnough short) is = absurd is
-  plan_fails (plan.Overlap key) is = absurd is
-  plan_fails (plan.TooMuch over) is = absurd is
+
+-- ---- what comes after a test
+
+pub fails_then : {B : Type 0} (stop : Stop) (test : Test) (next : Result B Refusal) → Fails stop test → Fails stop (test >> next)
+unfolding bind
+fails_then stops.NoMemory test next fails = tt
+fails_then (stops.Refused r) test next fails = ap (λ (t : Test). t >> next) fails

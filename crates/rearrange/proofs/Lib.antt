@@ -19,8 +19,6 @@ pub mod Unkept
 pub mod Gains
 pub mod TestedSeats
 pub mod Kept
-pub mod TestedWorking
 pub mod TestedChanges
-pub mod Shown
 pub use Rattle.value_tests.proofs.lemmas
 pub use Rattle.value_tests.proofs as value_tests

@@ -1,15 +1,15 @@
--- Counts of seats' rows are bounded by how many rows there are.
+-- Counts of seats' shares are bounded by how many shares there are.
 use Rattle.std.proofs.Common.{◌≡◌, ◌≤◌, ◌*◌, ◌+◌, ◌==◌, ℕ, List, [], ◌∷◌, Bool, true, false, length, if◌then◌else◌, arith}
 use Rattle.std.proofs.lemmas.List.Sums.{sum_by-cons}
 use Rattle.std.specs.Prelude.{sum_by}
 use Rattle.std.specs.List.{AllByRecursion}
 use Rattle.refusals.specs.amount_math.Content.{Content, count}
-use Rattle.refusals.specs.amount_math.Worth.{IsValue, bag_bound}
+use Rattle.refusals.specs.amount_math.ValueView.{IsValue, bag_bound}
 use Rattle.refusals.specs.amount_math.declared.Kind.{Kind}
 use Rattle.refusals.specs.amount_math.declared.Kind.TheVariants.{Nat, Set, Bag}
-use Rattle.proposals.specs.declared.allocations.Row.{Row}
+use Rattle.proposals.specs.declared.allocations.Share.{Share}
 use Rattle.proposals.specs.declared.plans.Touched.{Touched}
-use Rattle.rearrange.specs.Sums.{IsFirstUnkept, row_count, rows_count}
+use Rattle.rearrange.specs.Sums.{IsFirstUnkept, share_count, shares_count}
 use Rattle.rearrange.specs.declared.sums.Unkept.{Unkept}
 use Rattle.refusals.specs.Told.{CanShow}
 use Rattle.rearrange.specs.Bounds.{AreBounded, HasValue}
@@ -24,24 +24,24 @@ chosen true n h = h
 chosen false n h = omega arith
 
 module _ (brand : ℕ) (element : List ℕ) where
-  row_below : (r : Row) → HasValue r → row_count brand element r ≤ bag_bound
-  row_below r h = chosen (r.amount.brand == brand) (count r.amount.value.content element) (count_below r.amount.value.kind r.amount.value.content h element)
+  share_below : (r : Share) → HasValue r → share_count brand element r ≤ bag_bound
+  share_below r h = chosen (r.amount.brand == brand) (count r.amount.value.content element) (count_below r.amount.value.kind r.amount.value.content h element)
 
-  rows_below : (rs : List Row) → AllByRecursion HasValue rs → rows_count brand element rs ≤ length rs * bag_bound
-  rows_below [] h = omega arith
-  rows_below (r ∷ rs) h =
-      let one_more : rows_count brand element (r ∷ rs) ≡ row_count brand element r + rows_count brand element rs = sum_by-cons (row_count brand element) r rs in
-      omega (arith, one_more, row_below r h.0, rows_below rs h.1)
+  shares_below : (rs : List Share) → AllByRecursion HasValue rs → shares_count brand element rs ≤ length rs * bag_bound
+  shares_below [] h = omega arith
+  shares_below (r ∷ rs) h =
+      let one_more : shares_count brand element (r ∷ rs) ≡ share_count brand element r + shares_count brand element rs = sum_by-cons (share_count brand element) r rs in
+      omega (arith, one_more, share_below r h.0, shares_below rs h.1)
 
-  seats_below : (rows : Touched → List Row) (ts : List Touched) → AllByRecursion (λ t. AllByRecursion HasValue (rows t)) ts
-      → sum_by (λ t. rows_count brand element (rows t)) ts ≤ sum_by (λ t. length (rows t)) ts * bag_bound
-  seats_below rows [] h = omega arith
-  seats_below rows (t ∷ ts) h =
-      let counts : ℕ = sum_by (λ u. rows_count brand element (rows u)) ts in
-      let lengths : ℕ = sum_by (λ u. length (rows u)) ts in
-      let more_counts : sum_by (λ u. rows_count brand element (rows u)) (t ∷ ts) ≡ rows_count brand element (rows t) + counts = sum_by-cons (λ u. rows_count brand element (rows u)) t ts in
-      let more_rows : sum_by (λ u. length (rows u)) (t ∷ ts) ≡ length (rows t) + lengths = sum_by-cons (λ u. length (rows u)) t ts in
-      omega (arith, more_counts, more_rows, rows_below (rows t) h.0, seats_below rows ts h.1)
+  seats_below : (shares : Touched → List Share) (ts : List Touched) → AllByRecursion (λ t. AllByRecursion HasValue (shares t)) ts
+      → sum_by (λ t. shares_count brand element (shares t)) ts ≤ sum_by (λ t. length (shares t)) ts * bag_bound
+  seats_below shares [] h = omega arith
+  seats_below shares (t ∷ ts) h =
+      let counts : ℕ = sum_by (λ u. shares_count brand element (shares u)) ts in
+      let lengths : ℕ = sum_by (λ u. length (shares u)) ts in
+      let more_counts : sum_by (λ u. shares_count brand element (shares u)) (t ∷ ts) ≡ shares_count brand element (shares t) + counts = sum_by-cons (λ u. shares_count brand element (shares u)) t ts in
+      let more_shares : sum_by (λ u. length (shares u)) (t ∷ ts) ≡ length (shares t) + lengths = sum_by-cons (λ u. length (shares u)) t ts in
+      omega (arith, more_counts, more_shares, shares_below (shares t) h.0, seats_below shares ts h.1)
 
 pub can_show : (ts : List Touched) (u : Unkept) → AreBounded ts → IsFirstUnkept ts u → CanShow u.before u.after
 can_show ts u b is = record {

@@ -10,11 +10,11 @@ use Rattle.std.proofs.lemmas.List.Sums.{sum_by-append, sum_by-cons}
 use Rattle.refusals.specs.amount_math.Content.{count, count-nothing, count-sum, count_listed, entries, key_cmp, listed}
 use Rattle.refusals.specs.amount_math.Entries.{Entries}
 use Rattle.refusals.proofs.amount_math.Listed.{same_key}
-use Rattle.rearrange.specs.TestedPlans.{brands_of, elements_of, first_unkept, is_unkept, rows_of, unkept_at, unkept_brand, unkept_element, unkept_of, values_of}
+use Rattle.rearrange.specs.TestedPlans.{brands_of, elements_of, first_unkept, is_unkept, shares_of, unkept_at, unkept_brand, unkept_element, unkept_of, values_of}
 use Rattle.proposals.specs.Leasts.{least, least_of}
-use Rattle.proposals.specs.declared.allocations.Row.{Row}
+use Rattle.proposals.specs.declared.allocations.Share.{Share}
 use Rattle.proposals.specs.declared.plans.Touched.{Touched}
-use Rattle.rearrange.specs.Sums.{AreConserved, count_after, count_before, row_count, rows_count}
+use Rattle.rearrange.specs.Sums.{AreConserved, count_after, count_before, share_count, shares_count}
 use Rattle.value_tests.specs.Totals.{total_of}
 
 -- ---- what is found in lists
@@ -86,54 +86,54 @@ module _ (p : ℕ → Bool) where
 
 -- ---- counts
 
-counted : (brand : ℕ) (k : List ℕ) (rows : List Row) → count (total_of (values_of brand rows)) k ≡ rows_count brand k rows
+counted : (brand : ℕ) (k : List ℕ) (shares : List Share) → count (total_of (values_of brand shares)) k ≡ shares_count brand k shares
 counted brand k [] = count-nothing k
-counted brand k (r ∷ rs) = by (r.amount.brand == brand) (counted brand k rs) ∙ sym (sum_by-cons (row_count brand k) r rs)
+counted brand k (r ∷ rs) = by (r.amount.brand == brand) (counted brand k rs) ∙ sym (sum_by-cons (share_count brand k) r rs)
   where
-    by : (t : Bool) → count (total_of (values_of brand rs)) k ≡ rows_count brand k rs → count (total_of (if t then r.amount.value ∷ values_of brand rs else values_of brand rs)) k ≡ (if t then count r.amount.value.content k else 0) + rows_count brand k rs
+    by : (t : Bool) → count (total_of (values_of brand rs)) k ≡ shares_count brand k rs → count (total_of (if t then r.amount.value ∷ values_of brand rs else values_of brand rs)) k ≡ (if t then count r.amount.value.content k else 0) + shares_count brand k rs
     by true later = count-sum r.amount.value.content (total_of (values_of brand rs)) k ∙ ap (λ n. count r.amount.value.content k + n) later
     by false later = omega (arith, later)
 
-pub both_sides : (brand : ℕ) (k : List ℕ) (touched : List Touched) → rows_count brand k (rows_of touched) ≡ count_before brand k touched + count_after brand k touched
+pub both_sides : (brand : ℕ) (k : List ℕ) (touched : List Touched) → shares_count brand k (shares_of touched) ≡ count_before brand k touched + count_after brand k touched
 both_sides brand k [] = refl
 both_sides brand k (t ∷ ts) = omega (
   arith,
-  sum_by-append (row_count brand k) (t.before ++ t.after) (rows_of ts),
-  sum_by-append (row_count brand k) t.before t.after,
+  sum_by-append (share_count brand k) (t.before ++ t.after) (shares_of ts),
+  sum_by-append (share_count brand k) t.before t.after,
   both_sides brand k ts,
-  sum_by-cons (λ (u : Touched). rows_count brand k u.before) t ts,
-  sum_by-cons (λ (u : Touched). rows_count brand k u.after) t ts,
+  sum_by-cons (λ (u : Touched). shares_count brand k u.before) t ts,
+  sum_by-cons (λ (u : Touched). shares_count brand k u.after) t ts,
 )
 
-pub named_if : (brand : ℕ) (k : List ℕ) (rows : List Row) → rows_count brand k rows ≢ 0 → Named brand (map (λ r. r.amount.brand) rows)
+pub named_if : (brand : ℕ) (k : List ℕ) (shares : List Share) → shares_count brand k shares ≢ 0 → Named brand (map (λ r. r.amount.brand) shares)
 named_if brand k [] there = absurd (there refl)
 named_if brand k (r ∷ rs) there = by (r.amount.brand == brand) refl (named_if brand k rs)
   where
-    by : (b : Bool) → (r.amount.brand == brand) ≡ b → (rows_count brand k rs ≢ 0 → Named brand (map (λ q. q.amount.brand) rs)) → Named brand (map (λ q. q.amount.brand) (r ∷ rs))
+    by : (b : Bool) → (r.amount.brand == brand) ≡ b → (shares_count brand k rs ≢ 0 → Named brand (map (λ q. q.amount.brand) rs)) → Named brand (map (λ q. q.amount.brand) (r ∷ rs))
     by true same later = inl (eqb-true r.amount.brand brand same)
     by false other later = inr (later (λ none. there (omega (
       arith,
-      sum_by-cons (row_count brand k) r rs,
+      sum_by-cons (share_count brand k) r rs,
       ap (λ b. if b then count r.amount.value.content k else 0) other,
       none,
     ))))
 
 -- ---- what isn't kept is found
 
-pub listed_if : (touched : List Touched) (brand : ℕ) (k : List ℕ) → count_before brand k touched ≢ count_after brand k touched → listed (entries (total_of (values_of brand (rows_of touched)))) k ≢ 0
+pub listed_if : (touched : List Touched) (brand : ℕ) (k : List ℕ) → count_before brand k touched ≢ count_after brand k touched → listed (entries (total_of (values_of brand (shares_of touched)))) k ≢ 0
 listed_if touched brand k differ none = differ (omega (
   arith,
-  count_listed (total_of (values_of brand (rows_of touched))) k,
+  count_listed (total_of (values_of brand (shares_of touched))) k,
   none,
-  counted brand k (rows_of touched),
+  counted brand k (shares_of touched),
   both_sides brand k touched,
 ))
 
 kept_where_none : (touched : List Touched) (brand : ℕ) → unkept_element touched brand ≡ None → (k : List ℕ) → count_before brand k touched ≡ count_after brand k touched
 unfolding unkept_element
-kept_where_none touched brand is k = by (count_before brand k touched == count_after brand k touched) refl (none_of (is_unkept touched brand) (entries (total_of (values_of brand (rows_of touched)))) k is)
+kept_where_none touched brand is k = by (count_before brand k touched == count_after brand k touched) refl (none_of (is_unkept touched brand) (entries (total_of (values_of brand (shares_of touched)))) k is)
   where
-    by : (b : Bool) → (count_before brand k touched == count_after brand k touched) ≡ b → (listed (entries (total_of (values_of brand (rows_of touched)))) k ≢ 0 → is_unkept touched brand k ≡ false) → count_before brand k touched ≡ count_after brand k touched
+    by : (b : Bool) → (count_before brand k touched == count_after brand k touched) ≡ b → (listed (entries (total_of (values_of brand (shares_of touched)))) k ≢ 0 → is_unkept touched brand k ≡ false) → count_before brand k touched ≡ count_after brand k touched
     by true same kept = eqb-true _ _ same
     by false differ kept = absurd (false≢true (sym (kept (listed_if touched brand k (eqb-false _ _ differ))) ∙ ap not differ))
 
@@ -144,7 +144,7 @@ all_kept touched is brand k = by (count_before brand k touched == count_after br
     by : (b : Bool) → (count_before brand k touched == count_after brand k touched) ≡ b → count_before brand k touched ≡ count_after brand k touched
     by true same = eqb-true _ _ same
     by false differ =
-        let named = named_if brand k (rows_of touched) (λ none. eqb-false _ _ differ (omega (arith, both_sides brand k touched, none))) in
+        let named = named_if brand k (shares_of touched) (λ none. eqb-false _ _ differ (omega (arith, both_sides brand k touched, none))) in
         let none_has = none_least (λ b. is_some (unkept_element touched b)) (brands_of touched) is brand named in
         kept_where_none touched brand (not_some (unkept_element touched brand) none_has) k
 

@@ -8,12 +8,12 @@ use Rattle.proposals.specs.declared.plans.SeatState.{SeatState}
 use Rattle.proposals.specs.declared.plans.Touched.{Touched}
 use Rattle.rearrange.specs.Safety.{AreSafe, IsLeastUnsafe, IsSafeAfter}
 use Rattle.rearrange.specs.Sums.{all_touched, touched_of}
-use Rattle.rearrange.specs.declared.sums.SeatRows.{SeatRows}
+use Rattle.rearrange.specs.declared.sums.SeatShares.{SeatShares}
 
 le_or_ge : (m n : ℕ) → (m ≤ n) ⊎ (n ≤ m)
 le_or_ge m n = grind arith
 
-pub touched_more : (states : List SeatState) (list : List SeatRows) (i : ℕ) (s : SeatRows) → i < length list → s ≡ get_or list i s → all_touched states (take (i + 1) list) ≡ all_touched states (take i list) ++ touched_of states s ∷ []
+pub touched_more : (states : List SeatState) (list : List SeatShares) (i : ℕ) (s : SeatShares) → i < length list → s ≡ get_or list i s → all_touched states (take (i + 1) list) ≡ all_touched states (take i list) ++ touched_of states s ∷ []
 touched_more states list i s lt is = ap (map (touched_of states)) (take_more list i s lt ∙ ap (λ x. take i list ++ x ∷ []) (sym is)) ∙ map-append (touched_of states) (take i list) (s ∷ [])
 
 -- ---- some element

@@ -4,7 +4,7 @@ use Rattle.std.specs.FinMap as fin
 use Rattle.std.proofs.Common.{◌≡◌, ◌≢◌, ℕ, pos, ◌≤◌, Bool, true, List, filter, is_some, option_and_then, option_map, IfSome, Option, Some, None, sym, ap, ◌∙◌, arith}
 use Rattle.std.proofs.lemmas.Bool.{eq-eqb, false≢true, ne_eqb}
 use Rattle.refusals.specs.amount_math.Content.{Content, entries}
-use Rattle.rearrange.specs.TestedPlans.{brands_of, elements_of, first_unkept, is_unkept, rows_of, unkept_at, unkept_brand, unkept_element, unkept_of, values_of}
+use Rattle.rearrange.specs.TestedPlans.{brands_of, elements_of, first_unkept, is_unkept, shares_of, unkept_at, unkept_brand, unkept_element, unkept_of, values_of}
 use Rattle.rearrange.specs.Told.{unkept_told}
 use Rattle.proposals.specs.declared.plans.Touched.{Touched}
 use Rattle.rearrange.specs.Sums.{IsFirstUnkept, count_after, count_before}
@@ -42,12 +42,12 @@ module _ (touched : List Touched) where
     element_is : unkept_element touched u.brand ≡ Some u.element
     unfolding unkept_element
     element_is =
-        let c : Content = total_of (values_of u.brand (rows_of touched)) in
+        let c : Content = total_of (values_of u.brand (shares_of touched)) in
         first_in (is_unkept touched u.brand) u.element (unlike u.brand u.element differs) (λ q other. is.first q (differ_if u.brand q other))
         (entries c) (fin.entries_sorted c.held) (listed_if touched u.brand u.element differs)
 
     brand_named : Named u.brand (brands_of touched)
-    brand_named = named_if u.brand u.element (rows_of touched) (λ none. differs (omega (arith, both_sides u.brand u.element touched, none)))
+    brand_named = named_if u.brand u.element (shares_of touched) (λ none. differs (omega (arith, both_sides u.brand u.element touched, none)))
 
     brand_is : unkept_brand touched ≡ Some u.brand
     unfolding unkept_brand

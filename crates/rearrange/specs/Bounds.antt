@@ -1,14 +1,14 @@
--- How many rows seats have that a change touches, and what bounds their counts.
+-- How many shares seats have that a change touches, and what bounds their counts.
 use Rattle.std.specs.Prelude.{◌<◌, ◌^◌, List, length, sum_by}
 use Rattle.std.specs.List.{AllByRecursion}
-use Rattle.refusals.specs.amount_math.Worth.{IsValue}
-use Rattle.proposals.specs.declared.allocations.Row.{Row}
+use Rattle.refusals.specs.amount_math.ValueView.{IsValue}
+use Rattle.proposals.specs.declared.allocations.Share.{Share}
 use Rattle.proposals.specs.declared.plans.Touched.{Touched}
 
-abbrev pub HasValue : Row → Type 0
+abbrev pub HasValue : Share → Type 0
 HasValue r = IsValue r.amount.value.kind r.amount.value.content
 
--- all rows of the seats, before a change and after it, have values of their kinds, and are below 2^63
+-- all shares of the seats, before a change and after it, have values of their kinds, and are below 2^63
 pub record AreBounded (touched : List Touched) : Type 0 where
   pub before : AllByRecursion (λ t. AllByRecursion HasValue t.before) touched
   pub after : AllByRecursion (λ t. AllByRecursion HasValue t.after) touched

@@ -1,10 +1,10 @@
--- A row beside the slot that it is to be taken from.
+-- A share beside the slot that it is to be taken from.
 use Rattle.std.specs.Prelude.{List, Result}
 use Rattle.rearrange.specs.Slots.{is_covered, shortfall}
-use Rattle.proposals.specs.declared.allocations.Row.{Row}
+use Rattle.proposals.specs.declared.allocations.Share.{Share}
 use Rattle.refusals.specs.Outcomes.{need}
 use Rattle.refusals.specs.declared.codes.Refusal.{Refusal}
 
 -- the slot has it, or is told to have less
-abbrev pub takes_row : List Row → Row → Result (Unit {0}) Refusal
-takes_row slots r = need (is_covered slots r) (shortfall slots r)
+abbrev pub takes_share : List Share → Share → Result (Unit {0}) Refusal
+takes_share slots r = need (is_covered slots r) (shortfall slots r)

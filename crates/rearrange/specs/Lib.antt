@@ -13,8 +13,6 @@ pub mod Told
 pub mod Slots
 pub mod TestedPlans
 pub mod Moves
-pub mod Values
-pub mod Seated
 pub use Rattle.value_tests.specs.ertp_mint
 pub use Rattle.rights_model.specs as rights_model
 pub use Rattle.value_tests.specs as value_tests

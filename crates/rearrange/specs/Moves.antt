@@ -2,9 +2,9 @@
 -- their slots, first what each slot loses goes to the hand, then what each gains comes from it.
 use Rattle.std.specs.Prelude.{ℕ, ◌-◌, nat_le, List, [], ◌∷◌, ◌++◌, length, flat_map, sum_by, if◌then◌else◌}
 use Rattle.refusals.specs.amount_math.Content.{Content, difference}
-use Rattle.refusals.specs.amount_math.Worth.{with_content}
-use Rattle.proposals.specs.Rows.{content_under}
-use Rattle.proposals.specs.declared.allocations.Row.{Row}
+use Rattle.refusals.specs.amount_math.ValueView.{with_content}
+use Rattle.proposals.specs.Shares.{content_under}
+use Rattle.proposals.specs.declared.allocations.Share.{Share}
 use Rattle.proposals.specs.declared.plans.Touched.{Touched}
 use Rattle.rights_model.specs.Table.{movement}
 use Rattle.rights_model.specs.declared.Holder.TheVariants.{Hand, Slot}
@@ -17,17 +17,17 @@ use Rattle.value_tests.specs.Tests.{is_nothing}
 abbrev pub if_some : Movement → List Movement
 if_some m = if is_nothing m.value.content then [] else m ∷ []
 
--- by what it has after, beside the rows before
-abbrev pub lost_by : List Row → Row → Content
+-- by what it has after, beside the shares before
+abbrev pub lost_by : List Share → Share → Content
 lost_by before r = difference (content_under r.keyword before) r.amount.value.content
 
-abbrev pub gained_by : List Row → Row → Content
+abbrev pub gained_by : List Share → Share → Content
 gained_by before r = difference r.amount.value.content (content_under r.keyword before)
 
-abbrev pub to_hand : ℕ → Row → Content → Movement
+abbrev pub to_hand : ℕ → Share → Content → Movement
 to_hand seat r c = movement r.amount.brand (Slot seat r.keyword) Hand (with_content r.amount.value c)
 
-abbrev pub from_hand : ℕ → Row → Content → Movement
+abbrev pub from_hand : ℕ → Share → Content → Movement
 from_hand seat r c = movement r.amount.brand Hand (Slot seat r.keyword) (with_content r.amount.value c)
 
 -- ---- all that is moved

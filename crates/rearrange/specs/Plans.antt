@@ -1,6 +1,6 @@
 -- When a plan is carried out, and why it isn't: the tests over what the touched seats have after it, in their order (Zoe; the codes are our own).
 use Rattle.std.specs.Prelude.{◌<◌, List, Any, length}
-use Rattle.proposals.specs.Rows.{most_rows}
+use Rattle.proposals.specs.Shares.{most_shares}
 use Rattle.proposals.specs.declared.plans.SeatState.{SeatState}
 use Rattle.proposals.specs.declared.plans.Touched.{Touched}
 use Rattle.rearrange.specs.Safety.{AreSafe, IsLeastUnsafe}
@@ -12,6 +12,6 @@ use Rattle.rearrange.specs.declared.plans.PlanFault.TheVariants.{Limit, NoMemory
 abbrev pub IsPlanRefusal : List SeatState → List Touched → PlanFault → Type 0
 IsPlanRefusal states touched (NotConserved u) = IsFirstUnkept touched u
 IsPlanRefusal states touched (NotOfferSafe seat) = AreConserved touched × IsLeastUnsafe states touched seat
-IsPlanRefusal states touched Limit = AreConserved touched × (AreSafe states touched × Any (λ t. most_rows < length t.after) touched)
+IsPlanRefusal states touched Limit = AreConserved touched × (AreSafe states touched × Any (λ t. most_shares < length t.after) touched)
 IsPlanRefusal states touched NoMemory = Unit {0}
 IsPlanRefusal states touched _ = ⊥

@@ -1,7 +1,7 @@
 -- Offer safety of the seats that a change touches (Zoe).
 use Rattle.std.specs.Prelude.{◌≡◌, ℕ, ◌≤◌, List, All, Any, IfSome}
 use Rattle.proposals.specs.OfferSafety.{IsOfferSafe, MeetSlots}
-use Rattle.proposals.specs.declared.allocations.Row.{Row}
+use Rattle.proposals.specs.declared.allocations.Share.{Share}
 use Rattle.proposals.specs.declared.plans.SeatState.{SeatState}
 use Rattle.proposals.specs.declared.plans.Touched.{Touched}
 use Rattle.rearrange.specs.Seats.{state_of}
@@ -18,7 +18,7 @@ pub record IsLeastUnsafe (states : List SeatState) (touched : List Touched) (sea
   pub unsafe : Any (λ t. (t.seat ≡ seat) × ¬ IsSafeAfter states t) touched
   pub least : All (λ t. ¬ IsSafeAfter states t → seat ≤ t.seat) touched
 
--- rows and those of a seat's proposal are of one brand and kind under each keyword
-pub record MeetProposal (rows : List Row) (s : SeatState) : Type 0 where
-  pub want : MeetSlots rows s.proposal.want
-  pub give : MeetSlots rows s.proposal.give
+-- shares and those of a seat's proposal are of one brand and kind under each keyword
+pub record MeetProposal (shares : List Share) (s : SeatState) : Type 0 where
+  pub want : MeetSlots shares s.proposal.want
+  pub give : MeetSlots shares s.proposal.give

@@ -3,7 +3,7 @@ use Rattle.std.specs.Prelude.{ℕ, ◌==◌, Bool, false, not, ◌&&◌, nat_lt,
 use Rattle.std.specs.List.{list_any}
 use Rattle.std.specs.Option.{option_map_or, option_or}
 pub use Rattle.proposals.specs.Leasts.{least, least_of}
-use Rattle.proposals.specs.declared.allocations.Row.{Row}
+use Rattle.proposals.specs.declared.allocations.Share.{Share}
 use Rattle.proposals.specs.declared.plans.SeatState.{SeatState}
 use Rattle.proposals.specs.declared.plans.Transfer.{Transfer}
 use Rattle.rearrange.specs.declared.seats.SeatsFault.{SeatsFault}
@@ -14,7 +14,7 @@ abbrev pub state_of : List SeatState → ℕ → Option SeatState
 state_of states seat = find (λ s. s.seat == seat) states
 
 -- what its slots have
-abbrev pub allocation_of : List SeatState → ℕ → List Row
+abbrev pub allocation_of : List SeatState → ℕ → List Share
 allocation_of states seat = option_map_or (λ s. s.allocation) (state_of states seat) []
 
 -- a seat of another instance

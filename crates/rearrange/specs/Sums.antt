@@ -2,32 +2,32 @@
 use Rattle.std.specs.Prelude.{◌≡◌, ◌≢◌, ℕ, ◌≤◌, ◌==◌, List, map, sum_by, if◌then◌else◌}
 use Rattle.std.specs.declared.cmp.Ordering.TheVariants.{Less}
 use Rattle.refusals.specs.amount_math.Content.{count, key_cmp}
-use Rattle.proposals.specs.declared.allocations.Row.{Row}
+use Rattle.proposals.specs.declared.allocations.Share.{Share}
 use Rattle.proposals.specs.declared.plans.Touched.{Touched}
 use Rattle.proposals.specs.declared.plans.SeatState.{SeatState}
 use Rattle.rearrange.specs.Seats.{allocation_of}
-use Rattle.rearrange.specs.declared.sums.SeatRows.{SeatRows}
+use Rattle.rearrange.specs.declared.sums.SeatShares.{SeatShares}
 use Rattle.rearrange.specs.declared.sums.Unkept.{Unkept}
 
--- how many of an element of a brand a row has
-abbrev pub row_count : ℕ → List ℕ → Row → ℕ
-row_count brand element r = if r.amount.brand == brand then count r.amount.value.content element else 0
+-- how many of an element of a brand a share has
+abbrev pub share_count : ℕ → List ℕ → Share → ℕ
+share_count brand element r = if r.amount.brand == brand then count r.amount.value.content element else 0
 
-abbrev pub rows_count : ℕ → List ℕ → List Row → ℕ
-rows_count brand element rows = sum_by (row_count brand element) rows
+abbrev pub shares_count : ℕ → List ℕ → List Share → ℕ
+shares_count brand element shares = sum_by (share_count brand element) shares
 
 -- how many the touched seats have together
 abbrev pub count_before : ℕ → List ℕ → List Touched → ℕ
-count_before brand element touched = sum_by (λ t. rows_count brand element t.before) touched
+count_before brand element touched = sum_by (λ t. shares_count brand element t.before) touched
 
 abbrev pub count_after : ℕ → List ℕ → List Touched → ℕ
-count_after brand element touched = sum_by (λ t. rows_count brand element t.after) touched
+count_after brand element touched = sum_by (λ t. shares_count brand element t.after) touched
 
 -- a seat with what it had by its state, and what it has while a change is worked
-abbrev pub touched_of : List SeatState → SeatRows → Touched
-touched_of states s = record { seat = s.seat; before = allocation_of states s.seat; after = s.rows.items }
+abbrev pub touched_of : List SeatState → SeatShares → Touched
+touched_of states s = record { seat = s.seat; before = allocation_of states s.seat; after = s.shares.items }
 
-abbrev pub all_touched : List SeatState → List SeatRows → List Touched
+abbrev pub all_touched : List SeatState → List SeatShares → List Touched
 all_touched states list = map (touched_of states) list
 
 -- of each element of each brand they have as many after as before

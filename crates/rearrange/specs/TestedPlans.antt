@@ -3,10 +3,10 @@
 use Rattle.std.specs.Prelude.{ℕ, pos, ◌==◌, nat_le, not, Bool, true, List, [], ◌∷◌, ◌++◌, length, map, filter, flat_map, is_some, Option, Some, None, option_and_then, option_map, Result, Ok, if◌then◌else◌}
 use Rattle.std.specs.List.{find, list_all}
 use Rattle.std.specs.Option.{option_map_or}
-use Rattle.refusals.specs.amount_math.Worth.{Worth}
+use Rattle.refusals.specs.amount_math.ValueView.{ValueView}
 use Rattle.proposals.specs.Leasts.{least}
-use Rattle.proposals.specs.Rows.{most_rows}
-use Rattle.proposals.specs.declared.allocations.Row.{Row}
+use Rattle.proposals.specs.Shares.{most_shares}
+use Rattle.proposals.specs.declared.allocations.Share.{Share}
 use Rattle.proposals.specs.declared.plans.SeatState.{SeatState}
 use Rattle.proposals.specs.declared.plans.Touched.{Touched}
 use Rattle.proposals.specs.declared.plans.Transfer.{Transfer}
@@ -27,21 +27,21 @@ use Rattle.rearrange.specs.Slots.{can_give, can_take, is_safe}
 -- ---- what is not conserved
 
 -- all that the seats have before and after
-abbrev pub rows_of : List Touched → List Row
-rows_of touched = flat_map (λ t. t.before ++ t.after) touched
+abbrev pub shares_of : List Touched → List Share
+shares_of touched = flat_map (λ t. t.before ++ t.after) touched
 
 abbrev pub brands_of : List Touched → List ℕ
-brands_of touched = map (λ r. r.amount.brand) (rows_of touched)
+brands_of touched = map (λ r. r.amount.brand) (shares_of touched)
 
--- what rows have of a brand
-abbrev pub values_of : ℕ → List Row → List Worth
+-- what shares have of a brand
+abbrev pub values_of : ℕ → List Share → List ValueView
 values_of brand [] = []
 values_of brand (r ∷ rs) =
     if r.amount.brand == brand then r.amount.value ∷ values_of brand rs else values_of brand rs
 
 -- the elements of a brand that the seats have before or after, in byte order
 abbrev pub elements_of : List Touched → ℕ → List (List ℕ)
-elements_of touched brand = elements (total_of (values_of brand (rows_of touched)))
+elements_of touched brand = elements (total_of (values_of brand (shares_of touched)))
 
 -- of an element of a brand there are not as many after as before
 abbrev pub is_unkept : List Touched → ℕ → List ℕ → Bool
@@ -81,14 +81,14 @@ least_unsafe states touched =
     least (map (λ t. t.seat) (filter (λ t. not (is_safe_after states t)) touched))
 
 abbrev pub is_small : Touched → Bool
-is_small t = nat_le (length t.after) most_rows
+is_small t = nat_le (length t.after) most_shares
 
 -- each element of each brand is kept, each seat is offer safe, and none has over 64 slots
 unfoldable pub keeps : List SeatState → List Touched → Result (Unit {0}) Refusal
 keeps states touched = do
   none_such (first_unkept touched) NotConserved
   none_such (least_unsafe states touched) not_offer_safe
-  need (list_all is_small touched) (limit most_rows)
+  need (list_all is_small touched) (limit most_shares)
 
 -- ---- staging that is taken over
 
@@ -122,14 +122,14 @@ passes_at None test = Ok tt
 passes_at (Some seat) test = test seat
 
 -- the seat that gives has what a transfer takes; the one that gets can then have what it is given more
-abbrev pub can_lose : (ℕ → List Row) → Transfer → Result (Unit {0}) Refusal
+abbrev pub can_lose : (ℕ → List Share) → Transfer → Result (Unit {0}) Refusal
 can_lose had t = passes_at t.from (λ seat. can_take (had seat) (losses_of t))
 
-abbrev pub can_gain : (ℕ → List Row) → Transfer → Result (Unit {0}) Refusal
+abbrev pub can_gain : (ℕ → List Share) → Transfer → Result (Unit {0}) Refusal
 can_gain had t = passes_at t.to (λ seat. can_give (lowered_by had t seat) (gains_of t))
 
 -- transfers can be worked one after the other, on what the seats have then
-abbrev pub can_work : (ℕ → List Row) → List Transfer → Result (Unit {0}) Refusal
+abbrev pub can_work : (ℕ → List Share) → List Transfer → Result (Unit {0}) Refusal
 can_work had [] = Ok tt
 can_work had (t ∷ ts) = can_lose had t >> (can_gain had t >> can_work (worked_by had t) ts)
 

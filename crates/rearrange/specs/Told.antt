@@ -1,12 +1,12 @@
 -- Why a change of allocations is refused, each fault as the refusal that tells it.
 use Rattle.std.specs.Prelude.{pos}
-use Rattle.proposals.specs.Rows.{most_rows}
+use Rattle.proposals.specs.Shares.{most_shares}
 use Rattle.rearrange.specs.declared.plans.PlanFault.{PlanFault}
 use Rattle.rearrange.specs.declared.plans.PlanFault.TheVariants as plan
 use Rattle.rearrange.specs.declared.seats.SeatsFault.{SeatsFault}
 use Rattle.rearrange.specs.declared.seats.SeatsFault.TheVariants as seats
 use Rattle.rearrange.specs.declared.sums.Unkept as plans
-use Rattle.refusals.specs.Codes.{limit, not_offer_safe, one_seat, repeated_seat, seat_exited, staged_left_out, too_much, wrong_instance}
+use Rattle.refusals.specs.Codes.{limit, not_offer_safe, one_seat, repeated_seat, seat_exited, staged_left_out, wrong_instance}
 use Rattle.refusals.specs.Told.{CanShow}
 use Rattle.refusals.specs.declared.codes.Refusal.{Refusal}
 use Rattle.refusals.specs.declared.codes.Refusal.TheVariants as codes
@@ -36,16 +36,12 @@ seats_told (seats.StagedLeftOut seat) = staged_left_out seat
 
 abbrev pub plan_told : PlanFault → Stop
 plan_told (plan.Seats fault) = Refused (seats_told fault)
-plan_told (plan.NotEnough short) = Refused (codes.NotEnough short)
-plan_told (plan.Overlap key) = Refused (codes.Overlap key)
-plan_told (plan.TooMuch over) = Refused (too_much over.sum over.bound)
 plan_told (plan.NotConserved unkept) = Refused (codes.NotConserved (unkept_told unkept))
 plan_told (plan.NotOfferSafe seat) = Refused (not_offer_safe seat)
-plan_told plan.Limit = Refused (limit most_rows)
+plan_told plan.Limit = Refused (limit most_shares)
 plan_told plan.NoMemory = NoMemory
 
--- sums that data can hold
+-- counts that data can hold
 abbrev pub PlanCanShow : PlanFault → Type 0
-PlanCanShow (plan.TooMuch over) = CanShow over.sum over.bound
 PlanCanShow (plan.NotConserved unkept) = CanShowUnkept unkept
 PlanCanShow _ = Unit {0}

@@ -1,9 +1,9 @@
-// What rows have before and after, but what the two sides have alike.
+//! What shares have before and after, but what the two sides have alike.
 ghost use Rattle.std.specs.Prelude.{◌≡◌, ◌≤◌, ◌∷◌, ◌↔◌, length, IfOk, IfSome, IsTrue, OnOk};
-ghost use Rattle.rearrange.specs.Parts.{HaveEntries, HaveRow, HaveRows};
+ghost use Rattle.rearrange.specs.Parts.{HaveEntries, HaveShare, HaveShares};
 
-use crate::parts::{Part, Side, add_entries, add_entry, add_row, add_rows};
-use proposals::allocations::Row;
+use crate::parts::{Part, Side, add_entries, add_entry, add_share, add_shares};
+use proposals::allocations::Share;
 use refusals::amount_math_lib::Entry;
 use std::alloc::{AllocError, Global};
 
@@ -75,14 +75,14 @@ fn add_unlike_entries(
     add_entries(parts, Side::After, brand, rest)
 }
 
-/// Adds what one row has before and another has after. Of one brand's keys, those that differ.
+/// Adds what one share has before and another has after. Of one brand's keys, those that differ.
 fn add_pair(
     alloc: Global,
     parts: &mut Vec<Part>,
-    before: &Row,
-    after: &Row,
+    before: &Share,
+    after: &Share,
 ) -> Result<(), AllocError>
-    ensures { OnOk result (HaveRow before.now after.now parts.old.items parts.new.items) }
+    ensures { OnOk result (HaveShare before.now after.now parts.old.items parts.new.items) }
 {
     let brand = before.amount.brand;
     if brand == after.amount.brand {
@@ -92,40 +92,40 @@ fn add_pair(
             }
         }
     }
-    add_row(alloc, parts, Side::Before, before)?;
-    add_row(alloc, parts, Side::After, after)
+    add_share(alloc, parts, Side::Before, before)?;
+    add_share(alloc, parts, Side::After, after)
 }
 
-/// Adds what a row has before and what the first of the rows after has. What is left of those after.
-fn add_unlike_row<'a>(
+/// Adds what a share has before and what the first of the shares after has. What is left of those after.
+fn add_unlike_share<'a>(
     alloc: Global,
     parts: &mut Vec<Part>,
-    row: &Row,
-    after: &'a [Row],
-) -> Result<&'a [Row], AllocError>
-    ensures { IfOk result (λ rest. HaveRows (row.now ∷ rest.now) after.now
+    share: &Share,
+    after: &'a [Share],
+) -> Result<&'a [Share], AllocError>
+    ensures { IfOk result (λ rest. HaveShares (share.now ∷ rest.now) after.now
         parts.old.items parts.new.items) }
 {
     if let Some((first, rest)) = after.split_first() {
-        add_pair(alloc, parts, row, first)?;
+        add_pair(alloc, parts, share, first)?;
         return Ok(rest);
     }
-    add_row(alloc, parts, Side::Before, row)?;
+    add_share(alloc, parts, Side::Before, share)?;
     Ok(after)
 }
 
-/// Adds what rows have before and what rows have after, but entries that two rows at one place have alike.
-pub(crate) fn add_unlike_rows(
+/// Adds what shares have before and what shares have after, but entries that two shares at one place have alike.
+pub(crate) fn add_unlike_shares(
     alloc: Global,
     parts: &mut Vec<Part>,
-    before: &[Row],
-    after: &[Row],
+    before: &[Share],
+    after: &[Share],
 ) -> Result<(), AllocError>
-    ensures { OnOk result (HaveRows before.now after.now parts.old.items parts.new.items) }
+    ensures { OnOk result (HaveShares before.now after.now parts.old.items parts.new.items) }
 {
     let mut rest = after;
-    for row in before {
-        rest = add_unlike_row(alloc, parts, row, rest)?;
+    for share in before {
+        rest = add_unlike_share(alloc, parts, share, rest)?;
     }
-    add_rows(alloc, parts, Side::After, rest)
+    add_shares(alloc, parts, Side::After, rest)
 }

@@ -11,13 +11,37 @@ pub mod plan_refusals;
 pub mod plans;
 pub mod safety;
 pub mod seats;
-mod settled;
+pub mod settled;
 pub mod slot_checks;
 pub mod staged;
 pub mod sums;
-pub mod transfers;
-mod working;
 
-pub use rights_model as rights_model_lib;
-pub use value_tests as value_tests_lib;
+/// What `rights_model` gives to those above.
+pub mod rights_model_lib {
+    pub use rights_model::{Holder, Movement};
+}
+
+/// What `value_tests` gives to those above.
+pub mod value_tests_lib {
+    pub mod beside {
+        pub use value_tests::beside::check_all_out;
+    }
+
+    pub mod holding_checks {
+        pub use value_tests::holding_checks::{check_has, check_out, check_sum};
+    }
+
+    pub mod pairs {
+        pub use value_tests::pairs::check_has;
+    }
+
+    pub mod value_differences {
+        pub use value_tests::value_differences::difference;
+    }
+
+    pub mod value_sums {
+        pub use value_tests::value_sums::whole_sum;
+    }
+}
+
 pub use value_tests::ertp_mint_lib;

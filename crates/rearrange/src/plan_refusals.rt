@@ -10,7 +10,6 @@ use crate::plans::PlanFault;
 use crate::seats::SeatsFault;
 use crate::sums as plans;
 use refusals::codes::{BareCode, NumberCode, Refusal, Unkept};
-use refusals::faults::too_much;
 use refusals::stops::Stop;
 
 /// How many slots a seat may have, at most (Zoe's keywords; the number is our own).
@@ -49,9 +48,6 @@ pub fn plan_told(fault: PlanFault) -> Stop
 {
     match fault {
         PlanFault::Seats(fault) => Stop::Refused(seats_told(fault)),
-        PlanFault::NotEnough(short) => Stop::Refused(Refusal::NotEnough(short)),
-        PlanFault::Overlap(key) => Stop::Refused(Refusal::Overlap(key)),
-        PlanFault::TooMuch(over) => Stop::Refused(too_much(over)),
         PlanFault::NotConserved(unkept) => {
             Stop::Refused(Refusal::NotConserved(unkept_told(unkept)))
         }

@@ -1,7 +1,7 @@
 //! The plan of a change, once it is worked, and the tests that it must pass.
 
 ghost use Rattle.std.specs.Prelude.{◌≡◌, ◌<◌, ◌≤◌, ◌++◌, ◌∷◌, [], All, Any, IfErr, IfOk, IfSome, OnOk, length};
-ghost use Rattle.proposals.specs.Rows.{AreApart, most_rows};
+ghost use Rattle.proposals.specs.Shares.{AreApart, most_shares};
 ghost use Rattle.rearrange.specs.Plans.{IsPlanRefusal};
 ghost use Rattle.rearrange.specs.Safety.{AreSafe, MeetProposal};
 ghost use Rattle.rearrange.specs.Seats.{state_of};
@@ -10,11 +10,9 @@ ghost use Rattle.rearrange.specs.Sums as sums;
 
 use crate::safety::least_unsafe;
 use crate::seats::{SeatsFault, allocation_copy};
-use crate::sums::{SeatRows, Unkept, first_unkept};
+use crate::sums::{SeatShares, Unkept, first_unkept};
 use proposals::plans::{Plan, SeatState, Touched};
 use proposals::slots::{SlotsFault, allocation_of};
-use refusals::amount_math_lib::shortfall::Shortfall;
-use refusals::amount_math_lib::{Key, TooMuch};
 use std::alloc::Global;
 
 /// Why a change of allocations is refused (Zoe; the codes and their order are our own).
@@ -22,12 +20,6 @@ use std::alloc::Global;
 pub enum PlanFault {
     /// A test over seats fails, before any amount is looked at.
     Seats(SeatsFault),
-    /// A seat has less than a transfer takes: what it has, and what is asked.
-    NotEnough(Shortfall),
-    /// The least key of a set that a seat has already.
-    Overlap(Key),
-    /// What a transfer gives makes too much.
-    TooMuch(TooMuch),
     /// Of an element of a brand the touched seats would not have as many as before.
     NotConserved(Unkept),
     /// The least seat that would not be offer safe.
@@ -38,7 +30,7 @@ pub enum PlanFault {
 }
 
 /// Whether of each element of each brand the seats have as many after as before.
-fn check_kept(alloc: Global, states: &[SeatState], list: &[SeatRows]) -> Result<(), PlanFault>
+fn check_kept(alloc: Global, states: &[SeatState], list: &[SeatShares]) -> Result<(), PlanFault>
     ensures ok { OnOk result (AreConserved (sums.all_touched states.now list.now)) }
     ensures refused { IfErr result (IsPlanRefusal states.now (sums.all_touched states.now list.now)) }
 {
@@ -50,8 +42,8 @@ fn check_kept(alloc: Global, states: &[SeatState], list: &[SeatRows]) -> Result<
 }
 
 /// Whether that is so, and each seat is offer safe after.
-fn check(alloc: Global, states: &[SeatState], list: &[SeatRows]) -> Result<(), PlanFault>
-    requires { All (λ s. IfSome (state_of states.now s.seat) (MeetProposal s.rows.items)) list.now }
+fn check(alloc: Global, states: &[SeatState], list: &[SeatShares]) -> Result<(), PlanFault>
+    requires { All (λ s. IfSome (state_of states.now s.seat) (MeetProposal s.shares.items)) list.now }
     ensures kept { OnOk result (AreConserved (sums.all_touched states.now list.now)) }
     ensures safe { OnOk result (AreSafe states.now (sums.all_touched states.now list.now)) }
     ensures refused { IfErr result (IsPlanRefusal states.now (sums.all_touched states.now list.now)) }
@@ -64,13 +56,13 @@ fn check(alloc: Global, states: &[SeatState], list: &[SeatRows]) -> Result<(), P
 }
 
 /// A seat with what it had and what it has then.
-fn touched(alloc: Global, states: &[SeatState], seat: SeatRows) -> Result<Touched, SlotsFault>
-    requires { AreApart seat.rows.items }
+fn touched(alloc: Global, states: &[SeatState], seat: SeatShares) -> Result<Touched, SlotsFault>
+    requires { AreApart seat.shares.items }
     ensures ok { IfOk result (λ touched. touched ≡ touched_of states.now seat) }
-    ensures few { IfOk result (λ touched. length touched.after ≤ most_rows) }
-    ensures limit { IfErr result (λ fault. fault ≡ SlotsFault.Limit → most_rows < length seat.rows.items) }
+    ensures few { IfOk result (λ touched. length touched.after ≤ most_shares) }
+    ensures limit { IfErr result (λ fault. fault ≡ SlotsFault.Limit → most_shares < length seat.shares.items) }
 {
-    let after = allocation_of(alloc, seat.rows)?;
+    let after = allocation_of(alloc, seat.shares)?;
     match allocation_copy(alloc, states, seat.seat) {
         Ok(before) => Ok(Touched {
             seat: seat.seat,
@@ -96,12 +88,12 @@ fn keep(all: &mut Vec<Touched>, one: Touched) -> Result<(), SlotsFault>
 fn all_touched(
     alloc: Global,
     states: &[SeatState],
-    list: Vec<SeatRows>,
+    list: Vec<SeatShares>,
 ) -> Result<Vec<Touched>, SlotsFault>
-    requires { All (λ s. AreApart s.rows.items) list.items }
+    requires { All (λ s. AreApart s.shares.items) list.items }
     ensures ok { IfOk result (λ touched. touched.items ≡ sums.all_touched states.now list.items) }
-    ensures few { IfOk result (λ touched. All (λ t. length t.after ≤ most_rows) touched.items) }
-    ensures limit { IfErr result (λ fault. fault ≡ SlotsFault.Limit → Any (λ t. most_rows < length t.after) (sums.all_touched states.now list.items)) }
+    ensures few { IfOk result (λ touched. All (λ t. length t.after ≤ most_shares) touched.items) }
+    ensures limit { IfErr result (λ fault. fault ≡ SlotsFault.Limit → Any (λ t. most_shares < length t.after) (sums.all_touched states.now list.items)) }
 {
     let mut all = Vec::new(alloc);
     for seat in list {
@@ -114,17 +106,17 @@ fn all_touched(
 }
 
 /// The plan of a change that was worked, or the first test that it fails.
-pub(crate) fn plan_of(
+pub fn plan_of(
     alloc: Global,
     states: &[SeatState],
-    list: Vec<SeatRows>,
+    list: Vec<SeatShares>,
 ) -> Result<Plan, PlanFault>
-    requires apart { All (λ s. AreApart s.rows.items) list.items }
-    requires meets { All (λ s. IfSome (state_of states.now s.seat) (MeetProposal s.rows.items)) list.items }
+    requires apart { All (λ s. AreApart s.shares.items) list.items }
+    requires meets { All (λ s. IfSome (state_of states.now s.seat) (MeetProposal s.shares.items)) list.items }
     ensures ok { IfOk result (λ plan. plan ≡ sums.all_touched states.now list.items) }
     ensures conserved { IfOk result AreConserved }
     ensures safe { IfOk result (AreSafe states.now) }
-    ensures few { IfOk result (All (λ t. length t.after ≤ most_rows)) }
+    ensures few { IfOk result (All (λ t. length t.after ≤ most_shares)) }
     ensures refused { IfErr result (IsPlanRefusal states.now (sums.all_touched states.now list.items)) }
 {
     check(alloc, states, list.as_slice())?;

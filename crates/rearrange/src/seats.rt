@@ -3,11 +3,11 @@
 
 ghost use Rattle.std.specs.Prelude.{◌≡◌, Some, IfOk, IsPermutation, option_copied};
 ghost use Rattle.std.specs.List.Sorted.{IsNonDecreasing};
-ghost use Rattle.proposals.specs.Rows.{AreApart};
+ghost use Rattle.proposals.specs.Shares.{AreApart};
 ghost use Rattle.rearrange.specs.Seats as given;
 
 use crate::listed::{ascending, is_listed, is_repeated};
-use proposals::allocations::{Allocation, Row};
+use proposals::allocations::{Allocation, Share};
 use proposals::plans::SeatState;
 use std::alloc::{AllocError, Global};
 
@@ -34,12 +34,12 @@ pub fn state_of(states: &[SeatState], seat: u32) -> Option<&SeatState>
 }
 
 /// What a seat has by its state: nothing where none is given of it.
-pub(crate) fn allocation_of(states: &[SeatState], seat: u32) -> &[Row]
-    ensures rows { result.now ≡ given.allocation_of states.now seat }
+pub fn allocation_of(states: &[SeatState], seat: u32) -> &[Share]
+    ensures shares { result.now ≡ given.allocation_of states.now seat }
     ensures apart { AreApart result.now }
 {
     match state_of(states, seat) {
-        Some(state) => state.allocation.rows(),
+        Some(state) => state.allocation.shares(),
         None => &[],
     }
 }

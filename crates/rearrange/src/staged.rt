@@ -1,47 +1,47 @@
 //! Reallocation: each listed seat takes over its staging, all together or none (Zoe's reallocate).
 
 ghost use Rattle.std.specs.Prelude.{◌≡◌, ◌≤◌, length, All, IfErr, IfOk, IfSome, IsOk, None, OnOk};
-ghost use Rattle.proposals.specs.Rows.{AreApart, most_rows};
+ghost use Rattle.proposals.specs.Shares.{AreApart, most_shares};
 ghost use Rattle.rearrange.specs.Safety.{AreSafe, MeetProposal};
 ghost use Rattle.rearrange.specs.Seats as given;
-ghost use Rattle.rearrange.specs.Staged.{IsOfOneBrand, IsStagedRefusal, rows_staged, staged_plan, touched_with};
+ghost use Rattle.rearrange.specs.Staged.{IsOfOneBrand, IsStagedRefusal, shares_staged, staged_plan, touched_with};
 ghost use Rattle.rearrange.specs.Sums.{AreConserved, all_touched, touched_of};
 
 use crate::plans::{PlanFault, plan_of};
 use crate::seats::{allocation_of, staged_refusal, state_of};
 use crate::settled::settled;
-use crate::sums::SeatRows;
-use proposals::allocations::Row;
+use crate::sums::SeatShares;
+use proposals::allocations::Share;
 use proposals::plans::{Plan, SeatState};
 use std::alloc::{AllocError, Global};
 
 /// A seat's staging, or where it has none what it has.
-fn rows_staged(states: &[SeatState], seat: u32) -> &[Row]
-    ensures rows { result.now ≡ rows_staged states.now seat }
+fn shares_staged(states: &[SeatState], seat: u32) -> &[Share]
+    ensures shares { result.now ≡ shares_staged states.now seat }
     ensures apart { AreApart result.now }
 {
     match state_of(states, seat) {
         Some(state) => match &state.staged {
-            Some(staged) => staged.rows(),
-            None => state.allocation.rows(),
+            Some(staged) => staged.shares(),
+            None => state.allocation.shares(),
         },
         None => &[],
     }
 }
 
 /// A seat that takes over its staging.
-fn with_staging(alloc: Global, states: &[SeatState], seat: u32) -> Result<SeatRows, AllocError>
+fn with_staging(alloc: Global, states: &[SeatState], seat: u32) -> Result<SeatShares, AllocError>
     requires { All IsOfOneBrand states.now }
-    ensures ok { IfOk result (λ s. touched_of states.now s ≡ touched_with states.now seat (rows_staged states.now seat)) }
-    ensures apart { IfOk result (λ s. AreApart s.rows.items) }
-    ensures meets { IfOk result (λ s. IfSome (given.state_of states.now s.seat) (MeetProposal s.rows.items)) }
+    ensures ok { IfOk result (λ s. touched_of states.now s ≡ touched_with states.now seat (shares_staged states.now seat)) }
+    ensures apart { IfOk result (λ s. AreApart s.shares.items) }
+    ensures meets { IfOk result (λ s. IfSome (given.state_of states.now s.seat) (MeetProposal s.shares.items)) }
 {
-    let rows = settled(
+    let shares = settled(
         alloc,
         allocation_of(states, seat),
-        rows_staged(states, seat),
+        shares_staged(states, seat),
     )?;
-    Ok(SeatRows { seat, rows })
+    Ok(SeatShares { seat, shares })
 }
 
 /// The listed seats, each with its staging taken over.
@@ -49,11 +49,11 @@ fn all_with_staging(
     alloc: Global,
     states: &[SeatState],
     seats: &[u32],
-) -> Result<Vec<SeatRows>, AllocError>
+) -> Result<Vec<SeatShares>, AllocError>
     requires { All IsOfOneBrand states.now }
     ensures ok { IfOk result (λ list. all_touched states.now list.items ≡ staged_plan states.now seats.now) }
-    ensures apart { IfOk result (λ list. All (λ s. AreApart s.rows.items) list.items) }
-    ensures meets { IfOk result (λ list. All (λ s. IfSome (given.state_of states.now s.seat) (MeetProposal s.rows.items)) list.items) }
+    ensures apart { IfOk result (λ list. All (λ s. AreApart s.shares.items) list.items) }
+    ensures meets { IfOk result (λ list. All (λ s. IfSome (given.state_of states.now s.seat) (MeetProposal s.shares.items)) list.items) }
 {
     let mut list = Vec::new(alloc);
     for seat in seats {
@@ -95,7 +95,7 @@ pub fn plan_staged(
     ensures may { IsOk result → given.staged_refusal instance states.now seats.now ≡ None }
     ensures conserved { IfOk result AreConserved }
     ensures safe { IfOk result (AreSafe states.now) }
-    ensures few { IfOk result (All (λ t. length t.after ≤ most_rows)) }
+    ensures few { IfOk result (All (λ t. length t.after ≤ most_shares)) }
     ensures refused { IfErr result (IsStagedRefusal instance states.now seats.now) }
 {
     check_seats(alloc, instance, states, seats)?;

@@ -2,22 +2,22 @@
 
 ghost use Rattle.std.specs.Prelude.{[], ◌↔◌, IfOk, IsTrue, MatchOption, OnOk};
 ghost use Rattle.rearrange.specs.Sums.{AreConserved, IsFirstUnkept, all_touched, touched_of};
-ghost use Rattle.rearrange.specs.Parts.{HaveAll, HaveRows, HaveSeat, HaveTouched};
+ghost use Rattle.rearrange.specs.Parts.{HaveAll, HaveShares, HaveSeat, HaveTouched};
 ghost use Rattle.rearrange.specs.Seats as given;
 
-use crate::differences::add_unlike_rows;
-use crate::parts::{Part, Side, add_rows, first_uneven, sort};
+use crate::differences::add_unlike_shares;
+use crate::parts::{Part, Side, add_shares, first_uneven, sort};
 use crate::seats::allocation_of;
-use proposals::allocations::Row;
+use proposals::allocations::Share;
 use proposals::plans::SeatState;
 use refusals::amount_math_lib::Key;
 use std::alloc::{AllocError, Global};
 
 /// What a seat has while a change is worked. A list that passes the limit of slots is refused last.
 #[derive(Drop)]
-pub struct SeatRows {
+pub struct SeatShares {
     pub seat: u32,
-    pub rows: Vec<Row>,
+    pub shares: Vec<Share>,
 }
 
 /// A brand's element of which seats would not have as many after a change as before (`NotConserved` shows
@@ -35,16 +35,20 @@ fn add_seat(
     alloc: Global,
     parts: &mut Vec<Part>,
     states: &[SeatState],
-    seat: &SeatRows,
+    seat: &SeatShares,
 ) -> Result<(), AllocError>
     ensures { OnOk result (HaveSeat parts.old.items (touched_of states.now seat.now) parts.new.items) }
 {
-    add_rows(alloc, parts, Side::Before, allocation_of(states, seat.seat))?;
-    add_rows(alloc, parts, Side::After, seat.rows.as_slice())
+    add_shares(alloc, parts, Side::Before, allocation_of(states, seat.seat))?;
+    add_shares(alloc, parts, Side::After, seat.shares.as_slice())
 }
 
 /// What the seats have before and after.
-fn parts_of(alloc: Global, states: &[SeatState], list: &[SeatRows]) -> Result<Vec<Part>, AllocError>
+fn parts_of(
+    alloc: Global,
+    states: &[SeatState],
+    list: &[SeatShares],
+) -> Result<Vec<Part>, AllocError>
     ensures { IfOk result (λ parts. HaveAll [] (all_touched states.now list.now) parts.items) }
 {
     let mut parts = Vec::new(alloc);
@@ -54,29 +58,29 @@ fn parts_of(alloc: Global, states: &[SeatState], list: &[SeatRows]) -> Result<Ve
     Ok(parts)
 }
 
-/// What a seat has before and after, but entries that two rows at one place have alike.
+/// What a seat has before and after, but entries that two shares at one place have alike.
 fn add_unlike_seat(
     alloc: Global,
     parts: &mut Vec<Part>,
     states: &[SeatState],
-    seat: &SeatRows,
+    seat: &SeatShares,
 ) -> Result<(), AllocError>
-    ensures { OnOk result (HaveRows (given.allocation_of states.now seat.now.seat)
-        seat.now.rows.items parts.old.items parts.new.items) }
+    ensures { OnOk result (HaveShares (given.allocation_of states.now seat.now.seat)
+        seat.now.shares.items parts.old.items parts.new.items) }
 {
-    add_unlike_rows(
+    add_unlike_shares(
         alloc,
         parts,
         allocation_of(states, seat.seat),
-        seat.rows.as_slice(),
+        seat.shares.as_slice(),
     )
 }
 
-/// What the seats have before and after, but entries that two rows at one place have alike.
+/// What the seats have before and after, but entries that two shares at one place have alike.
 fn unlike_parts_of(
     alloc: Global,
     states: &[SeatState],
-    list: &[SeatRows],
+    list: &[SeatShares],
 ) -> Result<Vec<Part>, AllocError>
     ensures { IfOk result (λ parts. HaveTouched (all_touched states.now list.now) [] parts.items) }
 {
@@ -87,10 +91,14 @@ fn unlike_parts_of(
     Ok(parts)
 }
 
-/// Whether of each element of each brand the seats have as many after as before. Entries that two rows
+/// Whether of each element of each brand the seats have as many after as before. Entries that two shares
 /// at one place have alike are passed over: they are walked once, and only what is left is sorted and
 /// added up.
-fn are_conserved(alloc: Global, states: &[SeatState], list: &[SeatRows]) -> Result<bool, AllocError>
+fn are_conserved(
+    alloc: Global,
+    states: &[SeatState],
+    list: &[SeatShares],
+) -> Result<bool, AllocError>
     ensures { IfOk result (λ conserved. IsTrue conserved
         ↔ AreConserved (all_touched states.now list.now)) }
 {
@@ -105,7 +113,7 @@ fn are_conserved(alloc: Global, states: &[SeatState], list: &[SeatRows]) -> Resu
 pub fn first_unkept(
     alloc: Global,
     states: &[SeatState],
-    list: &[SeatRows],
+    list: &[SeatShares],
 ) -> Result<Option<Unkept>, AllocError>
     ensures { IfOk result (λ found. MatchOption found (AreConserved (all_touched states.now list.now)) (IsFirstUnkept (all_touched states.now list.now))) }
 {

@@ -7,30 +7,29 @@ use Rattle.std.proofs.lemmas.Bool.{eq-eqb, eqb-true, false≢true}
 use Rattle.rules.specs.call_arguments.Arguments.{object_in}
 use Rattle.rules.specs.call_arguments.Numbers.{least}
 use Rattle.host_data.specs.Amounts.{read_all}
-use Rattle.row_laws.proofs.Asked.{AreAsked, all_asked, named_in, seat_in_part, seats_are_named}
-use Rattle.row_laws.proofs.Rearranging.{IsStateOf, slots_there, stays_open}
-use Rattle.row_laws.proofs.Reallocating.{none_such_each}
-use Rattle.row_laws.proofs.GivenShares.{passed}
-use Rattle.rules.specs.ZseatRows.{allocation_of, seat_of}
+use Rattle.share_transfers.proofs.rule_laws.Asked.{AreAsked, all_asked, named_in, seat_in_part, seats_are_named}
+use Rattle.share_transfers.proofs.rule_laws.Rearranging.{IsStateOf, slots_there, stays_open}
+use Rattle.share_transfers.proofs.rule_laws.Reallocating.{none_such_each}
+use Rattle.share_transfers.proofs.rule_laws.GivenShares.{passed}
+use Rattle.rules.specs.States.{allocation_of, seat_of, state_of, unstaged}
 use Rattle.host_data.specs.Tree.{Tree}
 use Rattle.host_data.specs.declared.data.ObjKind.TheVariants as kinds
 use Rattle.rearrange.proofs.TestedConservation.{Named}
 use Rattle.rearrange.specs.TestedPlans.{can_take_part}
-use Rattle.rules.specs.proposals.declared.allocations.Row.{Row}
+use Rattle.rules.specs.proposals.declared.allocations.Share.{Share}
 use Rattle.rules.specs.proposals.declared.plans.SeatState.{SeatState}
 use Rattle.rearrange.specs.Seats as given
 use Rattle.rearrange.specs.Seats.{has_exited}
-use Rattle.rules.specs.call_arguments.Records.{RowData, are_keywords}
+use Rattle.rules.specs.call_arguments.Records.{ShareData, are_keywords}
 use Rattle.refusals.proofs.Steps.{none_is}
 use Rattle.refusals.specs.Codes.{bad_args, wrong_brand}
 use Rattle.refusals.specs.Outcomes.{bind, none_such, wanted, ◌>>=◌, ◌>>◌}
 use Rattle.refusals.specs.declared.codes.Refusal.{Refusal}
 use Rattle.rules.specs.Given.{is_misfit, issuers_of}
-use Rattle.rules.specs.Rearranging.{Asked, Parts, SeatRow, asked_in, gains_of, is_against, losses_of, row_for, rows_asked, rows_for, states_for, transfers_in, transfers_of, wrong_brands}
-use Rattle.rules.specs.States.{state_of, unstaged}
-use Rattle.row_transfers.specs.Brands.{wrong_at}
-use Rattle.row_transfers.specs.Reading.{row_tests, transfers_at}
-use Rattle.row_transfers.specs.Views.{keywords_of}
+use Rattle.rules.specs.Rearranging.{Asked, Parts, SeatShare, asked_in, gains_of, is_against, losses_of, share_for, shares_asked, shares_for, states_for, transfers_in, transfers_of, wrong_brands}
+use Rattle.share_transfers.specs.Brands.{wrong_at}
+use Rattle.share_transfers.specs.Reading.{share_tests, transfers_at}
+use Rattle.share_transfers.specs.Views.{keywords_of}
 use Rattle.rearrange_calls.proofs.Seated.{are_parts, seats_of}
 use Rattle.rearrange_calls.specs.Steps.{AreFromData}
 use Rattle.rules.specs.world_state.Worlds.{IsOpen, State}
@@ -70,39 +69,39 @@ module _ (w : State) (i : ℕ) (ns : List ℕ) (part : can_take_part i (states_f
   pub slots_at : (n : ℕ) → Named n ns → given.allocation_of (states_for w ns) n ≡ allocation_of w n
   slots_at n named = slots_there w (states_for w ns) n (state_given w ns n named) (open_at n named)
 
-  -- ---- rows
+  -- ---- shares
 
-  abbrev had : ℕ → List Row
+  abbrev had : ℕ → List Share
   had = given.allocation_of (states_for w ns)
 
-  wrong_same : (before ss : List SeatRow) → AllByRecursion (λ (s : SeatRow). Named s.seat ns) ss → wrong_brands w i before ss ≡ wrong_at (issuers_of w i) had before ss
+  wrong_same : (before ss : List SeatShare) → AllByRecursion (λ (s : SeatShare). Named s.seat ns) ss → wrong_brands w i before ss ≡ wrong_at (issuers_of w i) had before ss
   wrong_same before [] all = refl
   wrong_same before (s ∷ ss) all =
-      ap (λ slots. cond (is_misfit (issuers_of w i) slots s.row || list_any (is_against s) before) (s.row.amount.brand ∷ wrong_brands w i (before ++ s ∷ []) ss) (wrong_brands w i (before ++ s ∷ []) ss)) (sym (slots_at s.seat all.0))
-      ∙ ap (λ l. cond (is_misfit (issuers_of w i) (had s.seat) s.row || list_any (is_against s) before) (s.row.amount.brand ∷ l) l) (wrong_same (before ++ s ∷ []) ss all.1)
+      ap (λ slots. cond (is_misfit (issuers_of w i) slots s.share || list_any (is_against s) before) (s.share.amount.brand ∷ wrong_brands w i (before ++ s ∷ []) ss) (wrong_brands w i (before ++ s ∷ []) ss)) (sym (slots_at s.seat all.0))
+      ∙ ap (λ l. cond (is_misfit (issuers_of w i) (had s.seat) s.share || list_any (is_against s) before) (s.share.amount.brand ∷ l) l) (wrong_same (before ++ s ∷ []) ss all.1)
 
-  -- all rows are of seats that are named
-  all_append : (xs ys : List SeatRow) → AllByRecursion (λ (s : SeatRow). Named s.seat ns) xs → AllByRecursion (λ (s : SeatRow). Named s.seat ns) ys → AllByRecursion (λ (s : SeatRow). Named s.seat ns) (xs ++ ys)
+  -- all shares are of seats that are named
+  all_append : (xs ys : List SeatShare) → AllByRecursion (λ (s : SeatShare). Named s.seat ns) xs → AllByRecursion (λ (s : SeatShare). Named s.seat ns) ys → AllByRecursion (λ (s : SeatShare). Named s.seat ns) (xs ++ ys)
   all_append [] ys one two = two
   all_append (x ∷ xs) ys one two = (one.0, all_append xs ys one.1 two)
 
-  rows_named : (o : Option ℕ) (rows : List RowData) → ((n : ℕ) → o ≡ Some n → Named n ns) → AllByRecursion (λ (s : SeatRow). Named s.seat ns) (rows_for o rows)
-  rows_named None rows named = tt
-  rows_named (Some n) rows named = each rows (named n refl)
+  shares_named : (o : Option ℕ) (shares : List ShareData) → ((n : ℕ) → o ≡ Some n → Named n ns) → AllByRecursion (λ (s : SeatShare). Named s.seat ns) (shares_for o shares)
+  shares_named None shares named = tt
+  shares_named (Some n) shares named = each shares (named n refl)
     where
-      each : (rs : List RowData) → Named n ns → AllByRecursion (λ (s : SeatRow). Named s.seat ns) (map (row_for n) rs)
+      each : (rs : List ShareData) → Named n ns → AllByRecursion (λ (s : SeatShare). Named s.seat ns) (map (share_for n) rs)
       each [] there = tt
       each (r ∷ rs) there = (there, each rs there)
 
-  all_named : (k : ℕ) (parts : List Parts) (read : List Asked) → AreAsked w k parts read → ((n : ℕ) → Named n (flat_map named_in parts) → Named n ns) → AllByRecursion (λ (s : SeatRow). Named s.seat ns) (flat_map rows_asked read)
+  all_named : (k : ℕ) (parts : List Parts) (read : List Asked) → AreAsked w k parts read → ((n : ℕ) → Named n (flat_map named_in parts) → Named n ns) → AllByRecursion (λ (s : SeatShare). Named s.seat ns) (flat_map shares_asked read)
   all_named k [] [] asked named = tt
   all_named k [] (a ∷ rest) asked named = absurd asked
   all_named k (p ∷ ps) [] asked named = absurd asked
   all_named k (p ∷ ps) (a ∷ rest) asked named =
-      all_append (rows_asked a) (flat_map rows_asked rest)
-      (all_append (rows_for a.from (losses_of a)) (rows_for a.to (gains_of a))
-      (rows_named a.from (losses_of a) (λ n at. named n (first (named_in p) (flat_map named_in ps) n (first (seat_in_part p.from) (seat_in_part p.to) n (in_part p.from n (sym asked.0.from ∙ at))))))
-      (rows_named a.to (gains_of a) (λ n at. named n (first (named_in p) (flat_map named_in ps) n (second (seat_in_part p.from) (seat_in_part p.to) n (in_part p.to n (sym asked.0.to ∙ at)))))))
+      all_append (shares_asked a) (flat_map shares_asked rest)
+      (all_append (shares_for a.from (losses_of a)) (shares_for a.to (gains_of a))
+      (shares_named a.from (losses_of a) (λ n at. named n (first (named_in p) (flat_map named_in ps) n (first (seat_in_part p.from) (seat_in_part p.to) n (in_part p.from n (sym asked.0.from ∙ at))))))
+      (shares_named a.to (gains_of a) (λ n at. named n (first (named_in p) (flat_map named_in ps) n (second (seat_in_part p.from) (seat_in_part p.to) n (in_part p.to n (sym asked.0.to ∙ at)))))))
       (all_named k ps rest asked.1 (λ n there. named n (second (named_in p) (flat_map named_in ps) n there)))
     where
       first : (xs ys : List ℕ) (n : ℕ) → Named n xs → Named n (xs ++ ys)
@@ -123,16 +122,16 @@ assoc (Ok x) f g = refl
 assoc (Err e) f g = refl
 
 same_read : (w : State) (i : ℕ) (seats : List ℕ) (list : List Parts) → AreFromData w list → seats_of list ≡ Some seats → can_take_part i (states_for w seats) seats ≡ Ok tt → transfers_in w i list ≡ transfers_at (issuers_of w i) (given.allocation_of (states_for w seats)) list
-unfolding transfers_in transfers_at row_tests wanted bind
+unfolding transfers_in transfers_at share_tests wanted bind
 same_read w i seats list input named part = by (read_all asked_in list) refl
   where
-    by : (o : Option (List Asked)) → read_all asked_in list ≡ o → (wanted o (bad_args 1) >>= (λ read. are_keywords (keywords_of (flat_map rows_asked read)) >> (none_such (least (wrong_brands w i [] (flat_map rows_asked read))) wrong_brand >> transfers_of read))) ≡ (wanted o (bad_args 1) >>= (λ read. (are_keywords (keywords_of (flat_map rows_asked read)) >> none_such (least (wrong_at (issuers_of w i) (given.allocation_of (states_for w seats)) [] (flat_map rows_asked read))) wrong_brand) >> transfers_of read))
+    by : (o : Option (List Asked)) → read_all asked_in list ≡ o → (wanted o (bad_args 1) >>= (λ read. are_keywords (keywords_of (flat_map shares_asked read)) >> (none_such (least (wrong_brands w i [] (flat_map shares_asked read))) wrong_brand >> transfers_of read))) ≡ (wanted o (bad_args 1) >>= (λ read. (are_keywords (keywords_of (flat_map shares_asked read)) >> none_such (least (wrong_at (issuers_of w i) (given.allocation_of (states_for w seats)) [] (flat_map shares_asked read))) wrong_brand) >> transfers_of read))
     by None at = refl
     by (Some read) at =
-        let rows = flat_map rows_asked read in
+        let shares = flat_map shares_asked read in
         let all = all_named w i seats part input.caller list read (all_asked w input.caller list read (are_parts w list input) at) (λ n there. subst (Named n) (seats_are_named list seats named) there) in
-        ap (λ (l : List ℕ). are_keywords (keywords_of rows) >> (none_such (least l) wrong_brand >> transfers_of read)) (wrong_same w i seats part [] rows all)
-        ∙ assoc (are_keywords (keywords_of rows)) (λ _. none_such (least (wrong_at (issuers_of w i) (given.allocation_of (states_for w seats)) [] rows)) wrong_brand) (λ _. transfers_of read)
+        ap (λ (l : List ℕ). are_keywords (keywords_of shares) >> (none_such (least l) wrong_brand >> transfers_of read)) (wrong_same w i seats part [] shares all)
+        ∙ assoc (are_keywords (keywords_of shares)) (λ _. none_such (least (wrong_at (issuers_of w i) (given.allocation_of (states_for w seats)) [] shares)) wrong_brand) (λ _. transfers_of read)
 
 pub read_same : (w : State) (i : ℕ) (states : List SeatState) (seats : List ℕ) (list : List Parts) → AreFromData w list → seats_of list ≡ Some seats → states ≡ states_for w seats → can_take_part i states seats ≡ Ok tt → transfers_in w i list ≡ transfers_at (issuers_of w i) (given.allocation_of states) list
 read_same w i states seats list input named are part =

@@ -7,7 +7,7 @@ pub mod Least
 pub mod SeatsNamed
 pub mod SameChanges
 pub mod ReallocationStates
-pub mod SettledReallocations
+pub mod SettledShares
 pub mod StateFacts
 pub mod SeatsGiven
 pub mod PassingReallocations
@@ -15,5 +15,4 @@ pub mod TransferStates
 pub mod Seated
 pub mod Brands
 pub mod OneBrand
-pub mod SettledTransfers
 pub mod PassingTransfers

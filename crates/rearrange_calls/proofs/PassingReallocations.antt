@@ -2,10 +2,10 @@
 use Rattle.std.specs.List.{All}
 use Rattle.std.proofs.Common.{◌≡◌, ℕ, ◌<◌, ◌≤◌, ◌^◌, List, length, map, Ok, sym, subst, ◌∙◌, ap, arith}
 use Rattle.rules.specs.call_arguments.Numbers.{AreApart}
-use Rattle.row_laws.proofs.Reallocating.{IsPlan, plan_is}
+use Rattle.share_transfers.proofs.rule_laws.Reallocating.{IsPlan, plan_is}
 use Rattle.rearrange.specs.TestedPlans.{staged_changes}
 use Rattle.rearrange.specs.Bounds.{AreBounded}
-use Rattle.rules.specs.proposals.Rows.{most_rows}
+use Rattle.rules.specs.proposals.Shares.{most_shares}
 use Rattle.rules.specs.proposals.declared.plans.SeatState.{SeatState}
 use Rattle.rules.specs.proposals.declared.plans.Touched.{Touched}
 use Rattle.rearrange.specs.Staged.{IsOfOneBrand, staged_plan}
@@ -36,7 +36,7 @@ module _ (w : State) (good : IsGoodWorld w) (seats ns : List ℕ) (have : HaveAl
       planned_same w i seats ns have (λ n is. made_among w n ns have.made (have.listed n is))
       ∙ ap (λ (ss : List SeatState). staged_changes i ss seats) (sym are)
 
-  pub plan_passed : (i : ℕ) (touched : List Touched) → length seats < 2 ^ 32 → staged_changes i states seats ≡ Ok touched → touched ≡ staged_plan states seats → All (λ t. length t.after ≤ most_rows) touched → ArePassed touched
+  pub plan_passed : (i : ℕ) (touched : List Touched) → length seats < 2 ^ 32 → staged_changes i states seats ≡ Ok touched → touched ≡ staged_plan states seats → All (λ t. length t.after ≤ most_shares) touched → ArePassed touched
   plan_passed i touched few given plan small =
       let is : IsPlan w seats touched = ok_has _ _ touched (states_enough i ∙ given) (plan_is w i seats) in
       let here : touched ≡ staged_plan (map (state_of w) ns) seats = plan ∙ ap (λ (ss : List SeatState). staged_plan ss seats) are in

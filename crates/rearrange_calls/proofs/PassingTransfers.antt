@@ -1,108 +1,60 @@
 -- What the code plans passes the tests of a rearrangement: amounts agree, and no two touched seats are one.
-use Rattle.std.specs.Prelude.{IfSome, flat_map, map, unwrap_or, ◌==◌, ◌||◌, ◌^◌}
-use Rattle.std.specs.List.{All, AllByRecursion, IsDistinct, fold, list_any}
+use Rattle.std.specs.Prelude.{IfSome, flat_map, map, unwrap_or, ◌||◌, ◌^◌}
+use Rattle.std.specs.List.{All, AllByRecursion, IsDistinct, list_any}
 use Rattle.std.specs.Option.{option_map_or}
-use Rattle.std.proofs.Common.{◌≡◌, ◌≢◌, ℕ, ◌<◌, ◌≤◌, Bool, true, false, cond, eqb, List, [], ◌∷◌, ◌++◌, length, Option, Some, None, Ok, Err, Result, IfOk, inl, inr, refl, sym, ap, subst, ◌∙◌, arith}
-use Rattle.std.proofs.lemmas.Bool.{eq-eqb, eqb-true, false≢true, ne_eqb}
+use Rattle.std.proofs.Common.{◌≡◌, ◌≢◌, ℕ, ◌<◌, ◌≤◌, Bool, true, false, eqb, List, [], ◌∷◌, ◌++◌, length, Option, Some, None, Ok, Err, Result, IfOk, inl, inr, refl, sym, ap, subst, ◌∙◌, arith}
+use Rattle.std.proofs.lemmas.Bool.{eqb-true, false≢true, ne_eqb}
 use Rattle.std.proofs.lemmas.List.Elements.{All-from_recursion}
 use Rattle.std.proofs.lemmas.Map.Keys.{IsDistinct-cons}
 use Rattle.std.proofs.lemmas.Map.Steps.{length-le_from_distinct_below}
 use Rattle.refusals.specs.amount_math.Amount.{Meet}
 use Rattle.rules.specs.call_arguments.Numbers.{AreApart, IsNoneOf}
-use Rattle.row_laws.proofs.RowsRead.{all_keywords}
-use Rattle.row_laws.proofs.Asked.{AreAsked, AreParts, AreValued, all_asked, all_seats_are, all_tags_are, all_valued, named_in, seats_are_named, seats_own, transfers_read}
-use Rattle.row_laws.proofs.Changed.{AreFitting}
-use Rattle.row_laws.proofs.GivenShares.{HasSlots, if_given, neither, seat_slots}
-use Rattle.row_laws.proofs.Tags.{AreAgreed, IsRight, all_from, all_tags, rows_agreed, rows_right}
-use Rattle.row_laws.proofs.Working.{IsReadTransfer}
-use Rattle.rules.specs.ZseatRows.{allocation_of, seat_of}
+use Rattle.share_transfers.proofs.rule_laws.SharesRead.{all_keywords}
+use Rattle.share_transfers.proofs.rule_laws.Asked.{AreAsked, AreParts, AreValued, all_asked, all_seats_are, all_tags_are, all_valued, named_in, seats_are_named, seats_own, transfers_read}
+use Rattle.share_transfers.proofs.rule_laws.Changed.{AreFitting}
+use Rattle.share_transfers.proofs.rule_laws.GivenShares.{HasSlots, if_given, seat_slots}
+use Rattle.share_transfers.proofs.rule_laws.Tags.{AreAgreed, IsRight, all_from, all_tags, shares_agreed, shares_right}
+use Rattle.share_transfers.proofs.rule_laws.Transferring.{once_all, once_apart}
+use Rattle.share_transfers.proofs.rule_laws.Working.{IsReadTransfer}
+use Rattle.rules.specs.States.{allocation_of, seat_of, state_of}
 use Rattle.refusals.specs.host_text.Words.{is_keyword}
 use Rattle.rearrange.proofs.TestedConservation.{Named}
 use Rattle.rearrange.specs.TestedPlans.{can_take_part}
-use Rattle.rules.specs.proposals.Rows as rows
-use Rattle.rules.specs.proposals.Rows.{most_rows}
-use Rattle.rules.specs.proposals.declared.allocations.Row.{Row}
+use Rattle.rules.specs.proposals.Shares as shares
+use Rattle.rules.specs.proposals.Shares.{most_shares}
+use Rattle.rules.specs.proposals.declared.allocations.Share.{Share}
 use Rattle.rules.specs.proposals.declared.plans.SeatState.{SeatState}
 use Rattle.rules.specs.proposals.declared.plans.Touched.{Touched}
 use Rattle.rules.specs.proposals.declared.plans.Transfer.{Transfer}
 use Rattle.rearrange.specs.Seats as given
 use Rattle.rearrange.specs.Seats.{seats_named}
-use Rattle.rearrange.specs.Staged.{rows_of, touched_with}
-use Rattle.rearrange.specs.Transfers.{HasOneBrand, amounts_for, gains_of, once, transfers_plan, with_seat, worked}
+use Rattle.rearrange.specs.Staged.{shares_of, touched_with}
+use Rattle.rearrange.specs.Transfers.{HasOneBrand, amounts_for, gains_of, once, transfers_plan, worked}
 use Rattle.rearrange_calls.specs.Passed.{ArePassed}
 use Rattle.rearrange_calls.specs.Met.{IsMet}
 use Rattle.refusals.proofs.Steps.{after_none_such, after_wanted, ok_has}
-use Rattle.rules.specs.Rearranging.{Parts, SeatRow, rows_asked, states_for, transfers_in, transfers_of}
-use Rattle.rules.specs.States.{state_of}
-use Rattle.row_transfers.specs.Views.{transfer_view, transfer_views}
-use Rattle.row_transfers.specs.declared.values.RowTransfer.{RowTransfer}
+use Rattle.rules.specs.Rearranging.{Parts, SeatShare, shares_asked, states_for, transfers_in, transfers_of}
+use Rattle.share_transfers.specs.Views.{transfer_view, transfer_views}
+use Rattle.share_transfers.specs.declared.values.ShareTransfer.{ShareTransfer}
 use Rattle.rearrange_calls.proofs.Brands.{found_state, open_at, slots_at}
 use Rattle.rearrange_calls.proofs.OneBrand.{agree_all, given_agree, given_read, one_brand}
 use Rattle.rearrange_calls.proofs.Seated.{are_parts, seats_of}
-use Rattle.rearrange_calls.proofs.SettledTransfers.{settled_meet}
+use Rattle.rearrange_calls.proofs.SettledShares.{settled_meet}
 use Rattle.rearrange_calls.specs.Steps.{AreFromData}
-use Rattle.row_laws.proofs.world_laws.Lists.{all_map}
+use Rattle.share_transfers.proofs.world_laws.Lists.{all_map}
 use Rattle.rules.specs.world_state.Good.{IsGoodWorld}
 use Rattle.rules.specs.world_state.Known.{IsSeatOf}
 use Rattle.rules.specs.world_state.Worlds.{State}
 
--- ---- seats, each once
-
-none_pushed : (ns : List ℕ) (n m : ℕ) → IsNoneOf ns n → m ≢ n → IsNoneOf (ns ++ m ∷ []) n
-none_pushed [] n m none other = (other, tt)
-none_pushed (k ∷ ks) n m none other = (none.0, none_pushed ks n m none.1 other)
-
-unlike : (m n : ℕ) → (m == n) ≡ false → m ≢ n
-unlike m n is same = absurd (false≢true (sym is ∙ eq-eqb m n same))
-
-apart_pushed : (ns : List ℕ) (n : ℕ) → list_any (λ m. m == n) ns ≡ false → AreApart ns → AreApart (ns ++ n ∷ [])
-apart_pushed [] n none apart = (tt, tt)
-apart_pushed (m ∷ ms) n none apart =
-    let both = neither (m == n) (list_any (λ k. k == n) ms) none in
-    (none_pushed ms m n apart.0 (λ same. unlike m n both.0 (sym same)), apart_pushed ms n both.1 apart.1)
-
-with_apart : (ns : List ℕ) (n : ℕ) → AreApart ns → AreApart (with_seat ns n)
-with_apart ns n apart = by (list_any (λ m. m == n) ns) refl
-  where
-    by : (b : Bool) → list_any (λ m. m == n) ns ≡ b → AreApart (cond b ns (ns ++ n ∷ []))
-    by true e = apart
-    by false e = apart_pushed ns n e apart
-
-folded_apart : (before ns : List ℕ) → AreApart before → AreApart (fold with_seat before ns)
-folded_apart before [] apart = apart
-folded_apart before (n ∷ ns) apart = folded_apart (with_seat before n) ns (with_apart before n apart)
-
-once_apart : (ns : List ℕ) → AreApart (once ns)
-once_apart ns = folded_apart [] ns tt
-
-module _ (P : ℕ → Type 0) where
-  all_pushed : (ns : List ℕ) (n : ℕ) → AllByRecursion P ns → P n → AllByRecursion P (ns ++ n ∷ [])
-  all_pushed [] n all one = (one, tt)
-  all_pushed (m ∷ ms) n all one = (all.0, all_pushed ms n all.1 one)
-
-  with_all : (ns : List ℕ) (n : ℕ) → AllByRecursion P ns → P n → AllByRecursion P (with_seat ns n)
-  with_all ns n all one = by (list_any (λ m. m == n) ns)
-    where
-      by : (b : Bool) → AllByRecursion P (cond b ns (ns ++ n ∷ []))
-      by true = all
-      by false = all_pushed ns n all one
-
-  folded_all : (before ns : List ℕ) → AllByRecursion P before → AllByRecursion P ns → AllByRecursion P (fold with_seat before ns)
-  folded_all before [] all more = all
-  folded_all before (n ∷ ns) all more = folded_all (with_seat before n) ns (with_all before n all more.0) more.1
-
-  once_all : (ns : List ℕ) → AllByRecursion P ns → AllByRecursion P (once ns)
-  once_all ns all = folded_all [] ns tt all
-
-seats_same : (states : List SeatState) (has : ℕ → List Row) (ns : List ℕ) → map (λ (t : Touched). t.seat) (map (λ n. touched_with states n (has n)) ns) ≡ ns
+seats_same : (states : List SeatState) (has : ℕ → List Share) (ns : List ℕ) → map (λ (t : Touched). t.seat) (map (λ n. touched_with states n (has n)) ns) ≡ ns
 seats_same states has [] = refl
 seats_same states has (n ∷ ns) = ap (λ l. n ∷ l) (seats_same states has ns)
 
-many_same : (states : List SeatState) (has : ℕ → List Row) (ns : List ℕ) → length (map (λ n. touched_with states n (has n)) ns) ≡ length ns
+many_same : (states : List SeatState) (has : ℕ → List Share) (ns : List ℕ) → length (map (λ n. touched_with states n (has n)) ns) ≡ length ns
 many_same states has [] = refl
 many_same states has (n ∷ ns) = omega (arith, many_same states has ns)
 
-met_all : (states : List SeatState) (has : ℕ → List Row) (ns : List ℕ) → AllByRecursion (λ n. IsMet (touched_with states n (has n))) ns → AllByRecursion IsMet (map (λ n. touched_with states n (has n)) ns)
+met_all : (states : List SeatState) (has : ℕ → List Share) (ns : List ℕ) → AllByRecursion (λ n. IsMet (touched_with states n (has n))) ns → AllByRecursion IsMet (map (λ n. touched_with states n (has n)) ns)
 met_all states has [] all = tt
 met_all states has (n ∷ ns) all = (all.0, met_all states has ns all.1)
 
@@ -127,43 +79,43 @@ under bound (n ∷ ns) all q is = by (eqb q n) refl is (under bound ns all.1 q)
 below : (bound : ℕ) (ns : List ℕ) → AreApart ns → AllByRecursion (λ n. n < bound) ns → length ns ≤ bound
 below bound ns apart all = length-le_from_distinct_below ns bound (distinct ns apart) (under bound ns all)
 
-pub gains_apart : (w : State) (list : List RowTransfer) → AllByRecursion (IsReadTransfer w) (transfer_views list) → All (λ (t : RowTransfer). IfSome t.to (λ _. rows.AreApart (gains_of (transfer_view t)))) list
-gains_apart w list all = All-from_recursion (λ (t : RowTransfer). IfSome t.to (λ _. rows.AreApart (gains_of (transfer_view t)))) list (each list all)
+pub gains_apart : (w : State) (list : List ShareTransfer) → AllByRecursion (IsReadTransfer w) (transfer_views list) → All (λ (t : ShareTransfer). IfSome t.to (λ _. shares.AreApart (gains_of (transfer_view t)))) list
+gains_apart w list all = All-from_recursion (λ (t : ShareTransfer). IfSome t.to (λ _. shares.AreApart (gains_of (transfer_view t)))) list (each list all)
   where
-    one : (o : Option ℕ) (gains : List Row) → IfSome o (λ n. AreFitting w (allocation_of w n) gains) → IfSome o (λ _. rows.AreApart gains)
+    one : (o : Option ℕ) (gains : List Share) → IfSome o (λ n. AreFitting w (allocation_of w n) gains) → IfSome o (λ _. shares.AreApart gains)
     one None gains is = tt
     one (Some n) gains is = is.apart
 
-    each : (ts : List RowTransfer) → AllByRecursion (IsReadTransfer w) (transfer_views ts) → AllByRecursion (λ (t : RowTransfer). IfSome t.to (λ _. rows.AreApart (gains_of (transfer_view t)))) ts
+    each : (ts : List ShareTransfer) → AllByRecursion (IsReadTransfer w) (transfer_views ts) → AllByRecursion (λ (t : ShareTransfer). IfSome t.to (λ _. shares.AreApart (gains_of (transfer_view t)))) ts
     each [] all = tt
     each (t ∷ ts) all = (one t.to (gains_of (transfer_view t)) all.0.gains, each ts all.1)
 
-pub passed_if : {E : Type 0} (r : Result (List Touched) E) (plan : List Touched) → IfOk r (λ p. p ≡ plan) → IfOk r (λ p. All (λ (t : Touched). length t.after ≤ most_rows) p) → ((p : List Touched) → p ≡ plan → All (λ (t : Touched). length t.after ≤ most_rows) p → ArePassed p) → IfOk r ArePassed
+pub passed_if : {E : Type 0} (r : Result (List Touched) E) (plan : List Touched) → IfOk r (λ p. p ≡ plan) → IfOk r (λ p. All (λ (t : Touched). length t.after ≤ most_shares) p) → ((p : List Touched) → p ≡ plan → All (λ (t : Touched). length t.after ≤ most_shares) p → ArePassed p) → IfOk r ArePassed
 passed_if (Ok p) plan same small to = to p same small
 passed_if (Err e) plan same small to = tt
 
 -- ---- what was read
 
-pub record AreTransfers (w : State) (parts : List Parts) (list : List Transfer) : Type 0 where
+pub record AreMovements (w : State) (parts : List Parts) (list : List Transfer) : Type 0 where
   pub named : seats_named list ≡ flat_map named_in parts
   pub read : AllByRecursion (IsReadTransfer w) list
   pub agreed : AreAgreed (all_tags list)
   pub right : AllByRecursion (IsRight w) (all_tags list)
 
-transfers_are : (w : State) (i k : ℕ) (parts : List Parts) → AllByRecursion (AreParts w k) parts → IfOk (transfers_in w i parts) (AreTransfers w parts)
+transfers_are : (w : State) (i k : ℕ) (parts : List Parts) → AllByRecursion (AreParts w k) parts → IfOk (transfers_in w i parts) (AreMovements w parts)
 unfolding transfers_in
 transfers_are w i k parts are = after_wanted _ _ _ _ (λ read at. after_none_such _ _ _ _ (λ keyed. after_none_such _ _ _ _ (λ none.
-    if_given (AreTransfers w parts) (transfers_of read) (λ list is.
-    let rows = flat_map rows_asked read in
+    if_given (AreMovements w parts) (transfers_of read) (λ list is.
+    let shares = flat_map shares_asked read in
     let asked : AreAsked w k parts read = all_asked w k parts read are at in
     let valued : AreValued read list = ok_has _ _ list is (all_valued read) in
     let tags = all_tags_are read list valued in
-    let keys = all_from (λ (s : SeatRow). s.row.keyword) (λ k. is_keyword k ≡ true) rows (all_keywords (map (λ (s : SeatRow). s.row.keyword) rows) keyed) in
-    let right = rows_right w i rows keys none in
+    let keys = all_from (λ (s : SeatShare). s.share.keyword) (λ k. is_keyword k ≡ true) shares (all_keywords (map (λ (s : SeatShare). s.share.keyword) shares) keyed) in
+    let right = shares_right w i shares keys none in
     record {
       named = all_seats_are w k parts read list asked valued;
       read = transfers_read w k parts read list asked valued right;
-      agreed = subst AreAgreed (sym tags) (rows_agreed w i rows none);
+      agreed = subst AreAgreed (sym tags) (shares_agreed w i shares none);
       right = subst (AllByRecursion (IsRight w)) (sym tags) right;
     }))))
 
@@ -185,7 +137,7 @@ module _ (w : State) (good : IsGoodWorld w) (i : ℕ) (states : List SeatState) 
   part_at : can_take_part i (states_for w ns) ns ≡ Ok tt
   part_at = subst (λ (ss : List SeatState). can_take_part i ss ns ≡ Ok tt) are part
 
-  transfers : AreTransfers w parts list
+  transfers : AreMovements w parts list
   transfers = ok_has _ _ list reads (transfers_are w i input.caller parts (are_parts w parts input))
 
   names : seats_named list ≡ ns
@@ -198,13 +150,13 @@ module _ (w : State) (good : IsGoodWorld w) (i : ℕ) (states : List SeatState) 
     has : HasSlots w (allocation_of w n)
     has = seat_slots w good input.caller n own_seat
 
-    abbrev held : List Row
+    abbrev held : List Share
     held = allocation_of w n ++ [] ++ (seat_of w n).proposal.want ++ (seat_of w n).proposal.give
 
-    pool : option_map_or rows_of (given.state_of (states_for w ns) n) [] ≡ held
+    pool : option_map_or shares_of (given.state_of (states_for w ns) n) [] ≡ held
     unfolding state_of
     pool =
-        ap (λ o. option_map_or rows_of o []) (found_state w ns n there)
+        ap (λ o. option_map_or shares_of o []) (found_state w ns n there)
         ∙ ap (λ o. unwrap_or o (allocation_of w n) ++ [] ++ (seat_of w n).proposal.want ++ (seat_of w n).proposal.give) (open_at w i ns part_at n there)
 
     one_at : HasOneBrand (states_for w ns) list n
@@ -213,11 +165,11 @@ module _ (w : State) (good : IsGoodWorld w) (i : ℕ) (states : List SeatState) 
         let t = transfers in
         let all = one_brand w good (allocation_of w n) has (seat_of w n).proposal.want (seat_of w n).proposal.give (flat_map (amounts_for n) list) slots.want slots.give
         (given_read w n list t.read t.agreed t.right) (given_agree w n list t.read t.agreed t.right) in
-        let rows = flat_map (amounts_for n) list in
-        subst (λ l. All (λ r. All (λ x. x.keyword ≡ r.keyword → Meet x.amount r.amount) (l ++ rows)) (l ++ rows)) (sym pool) (agree_all (held ++ rows) (held ++ rows) all)
+        let shares = flat_map (amounts_for n) list in
+        subst (λ l. All (λ r. All (λ x. x.keyword ≡ r.keyword → Meet x.amount r.amount) (l ++ shares)) (l ++ shares)) (sym pool) (agree_all (held ++ shares) (held ++ shares) all)
 
-    slots_apart : rows.AreApart (given.allocation_of (states_for w ns) n)
-    slots_apart = subst rows.AreApart (sym (slots_at w i ns part_at n there)) has.rows.apart
+    slots_apart : shares.AreApart (given.allocation_of (states_for w ns) n)
+    slots_apart = subst shares.AreApart (sym (slots_at w i ns part_at n there)) has.shares.apart
 
   pub one_brands : All (HasOneBrand states list) (seats_named list)
   one_brands =
@@ -237,10 +189,10 @@ module _ (w : State) (good : IsGoodWorld w) (i : ℕ) (states : List SeatState) 
       once_all (λ n. IsMet (touched_with states n (worked (given.allocation_of states) list n))) (seats_named list)
       (subst (AllByRecursion (λ n. IsMet (touched_with states n (worked (given.allocation_of states) list n)))) (sym names)
       (all_map (λ n. Named n ns) (λ n. IsMet (touched_with states n (worked (given.allocation_of states) list n)))
-      (λ n there. settled_meet (given.allocation_of states n) (worked (given.allocation_of states) list n) (subst (λ (ss : List SeatState). rows.AreApart (given.allocation_of ss n)) (sym are) (slots_apart n there)))
+      (λ n there. settled_meet (given.allocation_of states n) (worked (given.allocation_of states) list n) (subst (λ (ss : List SeatState). shares.AreApart (given.allocation_of ss n)) (sym are) (slots_apart n there)))
       ns (all_named ns ns (λ n there. there))))
 
-  pub plan_passed : (touched : List Touched) (made : ℕ) → touched ≡ transfers_plan states list → All (λ t. length t.after ≤ most_rows) touched → made ≡ length w.seats → made < 2 ^ 32 → ArePassed touched
+  pub plan_passed : (touched : List Touched) (made : ℕ) → touched ≡ transfers_plan states list → All (λ t. length t.after ≤ most_shares) touched → made ≡ length w.seats → made < 2 ^ 32 → ArePassed touched
   plan_passed touched made plan small counted few =
       let all = once (seats_named list) in
       record {

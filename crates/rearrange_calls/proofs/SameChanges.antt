@@ -6,8 +6,8 @@ use Rattle.std.proofs.Common.{inl, inr, ◌≡◌, ℕ, ◌<◌, Bool, true, fal
 use Rattle.rearrange.specs.TestedPlans.{can_take_over, first_unkept, is_safe_after, is_small, keeps, least_unsafe, staged_changes}
 use Rattle.rearrange.specs.Slots.{is_safe}
 use Rattle.rules.specs.proposals.Leasts.{least}
-use Rattle.rules.specs.proposals.Rows.{most_rows}
-use Rattle.rules.specs.proposals.declared.allocations.Row.{Row}
+use Rattle.rules.specs.proposals.Shares.{most_shares}
+use Rattle.rules.specs.proposals.declared.allocations.Share.{Share}
 use Rattle.rules.specs.proposals.declared.plans.SeatState.{SeatState}
 use Rattle.rules.specs.proposals.declared.plans.Touched.{Touched}
 use Rattle.rearrange.specs.Seats as given
@@ -69,14 +69,14 @@ module _ (xs ys : List SeatState) where
 
   -- ---- the plan
 
-  abbrev pub slots_in : Option SeatState → List Row
+  abbrev pub slots_in : Option SeatState → List Share
   slots_in o = option_map_or (λ s. s.allocation) o []
 
-  abbrev pub rows_in : Option SeatState → List Row
-  rows_in o = unwrap_or (option_and_then (λ s. s.staged) o) (slots_in o)
+  abbrev pub shares_in : Option SeatState → List Share
+  shares_in o = unwrap_or (option_and_then (λ s. s.staged) o) (slots_in o)
 
   abbrev pub touched_in : ℕ → Option SeatState → Touched
-  touched_in n o = record { seat = n; before = slots_in o; after = settled (slots_in o) (rows_in o) }
+  touched_in n o = record { seat = n; before = slots_in o; after = settled (slots_in o) (shares_in o) }
 
   plan_same : (ns : List ℕ) → SameAt ns → staged_plan xs ns ≡ staged_plan ys ns
   plan_same [] same = refl
@@ -100,7 +100,7 @@ module _ (xs ys : List SeatState) where
 
   keeps_same : (states : List SeatState) (ns : List ℕ) → SameAt ns → keeps xs (staged_plan states ns) ≡ keeps ys (staged_plan states ns)
   unfolding keeps
-  keeps_same states ns same = ap (λ o. none_such (first_unkept (staged_plan states ns)) NotConserved >> (none_such o not_offer_safe >> need (list_all is_small (staged_plan states ns)) (limit most_rows))) (unsafe_same states ns same)
+  keeps_same states ns same = ap (λ o. none_such (first_unkept (staged_plan states ns)) NotConserved >> (none_such o not_offer_safe >> need (list_all is_small (staged_plan states ns)) (limit most_shares))) (unsafe_same states ns same)
 
   pub changes_same : (i : ℕ) (seats : List ℕ) → SameAt seats → least (seats_such (is_left_out i seats) xs) ≡ least (seats_such (is_left_out i seats) ys) → staged_changes i xs seats ≡ staged_changes i ys seats
   unfolding staged_changes

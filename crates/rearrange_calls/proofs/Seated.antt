@@ -1,4 +1,4 @@
--- The seats that transfers name were made, and stand with the records; and the row is its steps.
+-- The seats that transfers name were made, and stand with the records; and the rule is its steps.
 use Rattle.std.specs.Prelude.{IsSome, ◌&&◌, filter, flat_map, not, option_and_then, option_map}
 use Rattle.std.specs.List.{All, AllByRecursion}
 use Rattle.std.proofs.Common.{◌≡◌, ℕ, ◌<◌, Bool, true, false, cond, List, [], ◌∷◌, Option, Some, None, Result, Ok, Err, length, refl, sym, subst, ◌∙◌, if◌then◌else◌}
@@ -6,8 +6,8 @@ use Rattle.std.proofs.lemmas.List.Elements.{All-from_recursion}
 use Rattle.rules.specs.call_arguments.Arguments.{arg, list_at, object_in}
 use Rattle.host_data.specs.Amounts.{read_all}
 use Rattle.rules.specs.Words.{runs}
-use Rattle.row_laws.proofs.Asked.{AreParts, parts_read, seats_own}
-use Rattle.contract_reads.specs.Known.{AreKnown}
+use Rattle.share_transfers.proofs.rule_laws.Asked.{AreParts, parts_read, seats_own}
+use Rattle.share_transfers.specs.contract_reads.Known.{AreKnown}
 use Rattle.host_data.specs.Tree.{Tree, is_null, list_of, null}
 use Rattle.host_data.specs.declared.data.ObjKind.TheVariants as kinds
 use Rattle.rearrange.specs.TestedPlans.{can_take_part, transfer_changes}
@@ -16,11 +16,12 @@ use Rattle.refusals.proofs.Steps.{wanted_there}
 use Rattle.refusals.specs.Codes.{bad_args}
 use Rattle.refusals.specs.Outcomes.{bind, wanted, ◌>>=◌, ◌>>◌}
 use Rattle.refusals.specs.declared.codes.Refusal.{Refusal}
-use Rattle.rules.specs.Rearranging.{Parts, atomic_rearrange, carried_out, has_gains, has_losses, is_whole, parts_from, parts_in, seat_trees, states_for, transfers_in, where_whole}
+use Rattle.rules.specs.Rearranging.{Parts, carried_out, has_gains, has_losses, is_whole, parts_from, parts_in, seat_trees, states_for, transfers_in, where_whole}
+use Rattle.rules.specs.Zcf.{atomic_rearrange}
 use Rattle.rules.specs.States.{has_room}
-use Rattle.row_transfers.specs.Reading.{IsSeated}
+use Rattle.share_transfers.specs.Reading.{IsSeated}
 use Rattle.rearrange_calls.specs.Steps.{AreFromData, carried, changed, moved, parts_at, rearranged, seats_moved, tested}
-use Rattle.row_laws.proofs.world_laws.Lists.{all_map}
+use Rattle.share_transfers.proofs.world_laws.Lists.{all_map}
 use Rattle.rules.specs.world_state.Known.{IsSeatOf}
 use Rattle.rules.specs.world_state.Worlds.{State}
 
@@ -131,7 +132,7 @@ pub parts_seated : (w : State) (list : List Parts) (seats : List ℕ) → AreFro
 parts_seated w list seats input is =
     seated_each list (all_whole input.items list input.reads) (there_in (flat_map (λ (p : Parts). p.from ∷ p.to ∷ []) list) seats is)
 
--- ---- the row
+-- ---- the rule
 
 assoc : {A B C : Type 0} (r : Result A Refusal) (f : A → Result B Refusal) (g : B → Result C Refusal) → (r >>= (λ x. f x >>= g)) ≡ ((r >>= f) >>= g)
 unfolding bind
@@ -151,9 +152,9 @@ seats_same w i list =
     assoc (transfers_in w i list) (λ ts. transfer_changes (states_for w seats) ts) (λ touched. has_room w touched 0 >> Ok (null, carried_out touched)))
     ∙ assoc (can_take_part i (states_for w seats) seats) (λ _. transfers_in w i list >>= (λ ts. transfer_changes (states_for w seats) ts)) (λ touched. has_room w touched 0 >> Ok (null, carried_out touched)))
 
-pub row_is : (w : State) (i : ℕ) (args : List Tree) → atomic_rearrange w i args ≡ rearranged w i args
+pub share_is : (w : State) (i : ℕ) (args : List Tree) → atomic_rearrange w i args ≡ rearranged w i args
 unfolding atomic_rearrange rearranged parts_at
-row_is w i args =
+share_is w i args =
     same_after (runs w i) _ _ (λ _.
     same_after (list_at 1 args) _ _ (λ items.
     same_after (wanted (read_all parts_in items) (bad_args 1)) _ _ (seats_same w i))

@@ -3,8 +3,8 @@ use Rattle.std.specs.Prelude.{slice_index_or, IfOk, ◌-◌}
 use Rattle.std.specs.List.{All}
 use Rattle.std.proofs.Common.{◌≡◌, ℕ, zero, suc, ◌+◌, ◌<◌, ◌^◌, List, [], ◌∷◌, length, Ok, refl, ap, subst, ◌∙◌, arith}
 use Rattle.rules.specs.call_arguments.Arguments.{IsMade}
-use Rattle.contract_reads.proofs.KnownObjects.{seat_known}
-use Rattle.contract_reads.specs.Known.{AreKnown}
+use Rattle.share_transfers.proofs.contract_reads.KnownObjects.{seat_known}
+use Rattle.share_transfers.specs.contract_reads.Known.{AreKnown}
 use Rattle.host_data.specs.Tree.{Tree, null}
 use Rattle.host_data.specs.View.{tree, trees}
 use Rattle.host_data.specs.declared.data.Data.{Data}

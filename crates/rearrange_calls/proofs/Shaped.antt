@@ -5,7 +5,7 @@ use Rattle.std.proofs.lemmas.Bool.{false≢true}
 use Rattle.refusals.specs.amount_math.Content.{Content, count-nothing, nothing, same_content}
 use Rattle.rules.specs.world_state.Shapes.{GoesByHand, IsRearrangement}
 use Rattle.rearrange.specs.Moves.{by_number, from_hand, gained_by, gains_in, if_some, losses_in, lost_by, moves_of, to_hand}
-use Rattle.rules.specs.proposals.declared.allocations.Row.{Row}
+use Rattle.rules.specs.proposals.declared.allocations.Share.{Share}
 use Rattle.rules.specs.proposals.declared.plans.Touched.{Touched}
 use Rattle.rearrange.specs.rights_model.declared.Movement.{Movement}
 use Rattle.rearrange.proofs.value_tests.Contents.{is_nothing-true, true-is_nothing}
@@ -42,11 +42,11 @@ half m by_hand = by (is_nothing m.value.content) refl
       tt,
     )
 
-losses : (s : ℕ) (part : Row → Content) (rs : List Row) → IsRearrangement (flat_map (λ r. if_some (to_hand s r (part r))) rs)
+losses : (s : ℕ) (part : Share → Content) (rs : List Share) → IsRearrangement (flat_map (λ r. if_some (to_hand s r (part r))) rs)
 losses s part [] = tt
 losses s part (r ∷ rs) = all_append (if_some (to_hand s r (part r))) (flat_map (λ x. if_some (to_hand s x (part x))) rs) (half (to_hand s r (part r)) tt) (losses s part rs)
 
-gains : (s : ℕ) (part : Row → Content) (rs : List Row) → IsRearrangement (flat_map (λ r. if_some (from_hand s r (part r))) rs)
+gains : (s : ℕ) (part : Share → Content) (rs : List Share) → IsRearrangement (flat_map (λ r. if_some (from_hand s r (part r))) rs)
 gains s part [] = tt
 gains s part (r ∷ rs) = all_append (if_some (from_hand s r (part r))) (flat_map (λ x. if_some (from_hand s x (part x))) rs) (half (from_hand s r (part r)) tt) (gains s part rs)
 

@@ -5,52 +5,51 @@ use Rattle.std.specs.List.{AllByRecursion}
 use Rattle.std.proofs.Common.{inl, inr, ◌≡◌, ℕ, suc, ◌<◌, ◌≤◌, List, [], ◌∷◌, length, Option, Some, None, refl, sym, ap, subst, arith}
 use Rattle.std.proofs.lemmas.List.Elements.{All-from_recursion, All-map, All-weaker}
 use Rattle.std.proofs.lemmas.List.Sums.{sum_by-cons}
-use Rattle.row_laws.proofs.GivenShares.{seat_slots}
+use Rattle.share_transfers.proofs.rule_laws.GivenShares.{seat_slots}
 use Rattle.rearrange.specs.Bounds.{AreBounded, HasValue}
 use Rattle.rearrange.proofs.RefusedCounts.{can_show}
 use Rattle.rearrange.specs.Told.{PlanCanShow}
-use Rattle.rules.specs.proposals.Rows.{AreRows}
-use Rattle.rules.specs.proposals.declared.allocations.Row.{Row}
+use Rattle.rules.specs.proposals.Shares.{AreShares}
+use Rattle.rules.specs.proposals.declared.allocations.Share.{Share}
 use Rattle.rules.specs.proposals.declared.plans.SeatState.{SeatState}
 use Rattle.rules.specs.proposals.declared.plans.Touched.{Touched}
 use Rattle.rearrange.proofs.Agreeing.{staging_meets}
-use Rattle.rearrange.specs.Seats as given
 use Rattle.rearrange.specs.Staged.{IsOfOneBrand, IsStagedRefusal, staged_plan}
 use Rattle.rearrange.specs.declared.plans.PlanFault.{PlanFault}
 use Rattle.rearrange.specs.declared.plans.PlanFault.TheVariants as plan
 use Rattle.rearrange_calls.specs.Met.{IsMet}
 use Rattle.rules.specs.States.{state_of}
-use Rattle.row_laws.proofs.world_laws.Agreed.{seat_agrees}
+use Rattle.share_transfers.proofs.world_laws.Agreed.{seat_agrees}
 use Rattle.rules.specs.world_state.Good.{IsGoodWorld, IsLast}
 use Rattle.rules.specs.world_state.Rights.{slots_at}
 use Rattle.rules.specs.world_state.Worlds.{State, seat_at, staged_at}
 use Rattle.rearrange_calls.proofs.SameChanges.{touched_in}
 use Rattle.rearrange_calls.proofs.SeatsNamed.{found}
-use Rattle.rearrange_calls.proofs.SettledReallocations.{settled_few, settled_meet, settled_values}
+use Rattle.rearrange_calls.proofs.SettledShares.{settled_few, settled_meet, settled_values}
 use Rattle.rearrange_calls.specs.Among.{IsAmong}
 
 -- ---- one seat
 
-record IsRowed (rows : List Row) : Type 0 where
-  rows_are : AreRows rows
-  values : AllByRecursion HasValue rows
+record IsRowed (shares : List Share) : Type 0 where
+  shares_are : AreShares shares
+  values : AllByRecursion HasValue shares
 
 module _ (w : State) (good : IsGoodWorld w) (n : ℕ) (made : n < length w.seats) where
-  last_rowed : (o : Option (List Row)) → (seat_at w.seats n).last ≡ o → IsRowed (unwrap_or o (slots_at w.rights.slots n))
+  last_rowed : (o : Option (List Share)) → (seat_at w.seats n).last ≡ o → IsRowed (unwrap_or o (slots_at w.rights.slots n))
   last_rowed None is =
       let has = seat_slots w good (seat_at w.seats n).instance n (record { made = made; own = refl }) in
-      record { rows_are = has.rows; values = has.valued }
-  last_rowed (Some rows) is =
-      let last : IsLast w.rights.out (seat_at w.seats n).proposal rows = subst (λ o. IfSome o (IsLast w.rights.out (seat_at w.seats n).proposal)) is (good.proposed.each n made).last in
-      record { rows_are = last.apart; values = last.valued }
+      record { shares_are = has.shares; values = has.valued }
+  last_rowed (Some shares) is =
+      let last : IsLast w.rights.out (seat_at w.seats n).proposal shares = subst (λ o. IfSome o (IsLast w.rights.out (seat_at w.seats n).proposal)) is (good.proposed.each n made).last in
+      record { shares_are = last.apart; values = last.valued }
 
   allocation_rowed : IsRowed (state_of w n).allocation
   unfolding state_of
   allocation_rowed = last_rowed (seat_at w.seats n).last refl
 
-  staged_rowed : (o : Option (List Row)) → staged_at w.staging n ≡ o → IsRowed (unwrap_or o (state_of w n).allocation)
+  staged_rowed : (o : Option (List Share)) → staged_at w.staging n ≡ o → IsRowed (unwrap_or o (state_of w n).allocation)
   staged_rowed None is = allocation_rowed
-  staged_rowed (Some rows) is = let staged = good.staged.each n rows is in record { rows_are = staged.apart; values = staged.valued }
+  staged_rowed (Some shares) is = let staged = good.staged.each n shares is in record { shares_are = staged.apart; values = staged.valued }
 
   now_rowed : IsRowed (unwrap_or (state_of w n).staged (state_of w n).allocation)
   unfolding state_of
@@ -75,15 +74,15 @@ pub record IsBound (t : Touched) : Type 0 where
 bound_state : (w : State) → IsGoodWorld w → (n : ℕ) → n < length w.seats → IsBound (touched_in [] [] n (Some (state_of w n)))
 bound_state w good n made =
     let s = state_of w n in
-    let rows = unwrap_or s.staged s.allocation in
+    let shares = unwrap_or s.staged s.allocation in
     let slots = allocation_rowed w good n made in
     let now = now_rowed w good n made in
     record {
       before = slots.values;
-      after = settled_values s.allocation rows now.values (staging_meets s (one_brand w good n made));
-      few_before = omega (arith, slots.rows_are.few);
-      few_after = omega (arith, settled_few s.allocation rows, slots.rows_are.few, now.rows_are.few);
-      met = settled_meet s.allocation rows slots.rows_are.apart;
+      after = settled_values s.allocation shares now.values (staging_meets s (one_brand w good n made));
+      few_before = omega (arith, slots.shares_are.few);
+      few_after = omega (arith, settled_few s.allocation shares, slots.shares_are.few, now.shares_are.few);
+      met = settled_meet s.allocation shares slots.shares_are.apart;
     }
 
 module _ (w : State) (good : IsGoodWorld w) (ns : List ℕ) (made : (n : ℕ) → IsAmong n ns → n < length w.seats) where
@@ -139,9 +138,6 @@ planned_seats states (n ∷ ns) = ap (λ l. n ∷ l) (planned_seats states ns)
 
 pub fault_shown : (i : ℕ) (states : List SeatState) (seats : List ℕ) (fault : PlanFault) → AreBounded (staged_plan states seats) → IsStagedRefusal i states seats fault → PlanCanShow fault
 fault_shown i states seats (plan.Seats fault) bound is = tt
-fault_shown i states seats (plan.NotEnough short) bound is = tt
-fault_shown i states seats (plan.Overlap key) bound is = tt
-fault_shown i states seats (plan.TooMuch over) bound is = absurd is.1
 fault_shown i states seats (plan.NotConserved u) bound is = can_show (staged_plan states seats) u bound is.1
 fault_shown i states seats (plan.NotOfferSafe seat) bound is = tt
 fault_shown i states seats plan.Limit bound is = tt

@@ -1,6 +1,6 @@
 -- What is left of a reallocation once the seats are read.
 use Rattle.std.specs.Prelude.{ℕ, List, Ok}
-use Rattle.rules.specs.Rows.{Outcome}
+use Rattle.rules.specs.Outcomes.{Outcome}
 use Rattle.host_data.specs.Tree.{null}
 use Rattle.rearrange.specs.TestedPlans.{staged_changes}
 use Rattle.rules.specs.proposals.declared.plans.Touched.{Touched}

@@ -2,7 +2,7 @@
 use Rattle.std.specs.Prelude.{◌≡◌, ℕ, List, Ok, Result, Some}
 use Rattle.rules.specs.call_arguments.Arguments.{list_at}
 use Rattle.host_data.specs.Amounts.{read_all}
-use Rattle.rules.specs.Rows.{Outcome}
+use Rattle.rules.specs.Outcomes.{Outcome}
 use Rattle.rules.specs.Words.{runs}
 use Rattle.host_data.specs.Tree.{Tree, list_of, null}
 use Rattle.host_data.specs.declared.data.ObjKind.TheVariants as kinds
@@ -42,7 +42,7 @@ tested w i seats list = do
 unfoldable pub carried : State → List Touched → Outcome
 carried w touched = has_room w touched 0 >> Ok (null, carried_out touched)
 
--- the rest of the row
+-- the rest of the rule
 unfoldable pub moved : State → ℕ → List ℕ → List Parts → Outcome
 moved w i seats list = do
   touched ← tested w i seats list
@@ -58,7 +58,7 @@ parts_at args = do
   items ← list_at 1 args
   wanted (read_all parts_in items) (bad_args 1)
 
--- the row, by these steps
+-- the rule, by these steps
 unfoldable pub rearranged : State → ℕ → List Tree → Outcome
 rearranged w i args = do
   runs w i

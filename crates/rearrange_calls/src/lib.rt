@@ -2,9 +2,13 @@
 //! seats' numbers and the order of slots, each by way of the hand.
 #![tactic(auto)]
 
-pub mod moves;
-mod numbered;
-mod parts;
-pub mod reallocation_plans;
-pub mod rearrangement_effects;
-pub mod transfer_plans;
+pub mod atomic_rearrange;
+mod differences;
+mod moves;
+pub mod reallocation;
+mod reallocation_changes;
+mod reallocation_states;
+mod rearrangement_effects;
+mod seat_order;
+mod transfer_changes;
+mod transfer_states;

@@ -7,10 +7,10 @@ ghost use Rattle.rearrange.specs.Moves.{from_hand, gained_by, gains_in, if_some,
 ghost use Rattle.rules.specs.proposals.OfferSafety.{MeetsSlot};
 ghost use Rattle.rearrange_calls.specs.Met.{IsMet};
 
-use crate::numbered::by_number;
-use crate::parts::{from_hand, gained, lost, to_hand};
+use crate::differences::{from_hand, gain_of, loss_of, to_hand};
+use crate::seat_order::by_number;
 use rearrange::rights_model_lib::Movement;
-use rules::proposals_lib::allocations::Row;
+use rules::proposals_lib::allocations::Share;
 use rules::proposals_lib::plans::Touched;
 use std::alloc::{AllocError, Global};
 
@@ -38,15 +38,15 @@ fn add_loss(
     alloc: Global,
     moves: &mut Vec<Movement>,
     seat: u32,
-    before: &[Row],
-    row: &Row,
+    before: &[Share],
+    share: &Share,
 ) -> Result<(), AllocError>
-    requires { MeetsSlot before.now row.now }
+    requires { MeetsSlot before.now share.now }
     ensures { OnOk result (moves.new.items
-        ≡ moves.old.items ++ if_some (to_hand seat row.now (lost_by before.now row.now))) }
+        ≡ moves.old.items ++ if_some (to_hand seat share.now (lost_by before.now share.now))) }
 {
-    let value = lost(alloc, before, row)?;
-    add(moves, to_hand(alloc, seat, row, value)?)
+    let value = loss_of(alloc, before, share)?;
+    add(moves, to_hand(alloc, seat, share, value)?)
 }
 
 /// Adds what a slot gains, if it gains something.
@@ -54,15 +54,15 @@ fn add_gain(
     alloc: Global,
     moves: &mut Vec<Movement>,
     seat: u32,
-    before: &[Row],
-    row: &Row,
+    before: &[Share],
+    share: &Share,
 ) -> Result<(), AllocError>
-    requires { MeetsSlot before.now row.now }
+    requires { MeetsSlot before.now share.now }
     ensures { OnOk result (moves.new.items
-        ≡ moves.old.items ++ if_some (from_hand seat row.now (gained_by before.now row.now))) }
+        ≡ moves.old.items ++ if_some (from_hand seat share.now (gained_by before.now share.now))) }
 {
-    let value = gained(alloc, before, row)?;
-    add(moves, from_hand(alloc, seat, row, value)?)
+    let value = gain_of(alloc, before, share)?;
+    add(moves, from_hand(alloc, seat, share, value)?)
 }
 
 /// Adds what a seat's slots lose.
@@ -70,8 +70,8 @@ fn add_losses(alloc: Global, moves: &mut Vec<Movement>, touched: &Touched) -> Re
     requires { IsMet touched.now }
     ensures { OnOk result (moves.new.items ≡ moves.old.items ++ losses_in touched.now) }
 {
-    for row in touched.after.rows() {
-        add_loss(alloc, moves, touched.seat, touched.before.rows(), row)?;
+    for share in touched.after.shares() {
+        add_loss(alloc, moves, touched.seat, touched.before.shares(), share)?;
     }
     Ok(())
 }
@@ -81,8 +81,8 @@ fn add_gains(alloc: Global, moves: &mut Vec<Movement>, touched: &Touched) -> Res
     requires { IsMet touched.now }
     ensures { OnOk result (moves.new.items ≡ moves.old.items ++ gains_in touched.now) }
 {
-    for row in touched.after.rows() {
-        add_gain(alloc, moves, touched.seat, touched.before.rows(), row)?;
+    for share in touched.after.shares() {
+        add_gain(alloc, moves, touched.seat, touched.before.shares(), share)?;
     }
     Ok(())
 }

@@ -1,9 +1,8 @@
 //! What a rearrangement that passed its tests does to the world: the room that it needs, and its
-//! effects. Its one contract: each is what the definition of contracts' calls says of the touched
-//! seats.
+//! effects.
 
 ghost use Rattle.std.specs.Prelude.{◌≡◌, IfOk, map};
-ghost use Rattle.world_reads.specs.call_plans.Lists.{IsEachShaped, effects_view};
+ghost use Rattle.world_reads.specs.call_outcomes.Lists.{IsEachShaped, effects_view};
 ghost use Rattle.world_reads.specs.host_world.Worlds.{world_of};
 ghost use Rattle.rearrange.specs.Moves.{opened_by};
 ghost use Rattle.rearrange_calls.specs.Passed.{ArePassed};
@@ -13,17 +12,17 @@ ghost use Rattle.rules.specs.States.{has_room};
 ghost use Rattle.rules.specs.world_state.Worlds.{unstage};
 
 use crate::moves::moves_of;
-use contract_reads::seat_changes::counts::check_left;
 use refusals::stops::Stop;
 use rules::proposals_lib::plans::Touched;
+use share_transfers::contract_reads_lib::seat_changes::counts::check_left;
 use std::alloc::{AllocError, Global};
-use world_reads::call_plans_lib::effects::{Effect, RightsEffect};
-use world_reads::call_plans_lib::lists::Effects;
-use world_reads::call_plans_lib::moves::Moves;
+use world_reads::call_outcomes_lib::effects::{Effect, RightsEffect};
+use world_reads::call_outcomes_lib::lists::Effects;
+use world_reads::call_outcomes_lib::moves::Moves;
 use world_reads::host_world_lib::World;
 
 /// How many slots are opened.
-fn opened(touched: &[Touched]) -> usize
+fn slots_opened(touched: &[Touched]) -> usize
     requires { ArePassed touched.now }
     ensures { result ≡ opened_by touched.now }
 {
@@ -40,11 +39,11 @@ pub fn check_room(world: &World, touched: &[Touched]) -> Result<(), Stop>
     requires { ArePassed touched.now }
     ensures { Gives (λ _. tt) result (has_room (world_of world.now) touched.now 0) }
 {
-    check_left(world, opened(touched), 0)
+    check_left(world, slots_opened(touched), 0)
 }
 
 /// What is staged of the seats is dropped.
-fn unstaging(alloc: Global, touched: &[Touched]) -> Result<Effects, AllocError>
+fn unstage_effects(alloc: Global, touched: &[Touched]) -> Result<Effects, AllocError>
     ensures effects { IfOk result (λ es. effects_view es
         ≡ map (λ seat. unstage seat) (seats_of touched.now)) }
     ensures shaped { IfOk result (λ es. IsEachShaped es) }
@@ -57,13 +56,13 @@ fn unstaging(alloc: Global, touched: &[Touched]) -> Result<Effects, AllocError>
 }
 
 /// What is staged of the seats is dropped, then their slots are rearranged (Zoe).
-pub fn carrying_out(alloc: Global, touched: &[Touched]) -> Result<Effects, AllocError>
+pub fn rearrange_effects(alloc: Global, touched: &[Touched]) -> Result<Effects, AllocError>
     requires { ArePassed touched.now }
     ensures effects { IfOk result (λ es. effects_view es ≡ carried_out touched.now) }
     ensures shaped { IfOk result (λ es. IsEachShaped es) }
 {
     let moves = moves_of(alloc, touched)?;
-    let mut effects = unstaging(alloc, touched)?;
+    let mut effects = unstage_effects(alloc, touched)?;
     effects.push(Effect::Rights(RightsEffect::Moves(Moves::Rearrangement(moves))))?;
     Ok(effects)
 }

@@ -1,7 +1,7 @@
 -- The data of what may be shown is plain, in order and shallow: once for all codes.
 use Rattle.std.proofs.Common.{◌≡◌, ◌≤◌, ◌<◌, ◌+◌, ℕ, false, List, [], ◌∷◌, map, refl, arith}
 use Rattle.host_data.specs.amount_math.Content.{entries}
-use Rattle.host_data.specs.amount_math.Worth.{Worth}
+use Rattle.host_data.specs.amount_math.ValueView.{ValueView}
 use Rattle.host_data.specs.amount_math.declared.Kind.{Kind}
 use Rattle.host_data.specs.amount_math.declared.Kind.TheVariants.{Nat, Set, Bag}
 use Rattle.host_data.specs.Tree.{Tree, null, boolean, number, text, array, fields, object, function, Ordered, is_local, nesting}
@@ -29,7 +29,7 @@ counts_told d n low [] = tt
 counts_told d n low (e ∷ es) =
     ((record { plain = tt; in_order = tt; shallow = low }, (record { plain = tt; in_order = tt; shallow = tt }, (record { plain = tt; in_order = tt; shallow = tt }, tt))), counts_told d n low es)
 
-content_told : (d n : ℕ) (kind : Kind) (w : Worth) → n + 2 ≤ d → EachNode (IsTold d) n (content_tree kind w.content)
+content_told : (d n : ℕ) (kind : Kind) (w : ValueView) → n + 2 ≤ d → EachNode (IsTold d) n (content_tree kind w.content)
 content_told d n Nat w low = record { plain = tt; in_order = tt; shallow = tt }
 content_told d n Set w low = (record { plain = tt; in_order = tt; shallow = omega (arith, low) }, keys_told d (n + 1) (entries w.content))
 content_told d n Bag w low = (record { plain = tt; in_order = tt; shallow = omega (arith, low) }, counts_told d (n + 1) (omega (arith, low)) (entries w.content))

@@ -1,6 +1,6 @@
 -- The codes of refusals, each with what it shows: numbers, texts and values, never objects. And a refusal as data.
 use Rattle.std.specs.Prelude.{ℕ, ℤ, pos, List, [], ◌∷◌, map, codes}
-use Rattle.host_data.specs.amount_math.Worth.{Worth}
+use Rattle.host_data.specs.amount_math.ValueView.{ValueView}
 use Rattle.host_data.specs.Tree.{Tree, array, fields, field, no_fields}
 use Rattle.host_data.specs.Tree as trees
 use Rattle.host_data.specs.View.{items_of}
@@ -73,7 +73,7 @@ code_of (TextRefused place reason) = codes "TextRefused"
 pub data Shown : Type 0 where
   number : ℤ → Shown
   words : List ℕ → Shown
-  worth : Worth → Shown
+  worth : ValueView → Shown
 
 abbrev pub shown_by : Refusal → List Shown
 shown_by (Bare code) = []
@@ -185,10 +185,10 @@ keyword_taken keyword = Worded KeywordTaken keyword
 abbrev pub bad_step : List ℕ → Refusal
 bad_step reason = Worded BadStep reason
 
-abbrev pub not_enough : Worth → Worth → Refusal
+abbrev pub not_enough : ValueView → ValueView → Refusal
 not_enough held asked = NotEnough (record { held = held; asked = asked })
 
-abbrev pub wrong_amount : Worth → Worth → Refusal
+abbrev pub wrong_amount : ValueView → ValueView → Refusal
 wrong_amount held named = WrongAmount (record { held = held; named = named })
 
 abbrev pub too_much : ℕ → ℕ → Refusal

@@ -9,5 +9,21 @@ pub mod laws;
 pub mod shown;
 pub mod stops;
 
-pub use host_data as host_data_lib;
+/// What `host_data` gives to those above.
+pub mod host_data_lib {
+    pub use host_data::refusals::Stop;
+
+    pub mod amounts {
+        pub use host_data::amounts::{GivenAmount, amount_fields, read_value};
+    }
+
+    pub mod data {
+        pub use host_data::data::{Data, Obj, ObjKind, copy_items, pay, pay_items, some_local};
+    }
+
+    pub mod values {
+        pub use host_data::values::{amount_data, object_data, value_data};
+    }
+}
+
 pub use host_data::{amount_math_lib, host_text_lib};

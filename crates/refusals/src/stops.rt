@@ -1,8 +1,8 @@
-//! Why the work on a call ends before its answer, and the tests that end it.
+//! Why the work on a call ends before its answer.
 
-ghost use Rattle.std.specs.Prelude.{◌≡◌, false, IfErr, IsOk, IsTrue};
+ghost use Rattle.std.specs.Prelude.{◌≡◌};
 ghost use Rattle.refusals.specs.Codes.{not_enough, wrong_amount};
-ghost use Rattle.refusals.specs.Outcomes.{Gives, Refuses, need};
+ghost use Rattle.refusals.specs.Outcomes.{Refuses};
 ghost use Rattle.refusals.specs.declared.stops.Stop.TheVariants.{NoMemory};
 
 use crate::codes::{BareCode, Mismatch, NumberCode, Refusal, TextCode};
@@ -32,27 +32,6 @@ impl<T: Drop> From<AllocFailed<T>> for Stop {
     fn from(_error: AllocFailed<T>) -> Stop {
         Stop::NoMemory
     }
-}
-
-// ---- tests
-
-/// The refusal where a test fails.
-#[tactic(auto, unfolding(crate::specs::Outcomes::need))]
-pub fn need(holds: bool, refusal: Refusal) -> Result<(), Stop>
-    ensures { Gives (λ _. tt) result (need holds refusal) }
-{
-    match unless(holds, refusal) {
-        Ok(()) => Ok(()),
-        Err(refusal) => Err(Stop::Refused(refusal)),
-    }
-}
-
-/// The fault where a test fails. It is generic in it, so that letting it go is proved once.
-fn unless<E: Drop>(holds: bool, fault: E) -> Result<(), E>
-    ensures ok { IsOk result → IsTrue holds }
-    ensures err { IfErr result (λ given. (holds ≡ false) × (given ≡ fault)) }
-{
-    if holds { Ok(()) } else { Err(fault) }
 }
 
 // ---- refusals

@@ -7,7 +7,7 @@ use Rattle.amount_math.specs.declared.Kind.{Kind}
 use Rattle.amount_math.specs.Content.{Content, nothing, count, sum, difference, Contains, count-sum, count-difference, count-nothing}
 use Rattle.amount_math.specs.Sparse.{put, tied, at-put_same}
 use Rattle.amount_math.specs.Totals.{total-put, total-empty, total-by, total_at_nothing}
-use Rattle.amount_math.specs.Worth.{Fits}
+use Rattle.amount_math.specs.ValueView.{Fits}
 use Rattle.rights_model.specs.declared.Holder.{Holder}
 use Rattle.rights_model.specs.declared.Holder.TheVariants.{Purse, Payment, Slot, Hand, Outside}
 use Rattle.rights_model.specs.declared.Movement.{Movement}

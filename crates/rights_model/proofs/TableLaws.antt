@@ -3,7 +3,7 @@ use Rattle.std.specs.Prelude.{◌⊎◌, ◌++◌, ◌≡◌, ◌≢◌, ℕ, Li
 use Rattle.std.proofs.Common.{inl, inr, sym, ◌∙◌, ap, subst}
 use Rattle.amount_math.specs.Sparse.{at-put_same, at-put_other, same_sparse, same_or_other}
 use Rattle.amount_math.specs.Content.{Content, sum, difference, Contains, difference-sum, sum-difference}
-use Rattle.amount_math.specs.Worth.{Worth}
+use Rattle.amount_math.specs.ValueView.{ValueView}
 use Rattle.rights_model.specs.declared.Holder.{Holder}
 use Rattle.rights_model.specs.declared.Holder.TheVariants.{Purse, Payment, Slot, Hand, Outside}
 use Rattle.rights_model.specs.declared.Movement.{Movement}
@@ -60,7 +60,7 @@ given-taken t (Slot n k) b c has = let held : Slot n k ≢ Outside = λ is. cc i
 given-taken t Hand b c has = let held : Hand ≢ Outside = λ is. cc in given-taken_held t Hand b c held (has held)
 
 -- by way of the hand, and at once
-pub through_hand : (t : Table) (from to : Holder) (b : ℕ) (w : Worth) → moved (moved t (movement b from Hand w)) (movement b Hand to w) ≡ moved t (movement b from to w)
+pub through_hand : (t : Table) (from to : Holder) (b : ℕ) (w : ValueView) → moved (moved t (movement b from Hand w)) (movement b Hand to w) ≡ moved t (movement b from to w)
 through_hand t from to b w = ap (λ u. given u to b w.content) (taken-given (taken t from b w.content) Hand b w.content (λ is. cc))
 
 -- a movement worked backwards

@@ -3,7 +3,7 @@ use Rattle.std.specs.Prelude.{◌≡◌, ◌==◌, ℕ, Bool, true, false, if◌
 use Rattle.amount_math.specs.declared.Kind.{Kind}
 use Rattle.amount_math.specs.Content.{Content, nothing, count, sum, difference}
 use Rattle.amount_math.specs.Totals.{total}
-use Rattle.amount_math.specs.Worth.{Fits}
+use Rattle.amount_math.specs.ValueView.{Fits}
 use Rattle.rights_model.specs.declared.Holder.{Holder}
 use Rattle.rights_model.specs.declared.Holder.TheVariants.{Purse, Payment, Slot, Hand, Outside}
 use Rattle.rights_model.specs.declared.Movement.{Movement}

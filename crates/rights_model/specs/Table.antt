@@ -6,7 +6,7 @@ use Rattle.std.specs.FinMap as fin
 use Rattle.std.specs.Coded.{Coded, code_by, coded×}
 use Rattle.amount_math.specs.Sparse.{Setting, Sparse, same_held, code, at, put, empty}
 use Rattle.amount_math.specs.Content.{Content, coded_content, nothing, sum, difference, Contains, is_zero, is_zero_is}
-use Rattle.amount_math.specs.Worth.{Worth, coded_worth}
+use Rattle.amount_math.specs.ValueView.{ValueView, coded_value_view}
 use Rattle.rights_model.specs.declared.Holder.{Holder}
 use Rattle.rights_model.specs.declared.Holder.TheVariants.{Outside}
 use Rattle.rights_model.specs.declared.Movement.{Movement}
@@ -69,9 +69,9 @@ abbrev pub CanMoveAll : Table → List Movement → Type 0
 CanMoveAll t [] = Unit {0}
 CanMoveAll t (m ∷ ms) = CanMove t m × CanMoveAll (moved t m) ms
 
-abbrev pub movement : ℕ → Holder → Holder → Worth → Movement
+abbrev pub movement : ℕ → Holder → Holder → ValueView → Movement
 movement b from to w = record { brand = b; from = from; to = to; value = w }
 
 -- the numbers that stand for a movement, which a model needs
 abbrev pub coded_movement : Coded Movement
-coded_movement = code_by (Place × (Place × Worth)) (coded× coded_place (coded× coded_place coded_worth)) (λ m. ((m.from, m.brand), ((m.to, m.brand), m.value))) (λ p. record { brand = p.0.1; from = p.0.0; to = p.1.0.0; value = p.1.1 }) (λ _. refl)
+coded_movement = code_by (Place × (Place × ValueView)) (coded× coded_place (coded× coded_place coded_value_view)) (λ m. ((m.from, m.brand), ((m.to, m.brand), m.value))) (λ p. record { brand = p.0.1; from = p.0.0; to = p.1.0.0; value = p.1.1 }) (λ _. refl)

@@ -3,7 +3,7 @@
 ghost use Rattle.std.specs.Prelude.{◌≡◌, ◌≢◌, ℕ, ◌+◌, List};
 ghost use Rattle.amount_math.specs.declared.Kind.{Kind as AmountKind};
 ghost use Rattle.amount_math.specs.Content.{count, nothing};
-ghost use Rattle.amount_math.specs.Worth.{Fits};
+ghost use Rattle.amount_math.specs.ValueView.{Fits};
 ghost use Rattle.rights_model.specs.Table.{Table, no_holdings, holds, movement, moved, table_after, CanMove, CanMoveAll};
 ghost use Rattle.rights_model.specs.Supply.{is_inside, minted, burned, supply, total_of, Balanced};
 

@@ -6,9 +6,41 @@ ghost use Rattle.std.specs.Prelude.{◌≡◌, ◌↔◌, IfOk, IsTrue};
 
 pub mod laws;
 
-pub use amount_math as amount_math_lib;
+/// What `amount_math` gives to those above.
+pub mod amount_math_lib {
+    pub use amount_math::{
+        Amount, AmountKind, Entry, Holding, Key, Kind, PutFault, SetKind, TakeFault, Value,
+    };
+
+    pub mod shortfall {
+        pub use amount_math::shortfall::LossFault;
+    }
+}
+
+/// What `host_text` gives to those above.
+pub mod host_text_lib {
+    pub mod keyword {
+        pub use host_text::keyword::Keyword;
+    }
+
+    pub mod label {
+        pub use host_text::label::{Label, LabelFault};
+    }
+
+    pub mod number {
+        pub use host_text::number::read_number;
+    }
+
+    pub mod text {
+        pub use host_text::text::Text;
+    }
+
+    pub mod word {
+        pub use host_text::word::is_field_name;
+    }
+}
+
 use amount_math::Value;
-pub use host_text as host_text_lib;
 use host_text::keyword::Keyword;
 use std::alloc::{AllocError, Global};
 

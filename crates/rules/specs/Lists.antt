@@ -1,36 +1,35 @@
 -- Lists of payments: those that a call names, and those that a call makes.
 use Rattle.std.specs.Prelude.{ℕ, suc, ◌+◌, ◌==◌, nat_le, List, [], ◌∷◌, length, map, Option, Result, Ok}
-use Rattle.call_arguments.specs.amount_math.Worth.{Worth}
 use Rattle.call_arguments.specs.Arguments.{list_at}
+use Rattle.call_arguments.specs.Lists.{objects_in}
 use Rattle.call_arguments.specs.Numbers.{first_repeated, least_failing}
-use Rattle.call_arguments.specs.host_data.Values.{object_tree}
-use Rattle.rearrange.specs.ertp_mint.Stocks.{most_made}
+use Rattle.call_arguments.specs.amount_math.ValueView.{ValueView}
 use Rattle.call_arguments.specs.host_data.Tree.{Tree, array}
+use Rattle.call_arguments.specs.host_data.Values.{object_tree}
 use Rattle.call_arguments.specs.host_data.View.{items_of}
 use Rattle.call_arguments.specs.host_data.declared.data.ObjKind.TheVariants as kinds
-use Rattle.call_arguments.specs.Lists.{objects_in}
 use Rattle.call_arguments.specs.refusals.Codes.{dead_payment, limit, repeated_payment, wrong_brand}
 use Rattle.call_arguments.specs.refusals.Outcomes.{◌>>=◌, ◌>>◌, need, none_such}
 use Rattle.call_arguments.specs.refusals.declared.codes.Refusal.{Refusal}
+use Rattle.rearrange.specs.ertp_mint.Stocks.{most_made}
 use Rattle.rearrange.specs.rights_model.Table.{movement}
 use Rattle.rearrange.specs.rights_model.declared.Holder.TheVariants.{Payment}
 use Rattle.rearrange.specs.rights_model.declared.Movement.{Movement}
 use Rattle.world_state.specs.Good.{open_slots}
 use Rattle.world_state.specs.Worlds.{Effect, State, empty_payment, moves}
-use Rattle.rules.specs.OfferRows.{held_by, is_live_in}
-use Rattle.rules.specs.Payments.{LivePayment, paper_of}
+use Rattle.rules.specs.GivenPayments.{LivePayment, held_by, is_live_in, payment_view_of}
 
 -- ---- payments that are named
 
 -- the least brand, other than this, that one of the payments is of
 unfoldable pub least_other : State → ℕ → List ℕ → Option ℕ
-least_other w brand payments = least_failing (λ b. b == brand) (map (λ p. (paper_of w p).brand) payments)
+least_other w brand payments = least_failing (λ b. b == brand) (map (λ p. (payment_view_of w p).brand) payments)
 
 -- a payment with what it has
 abbrev pub with_value : State → ℕ → LivePayment
 with_value w payment = record { number = payment; value = held_by w payment }
 
-abbrev pub values_of : List LivePayment → List Worth
+abbrev pub values_of : List LivePayment → List ValueView
 values_of payments = map (λ p. p.value) payments
 
 -- live payments of the brand in an array, none twice; each test over all of them before the next
@@ -62,14 +61,14 @@ combined brand to [] = empty_payment brand ∷ []
 combined brand to (p ∷ ps) = moves (moves_to brand to (p ∷ ps)) ∷ []
 
 -- each part of a payment goes to a payment of its own, of which the first has the number
-abbrev pub moves_apart : ℕ → ℕ → ℕ → List Worth → List Movement
+abbrev pub moves_apart : ℕ → ℕ → ℕ → List ValueView → List Movement
 moves_apart brand from n [] = []
 moves_apart brand from n (v ∷ vs) = movement brand (Payment from) (Payment n) v ∷ moves_apart brand from (suc n) vs
 
-abbrev pub payments_from : ℕ → List Worth → List Tree
+abbrev pub payments_from : ℕ → List ValueView → List Tree
 payments_from n [] = []
 payments_from n (v ∷ vs) = object_tree kinds.Payment n ∷ payments_from (suc n) vs
 
 -- the array of payments that a payment is split into, one for each part in order, and the effects
-abbrev pub parted : ℕ → ℕ → ℕ → List Worth → Tree × List Effect
+abbrev pub parted : ℕ → ℕ → ℕ → List ValueView → Tree × List Effect
 parted brand from n parts = (array (items_of (payments_from n parts)), moves (moves_apart brand from n parts) ∷ [])

@@ -1,4 +1,4 @@
--- What the row of each call owes, as one record; and what it may count on.
+-- What the rule of each call owes, as one record; and what it may count on.
 use Rattle.std.specs.Prelude.{◌≡◌, ◌≤◌, ◌<◌, ◌+◌, ◌*◌, ◌^◌, ℕ, List, length, Option, Some, None, IfOk, IfSome}
 use Rattle.std.specs.List.{AllByRecursion}
 use Rattle.call_arguments.specs.Arguments.{arg}
@@ -11,7 +11,7 @@ use Rattle.world_state.specs.Rights.{IsRoomy}
 use Rattle.world_state.specs.Worlds.{Effect, State, after_all, issued_by_all}
 use Rattle.rules.specs.Acts.{MayAct}
 use Rattle.rules.specs.Licence.{AreLicensed, IsStored}
-use Rattle.rules.specs.Rows.{Outcome}
+use Rattle.rules.specs.Outcomes.{Outcome}
 use Rattle.rules.specs.Traces.{calls_in, departures_by, departures_in, movements_in, openings_by, openings_in}
 
 -- ---- how much a call may issue
@@ -33,7 +33,7 @@ most_issued_by (Some i) args = 2 ^ 63 * charge_of args
 -- order and not too deep. Seats are left as the call's target and method say, and opened likewise. The effects are
 -- such as calls have, on what is the caller's. Movements take from and go to where they may, and each goes to or
 -- comes from where things are kept; little is issued; and at most one function more is to be called.
-pub record IsRow (w : State) (caller : Option ℕ) (o : Obj) (m : List ℕ) (args : List Tree) (answer : Tree)
+pub record IsRule (w : State) (caller : Option ℕ) (o : Obj) (m : List ℕ) (args : List Tree) (answer : Tree)
     (effects : List Effect) : Type 0 where
   pub good : AreGood w effects
   pub known : IsFormed (after_all w effects) caller answer
@@ -45,11 +45,11 @@ pub record IsRow (w : State) (caller : Option ℕ) (o : Obj) (m : List ℕ) (arg
   pub issues : issued_by_all w effects ≤ most_issued_by caller args
   pub calls : calls_in effects ≤ 1
 
--- a row that isn't refused is so
+-- an outcome that isn't a refusal is so
 abbrev pub IsGoodOutcome : State → Option ℕ → Obj → List ℕ → List Tree → Outcome → Type 0
-IsGoodOutcome w caller o m args row = IfOk row (λ d. IsRow w caller o m args d.0 d.1)
+IsGoodOutcome w caller o m args outcome = IfOk outcome (λ d. IsRule w caller o m args d.0 d.1)
 
--- ---- what a row may count on
+-- ---- what a rule may count on
 
 -- a call may be made: the world is good, an instance that calls was made, the caller may name the target and all
 -- that the arguments name, and of each brand so much may still be issued

@@ -1,25 +1,25 @@
 -- What is offered, as it is read of a call's data (Zoe; the order of the refusals is our own). Fields
 -- are taken as they stand: in data that the host makes, in byte order of their names, each name once.
-use Rattle.std.specs.Prelude.{ℕ, ◌==◌, ◌||◌, not, List, [], ◌∷◌, map, filter, Bool, false, Option, Some, None, option_and_then, unwrap_or, Result, Ok, if◌then◌else◌, codes}
 use Rattle.std.specs.List.{find, list_all, list_any}
 use Rattle.std.specs.Option.{option_map_or}
+use Rattle.std.specs.Prelude.{ℕ, ◌==◌, ◌||◌, not, List, [], ◌∷◌, map, filter, Bool, false, Option, Some, None, option_and_then, unwrap_or, Result, Ok, if◌then◌else◌, codes}
 use Rattle.std.specs.Str.{bytes_eq}
-use Rattle.call_arguments.specs.amount_math.Worth.{Worth}
-use Rattle.world_state.specs.brands.declared.issuer_record.Issuer.{Issuer}
+use Rattle.call_arguments.specs.Exits.{exit_in}
 use Rattle.call_arguments.specs.Numbers.{least, least_of}
-use Rattle.call_arguments.specs.Records.{RowData, first_ill, keywords, names, row_in, values_in}
+use Rattle.call_arguments.specs.Records.{ShareData, first_ill, keywords, names, share_in, values_in}
+use Rattle.call_arguments.specs.amount_math.ValueView.{ValueView}
 use Rattle.call_arguments.specs.host_data.Amounts.{read_all}
 use Rattle.call_arguments.specs.host_data.Tree.{Tree, field_of, null}
-use Rattle.call_arguments.specs.Exits.{exit_in}
-use Rattle.call_arguments.specs.proposals.Rows.{row_of}
+use Rattle.call_arguments.specs.proposals.Shares.{keyed_share}
 use Rattle.call_arguments.specs.proposals.Slots.{is_upto}
-use Rattle.call_arguments.specs.proposals.declared.allocations.Row.{Row}
+use Rattle.call_arguments.specs.proposals.declared.allocations.Share.{Share}
 use Rattle.call_arguments.specs.proposals.declared.offers.Proposal.{Proposal}
 use Rattle.call_arguments.specs.refusals.Codes.{bad_args, bad_exit, bad_keyword, keyword_mismatch, wrong_brand}
 use Rattle.call_arguments.specs.refusals.Outcomes.{◌>>=◌, ◌>>◌, need, none_such, wanted}
 use Rattle.call_arguments.specs.refusals.declared.codes.Refusal.{Refusal}
-use Rattle.world_state.specs.right_steps.Lists.{amount_of}
-use Rattle.rules.specs.ZoeRows.{record_in}
+use Rattle.world_state.specs.brands.declared.issuer_record.Issuer.{Issuer}
+use Rattle.world_state.specs.vault_model.Lists.{amount_of}
+use Rattle.rules.specs.Words.{record_in}
 
 -- ---- the form of a proposal
 
@@ -35,8 +35,8 @@ unfoldable pub has_parts : Tree → Bool
 has_parts t = option_map_or (list_all (λ f. is_part f.0)) (record_in t) false
 
 -- a record of amounts
-unfoldable pub amounts_of : Tree → Option (List RowData)
-amounts_of t = option_and_then (read_all row_in) (record_in t)
+unfoldable pub amounts_of : Tree → Option (List ShareData)
+amounts_of t = option_and_then (read_all share_in) (record_in t)
 
 -- ---- keywords
 
@@ -65,23 +65,23 @@ least_alone ks others = lesser (first_alone ks others) (first_alone others ks)
 abbrev pub is_known : List Issuer → ℕ → Bool
 is_known issuers brand = list_any (λ i. i.brand == brand) issuers
 
-abbrev pub brands_in : List RowData → List ℕ
-brands_in rows = map (λ r. r.amount.brand) rows
+abbrev pub brands_in : List ShareData → List ℕ
+brands_in shares = map (λ r. r.amount.brand) shares
 
--- the least brand of rows that isn't in the issuer record
-unfoldable pub least_strange : List Issuer → List RowData → Option ℕ
-least_strange issuers rows = least (filter (λ b. not (is_known issuers b)) (brands_in rows))
+-- the least brand of shares that isn't in the issuer record
+unfoldable pub least_strange : List Issuer → List ShareData → Option ℕ
+least_strange issuers shares = least (filter (λ b. not (is_known issuers b)) (brands_in shares))
 
--- rows with the values that their data stands for
-abbrev pub with_values : List RowData → List Worth → List Row
+-- shares with the values that their data stands for
+abbrev pub with_values : List ShareData → List ValueView → List Share
 with_values [] vs = []
 with_values (r ∷ rs) [] = []
-with_values (r ∷ rs) (v ∷ vs) = row_of r.keyword (amount_of r.amount.brand v) ∷ with_values rs vs
+with_values (r ∷ rs) (v ∷ vs) = keyed_share r.keyword (amount_of r.amount.brand v) ∷ with_values rs vs
 
-unfoldable pub valued : List RowData → Result (List Row) Refusal
-valued rows = do
-  values ← values_in rows
-  Ok (with_values rows values)
+unfoldable pub valued : List ShareData → Result (List Share) Refusal
+valued shares = do
+  values ← values_in shares
+  Ok (with_values shares values)
 
 -- ---- the proposal and the payments
 
@@ -90,7 +90,7 @@ pub record Proposed : Type 0 where
   pub proposal : Proposal
   pub payments : List (List ℕ × Tree)
 
--- each test over all rows before the next, give before want
+-- each test over all shares before the next, give before want
 unfoldable pub proposed : List Issuer → Tree → Tree → Result Proposed Refusal
 proposed issuers proposal payments = do
   need (has_parts proposal) (bad_args 2)

@@ -1,33 +1,28 @@
--- Rearranging what the seats of an instance have: by their staging, or by transfers (Zoe; the order of the
--- refusals is our own).
-use Rattle.std.specs.Prelude.{ℕ, ◌==◌, ◌&&◌, ◌||◌, not, Bool, List, [], ◌∷◌, ◌++◌, filter, flat_map, map}
-use Rattle.std.specs.Prelude.{Option, None, Some, option_and_then, option_map, unwrap_or}
-use Rattle.std.specs.Prelude.{Result, Ok, if◌then◌else◌}
+-- What is rearranged of the seats of an instance: what a plan of it does, and the form of transfers (Zoe; the order
+-- of the refusals is our own).
 use Rattle.std.specs.List.{list_any}
+use Rattle.std.specs.Prelude.{ℕ, ◌==◌, ◌&&◌, ◌||◌, not, List, [], ◌∷◌, ◌++◌, map, filter, flat_map, Bool, Option, Some, None, option_and_then, option_map, unwrap_or, Result, Ok, if◌then◌else◌}
 use Rattle.std.specs.Str.{bytes_eq}
-use Rattle.call_arguments.specs.Arguments.{list_at, object_in}
+use Rattle.call_arguments.specs.Arguments.{object_in}
 use Rattle.call_arguments.specs.Numbers.{least}
+use Rattle.call_arguments.specs.Records.{ShareData, are_keywords, share_in}
 use Rattle.call_arguments.specs.host_data.Amounts.{read_all}
 use Rattle.call_arguments.specs.host_data.Tree.{Tree, is_null, list_of, null, pairs_of}
 use Rattle.call_arguments.specs.host_data.declared.data.ObjKind.TheVariants as kinds
-use Rattle.rearrange.specs.Moves.{moves_of}
-use Rattle.rearrange.specs.TestedPlans.{can_take_part, staged_changes, transfer_changes}
-use Rattle.call_arguments.specs.proposals.declared.allocations.Row.{Row}
+use Rattle.call_arguments.specs.proposals.declared.allocations.Share.{Share}
 use Rattle.call_arguments.specs.proposals.declared.plans.SeatState.{SeatState}
 use Rattle.call_arguments.specs.proposals.declared.plans.Touched.{Touched}
 use Rattle.call_arguments.specs.proposals.declared.plans.Transfer.{Transfer}
-use Rattle.call_arguments.specs.Lists.{each_object, objects_in}
-use Rattle.call_arguments.specs.Records.{RowData, are_keywords, row_in}
 use Rattle.call_arguments.specs.refusals.Codes.{bad_args, wrong_brand}
 use Rattle.call_arguments.specs.refusals.Outcomes.{◌>>=◌, ◌>>◌, none_such, wanted}
 use Rattle.call_arguments.specs.refusals.declared.codes.Refusal.{Refusal}
-use Rattle.rules.specs.Proposals.{valued}
+use Rattle.rearrange.specs.Moves.{moves_of}
 use Rattle.world_state.specs.Worlds.{Effect, State}
-use Rattle.rules.specs.Rows.{Outcome}
-use Rattle.rules.specs.Words.{runs}
-use Rattle.rules.specs.ZseatRows.{allocation_of}
 use Rattle.rules.specs.Given.{is_misfit, issuers_of}
-use Rattle.rules.specs.States.{all_states, changing, has_room, state_of, unstaged}
+use Rattle.rules.specs.Proposals.{valued}
+use Rattle.rules.specs.States.{allocation_of, changing, state_of, unstaged}
+
+-- ---- what a plan does
 
 abbrev pub seats_of : List Touched → List ℕ
 seats_of touched = map (λ t. t.seat) touched
@@ -35,16 +30,6 @@ seats_of touched = map (λ t. t.seat) touched
 -- what a plan does, whose seats have no staging any more
 abbrev pub carried_out : List Touched → List Effect
 carried_out touched = changing (seats_of touched) (moves_of touched)
-
--- ---- zcf.reallocate(seat, seat, ..)
-
-unfoldable pub reallocate : State → ℕ → List Tree → Outcome
-reallocate w i args = do
-  runs w i
-  seats ← each_object kinds.Zseat 1 args
-  touched ← staged_changes i (all_states w) seats
-  has_room w touched 0
-  Ok (null, carried_out touched)
 
 -- ---- the form of transfers
 
@@ -96,21 +81,21 @@ states_for w seats = map (λ seat. unstaged (state_of w seat)) seats
 
 -- ---- the amounts
 
--- the rows of a record; none where it is missing
-abbrev pub rows_of : Tree → Option (List RowData)
-rows_of t = option_and_then (read_all row_in) (pairs_of t)
+-- the shares of a record; none where it is missing
+abbrev pub shares_of : Tree → Option (List ShareData)
+shares_of t = option_and_then (read_all share_in) (pairs_of t)
 
-abbrev pub rows_or_none : Tree → Option (Option (List RowData))
-rows_or_none t = if is_null t then Some None else option_map Some (rows_of t)
+abbrev pub shares_or_none : Tree → Option (Option (List ShareData))
+shares_or_none t = if is_null t then Some None else option_map Some (shares_of t)
 
 -- a transfer as it is asked for, its values not read yet
 pub record Asked : Type 0 where
   pub from : Option ℕ
   pub to : Option ℕ
-  pub losses : Option (List RowData)
-  pub gains : Option (List RowData)
+  pub losses : Option (List ShareData)
+  pub gains : Option (List ShareData)
 
-abbrev pub asked : Parts → Option (List RowData) → Option (List RowData) → Asked
+abbrev pub asked : Parts → Option (List ShareData) → Option (List ShareData) → Asked
 asked p losses gains = record {
   from = object_in kinds.Zseat p.from;
   to = object_in kinds.Zseat p.to;
@@ -120,56 +105,56 @@ asked p losses gains = record {
 
 abbrev pub asked_in : Parts → Option Asked
 asked_in p =
-    option_and_then (λ losses. option_map (asked p losses) (rows_or_none p.to_amounts))
-    (rows_or_none p.from_amounts)
+    option_and_then (λ losses. option_map (asked p losses) (shares_or_none p.to_amounts))
+    (shares_or_none p.from_amounts)
 
--- a row that is given for a seat
-pub record SeatRow : Type 0 where
+-- a share that is given for a seat
+pub record SeatShare : Type 0 where
   pub seat : ℕ
-  pub row : RowData
+  pub share : ShareData
 
-abbrev pub row_for : ℕ → RowData → SeatRow
-row_for seat r = record { seat = seat; row = r }
+abbrev pub share_for : ℕ → ShareData → SeatShare
+share_for seat r = record { seat = seat; share = r }
 
-abbrev pub rows_for : Option ℕ → List RowData → List SeatRow
-rows_for None rows = []
-rows_for (Some seat) rows = map (row_for seat) rows
+abbrev pub shares_for : Option ℕ → List ShareData → List SeatShare
+shares_for None shares = []
+shares_for (Some seat) shares = map (share_for seat) shares
 
 -- what a transfer takes, and what it gives: where that is missing, what it takes
-abbrev pub losses_of : Asked → List RowData
+abbrev pub losses_of : Asked → List ShareData
 losses_of a = unwrap_or a.losses []
 
-abbrev pub gains_of : Asked → List RowData
+abbrev pub gains_of : Asked → List ShareData
 gains_of a = unwrap_or a.gains (losses_of a)
 
-abbrev pub rows_asked : Asked → List SeatRow
-rows_asked a = rows_for a.from (losses_of a) ++ rows_for a.to (gains_of a)
+abbrev pub shares_asked : Asked → List SeatShare
+shares_asked a = shares_for a.from (losses_of a) ++ shares_for a.to (gains_of a)
 
 -- ---- their brands
 
--- another row for the seat and the keyword has another brand
-abbrev pub is_against : SeatRow → SeatRow → Bool
+-- another share for the seat and the keyword has another brand
+abbrev pub is_against : SeatShare → SeatShare → Bool
 is_against s other =
-    (other.seat == s.seat && bytes_eq other.row.keyword s.row.keyword)
-    && not (other.row.amount.brand == s.row.amount.brand)
+    (other.seat == s.seat && bytes_eq other.share.keyword s.share.keyword)
+    && not (other.share.amount.brand == s.share.amount.brand)
 
-abbrev pub is_wrong : State → ℕ → List SeatRow → SeatRow → Bool
+abbrev pub is_wrong : State → ℕ → List SeatShare → SeatShare → Bool
 is_wrong w i before s =
-    is_misfit (issuers_of w i) (allocation_of w s.seat) s.row || list_any (is_against s) before
+    is_misfit (issuers_of w i) (allocation_of w s.seat) s.share || list_any (is_against s) before
 
--- the brands of rows that are misfits, or that a row before is against
-abbrev pub wrong_brands : State → ℕ → List SeatRow → List SeatRow → List ℕ
+-- the brands of shares that are misfits, or that a share before is against
+abbrev pub wrong_brands : State → ℕ → List SeatShare → List SeatShare → List ℕ
 wrong_brands w i before [] = []
 wrong_brands w i before (s ∷ ss) =
-    if is_wrong w i before s then s.row.amount.brand ∷ wrong_brands w i (before ++ s ∷ []) ss
+    if is_wrong w i before s then s.share.amount.brand ∷ wrong_brands w i (before ++ s ∷ []) ss
     else wrong_brands w i (before ++ s ∷ []) ss
 
 -- ---- their values
 
-unfoldable pub valued_or_none : Option (List RowData) → Result (Option (List Row)) Refusal
+unfoldable pub valued_or_none : Option (List ShareData) → Result (Option (List Share)) Refusal
 valued_or_none None = Ok None
-valued_or_none (Some rows) = do
-  read ← valued rows
+valued_or_none (Some shares) = do
+  read ← valued shares
   Ok (Some read)
 
 unfoldable pub transfer_of : Asked → Result Transfer Refusal
@@ -185,25 +170,11 @@ transfers_of (a ∷ rest) = do
   ts ← transfers_of rest
   Ok (t ∷ ts)
 
--- ---- zcf.atomicRearrange(list)
-
 -- records of amounts for seats, each test over all of them before the next
 unfoldable pub transfers_in : State → ℕ → List Parts → Result (List Transfer) Refusal
 transfers_in w i list = do
   read ← wanted (read_all asked_in list) (bad_args 1)
-  let rows = flat_map rows_asked read
-  are_keywords (map (λ s. s.row.keyword) rows)
-  none_such (least (wrong_brands w i [] rows)) wrong_brand
+  let shares = flat_map shares_asked read
+  are_keywords (map (λ s. s.share.keyword) shares)
+  none_such (least (wrong_brands w i [] shares)) wrong_brand
   transfers_of read
-
-unfoldable pub atomic_rearrange : State → ℕ → List Tree → Outcome
-atomic_rearrange w i args = do
-  runs w i
-  items ← list_at 1 args
-  list ← wanted (read_all parts_in items) (bad_args 1)
-  seats ← objects_in kinds.Zseat 1 (seat_trees list)
-  can_take_part i (states_for w seats) seats
-  transfers ← transfers_in w i list
-  touched ← transfer_changes (states_for w seats) transfers
-  has_room w touched 0
-  Ok (null, carried_out touched)

@@ -1,17 +1,50 @@
--- What the host keeps, as records: terms, issuers and brands of an instance, proposals, details of an invitation.
+-- What the host keeps, as data: brands, allocations, terms and issuers of an instance, proposals, details of an
+-- invitation.
 use Rattle.std.specs.Prelude.{ℕ, List, [], ◌∷◌, codes}
-use Rattle.world_state.specs.brands.declared.issuer_record.Issuer.{Issuer}
-use Rattle.call_arguments.specs.host_data.Values.{number_tree, object_tree}
-use Rattle.rules.specs.ZseatRows.{allocation_tree}
-use Rattle.world_state.specs.actors.Tables.{InstanceView}
-use Rattle.world_state.specs.turn_stores.Details.{DetailsView}
+use Rattle.call_arguments.specs.amount_math.declared.Kind.{Kind}
+use Rattle.call_arguments.specs.amount_math.declared.Kind.TheVariants.{Bag, Nat, Set}
 use Rattle.call_arguments.specs.host_data.Tree.{Fields, Tree, field, fields, no_fields, null, text}
+use Rattle.call_arguments.specs.host_data.Values.{amount_tree, brand_tree, number_tree, object_tree}
 use Rattle.call_arguments.specs.host_data.declared.data.ObjKind.TheVariants as kinds
+use Rattle.call_arguments.specs.proposals.declared.allocations.Share.{Share}
 use Rattle.call_arguments.specs.proposals.declared.offers.Exit.{Exit}
 use Rattle.call_arguments.specs.proposals.declared.offers.Exit.TheVariants.{AfterDeadline, OnDemand, Waived}
 use Rattle.call_arguments.specs.proposals.declared.offers.Proposal.{Proposal}
 use Rattle.world_state.specs.Worlds.{State, placed_field}
-use Rattle.rules.specs.ErtpRows.{brand_object}
+use Rattle.world_state.specs.actors.Tables.{InstanceView}
+use Rattle.world_state.specs.brands.Brands.{brand_at}
+use Rattle.world_state.specs.brands.declared.issuer_record.Issuer.{Issuer}
+use Rattle.world_state.specs.turn_stores.Details.{DetailsView}
+
+-- ---- brands and issuers
+
+abbrev pub brand_object : State → ℕ → Tree
+brand_object w brand = brand_tree (brand_at w.brands brand).kind brand
+
+-- the word for a kind
+abbrev pub kind_word : Kind → List ℕ
+kind_word Nat = codes "nat"
+kind_word Set = codes "set"
+kind_word Bag = codes "bag"
+
+abbrev pub issuer_object : ℕ → Tree
+issuer_object brand = object_tree kinds.Issuer brand
+
+-- a brand with its issuer
+abbrev pub issuer_record : State → ℕ → Tree
+issuer_record w brand = fields (
+    field (codes "brand") (brand_object w brand)
+    (field (codes "issuer") (issuer_object brand) no_fields))
+
+-- ---- allocations
+
+-- the record from keyword to amount, in byte order of keywords
+abbrev pub amount_fields : List Share → Fields
+amount_fields [] = no_fields
+amount_fields (r ∷ rs) = placed_field r.keyword (amount_tree r.amount) (amount_fields rs)
+
+abbrev pub allocation_tree : List Share → Tree
+allocation_tree shares = fields (amount_fields shares)
 
 -- ---- issuer records and terms
 

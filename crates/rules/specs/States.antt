@@ -1,27 +1,38 @@
--- Seats of the world as plans of changes see them, the room that a change needs, and the effects that it has.
-use Rattle.std.specs.Prelude.{ℕ, suc, ◌+◌, nat_le, is_none, List, [], ◌∷◌, ◌++◌, length, map, None}
-use Rattle.std.specs.Prelude.{Result, unwrap_or}
+-- Seats of the world, as rules and as plans of changes see them, the room that a change needs, and the effects
+-- that it has.
 use Rattle.std.specs.List.{list_all}
-use Rattle.rearrange.specs.ertp_mint.Stocks.{most_made}
-use Rattle.rearrange.specs.Moves.{opened_by}
-use Rattle.rearrange.specs.TestedPlans.{is_small}
-use Rattle.call_arguments.specs.proposals.Rows.{most_rows}
-use Rattle.call_arguments.specs.proposals.declared.allocations.Row.{Row}
+use Rattle.std.specs.Prelude.{ℕ, suc, ◌+◌, nat_le, is_none, List, [], ◌∷◌, ◌++◌, length, map, None, unwrap_or, Result}
+use Rattle.call_arguments.specs.proposals.Shares.{most_shares}
+use Rattle.call_arguments.specs.proposals.declared.allocations.Share.{Share}
 use Rattle.call_arguments.specs.proposals.declared.plans.SeatState.{SeatState}
 use Rattle.call_arguments.specs.proposals.declared.plans.Touched.{Touched}
-use Rattle.call_arguments.specs.refusals.Codes.{limit}
+use Rattle.call_arguments.specs.refusals.Codes.{limit, seat_exited}
 use Rattle.call_arguments.specs.refusals.Outcomes.{◌>>◌, need}
 use Rattle.call_arguments.specs.refusals.declared.codes.Refusal.{Refusal}
+use Rattle.rearrange.specs.Moves.{opened_by}
+use Rattle.rearrange.specs.TestedPlans.{is_small}
+use Rattle.rearrange.specs.ertp_mint.Stocks.{most_made}
 use Rattle.rearrange.specs.rights_model.declared.Movement.{Movement}
 use Rattle.world_state.specs.Good.{open_slots}
 use Rattle.world_state.specs.Rights.{slots_at}
-use Rattle.world_state.specs.Worlds.{Effect, Seat, State, moves, staged_at, unstage}
-use Rattle.rules.specs.ZseatRows.{seat_of}
+use Rattle.world_state.specs.Worlds.{Effect, Seat, State, moves, seat_at, staged_at, unstage}
 
 -- ---- seats
 
+abbrev pub seat_of : State → ℕ → Seat
+seat_of w seat = seat_at w.seats seat
+
+-- the seat wasn't left
+unfoldable pub is_open : State → ℕ → Result (Unit {0}) Refusal
+is_open w seat = need (is_none (seat_of w seat).last) (seat_exited seat)
+
+abbrev pub allocation_of : State → ℕ → List Share
+allocation_of w seat = slots_at w.rights.slots seat
+
+-- ---- seats, as plans of changes see them
+
 -- what a seat has, or had when it was left
-abbrev pub last_allocation : State → ℕ → List Row
+abbrev pub last_allocation : State → ℕ → List Share
 last_allocation w seat = unwrap_or (seat_of w seat).last (slots_at w.rights.slots seat)
 
 unfoldable pub state_of : State → ℕ → SeatState
@@ -47,7 +58,7 @@ abbrev pub all_states : State → List SeatState
 all_states w = states_from w 0 w.seats
 
 -- a seat whose slots change
-abbrev pub touched_seat : ℕ → List Row → List Row → Touched
+abbrev pub touched_seat : ℕ → List Share → List Share → Touched
 touched_seat seat before after = record { seat = seat; before = before; after = after }
 
 -- ---- room
@@ -61,7 +72,7 @@ leaves_room w n =
 -- no seat has over 64 slots after, and the slots that are opened leave room, with so many payments
 unfoldable pub has_room : State → List Touched → ℕ → Result (Unit {0}) Refusal
 has_room w touched n =
-    need (list_all is_small touched) (limit most_rows) >> leaves_room w (opened_by touched + n)
+    need (list_all is_small touched) (limit most_shares) >> leaves_room w (opened_by touched + n)
 
 -- ---- effects
 

@@ -1,21 +1,21 @@
--- Tests that rows of both kinds make, and numbers of what is made next.
-use Rattle.std.specs.Prelude.{ℕ, ◌+◌, nat_lt, not, Bool, true, false, List, [], ◌∷◌, length, unwrap_or, Result, Ok, Err}
-use Rattle.call_arguments.specs.host_text.Words.{is_keyword}
+-- Tests that rules of several objects make, and numbers of what is made next.
+use Rattle.std.specs.Prelude.{ℕ, ◌+◌, nat_lt, not, List, [], ◌∷◌, length, Bool, true, false, Option, Some, unwrap_or, Result, Ok, Err, if◌then◌else◌}
 use Rattle.call_arguments.specs.Arguments.{arg}
-use Rattle.call_arguments.specs.host_data.Tree.{Tree, text_of}
-use Rattle.call_arguments.specs.amount_math.Worth.{Worth}
-use Rattle.rearrange.specs.ertp_mint.Stocks.{most_made}
-use Rattle.world_state.specs.actors.Tables.{instance_at}
-use Rattle.world_state.specs.actors.declared.instance_store.instance.Standing.{Standing}
-use Rattle.world_state.specs.actors.declared.instance_store.instance.Standing.TheVariants.{Accepting, Halted, Stopped}
+use Rattle.call_arguments.specs.amount_math.ValueView.{ValueView}
+use Rattle.call_arguments.specs.host_data.Tree.{Tree, is_null, pairs_of, text_of}
+use Rattle.call_arguments.specs.host_text.Words.{is_keyword}
 use Rattle.call_arguments.specs.refusals.Codes.{bad_keyword, closed, limit, no_method}
 use Rattle.call_arguments.specs.refusals.Outcomes.{◌>>◌, need}
 use Rattle.call_arguments.specs.refusals.declared.codes.Refusal.{Refusal}
-use Rattle.world_state.specs.Good.{open_slots}
+use Rattle.rearrange.specs.ertp_mint.Stocks.{most_made}
 use Rattle.rearrange.specs.rights_model.Table.{movement}
 use Rattle.rearrange.specs.rights_model.declared.Holder.{Holder}
+use Rattle.world_state.specs.Good.{open_slots}
 use Rattle.world_state.specs.Worlds.{Effect, State, moves}
-use Rattle.rules.specs.Rows.{Outcome}
+use Rattle.world_state.specs.actors.Tables.{instance_at}
+use Rattle.world_state.specs.actors.declared.instance_store.instance.Standing.{Standing}
+use Rattle.world_state.specs.actors.declared.instance_store.instance.Standing.TheVariants.{Accepting, Halted, Stopped}
+use Rattle.rules.specs.Outcomes.{Outcome}
 
 -- the target has no such method
 abbrev pub without_method : List ℕ → Outcome
@@ -34,7 +34,7 @@ next_payment w = do
   Ok (length w.rights.payments)
 
 -- one movement is made: of a brand, from one holder to another
-abbrev pub one_move : ℕ → Holder → Holder → Worth → List Effect
+abbrev pub one_move : ℕ → Holder → Holder → ValueView → List Effect
 one_move brand from to value = moves (movement brand from to value ∷ []) ∷ []
 
 abbrev pub has_halted : Standing → Bool
@@ -68,3 +68,9 @@ unfoldable pub keyword_at : ℕ → List Tree → Result (List ℕ) Refusal
 keyword_at place args = do
   need (is_keyword (shown_text (arg place args))) (bad_keyword (shown_text (arg place args)))
   Ok (shown_text (arg place args))
+
+-- ---- records
+
+-- the fields of a record; null stands for one without fields
+abbrev pub record_in : Tree → Option (List (List ℕ × Tree))
+record_in t = if is_null t then Some [] else pairs_of t

@@ -2,7 +2,7 @@
 use Rattle.std.proofs.Common.{◌≡◌, ◌+◌, ℕ, List, [], ◌∷◌, ◌++◌, Option, Some, None, drop, length, refl, sym, ap, subst, ◌∙◌}
 use Rattle.fair_laws.specs.delivery_turns.Hosts.{HostState, Step, step_after, step_from, step_of}
 use Rattle.fair_laws.specs.delivery_turns.Turns.{DeliveryTurn, delivery_turn}
-use Rattle.fair_laws.specs.rules.ZoeRows.{TextReader}
+use Rattle.fair_laws.specs.rules.Zoe.{TextReader}
 use Rattle.message_lines.specs.turn_records.Deliveries.{Delivery}
 use Rattle.fair_laws.specs.world_state.Worlds.{Effect, State, after_all, behind}
 use Rattle.fair_laws.proofs.world_laws.FrontDeliveries.{effects_pass}

@@ -3,14 +3,13 @@ use Rattle.std.proofs.Common.{◌≡◌, ℕ, zero, suc, ◌+◌, ◌<◌, ◌�
 use Rattle.std.specs.List.{AllByRecursion}
 use Rattle.std.specs.Option.{option_map_or}
 use Rattle.fair_laws.specs.delivery_laws.Hosts.{IsGoodHost}
-use Rattle.fair_laws.proofs.row_laws.Calls.{calls_are}
+use Rattle.fair_laws.proofs.rule_laws.Methods.{calls_are, services_are}
 use Rattle.fair_laws.specs.delivery_laws.Works.{most_meter}
 use Rattle.fair_laws.proofs.delivery_laws.Hosts.{steps_good}
 use Rattle.fair_laws.specs.delivery_turns.Hosts.{HostState, Step, step_of, with_line}
 use Rattle.message_lines.specs.InputLines.{lines_of}
 use Rattle.message_lines.specs.Meanings.{Meaning, blank, delivered, meaning_of, run}
-use Rattle.fair_laws.proofs.row_laws.Services.{services_are}
-use Rattle.fair_laws.specs.rules.ZoeRows.{ReadsModules, TextReader}
+use Rattle.fair_laws.specs.rules.Zoe.{ReadsModules, TextReader}
 use Rattle.message_lines.specs.turn_records.Deliveries.{Delivery}
 use Rattle.std.proofs.lemmas.List.{length-map, map-append}
 use Rattle.message_lines.specs.turn_records.Printed.{printed}

@@ -2,7 +2,7 @@
 use Rattle.std.specs.Prelude.{◌≡◌, ◌+◌, ◌<◌, ◌≤◌, ◌++◌, ℕ, List, [], ◌∷◌, Option, IfSome, refl}
 use Rattle.std.specs.List.{AllByRecursion}
 use Rattle.std.proofs.Common.{sym, ◌∙◌, ap, subst}
-use Rattle.fair_laws.proofs.row_laws.Calls.{calls_are}
+use Rattle.fair_laws.proofs.rule_laws.Methods.{calls_are, services_are}
 use Rattle.fair_laws.specs.delivery_laws.Hosts.{IsGoodHost}
 use Rattle.fair_laws.specs.delivery_laws.Works.{AreGoodHostCalls, most_meter}
 use Rattle.fair_laws.proofs.delivery_laws.Hosts.{host_room, quiet_end}
@@ -14,9 +14,8 @@ use Rattle.fair_laws.specs.Places.{rows_of}
 use Rattle.run_laws.proofs.GoodRuns.{each_turn}
 use Rattle.run_laws.specs.GoodTurns.{IsGoodTurn}
 use Rattle.run_laws.specs.Runs.{HostTurn, run_of}
-use Rattle.fair_laws.proofs.row_laws.Services.{services_are}
-use Rattle.fair_laws.specs.row_laws.GoodServices.{AreGoodServices}
-use Rattle.fair_laws.specs.rules.ZoeRows.{ReadsModules, TextReader}
+use Rattle.fair_laws.specs.rule_laws.GoodServices.{AreGoodServices}
+use Rattle.fair_laws.specs.rules.Zoe.{ReadsModules, TextReader}
 use Rattle.message_lines.specs.turn_records.Deliveries.{Delivery}
 use Rattle.message_lines.specs.turn_records.Printed.{printed}
 use Rattle.message_lines.specs.turn_rows.Turns.{Turn}
@@ -25,7 +24,7 @@ use Rattle.fair_laws.proofs.world_laws.Lists.{all_append}
 use Rattle.fair_laws.specs.world_state.Good.{IsGoodWorld}
 use Rattle.fair_laws.specs.world_state.Rights.{IsRoomy, most_issued, most_turns}
 use Rattle.fair_laws.specs.world_state.Worlds.{State, after_all, behind, in_front}
-use Rattle.fair_laws.specs.rules.Host.{serve as serve_call}
+use Rattle.fair_laws.specs.rules.Methods.{serve as serve_call}
 use Rattle.run_laws.specs.Minting.{IsCalledForRow, ShowsMinting, ShowsWithdrawal}
 use Rattle.run_laws.specs.Steps.{AreCalledForToLimit, IsCalledFor}
 use Rattle.run_laws.proofs.Effects.{AllTakeAsShown, TakesAsShown, first_all}

@@ -3,14 +3,14 @@ use Rattle.std.specs.Prelude.{◌≡◌, ◌⊎◌, ◌<◌, ◌≤◌, ◌++◌
 use Rattle.std.proofs.Common.{inl, inr, ap, subst, arith}
 use Rattle.std.proofs.lemmas.Bool.{cases_eq}
 use Rattle.message_lines.specs.amount_math.Content.{count, count-difference, count-nothing, count-sum}
-use Rattle.message_lines.specs.amount_math.Worth.{Worth}
+use Rattle.message_lines.specs.amount_math.ValueView.{ValueView}
 use Rattle.message_lines.specs.amount_math.declared.Amount.{Amount}
 use Rattle.fair_laws.specs.ertp_mint.BrandSupply.{BrandSupply, issued, new_supply, retired, supply_at}
 use Rattle.fair_laws.specs.ertp_mint.Stocks.{no_amount}
 use Rattle.message_lines.specs.amount_math.declared.Kind.TheVariants.{Nat}
 use Rattle.fair_laws.proofs.Supplies.{out_pushed}
 use Rattle.fair_laws.proofs.lemmas.ListEdits.{read_before, read_other, read_past}
-use Rattle.fair_laws.specs.right_steps.Lists.{less, more, purse_at}
+use Rattle.fair_laws.specs.vault_model.Lists.{less, more, purse_at}
 use Rattle.message_lines.specs.rights_model.declared.Holder.{Holder}
 use Rattle.message_lines.specs.rights_model.declared.Holder.TheVariants.{Purse, Payment, Slot, Hand, Outside}
 use Rattle.message_lines.specs.rights_model.declared.Movement.{Movement}
@@ -54,7 +54,7 @@ module _ (t : Turn) (e : ℕ) (k : List ℕ) where
   abbrev pub out_count : Rights → ℕ
   out_count r = in_supply (supply_at r.out e)
 
-  out_taken : (r : Rights) (h : Holder) (b : ℕ) (v : Worth) → IsCalledForAt t h b → Unless (ShowsMinting t e) (out_count (taken r h b v)) (out_count r)
+  out_taken : (r : Rights) (h : Holder) (b : ℕ) (v : ValueView) → IsCalledForAt t h b → Unless (ShowsMinting t e) (out_count (taken r h b v)) (out_count r)
   out_taken r Outside b v shown = by (cases_eq b e)
     where
       by : (b ≡ e) ⊎ (b ≡ e → ⊥) → Unless (ShowsMinting t e) (out_count (taken r Outside b v)) (out_count r)
@@ -65,7 +65,7 @@ module _ (t : Turn) (e : ℕ) (k : List ℕ) where
   out_taken r (Slot s q) b v shown = inl (omega arith)
   out_taken r Hand b v shown = inl (omega arith)
 
-  out_given : (r : Rights) (h : Holder) (b : ℕ) (v : Worth) → out_count (given r h b v) ≤ out_count r
+  out_given : (r : Rights) (h : Holder) (b : ℕ) (v : ValueView) → out_count (given r h b v) ≤ out_count r
   out_given r Outside b v =
       set_so {X = BrandSupply} (λ x y. in_supply y ≤ in_supply x) (λ x. omega arith) r.out b e (retired (supply_at r.out b) v.content) (new_supply Nat)
       (omega (arith, count-difference (supply_at r.out b).outstanding.content v.content k))
@@ -103,7 +103,7 @@ module _ (t : Turn) (n : ℕ) (k : List ℕ) where
   abbrev pub purse_count : Rights → ℕ
   purse_count r = in_amount (purse_at r.purses n)
 
-  purse_taken : (r : Rights) (h : Holder) (b : ℕ) (v : Worth) → IsCalledForAt t h b → Unless (ShowsWithdrawal t n) (purse_count r) (purse_count (taken r h b v))
+  purse_taken : (r : Rights) (h : Holder) (b : ℕ) (v : ValueView) → IsCalledForAt t h b → Unless (ShowsWithdrawal t n) (purse_count r) (purse_count (taken r h b v))
   purse_taken r (Purse p) b v shown = by (cases_eq p n)
     where
       by : (p ≡ n) ⊎ (p ≡ n → ⊥) → Unless (ShowsWithdrawal t n) (purse_count r) (purse_count (taken r (Purse p) b v))
@@ -114,7 +114,7 @@ module _ (t : Turn) (n : ℕ) (k : List ℕ) where
   purse_taken r (Slot s q) b v shown = inl (omega arith)
   purse_taken r Hand b v shown = inl (omega arith)
 
-  purse_given : (r : Rights) (h : Holder) (b : ℕ) (v : Worth) → purse_count r ≤ purse_count (given r h b v)
+  purse_given : (r : Rights) (h : Holder) (b : ℕ) (v : ValueView) → purse_count r ≤ purse_count (given r h b v)
   purse_given r (Purse p) b v =
       set_so {X = Amount} (λ x y. in_amount x ≤ in_amount y) (λ x. omega arith) r.purses p n (more (purse_at r.purses p) v.content) no_amount
       (omega (arith, count-sum (purse_at r.purses p).value.content v.content k))

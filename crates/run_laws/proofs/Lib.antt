@@ -15,4 +15,4 @@ pub mod Hosts
 pub mod Worked
 pub use Rattle.fair_laws.proofs.delivery_laws
 pub use Rattle.fair_laws.proofs as fair_laws
-pub use Rattle.fair_laws.proofs.row_laws
+pub use Rattle.fair_laws.proofs.rule_laws

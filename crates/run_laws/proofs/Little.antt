@@ -3,7 +3,7 @@ use Rattle.std.proofs.Common.{Bool, true, false, cond, IfSome, ◌≡◌, ℕ, s
 use Rattle.std.specs.Prelude.{Ok, Err}
 use Rattle.std.specs.List.{AllByRecursion, flat_map}
 use Rattle.std.proofs.lemmas.Grind.{flat_map-append}
-use Rattle.fair_laws.specs.rules.Rows.{Outcome}
+use Rattle.fair_laws.specs.rules.Outcomes.{Outcome}
 use Rattle.fair_laws.specs.rules.Traces.{all_open}
 use Rattle.fair_laws.specs.delivery_laws.Hosts.{IsGoodHost}
 use Rattle.fair_laws.proofs.delivery_laws.Runs.{after_both}
@@ -21,11 +21,11 @@ use Rattle.fair_laws.specs.jessie_semantics.Play as plays
 use Rattle.fair_laws.specs.jessie_semantics.Play.{Ending}
 use Rattle.message_lines.specs.host_data.Tree.{Tree, is_local}
 use Rattle.message_lines.specs.promise_store.States.{SettlementView, ok}
-use Rattle.message_lines.specs.proposals.declared.allocations.Row.{Row}
+use Rattle.message_lines.specs.proposals.declared.allocations.Share.{Share}
 use Rattle.message_lines.specs.refusals.Codes.{local_only, refusal_tree}
 use Rattle.message_lines.specs.refusals.declared.codes.Refusal.{Refusal}
 use Rattle.serde_json.specs.Data as json
-use Rattle.fair_laws.specs.rules.ZoeRows.{TextReader}
+use Rattle.fair_laws.specs.rules.Zoe.{TextReader}
 use Rattle.message_lines.specs.turn_records.Settlements.{settled_after}
 use Rattle.message_lines.specs.turn_records.Deliveries as deliveries
 use Rattle.message_lines.specs.turn_records.Deliveries.{Delivery}
@@ -83,7 +83,7 @@ settled_later before now s = record {
 
 -- ---- a seat that is left
 
-paid_from : (seat n : ℕ) (rs : List Row) → AllByRecursion (IsOfSeat seat) (map printed_move (payout_moves seat n rs))
+paid_from : (seat n : ℕ) (rs : List Share) → AllByRecursion (IsOfSeat seat) (map printed_move (payout_moves seat n rs))
 paid_from seat n [] = tt
 paid_from seat n (r ∷ rs) = (record { keyword = r.keyword; from = refl }, paid_from seat (suc n) rs)
 

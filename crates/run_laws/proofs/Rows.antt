@@ -5,17 +5,18 @@ use Rattle.std.specs.Str.{bytes_eq}
 use Rattle.std.proofs.Common.{inl, inr, ◌∙◌, ap}
 use Rattle.std.proofs.lemmas.Slice.Eq.{bytes_eq-Decides}
 use Rattle.fair_laws.specs.call_arguments.Arguments.{is_kind}
-use Rattle.fair_laws.proofs.row_laws.Forms.{null_formed}
-use Rattle.fair_laws.proofs.row_laws.Next.{after_next_of}
+use Rattle.fair_laws.proofs.rule_laws.Forms.{null_formed}
+use Rattle.fair_laws.proofs.rule_laws.Next.{after_next_of}
 use Rattle.fair_laws.specs.rules.Acts.{MayAct}
 use Rattle.fair_laws.specs.rules.Licence.{AreLicensed, ContractTakes, IsLicensed, IsObject, ServiceTakes}
-use Rattle.fair_laws.specs.rules.Obligations.{CanCall, IsRow}
-use Rattle.fair_laws.specs.rules.Rows.{Outcome}
+use Rattle.fair_laws.specs.rules.Obligations.{CanCall, IsRule}
+use Rattle.fair_laws.specs.rules.Outcomes.{Outcome}
 use Rattle.fair_laws.specs.rules.Traces.{movements_in}
 use Rattle.message_lines.specs.turn_records.Names.{object_name}
 use Rattle.fair_laws.proofs.delivery_laws.Asking.{all_have}
 use Rattle.fair_laws.specs.delivery_laws.Works.{AreGoodHostCalls}
-use Rattle.fair_laws.specs.delivery_turns.HostCalls.{call_effects, far_row, send_row, told_call, told_effects, when_row}
+use Rattle.fair_laws.specs.delivery_turns.HostCalls.{call_effects, told_call, told_effects}
+use Rattle.fair_laws.specs.rules.PromisesAndFacets.{far_rule, send_rule, when_rule}
 use Rattle.fair_laws.specs.ertp_mint.Stocks.{most_made}
 use Rattle.fair_laws.specs.fair_rows.ExitCauses.{calls, is_ok, name, serves}
 use Rattle.fair_laws.specs.fair_rows.Rows.{is_service}
@@ -30,7 +31,7 @@ use Rattle.message_lines.proofs.refusals.Steps.{after_need}
 use Rattle.message_lines.specs.rights_model.declared.Holder.{Holder}
 use Rattle.message_lines.specs.rights_model.declared.Holder.TheVariants.{Purse, Payment, Slot, Hand, Outside}
 use Rattle.message_lines.specs.rights_model.declared.Movement.{Movement}
-use Rattle.fair_laws.specs.rules.Trades.{serve}
+use Rattle.fair_laws.specs.rules.Methods.{serve_own}
 use Rattle.message_lines.specs.turn_records.Events as events
 use Rattle.message_lines.specs.turn_records.Printed.{kind_on, object, printed_call}
 use Rattle.message_lines.specs.turn_rows.Kinds as turn_kinds
@@ -128,7 +129,7 @@ module _ (t : Turn) (o : Obj) (m : List ℕ) (row : IsRowOf t o m) where
   service_effects w args (invite d ∷ es) acts are = let none = acts.0.by in cc
   service_effects w args (e ∷ es) acts are = (tt, service_effects w args es acts.1 are)
 
-  pub service_row_takes : (w : State) (args : List Tree) (answer : Tree) (es : List Effect) → IsRow w None o m args answer es → AllTakeAsShown t es
+  pub service_row_takes : (w : State) (args : List Tree) (answer : Tree) (es : List Effect) → IsRule w None o m args answer es → AllTakeAsShown t es
   service_row_takes w args answer es is = service_effects w args es is.acts is.licensed
 
 -- ---- calls of a contract's functions
@@ -189,16 +190,16 @@ answered_told t o m args answer told on method named so =
 abbrev Moveless : Tree × List Effect → Type 0
 Moveless d = (t : Turn) → AllTakeAsShown t d.1
 
-send_takes : (w : State) (i : ℕ) (target : Obj) (m : List ℕ) (args : List Tree) → IfOk (send_row w i target m args) Moveless
-unfolding send_row
+send_takes : (w : State) (i : ℕ) (target : Obj) (m : List ℕ) (args : List Tree) → IfOk (send_rule w i target m args) Moveless
+unfolding send_rule
 send_takes w i target m args = after_need Moveless _ _ _ (λ e. after_next_of Moveless (promises_made w) most_made _ (λ room t. (tt, tt)))
 
-when_takes : (w : State) (i : ℕ) (promise : Obj) (f : List ℕ) (held : Tree) → IfOk (when_row w i promise f held) Moveless
-unfolding when_row
+when_takes : (w : State) (i : ℕ) (promise : Obj) (f : List ℕ) (held : Tree) → IfOk (when_rule w i promise f held) Moveless
+unfolding when_rule
 when_takes w i promise f held = after_next_of Moveless (promises_made w) most_made _ (λ room t. (tt, tt))
 
-far_takes : (w : State) (i : ℕ) (ms : List (List ℕ × List ℕ)) (held : Tree) → IfOk (far_row w i ms held) Moveless
-unfolding far_row
+far_takes : (w : State) (i : ℕ) (ms : List (List ℕ × List ℕ)) (held : Tree) → IfOk (far_rule w i ms held) Moveless
+unfolding far_rule
 far_takes w i ms held = after_next_of Moveless (length w.facets) most_made _ (λ room t. (tt, tt))
 
 module _ (t : Turn) where
@@ -206,13 +207,13 @@ module _ (t : Turn) where
   moveless_takes c (Ok (answer, es)) none = (tt, none t)
   moveless_takes c (Err r) none = (tt, tt)
 
-  called_takes : (w : State) (i : ℕ) (o : Obj) (m : List ℕ) (args : List Tree) (row : Outcome) → IfOk row (λ d. IsRow w (Some i) o m args d.0 d.1) → AllByRecursion (IsToldIn t) (told_effects (call o m args) row) → AllTakeAsShown t (told_effects (call o m args) row)
+  called_takes : (w : State) (i : ℕ) (o : Obj) (m : List ℕ) (args : List Tree) (row : Outcome) → IfOk row (λ d. IsRule w (Some i) o m args d.0 d.1) → AllByRecursion (IsToldIn t) (told_effects (call o m args) row) → AllTakeAsShown t (told_effects (call o m args) row)
   called_takes w i o m args (Err r) is told = (tt, tt)
   called_takes w i o m args (Ok (answer, es)) is told = (tt, contract_effects t o m (answered_told t o m args answer told.0) w i args es is.acts is.licensed)
 
   pub call_takes : (served : AreGoodHostCalls) (w : State) (i : ℕ) → IsGoodWorld w → i < length w.tables.instances → (c : Call) → CallHas (IsKnownTo w i) c → IsRoomy w.rights.out (2 ^ 63 * cost c)
       → AllByRecursion (IsToldIn t) (call_effects w i c) → AllTakeAsShown t (call_effects w i c)
-  call_takes served w i good made (call o m args) known room told = called_takes w i o m args (serve w o m args) (served w i o m args (call_can w i o m args good made known room)) told
-  call_takes served w i good made (send o m args) known room told = moveless_takes (send o m args) (send_row w i o m args) (send_takes w i o m args)
-  call_takes served w i good made (when o f held) known room told = moveless_takes (when o f held) (when_row w i o f held) (when_takes w i o f held)
-  call_takes served w i good made (far x ms held) known room told = moveless_takes (far x ms held) (far_row w i ms held) (far_takes w i ms held)
+  call_takes served w i good made (call o m args) known room told = called_takes w i o m args (serve_own w o m args) (served w i o m args (call_can w i o m args good made known room)) told
+  call_takes served w i good made (send o m args) known room told = moveless_takes (send o m args) (send_rule w i o m args) (send_takes w i o m args)
+  call_takes served w i good made (when o f held) known room told = moveless_takes (when o f held) (when_rule w i o f held) (when_takes w i o f held)
+  call_takes served w i good made (far x ms held) known room told = moveless_takes (far x ms held) (far_rule w i ms held) (far_takes w i ms held)

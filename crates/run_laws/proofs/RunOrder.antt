@@ -5,7 +5,7 @@ use Rattle.std.proofs.lemmas.List.{map-append}
 use Rattle.std.specs.Option.{option_map_or}
 use Rattle.fair_laws.specs.delivery_turns.Hosts.{HostState, Step, step_of, with_line}
 use Rattle.message_lines.specs.Meanings.{Meaning, blank, delivered, run}
-use Rattle.fair_laws.specs.rules.ZoeRows.{TextReader}
+use Rattle.fair_laws.specs.rules.Zoe.{TextReader}
 use Rattle.message_lines.specs.turn_records.Deliveries.{Delivery}
 use Rattle.run_laws.proofs.Appended.{Stepped, stepped}
 use Rattle.run_laws.specs.Order.{AreInOrder, Entry, IsFront, all_brought, brought_by, brought_in, deliveries_of, delivery_in, delivery_of, from_line, from_turn, line_in, of_lines, of_turns}

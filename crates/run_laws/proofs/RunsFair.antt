@@ -3,7 +3,7 @@ use Rattle.std.proofs.Common.{◌≡◌, ℕ, zero, suc, ◌≤◌, List, [], �
 use Rattle.std.specs.List.{AllByRecursion}
 use Rattle.std.specs.Option.{option_map_or}
 use Rattle.std.proofs.lemmas.List.{length-map, map-append}
-use Rattle.fair_laws.proofs.row_laws.Calls.{calls_are}
+use Rattle.fair_laws.proofs.rule_laws.Methods.{calls_are, services_are}
 use Rattle.fair_laws.proofs.delivery_laws.Steps.{steps_print}
 use Rattle.fair_laws.specs.delivery_turns.Hosts.{HostState, Step, step_of, with_line}
 use Rattle.fair_laws.specs.Turns.{StaysFair}
@@ -18,8 +18,7 @@ use Rattle.run_laws.specs.GoodTurns.{IsGoodTurn}
 use Rattle.run_laws.proofs.GoodRuns.{each_turn, good_turns, printed_kept_through}
 use Rattle.run_laws.specs.Runs.{HostTurn, drained, first_host, journal_of, left_of, line_run, lines_run, meanings_of, most_meter, no_turn, run_of, turn_then, turns_in, turns_of}
 use Rattle.message_lines.specs.Meanings.{Meaning, blank, delivered, run}
-use Rattle.fair_laws.proofs.row_laws.Services.{services_are}
-use Rattle.fair_laws.specs.rules.ZoeRows.{ReadsModules, TextReader}
+use Rattle.fair_laws.specs.rules.Zoe.{ReadsModules, TextReader}
 use Rattle.fair_laws.proofs.HeldReads.{calls_read, services_read}
 use Rattle.fair_laws.specs.turn_writer.Printing.{CanPrint}
 use Rattle.message_lines.specs.turn_records.Deliveries.{Delivery}

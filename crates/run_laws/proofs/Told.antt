@@ -9,7 +9,7 @@ use Rattle.fair_laws.specs.fair_rows.ExitCauses.{calls}
 use Rattle.fair_laws.specs.actors.SeatPromises.{pair_at}
 use Rattle.message_lines.specs.host_data.Tree.{null}
 use Rattle.message_lines.specs.promise_store.States.{SettlementView, ok}
-use Rattle.message_lines.specs.proposals.declared.allocations.Row.{Row}
+use Rattle.message_lines.specs.proposals.declared.allocations.Share.{Share}
 use Rattle.message_lines.specs.rights_model.declared.Movement.{Movement}
 use Rattle.message_lines.specs.turn_records.Events as events
 use Rattle.message_lines.specs.turn_records.Events.{Event}
@@ -28,7 +28,7 @@ moves_shown : (t : Turn) (ms : List Movement) → AreCalledFor t ms → AllByRec
 moves_shown t [] all = tt
 moves_shown t (m ∷ ms) all = (all.0, moves_shown t ms all.1)
 
-payouts_shown : (t : Turn) (seat n : ℕ) (rs : List Row) → AreCalledFor t (payout_moves seat n rs)
+payouts_shown : (t : Turn) (seat n : ℕ) (rs : List Share) → AreCalledFor t (payout_moves seat n rs)
 payouts_shown t seat n [] = tt
 payouts_shown t seat n (r ∷ rs) = (tt, payouts_shown t seat (suc n) rs)
 

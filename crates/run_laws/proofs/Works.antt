@@ -2,10 +2,10 @@
 use Rattle.std.specs.Prelude.{◌≡◌, ◌<◌, ◌≤◌, ℕ, Bool, true, false, cond, List, [], ◌∷◌, Option, Some, None, Result, Ok, Err, IfOk, is_none, length, nat_lt, refl}
 use Rattle.std.specs.List.{AllByRecursion}
 use Rattle.std.proofs.Common.{◌∙◌, ap, subst, arith}
-use Rattle.fair_laws.proofs.row_laws.Forms.{object_formed}
-use Rattle.fair_laws.proofs.row_laws.Shown.{handed_held}
-use Rattle.fair_laws.specs.rules.Obligations.{IsRow}
-use Rattle.fair_laws.specs.rules.Rows.{Outcome}
+use Rattle.fair_laws.proofs.rule_laws.Forms.{object_formed}
+use Rattle.fair_laws.proofs.rule_laws.Shown.{handed_held}
+use Rattle.fair_laws.specs.rules.Obligations.{IsRule}
+use Rattle.fair_laws.specs.rules.Outcomes.{Outcome}
 use Rattle.fair_laws.specs.rules.Traces.{all_open}
 use Rattle.fair_laws.specs.rules.Words.{has_halted, standing_of}
 use Rattle.message_lines.specs.turn_records.Names.{object_name}
@@ -14,11 +14,11 @@ use Rattle.fair_laws.proofs.delivery_laws.Asking.{evaluates, have_all}
 use Rattle.fair_laws.proofs.delivery_laws.Hosts.{IsQuiet, quiet_both, quiet_exits}
 use Rattle.fair_laws.proofs.delivery_laws.Reading.{IsAddressed, IsCalled, addressed_there, sent_there, weaker_ok}
 use Rattle.fair_laws.proofs.delivery_laws.Runs.{grows_itself}
-use Rattle.fair_laws.proofs.delivery_laws.Works.{at_most, known_all, notice_handed, number_known, service_row, settlement_handed}
+use Rattle.fair_laws.proofs.delivery_laws.Works.{at_most, known_all, notice_handed, number_known, service_rule, settlement_handed}
 use Rattle.fair_laws.specs.delivery_turns.Functions.{FunctionCall, Run, ended, function_run, module_play, ran_out, run}
 use Rattle.fair_laws.specs.delivery_turns.Messages.{Addressed, addressed, gift_of, sent_to}
 use Rattle.fair_laws.specs.delivery_turns.Tasks as tasks
-use Rattle.fair_laws.specs.delivery_turns.Tasks.{Beginning, Work, beginning, call_beginning, do_all, exit_if_open, exits_with, facet_task, function_behind, gift_beginning, halt_with, handler_call, method_task, notice_call, refuse, row_work, run_task, run_work, serve, settlement_of, start_call, task_on, task_work, tick_task, wakeup_call}
+use Rattle.fair_laws.specs.delivery_turns.Tasks.{Beginning, Work, beginning, call_beginning, do_all, exit_if_open, exits_with, facet_task, function_behind, gift_beginning, halt_with, handler_call, method_task, notice_call, refuse, outcome_work, run_task, run_work, serve, settlement_of, start_call, task_on, task_work, tick_task, wakeup_call}
 use Rattle.fair_laws.specs.fair_rows.ExitCauses.{is_ok}
 use Rattle.fair_laws.specs.actors.Facets.{FacetView, facet_at, no_facet}
 use Rattle.fair_laws.specs.actors.Tables.{instance_at}
@@ -33,8 +33,8 @@ use Rattle.message_lines.specs.host_data.declared.data.ObjKind.TheVariants as ki
 use Rattle.message_lines.specs.refusals.Codes.{closed, no_method}
 use Rattle.message_lines.specs.refusals.declared.codes.Refusal.{Refusal}
 use Rattle.message_lines.specs.refusals.declared.codes.Refusal.TheVariants.{Backwards}
-use Rattle.fair_laws.specs.row_laws.GoodServices.{AreGoodServices}
-use Rattle.fair_laws.specs.rules.ZoeRows.{TextReader}
+use Rattle.fair_laws.specs.rule_laws.GoodServices.{AreGoodServices}
+use Rattle.fair_laws.specs.rules.Zoe.{TextReader}
 use Rattle.message_lines.specs.turn_records.Deliveries as deliveries
 use Rattle.message_lines.specs.turn_records.Deliveries.{Delivery, Reading}
 use Rattle.message_lines.specs.turn_records.Events.{Answer}
@@ -49,7 +49,7 @@ use Rattle.fair_laws.specs.world_state.Good.{IsFacet, IsGoodWorld}
 use Rattle.fair_laws.specs.world_state.Known.{IsHanded, IsKnownTo, made_as, module_of}
 use Rattle.fair_laws.specs.world_state.Rights.{IsRoomy, most_issued}
 use Rattle.fair_laws.specs.world_state.Worlds.{Effect, State, bind_label, exit, halt, in_front, invite, keep_state, moves, offer, seat_at, set_time}
-use Rattle.fair_laws.specs.rules.Host.{serve as serve_call}
+use Rattle.fair_laws.specs.rules.Methods.{serve as serve_call}
 use Rattle.run_laws.proofs.Effects.{AllTakeAsShown, TakesAsShown, first_all}
 use Rattle.run_laws.proofs.Rows.{service_row_takes}
 use Rattle.run_laws.proofs.Runs.{RunIsTold, RunTakes, run_takes}
@@ -144,7 +144,7 @@ module _ (t : Turn) (read : TextReader) (served : AreGoodServices (serve_call re
       by true = refused_takes r (closed f.instance)
       by false = method_done r f m args (function_behind m f) is handed
 
-  row_takes : (m : List ℕ) → IsCalling d m → (o : Obj) (args : List Tree) (outcome : Outcome) → IfOk outcome (λ x. IsRow w None o m args x.0 x.1) → WorkTakes (deliveries.target o args) (row_work outcome)
+  row_takes : (m : List ℕ) → IsCalling d m → (o : Obj) (args : List Tree) (outcome : Outcome) → IfOk outcome (λ x. IsRule w None o m args x.0 x.1) → WorkTakes (deliveries.target o args) (outcome_work outcome)
   row_takes m calling o args (Err e) is row told = tt
   row_takes m calling o args (Ok (answer, es)) is row told =
       service_row_takes t o m (record {
@@ -156,7 +156,7 @@ module _ (t : Turn) (read : TextReader) (served : AreGoodServices (serve_call re
 
   serve_done : (m : List ℕ) → IsCalling d m → (o : Obj) (args : List Tree) → IsHanded w (trees.object o) → AllByRecursion (IsHanded w) args → WorkTakes (deliveries.target o args) (task_work read meter w (serve o m args))
   unfolding task_work
-  serve_done m calling o args target handed = row_takes m calling o args (serve_call read w o m args) (service_row read w d o m args served good room target handed)
+  serve_done m calling o args target handed = row_takes m calling o args (serve_call read w o m args) (service_rule read w d o m args served good room target handed)
 
   on_done : (m : List ℕ) → IsCalling d m → (kind : ObjKind) (o : Obj) (args : List Tree) → o.kind ≡ kind → IsHanded w (trees.object o) → AllByRecursion (IsHanded w) args → WorkTakes (deliveries.target o args) (task_work read meter w (task_on kind w o m args))
   on_done m calling kinds.Facet o args e target handed =

@@ -2,7 +2,7 @@
 use Rattle.std.specs.Prelude.{◌≡◌, ◌<◌, Some}
 use Rattle.fair_laws.specs.delivery_laws.Hosts.{IsGoodHost}
 use Rattle.fair_laws.specs.delivery_turns.Hosts.{step_of}
-use Rattle.fair_laws.specs.rules.ZoeRows.{TextReader}
+use Rattle.fair_laws.specs.rules.Zoe.{TextReader}
 use Rattle.fair_laws.specs.world_state.Rights.{most_turns}
 use Rattle.run_laws.specs.Runs.{HostTurn}
 

@@ -3,7 +3,7 @@ use Rattle.std.specs.Prelude.{◌≡◌, ℕ, map, List, [], ◌∷◌, ◌++◌
 use Rattle.std.specs.List.{flat_map}
 use Rattle.fair_laws.specs.delivery_turns.Hosts.{HostState}
 use Rattle.message_lines.specs.Meanings.{Meaning, blank, delivered, run}
-use Rattle.fair_laws.specs.rules.ZoeRows.{TextReader}
+use Rattle.fair_laws.specs.rules.Zoe.{TextReader}
 use Rattle.message_lines.specs.turn_records.Deliveries.{Delivery}
 use Rattle.fair_laws.specs.world_state.Worlds.{behind}
 use Rattle.run_laws.specs.Runs.{HostTurn, Run, first_host, lines_run}

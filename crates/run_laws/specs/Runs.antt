@@ -6,7 +6,7 @@ use Rattle.std.specs.Option.{option_map_or}
 use Rattle.fair_laws.specs.delivery_turns.Hosts.{HostState, Step, step_of, with_line}
 use Rattle.message_lines.specs.InputLines.{lines_of}
 use Rattle.message_lines.specs.Meanings.{Meaning, blank, delivered, meaning_of, run}
-use Rattle.fair_laws.specs.rules.ZoeRows.{TextReader}
+use Rattle.fair_laws.specs.rules.Zoe.{TextReader}
 use Rattle.message_lines.specs.turn_records.Printed.{printed}
 use Rattle.message_lines.specs.turn_rows.Rows.{close_row, rows_of}
 use Rattle.message_lines.specs.turn_rows.Texts.{journal_text, row_text}

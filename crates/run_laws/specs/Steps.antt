@@ -5,7 +5,7 @@ use Rattle.message_lines.specs.amount_math.Content.{Content, count}
 use Rattle.fair_laws.specs.delivery_turns.Hosts.{HostState, Step}
 use Rattle.fair_laws.specs.ertp_mint.BrandSupply.{supply_at}
 use Rattle.run_laws.specs.Runs.{HostTurn}
-use Rattle.fair_laws.specs.right_steps.Lists as lists
+use Rattle.fair_laws.specs.vault_model.Lists as lists
 use Rattle.message_lines.specs.turn_records.Printed.{printed}
 use Rattle.message_lines.specs.turn_rows.Turns.{Turn}
 use Rattle.fair_laws.specs.world_state.Rights.{most_turns}

@@ -8,7 +8,7 @@ ghost use Rattle.fair_laws.specs.fair_rows.Turns.{IsFairJournal};
 ghost use Rattle.run_laws.specs.Limits.{AreFairToLimit, CanBePrinted};
 ghost use Rattle.fair_laws.specs.Views.{world_of};
 ghost use Rattle.run_laws.specs.Runs.{HostTurn, journal_of, left_of, most_meter, run_of, turns_of};
-ghost use Rattle.fair_laws.specs.rules.ZoeRows.{ReadsModules, TextReader};
+ghost use Rattle.fair_laws.specs.rules.Zoe.{ReadsModules, TextReader};
 ghost use Rattle.message_lines.specs.turn_rows.Form.{AreInForm};
 ghost use Rattle.fair_laws.specs.world_state.Rights.{most_turns};
 

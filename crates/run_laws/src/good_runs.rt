@@ -5,7 +5,7 @@ ghost use Rattle.std.specs.List.{AllByRecursion};
 ghost use Rattle.fair_laws.specs.delivery_laws.Works.{most_meter};
 ghost use Rattle.run_laws.specs.GoodTurns.{IsGoodTurn};
 ghost use Rattle.run_laws.specs.Runs.{HostTurn, run_of};
-ghost use Rattle.fair_laws.specs.rules.ZoeRows.{ReadsModules, TextReader};
+ghost use Rattle.fair_laws.specs.rules.Zoe.{ReadsModules, TextReader};
 ghost use Rattle.fair_laws.specs.world_state.Rights.{most_turns};
 
 /// Each turn of a run, up to the last that may be run, is the step of a good host, where what is read of texts are

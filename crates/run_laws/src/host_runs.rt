@@ -4,7 +4,7 @@ ghost use Rattle.std.specs.Prelude.{◌≡◌, ◌++◌, ℕ, List, Some};
 ghost use Rattle.fair_laws.specs.delivery_turns.Hosts.{HostState, Step, step_of};
 ghost use Rattle.run_laws.specs.Order.{AreInOrder, brought_by};
 ghost use Rattle.run_laws.specs.Runs.{meanings_of, run_of};
-ghost use Rattle.fair_laws.specs.rules.ZoeRows.{TextReader};
+ghost use Rattle.fair_laws.specs.rules.Zoe.{TextReader};
 ghost use Rattle.fair_laws.specs.world_state.Worlds.{behind};
 
 /// A step appends what its turn brings behind all that waits.

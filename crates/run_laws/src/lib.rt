@@ -8,5 +8,15 @@ pub mod host_runs;
 pub mod line_laws;
 pub mod supply_laws;
 
+/// What `message_lines` gives to those above.
+pub mod message_lines_lib {
+    pub mod lines {
+        pub use message_lines::lines::{Lines, MAX_INPUT, has_long_line};
+    }
+
+    pub mod messages {
+        pub use message_lines::messages::{Line, read_line};
+    }
+}
+
 pub use fair_laws::turn_writer_lib;
-pub use message_lines as message_lines_lib;

@@ -4,7 +4,7 @@ ghost use Rattle.std.specs.Prelude.{◌≤◌, ◌<◌, ℕ, List, IfSome};
 ghost use Rattle.fair_laws.specs.delivery_laws.Hosts.{IsGoodHost};
 ghost use Rattle.fair_laws.specs.delivery_turns.Hosts.{HostState, step_of};
 ghost use Rattle.run_laws.specs.Runs.{most_meter, run_of};
-ghost use Rattle.fair_laws.specs.rules.ZoeRows.{ReadsModules, TextReader};
+ghost use Rattle.fair_laws.specs.rules.Zoe.{ReadsModules, TextReader};
 ghost use Rattle.run_laws.specs.Steps.{AreCalledForToLimit, IsCalledFor};
 ghost use Rattle.run_laws.specs.Worked.{AreNotShown, AreShown};
 ghost use Rattle.fair_laws.specs.world_state.Rights.{most_turns};

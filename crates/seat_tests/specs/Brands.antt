@@ -3,9 +3,8 @@ use Rattle.std.specs.Prelude.{◌≡◌, ℕ, ◌||◌, List, All, IfSome, codes
 use Rattle.std.specs.Str.{bytes_eq}
 use Rattle.seats.specs.amount_math.declared.Kind.{Kind}
 use Rattle.seats.specs.amount_math.declared.Kind.TheVariants.{Nat, Set}
-use Rattle.seats.specs.proposals.declared.allocations.Row.{Row}
+use Rattle.seats.specs.proposals.declared.allocations.Share.{Share}
 use Rattle.seats.specs.proposals.declared.plans.SeatState.{SeatState}
-use Rattle.seats.specs.proposals.declared.plans.Transfer.{Transfer}
 
 -- what is sold is of brand 1, tokens that are told apart are of brand 3, and all else is money, of brand 2
 abbrev pub brand_of : List ℕ → ℕ
@@ -14,13 +13,13 @@ brand_of keyword = if bytes_eq keyword (codes "Nft") then 3 else if bytes_eq key
 abbrev pub kind_of : List ℕ → Kind
 kind_of keyword = if bytes_eq keyword (codes "Nft") then Set else Nat
 
--- a row of the brand and the kind of its keyword
-pub record IsOfItsBrand (r : Row) : Type 0 where
+-- a share of the brand and the kind of its keyword
+pub record IsOfItsBrand (r : Share) : Type 0 where
   pub brand : r.amount.brand ≡ brand_of r.keyword
   pub kind : r.amount.value.kind ≡ kind_of r.keyword
 
-abbrev pub AreOfTheirBrands : List Row → Type 0
-AreOfTheirBrands rows = All IsOfItsBrand rows
+abbrev pub AreOfTheirBrands : List Share → Type 0
+AreOfTheirBrands shares = All IsOfItsBrand shares
 
 -- all amounts of a seat
 pub record HasBrands (s : SeatState) : Type 0 where
@@ -28,8 +27,3 @@ pub record HasBrands (s : SeatState) : Type 0 where
   pub staged : IfSome s.staged AreOfTheirBrands
   pub want : AreOfTheirBrands s.proposal.want
   pub give : AreOfTheirBrands s.proposal.give
-
--- all amounts of a transfer
-pub record MovesBrands (t : Transfer) : Type 0 where
-  pub taken : IfSome t.from_amounts AreOfTheirBrands
-  pub given : IfSome t.to_amounts AreOfTheirBrands

@@ -1,4 +1,4 @@
-//! Tests of seats and of changes of what they have: worked rearrangements with each of their
+//! Tests of seats and of changes of what they have: worked reallocations with each of their
 //! refusals.
 #![tactic(auto)]
 

@@ -1,20 +1,20 @@
 //! What changes of seats are planned from, by short tables, and what is told of a plan.
 
 ghost use Rattle.std.specs.Prelude.{◌≡◌, ◌++◌, ◌∷◌, [], All, IfSome};
-ghost use Rattle.seat_tests.specs.Brands.{AreOfTheirBrands, HasBrands, IsOfItsBrand, brand_of, kind_of};
+ghost use Rattle.seat_tests.specs.Brands.{AreOfTheirBrands, HasBrands, brand_of, kind_of};
 
 use rearrange::plans::PlanFault;
 use rearrange::seats::SeatsFault;
 use seats::amount_math_lib::{Amount, Key, Kind, NAT_BOUND, Value};
 use seats::host_text_lib::keyword::Keyword;
-use seats::proposals_lib::allocations::{Allocation, MOST_ROWS};
+use seats::proposals_lib::allocations::{Allocation, MOST_SHARES};
 use seats::proposals_lib::offers::{Exit, Proposal};
 use seats::proposals_lib::plans::{Plan, SeatState};
 use std::alloc::Global;
 use std::process::Abort;
 
 /// Keywords with so many units, under `Nft` the token nft-1 or none.
-pub type Rows = &'static [(&'static str, u128)];
+pub type Shares = &'static [(&'static str, u128)];
 
 /// What a seat is.
 #[derive(Clone, Copy)]
@@ -22,10 +22,10 @@ pub struct Given {
     pub seat: u32,
     pub instance: u32,
     pub is_open: bool,
-    pub give: Rows,
-    pub want: Rows,
-    pub slots: Rows,
-    pub staged: Option<Rows>,
+    pub give: Shares,
+    pub want: Shares,
+    pub slots: Shares,
+    pub staged: Option<Shares>,
 }
 
 /// An open seat of instance 1, with nothing.
@@ -120,9 +120,6 @@ pub enum Said {
     RepeatedSeat(u32),
     SeatExited(u32),
     StagedLeftOut(u32),
-    NotEnough(u128, u128),
-    Overlap,
-    TooMuch(u128, u128),
     /// The brand, and how many there are before and after.
     NotConserved(u16, u128, u128),
     NotOfferSafe(u32),
@@ -197,38 +194,38 @@ fn add(rt: &impl Abort, alloc: Global, made: &mut Allocation, text: &str, number
     ensures { AreOfTheirBrands made.new }
 {
     let keyword = keyword(rt, alloc, text);
-    assert!(rt; made.len() < MOST_ROWS);
+    assert!(rt; made.len() < MOST_SHARES);
     assert!(rt; made.get(&keyword).is_none());
     let amount = amount(rt, alloc, &keyword, number);
     let added = made.push(alloc, keyword, amount);
     assert!(rt; added.is_ok());
 }
 
-pub fn rows(rt: &impl Abort, alloc: Global, rows: Rows) -> Allocation
+pub fn shares(rt: &impl Abort, alloc: Global, shares: Shares) -> Allocation
     ensures { AreOfTheirBrands result }
 {
     let mut made = Allocation::new(alloc);
-    for (text, number) in rows {
+    for (text, number) in shares {
         add(rt, alloc, &mut made, text, *number);
     }
     made
 }
 
-pub fn some_rows(rt: &impl Abort, alloc: Global, given: Option<Rows>) -> Option<Allocation>
+pub fn some_shares(rt: &impl Abort, alloc: Global, given: Option<Shares>) -> Option<Allocation>
     ensures { IfSome result AreOfTheirBrands }
 {
     match given {
-        Some(given) => Some(rows(rt, alloc, given)),
+        Some(given) => Some(shares(rt, alloc, given)),
         None => None,
     }
 }
 
-pub fn proposal(rt: &impl Abort, alloc: Global, give: Rows, want: Rows) -> Proposal
+pub fn proposal(rt: &impl Abort, alloc: Global, give: Shares, want: Shares) -> Proposal
     ensures give { AreOfTheirBrands result.give }
     ensures want { AreOfTheirBrands result.want }
 {
-    let give = rows(rt, alloc, give);
-    let want = rows(rt, alloc, want);
+    let give = shares(rt, alloc, give);
+    let want = shares(rt, alloc, want);
     let exit = Exit::OnDemand;
     Proposal { give, want, exit }
 }
@@ -237,8 +234,8 @@ fn state(rt: &impl Abort, alloc: Global, given: &Given) -> SeatState
     ensures { HasBrands result }
 {
     let proposal = proposal(rt, alloc, given.give, given.want);
-    let allocation = rows(rt, alloc, given.slots);
-    let staged = some_rows(rt, alloc, given.staged);
+    let allocation = shares(rt, alloc, given.slots);
+    let staged = some_shares(rt, alloc, given.staged);
     SeatState {
         seat: given.seat,
         instance: given.instance,
@@ -268,33 +265,34 @@ pub fn states(rt: &impl Abort, alloc: Global, all: &[Given]) -> Vec<SeatState>
     states
 }
 
-/// Whether an allocation has just these rows, in this order.
-pub fn has_rows(allocation: &Allocation, rows: Rows) -> bool {
-    if allocation.len() != rows.len() {
+/// Whether an allocation has just these shares, in this order.
+pub fn has_shares(allocation: &Allocation, shares: Shares) -> bool {
+    if allocation.len() != shares.len() {
         return false;
     }
-    for (row, (text, number)) in allocation.rows().iter().zip(rows) {
-        if row.keyword.as_str() != *text || row.amount.value.total() != *number {
+    for (share, (text, number)) in allocation.shares().iter().zip(shares) {
+        if share.keyword.as_str() != *text || share.amount.value.total() != *number {
             return false;
         }
     }
     true
 }
 
-/// Whether a plan touches just these seats, in this order, and brings them to these rows.
-fn planned(plan: &Plan, after: &[(u32, Rows)]) -> Said {
+/// Whether a plan touches just these seats, in this order, and brings them to these shares.
+fn planned(plan: &Plan, after: &[(u32, Shares)]) -> Said {
     if plan.touched().len() != after.len() {
         return Said::Other;
     }
-    for (touched, (seat, rows)) in plan.touched().iter().zip(after) {
-        if touched.seat != *seat || !has_rows(&touched.after, *rows) {
+    for (touched, (seat, shares)) in plan.touched().iter().zip(after) {
+        if touched.seat != *seat || !has_shares(&touched.after, *shares) {
             return Said::Other;
         }
     }
     Said::Planned
 }
 
-fn of_seats(fault: SeatsFault) -> Said {
+/// What is told of seats that can't take part in a change.
+pub fn of_seats(fault: SeatsFault) -> Said {
     match fault {
         SeatsFault::WrongInstance(seat) => Said::WrongInstance(seat),
         SeatsFault::OneSeat => Said::OneSeat,
@@ -304,13 +302,9 @@ fn of_seats(fault: SeatsFault) -> Said {
     }
 }
 
-/// An overlap is told where nft-1 is shown.
 fn of_fault(fault: &PlanFault) -> Said {
     match fault {
         PlanFault::Seats(fault) => of_seats(*fault),
-        PlanFault::NotEnough(short) => Said::NotEnough(short.held.total(), short.asked.total()),
-        PlanFault::Overlap(key) if key.as_str() == "nft-1" => Said::Overlap,
-        PlanFault::TooMuch(over) => Said::TooMuch(over.sum, over.bound),
         PlanFault::NotConserved(kept) => Said::NotConserved(kept.brand, kept.before, kept.after),
         PlanFault::NotOfferSafe(seat) => Said::NotOfferSafe(*seat),
         PlanFault::Limit => Said::Limit,
@@ -318,7 +312,7 @@ fn of_fault(fault: &PlanFault) -> Said {
     }
 }
 
-fn of_plan(plan: Plan, after: &[(u32, Rows)]) -> Said {
+fn of_plan(plan: Plan, after: &[(u32, Shares)]) -> Said {
     planned(&plan, after)
 }
 
@@ -326,8 +320,8 @@ fn of_refusal(fault: PlanFault) -> Said {
     of_fault(&fault)
 }
 
-/// What is told of a plan that is to bring its seats to these rows, or of a refusal.
-pub fn told(answer: Result<Plan, PlanFault>, after: &[(u32, Rows)]) -> Said {
+/// What is told of a plan that is to bring its seats to these shares, or of a refusal.
+pub fn told(answer: Result<Plan, PlanFault>, after: &[(u32, Shares)]) -> Said {
     match answer {
         Ok(plan) => of_plan(plan, after),
         Err(fault) => of_refusal(fault),

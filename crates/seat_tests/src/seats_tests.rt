@@ -1,17 +1,17 @@
 //! Seats by number: what is opened, put in, taken out, staged and closed, and the way back.
 
 ghost use Rattle.std.specs.Prelude.{◌≡◌, ◌<◌, ◌≤◌, IsTrue, length};
-ghost use Rattle.seats.specs.amount_math.Worth.{nat_bound};
+ghost use Rattle.seats.specs.amount_math.ValueView.{nat_bound};
 ghost use Rattle.seats.specs.proposals.Slots.{FitsSeat};
 ghost use Rattle.seats.specs.Seats.{HasPlace, IsOpen};
 ghost use Rattle.seats.specs.Store.{HasSlotIn, seat_in, slot_store};
 
-use crate::parts::{MOST, Rows, has_rows, keyword, proposal, rows, token};
+use crate::parts::{MOST, Shares, has_shares, keyword, proposal, shares, token};
 use rearrange::ertp_mint_lib::{Balance, Circulations, Parcel};
 use seats::amount_math_lib::shortfall::LossFault;
 use seats::amount_math_lib::{Kind, NAT_BOUND, PutFault, Value};
 use seats::host_text_lib::keyword::Keyword;
-use seats::proposals_lib::allocations::MOST_ROWS;
+use seats::proposals_lib::allocations::MOST_SHARES;
 use seats::proposals_lib::offers::Proposal;
 use seats::proposals_lib::plans::SeatState;
 use seats::seat_slots::CloseFault;
@@ -33,11 +33,10 @@ enum Did {
 
 #[derive(Clone, Copy)]
 enum Step {
-    Open(u32, Rows, Rows),
-    OpenSlot(u32, &'static str),
+    Open(u32, Shares, Shares),
     Put(u32, &'static str, u128),
     Take(u32, &'static str, u128),
-    Stage(u32, Rows),
+    Stage(u32, Shares),
     Unstage(u32),
     EndStaging,
     Close(u32),
@@ -71,12 +70,26 @@ fn parcel(rt: &impl Abort, alloc: Global, number: u128) -> Parcel
     supply.issue(2, value).ok().expect(rt, "within the bound")
 }
 
+/// Whether a seat can be opened for a proposal: no keyword stands in give and want both, and they have
+/// at most 64.
+fn fits_seat(proposal: &Proposal) -> bool
+    ensures { IsTrue result → FitsSeat proposal.now }
+{
+    let (give, want) = (proposal.give.shares(), proposal.want.shares());
+    for share in give {
+        if proposal.want.get(&share.keyword).is_some() {
+            return false;
+        }
+    }
+    give.len() + want.len() <= MOST_SHARES
+}
+
 /// A proposal that a seat can be opened for.
-fn fitting(rt: &impl Abort, alloc: Global, give: Rows, want: Rows) -> Proposal
+fn fitting(rt: &impl Abort, alloc: Global, give: Shares, want: Shares) -> Proposal
     ensures { FitsSeat result }
 {
     let proposal = proposal(rt, alloc, give, want);
-    assert!(rt; proposal.fits_seat());
+    assert!(rt; fits_seat(&proposal));
     proposal
 }
 
@@ -85,9 +98,9 @@ fn open(
     alloc: Global,
     seats: &mut Seats,
     instance: u32,
-    rows: (Rows, Rows),
+    shares: (Shares, Shares),
 ) -> Did {
-    let proposal = fitting(rt, alloc, rows.0, rows.1);
+    let proposal = fitting(rt, alloc, shares.0, shares.1);
     match seats.open(instance, proposal) {
         Ok(_) => Did::Done,
         Err(_) => Did::Other,
@@ -105,7 +118,7 @@ fn takes_money(seats: &Seats, seat: u32, keyword: &Keyword) -> bool
         → HasPlace keyword.now (seat_in seat seats.now) }
 {
     if !seats.has_slot(seat, keyword) {
-        return seats.open_slots(seat) < MOST_ROWS;
+        return seats.open_slots(seat) < MOST_SHARES;
     }
     seats.brand(seat, keyword) == 2 && seats.holding(seat, keyword).kind() == Kind::Nat
 }
@@ -178,20 +191,9 @@ fn take(
     of_take(alloc, seats.take(seat, &keyword, &Value::nat(number)))
 }
 
-/// Opens a further slot for money.
-fn open_slot(rt: &impl Abort, alloc: Global, seats: &mut Seats, seat: u32, text: &str) -> Did {
-    let keyword = keyword(rt, alloc, text);
-    assert!(rt; seat < seats.made() && seats.is_open(seat));
-    assert!(rt; !seats.has_slot(seat, &keyword) && seats.open_slots(seat) < MOST_ROWS);
-    match seats.open_slot(seat, &keyword, 2, Kind::Nat) {
-        Ok(()) => Did::Done,
-        Err(_) => Did::Other,
-    }
-}
-
-fn stage(rt: &impl Abort, alloc: Global, seats: &mut Seats, seat: u32, staged: Rows) -> Did {
+fn stage(rt: &impl Abort, alloc: Global, seats: &mut Seats, seat: u32, staged: Shares) -> Did {
     assert!(rt; seat < seats.made());
-    match seats.stage(seat, rows(rt, alloc, staged)) {
+    match seats.stage(seat, shares(rt, alloc, staged)) {
         Ok(()) => Did::Done,
         Err((_, StageFault::SeatExited)) => Did::SeatExited,
         Err(_) => Did::Other,
@@ -223,23 +225,22 @@ fn end_staging(seats: &mut Seats) -> Did {
 fn done(rt: &impl Abort, alloc: Global, seats: &mut Seats, step: Step) -> Did {
     match step {
         Step::Open(instance, give, want) => open(rt, alloc, seats, instance, (give, want)),
-        Step::OpenSlot(seat, text) => open_slot(rt, alloc, seats, seat, text),
         Step::Put(seat, text, number) => put(rt, alloc, seats, seat, text, number),
         Step::Take(seat, text, number) => take(rt, alloc, seats, seat, text, number),
-        Step::Stage(seat, rows) => stage(rt, alloc, seats, seat, rows),
+        Step::Stage(seat, shares) => stage(rt, alloc, seats, seat, shares),
         Step::Unstage(seat) => unstage(rt, seats, seat),
         Step::EndStaging => end_staging(seats),
         Step::Close(seat) => close(rt, seats, seat),
     }
 }
 
-/// Whether the first seat has just these rows.
-fn has(seats: &Seats, wanted: Rows) -> bool {
+/// Whether the first seat has just these shares.
+fn has(seats: &Seats, wanted: Shares) -> bool {
     if seats.made() == 0 {
         return false;
     }
     match seats.allocation(0) {
-        Ok(allocation) => has_rows(&allocation, wanted),
+        Ok(allocation) => has_shares(&allocation, wanted),
         Err(_) => false,
     }
 }
@@ -253,18 +254,18 @@ fn staged(seats: &Seats) -> Option<usize> {
 }
 
 /// A step, what comes of it, what the first seat has then, and how many seats are staged.
-type Goes = (Step, Did, Rows, usize);
+type Goes = (Step, Did, Shares, usize);
 
-fn goes(rt: &impl Abort, alloc: Global, seats: &mut Seats, row: &Goes) -> bool {
-    let (step, answer, wanted, count) = *row;
+fn goes(rt: &impl Abort, alloc: Global, seats: &mut Seats, share: &Goes) -> bool {
+    let (step, answer, wanted, count) = *share;
     done(rt, alloc, seats, step) == answer && has(seats, wanted) && staged(seats) == Some(count)
 }
 
-const FILLED: Rows = &[("A", 2), ("B", 1), ("Price", 0)];
+const FILLED: Shares = &[("A", 2), ("B", 1), ("Price", 0)];
 
-const MORE: Rows = &[("A", 2), ("B", 1), ("Price", 0), ("Extra", 4)];
+const MORE: Shares = &[("A", 2), ("B", 1), ("Price", 0), ("Extra", 4)];
 
-const LAST: Rows = &[("A", 2), ("B", 1), ("Price", 0), ("Extra", 3), ("Last", 0)];
+const LAST: Shares = &[("A", 2), ("B", 1), ("Price", 0), ("Extra", 3)];
 
 /// A seat is opened, filled, staged and closed. Its slots are give's in byte order, then want's, then
 /// further ones; it keeps what it had last, is paid out then, and its staging is dropped.
@@ -296,7 +297,6 @@ const STEPS: &[Goes] = &[
         &[("A", 2), ("B", 1), ("Price", 0), ("Extra", 3)],
         0,
     ),
-    (Step::OpenSlot(0, "Last"), Did::Done, LAST, 0),
     (Step::Stage(0, &[("Price", 5)]), Did::Done, LAST, 1),
     (Step::Open(2, &[], &[]), Did::Done, LAST, 1),
     (Step::Stage(1, &[]), Did::Done, LAST, 2),
@@ -315,13 +315,13 @@ const STEPS: &[Goes] = &[
 #[test]
 fn a_seat_is_filled_staged_and_closed(rt: HostRuntime) {
     let mut seats = Seats::new(rt.alloc());
-    for row in STEPS {
-        assert!(rt; goes(&rt, rt.alloc(), &mut seats, row));
+    for share in STEPS {
+        assert!(rt; goes(&rt, rt.alloc(), &mut seats, share));
     }
 }
 
-/// Whether a seat's state shows the instance 2, that it is open, and these rows in its slots and staged.
-fn is_state(seats: &Seats, seat: u32, slots: Rows, staged: Rows) -> bool {
+/// Whether a seat's state shows the instance 2, that it is open, and these shares in its slots and staged.
+fn is_state(seats: &Seats, seat: u32, slots: Shares, staged: Shares) -> bool {
     if seats.made() <= seat {
         return false;
     }
@@ -331,12 +331,12 @@ fn is_state(seats: &Seats, seat: u32, slots: Rows, staged: Rows) -> bool {
     }
 }
 
-fn shows(state: &SeatState, slots: Rows, staged: Rows) -> bool {
+fn shows(state: &SeatState, slots: Shares, staged: Shares) -> bool {
     let is_staged = match &state.staged {
-        Some(rows) => has_rows(rows, staged),
+        Some(shares) => has_shares(shares, staged),
         None => false,
     };
-    is_staged && state.is_open && state.instance == 2 && has_rows(&state.allocation, slots)
+    is_staged && state.is_open && state.instance == 2 && has_shares(&state.allocation, slots)
 }
 
 #[test]

@@ -3,7 +3,7 @@
 ghost use Rattle.std.specs.Prelude.{All};
 ghost use Rattle.seat_tests.specs.Brands.{HasBrands};
 
-use crate::parts::{FULL, Given, OPEN, Rows, Said, states, told};
+use crate::parts::{FULL, Given, OPEN, Said, Shares, states, told};
 use rearrange::staged::plan_staged;
 use seats::proposals_lib::plans::SeatState;
 use std::alloc::Global;
@@ -14,7 +14,7 @@ use std::process::Abort;
 struct Case {
     seats: &'static [Given],
     listed: &'static [u32],
-    after: &'static [(u32, Rows)],
+    after: &'static [(u32, Shares)],
     said: Said,
 }
 

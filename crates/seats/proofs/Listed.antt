@@ -7,7 +7,7 @@ use Rattle.std.proofs.lemmas.List.{get_or-set_other, get_or-take, get_or_default
 use Rattle.std.proofs.Math.ListN.{get_or-append}
 use Rattle.std.proofs.Math.Seq.{take-length}
 use Rattle.ertp_mint.specs.Stocks.{most_made}
-use Rattle.proposals.specs.declared.allocations.Row.{Row}
+use Rattle.proposals.specs.declared.allocations.Share.{Share}
 use Rattle.seats.specs.Instances.{list_at}
 use Rattle.seats.proofs.Undone.{last_off}
 use Rattle.seats.specs.Seats.{IsOpen, SeatView}
@@ -64,7 +64,7 @@ opens_at seats n m new within opens open_now = by (m == n) refl
         subst IsOpen (sym (get_or-set_at seats n m new no_seat same within)) (opens (subst (λ (k : ℕ). IsOpen (seat_at seats k)) same open_now))
     by false e = subst IsOpen (sym (get_or-set_other seats n m new no_seat (eqb-false m n e))) open_now
 
-pub listed-set : (seats : List SeatView) (lists : List (ℕ × List ℕ)) (staging : List (ℕ × List Row)) (n : ℕ) (old new : SeatView) → n < length seats → old ≡ get_or seats n old → new.instance ≡ old.instance → (IsOpen old → IsOpen new)
+pub listed-set : (seats : List SeatView) (lists : List (ℕ × List ℕ)) (staging : List (ℕ × List Share)) (n : ℕ) (old new : SeatView) → n < length seats → old ≡ get_or seats n old → new.instance ≡ old.instance → (IsOpen old → IsOpen new)
     → AreListed seats lists staging → AreListed (set seats n new) lists staging
 listed-set seats lists staging n old new within is same opens listed =
     let here : seat_at seats n ≡ old = get_or_default seats n no_seat old within ∙ sym is in
@@ -78,7 +78,7 @@ listed-set seats lists staging n old new within is same opens listed =
     }
 
 -- a seat closed: nothing is staged of it any more
-pub listed-close : (seats : List SeatView) (lists : List (ℕ × List ℕ)) (before after : List (ℕ × List Row)) (n : ℕ) (old new : SeatView) → old ≡ get_or seats n old → new.instance ≡ old.instance
+pub listed-close : (seats : List SeatView) (lists : List (ℕ × List ℕ)) (before after : List (ℕ × List Share)) (n : ℕ) (old new : SeatView) → old ≡ get_or seats n old → new.instance ≡ old.instance
     → ((m : ℕ) → staged_at m after ≡ cond (n == m) None (staged_at m before)) → AreListed seats lists before → AreListed (set seats n new) lists after
 listed-close seats lists before after n old new is same looks listed = record {
   few = omega (arith, length-set seats n new, listed.few);
@@ -99,7 +99,7 @@ listed-close seats lists before after n old new is same looks listed = record {
 
 -- ---- one seat more, and one less
 
-pub listed-push : (seats : List SeatView) (before after : List (ℕ × List ℕ)) (staging : List (ℕ × List Row)) (n : ℕ) (new : SeatView) → n ≡ length seats → length seats < most_made
+pub listed-push : (seats : List SeatView) (before after : List (ℕ × List ℕ)) (staging : List (ℕ × List Share)) (n : ℕ) (new : SeatView) → n ≡ length seats → length seats < most_made
     → ((i : ℕ) → list_at after i ≡ cond (i == new.instance) (list_at before i ++ n ∷ []) (list_at before i)) → AreListed seats before staging → AreListed (seats ++ new ∷ []) after staging
 listed-push seats before after staging n new number room looks listed = record {
   few = omega (arith, length_push seats new, room);
@@ -119,7 +119,7 @@ listed-push seats before after staging n new number room looks listed = record {
         ∙ ap (λ k. with_number (i == new.instance) k (seats_of i seats)) no_shift
         ∙ ap (λ b. with_number b (0 + length seats) (seats_of i seats)) (eqb-turned i new.instance)
 
-pub listed-same : (seats : List SeatView) (before after : List (ℕ × List ℕ)) (staging : List (ℕ × List Row)) → ((i : ℕ) → list_at after i ≡ list_at before i) → AreListed seats before staging → AreListed seats after staging
+pub listed-same : (seats : List SeatView) (before after : List (ℕ × List ℕ)) (staging : List (ℕ × List Share)) → ((i : ℕ) → list_at after i ≡ list_at before i) → AreListed seats before staging → AreListed seats after staging
 listed-same seats before after staging same listed = record { few = listed.few; listed = λ i. same i ∙ listed.listed i; staged = listed.staged }
 
 -- a list whose last was taken off after it was put on
@@ -130,7 +130,7 @@ pushed_off b ns ms os n push pop = pop ∙ ap (λ xs. cond b (take (length xs - 
     by true = last_off ns n
     by false = refl
 
-pub listed-pop : (seats : List SeatView) (before after : List (ℕ × List ℕ)) (was now : List (ℕ × List Row)) (n instance : ℕ) → n + 1 ≡ length seats → instance ≡ (seat_at seats n).instance
+pub listed-pop : (seats : List SeatView) (before after : List (ℕ × List ℕ)) (was now : List (ℕ × List Share)) (n instance : ℕ) → n + 1 ≡ length seats → instance ≡ (seat_at seats n).instance
     → ((i : ℕ) → list_at after i ≡ cond (i == instance) (take (length (list_at before i) - 1) (list_at before i)) (list_at before i))
     → ((m : ℕ) → staged_at m now ≡ cond (n == m) None (staged_at m was)) → AreListed seats before was → AreListed (take n seats) after now
 listed-pop seats before after was now n instance last is looks staged listed = record {

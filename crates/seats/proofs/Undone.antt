@@ -5,8 +5,8 @@ use Rattle.std.proofs.lemmas.List.{length_push}
 use Rattle.std.proofs.Math.Seq.{take-append_seam}
 use Rattle.ertp_mint.specs.amount_math.Content.{Contains, Content}
 use Rattle.ertp_mint.specs.amount_math.declared.Amount.{Amount}
-use Rattle.proposals.specs.declared.allocations.Row.{Row}
-use Rattle.ertp_mint.specs.Balances.{StoredAmount, empty_store, put_taken, taken_put, with_put, with_taken}
+use Rattle.proposals.specs.declared.allocations.Share.{Share}
+use Rattle.ertp_mint.specs.Balances.{BalanceView, empty_store, put_taken, taken_put, with_put, with_taken}
 use Rattle.seats.proofs.Changes.{stored_in-with, with-same, with-with}
 use Rattle.seats.specs.Seats.{IsOpen, SeatView, closed_seat, reopened_seat, stored_in, with_further, with_less, with_more, with_stored, without_last_slot}
 use Rattle.seats.specs.Slots.{HasSlot, SlotView, slot_of}
@@ -14,17 +14,17 @@ use Rattle.seats.specs.Slots.{HasSlot, SlotView, slot_of}
 pub undo_put_undoes : (keyword : List ℕ) (c : Content) (seat : SeatView) → HasSlot keyword seat.slots → with_less keyword c (with_more keyword c seat) ≡ seat
 undo_put_undoes keyword c seat there =
     let more = with_put (stored_in keyword seat) c in
-    ap (λ (s : StoredAmount). with_stored keyword (with_taken s c) (with_more keyword c seat)) (stored_in-with keyword seat more there)
+    ap (λ (s : BalanceView). with_stored keyword (with_taken s c) (with_more keyword c seat)) (stored_in-with keyword seat more there)
     ∙ with-with keyword seat more (with_taken more c) there
-    ∙ ap (λ (s : StoredAmount). with_stored keyword s seat) (put_taken (stored_in keyword seat) c)
+    ∙ ap (λ (s : BalanceView). with_stored keyword s seat) (put_taken (stored_in keyword seat) c)
     ∙ with-same keyword seat
 
 pub undo_take_undoes : (keyword : List ℕ) (c : Content) (seat : SeatView) → HasSlot keyword seat.slots → Contains (stored_in keyword seat).amount.value.content c → with_more keyword c (with_less keyword c seat) ≡ seat
 undo_take_undoes keyword c seat there has =
     let less = with_taken (stored_in keyword seat) c in
-    ap (λ (s : StoredAmount). with_stored keyword (with_put s c) (with_less keyword c seat)) (stored_in-with keyword seat less there)
+    ap (λ (s : BalanceView). with_stored keyword (with_put s c) (with_less keyword c seat)) (stored_in-with keyword seat less there)
     ∙ with-with keyword seat less (with_put less c) there
-    ∙ ap (λ (s : StoredAmount). with_stored keyword s seat) (taken_put (stored_in keyword seat) c has)
+    ∙ ap (λ (s : BalanceView). with_stored keyword s seat) (taken_put (stored_in keyword seat) c has)
     ∙ with-same keyword seat
 
 -- a list without the element that was added to it last
@@ -37,9 +37,9 @@ last_off xs x = ap (λ k. take k (xs ++ x ∷ [])) (one_less (length (xs ++ x �
 pub undo_open_slot_undoes : (keyword : List ℕ) (a : Amount) (seat : SeatView) → without_last_slot (with_further keyword a seat) ≡ seat
 undo_open_slot_undoes keyword a seat = ap (λ (xs : List SlotView). record seat { slots = xs }) (last_off seat.slots (slot_of keyword (empty_store a.brand a.value.kind)))
 
-none_is : (o : Option (List Row)) → is_some o ≡ false → None ≡ o
+none_is : (o : Option (List Share)) → is_some o ≡ false → None ≡ o
 none_is None h = refl
-none_is (Some rows) h = absurd (cc)
+none_is (Some shares) h = absurd (cc)
 
 pub undo_close_undoes : (seat : SeatView) → IsOpen seat → reopened_seat (closed_seat seat) ≡ seat
-undo_close_undoes seat open_now = ap (λ (o : Option (List Row)). record seat { last = o }) (none_is seat.last open_now)
+undo_close_undoes seat open_now = ap (λ (o : Option (List Share)). record seat { last = o }) (none_is seat.last open_now)

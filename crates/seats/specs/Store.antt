@@ -2,17 +2,17 @@
 use Rattle.std.specs.Prelude.{◌≡◌, ℕ, suc, ◌-◌, ◌<◌, ◌≤◌, ◌==◌, List, [], ◌∷◌, IsSome, None, if◌then◌else◌, is_none, length, map, slice_index_or, slice_set, take, refl}
 use Rattle.std.specs.Coded.{Coded, code_by, coded×, coded_list}
 use Rattle.ertp_mint.specs.amount_math.Content.{Content}
-use Rattle.ertp_mint.specs.amount_math.Worth.{IsPutRefusal}
+use Rattle.ertp_mint.specs.amount_math.ValueView.{IsPutRefusal}
 use Rattle.ertp_mint.specs.amount_math.declared.Kind.{Kind}
-use Rattle.ertp_mint.specs.Balances.{StoredAmount}
+use Rattle.ertp_mint.specs.Balances.{BalanceView}
 use Rattle.ertp_mint.specs.Stocks.{most_made}
 use Rattle.proposals.specs.Slots.{emptied, slots_of}
-use Rattle.proposals.specs.declared.allocations.Row.{Row}
+use Rattle.proposals.specs.declared.allocations.Share.{Share}
 use Rattle.proposals.specs.declared.offers.Exit.TheVariants.{OnDemand}
 use Rattle.proposals.specs.declared.plans.SeatState.{SeatState}
 use Rattle.seats.specs.Instances.{list_at}
 use Rattle.seats.specs.Seats.{IsOpen, SeatView, allocation_of, closed_seat, coded_seat, stored_in}
-use Rattle.seats.specs.Slots.{HasSlot, rows_in}
+use Rattle.seats.specs.Slots.{HasSlot, shares_in}
 use Rattle.seats.specs.declared.seats.SlotFault.{SlotFault}
 use Rattle.seats.specs.declared.seats.SlotFault.TheVariants.{Put, SeatExited}
 use Rattle.seats.specs.Staging.{coded_staging, staged_at, without_staged}
@@ -20,11 +20,11 @@ use Rattle.seats.specs.Staging.{coded_staging, staged_at, without_staged}
 -- the seats by number, and, apart from them, what is staged until the turn ends
 pub record SeatsView : Type 0 where
   pub seats : List SeatView
-  pub staging : List (ℕ × List Row)
+  pub staging : List (ℕ × List Share)
 
 -- the numbers that stand for them, which a model needs
 abbrev pub coded_seats : Coded SeatsView
-coded_seats = code_by (List SeatView × List (ℕ × List Row)) (coded× (coded_list coded_seat) coded_staging) (λ s. (s.seats, s.staging)) (λ p. record { seats = p.0; staging = p.1 }) (λ _. refl)
+coded_seats = code_by (List SeatView × List (ℕ × List Share)) (coded× (coded_list coded_seat) coded_staging) (λ s. (s.seats, s.staging)) (λ p. record { seats = p.0; staging = p.1 }) (λ _. refl)
 
 -- what is read where no seat was made
 abbrev pub no_seat : SeatView
@@ -37,7 +37,7 @@ abbrev pub seat_in : ℕ → SeatsView → SeatView
 seat_in n all = seat_at all.seats n
 
 -- what is stored in the slot of a keyword of a seat
-abbrev pub slot_store : ℕ → List ℕ → SeatsView → StoredAmount
+abbrev pub slot_store : ℕ → List ℕ → SeatsView → BalanceView
 slot_store n keyword all = stored_in keyword (seat_in n all)
 
 -- a keyword has a slot in a seat
@@ -66,7 +66,7 @@ seats_of instance seats = seats_from 0 instance seats
 -- a seat to which nothing was done but that it was opened
 pub record IsNew (seat : SeatView) : Type 0 where
   pub is_open : IsOpen seat
-  pub empty : rows_in seat.slots ≡ map emptied (slots_of seat.proposal)
+  pub empty : shares_in seat.slots ≡ map emptied (slots_of seat.proposal)
 
 -- all seats but the one that was made last, of which nothing is staged then
 abbrev pub without_last : SeatsView → SeatsView
@@ -84,12 +84,12 @@ state_of n all = record {
 }
 
 -- what is staged is of open seats
-pub record AreOpen (seats : List SeatView) (staging : List (ℕ × List Row)) : Type 0 where
+pub record AreOpen (seats : List SeatView) (staging : List (ℕ × List Share)) : Type 0 where
   pub made : (n : ℕ) → IsSome (staged_at n staging) → n < length seats
   pub is_open : (n : ℕ) → IsSome (staged_at n staging) → IsOpen (seat_at seats n)
 
 -- the seats of each instance are listed, and what is staged is of open ones
-pub record AreListed (seats : List SeatView) (lists : List (ℕ × List ℕ)) (staging : List (ℕ × List Row)) : Type 0 where
+pub record AreListed (seats : List SeatView) (lists : List (ℕ × List ℕ)) (staging : List (ℕ × List Share)) : Type 0 where
   pub few : length seats ≤ most_made
   pub listed : (instance : ℕ) → list_at lists instance ≡ seats_of instance seats
   pub staged : AreOpen seats staging

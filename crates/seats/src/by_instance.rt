@@ -1,4 +1,4 @@
-// The seats of each instance, by the instance's number, so that a halt doesn't walk all seats.
+//! The seats of each instance, by the instance's number, so that a halt doesn't walk all seats.
 ghost use Rattle.std.specs.Prelude.{◌≡◌, ℕ, ◌++◌, ◌∷◌, [], None, ◌==◌, ◌-◌, IfOk, OnErr, OnOk, if◌then◌else◌, length, take};
 ghost use Rattle.std.specs.BTreeMap.{is_at};
 ghost use Rattle.std.specs.Map.{lookup};

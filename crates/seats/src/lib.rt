@@ -7,6 +7,20 @@ pub mod seat_slots;
 pub mod seats;
 mod staging;
 
+/// What `proposals` gives to those above.
+pub mod proposals_lib {
+    pub mod allocations {
+        pub use proposals::allocations::{Allocation, MOST_SHARES};
+    }
+
+    pub mod offers {
+        pub use proposals::offers::{Exit, Proposal};
+    }
+
+    pub mod plans {
+        pub use proposals::plans::{Plan, SeatState};
+    }
+}
+
 pub use ertp_mint::amount_math_lib;
-pub use proposals as proposals_lib;
 pub use proposals::host_text_lib;

@@ -8,17 +8,16 @@ ghost use Rattle.std.specs.Prelude.{◌≡◌, ◌<◌, ◌≤◌, ◌↔◌, le
 ghost use Rattle.ertp_mint.specs.amount_math.Amount.{Meet};
 ghost use Rattle.ertp_mint.specs.amount_math.Content.{Contains};
 ghost use Rattle.ertp_mint.specs.amount_math.Shortfalls.{IsLossFault};
-ghost use Rattle.ertp_mint.specs.amount_math.Worth.{IsPutRefusal, IsValue};
+ghost use Rattle.ertp_mint.specs.amount_math.ValueView.{IsPutRefusal, IsValue};
 ghost use Rattle.ertp_mint.specs.Balances.{ComesOut, GoesIn, HasRoomFor, HasSpare, held_in};
-ghost use Rattle.ertp_mint.specs.Stocks.{empty_amount};
-ghost use Rattle.proposals.specs.Rows.{AreRows, most_rows};
+ghost use Rattle.proposals.specs.Shares.{AreShares, most_shares};
 ghost use Rattle.proposals.specs.Slots.{FitsSeat, slots_of};
-ghost use Rattle.seats.specs.Seats.{HasPlace, IsOpen, allocation_of, closed_seat, new_seat, open_slots_in, put_in, reopened_seat, stored_in, sum_with, with_further, with_less, with_more, with_room, without_last_slot};
-ghost use Rattle.seats.specs.Slots.{HasEmptyLast, HasSlot, empty_slot, place_of, rows_in};
+ghost use Rattle.seats.specs.Seats.{HasPlace, IsOpen, allocation_of, closed_seat, new_seat, open_slots_in, put_in, reopened_seat, stored_in, sum_with, with_less, with_more, with_room, without_last_slot};
+ghost use Rattle.seats.specs.Slots.{HasEmptyLast, HasSlot, empty_slot, place_of, shares_in};
 
-use crate::seat_slots::slot::{Slot, empty_slots, place_of, rows_of};
+use crate::seat_slots::slot::{Slot, empty_slots, place_of, shares_of};
 use ertp_mint::amount_math_lib::shortfall::{LossFault, show_shortfall};
-use ertp_mint::amount_math_lib::{Holding, Kind, PutFault, Value};
+use ertp_mint::amount_math_lib::{Holding, PutFault, Value};
 use ertp_mint::{Balance, Parcel};
 use proposals::allocations::Allocation;
 use proposals::host_text_lib::keyword::Keyword;
@@ -35,7 +34,7 @@ pub enum CloseFault {
 }
 
 /// A seat. Contracts see its instance, its proposal, what is stored in each slot with the room for it, and,
-/// once it is closed, the rows that it had then.
+/// once it is closed, the shares that it had then.
 pub struct Seat {
     instance: u32,
     proposal: Proposal,
@@ -55,9 +54,9 @@ impl Drop for Seat {
 }
 
 impl Model for Seat {
-    ghost use Rattle.proposals.specs.Rows.{AreRows};
+    ghost use Rattle.proposals.specs.Shares.{AreShares};
     ghost use Rattle.seats.specs.Seats.{SeatView, coded_seat};
-    ghost use Rattle.seats.specs.Slots.{rows_in};
+    ghost use Rattle.seats.specs.Slots.{shares_in};
 
     ghost Value = { SeatView };
 
@@ -65,16 +64,16 @@ impl Model for Seat {
 
     ghost view = { λ a. record { instance = a.instance; proposal = a.proposal; slots = a.slots.items; last = a.last } };
 
-    ghost invariant = { λ a. AreRows (rows_in a.slots.items) };
+    ghost invariant = { λ a. AreShares (shares_in a.slots.items) };
 }
 
 /// The slots of a new seat for a proposal, with nothing in them.
 fn new_slots(alloc: Global, proposal: &Proposal) -> Result<Vec<Slot>, AllocError>
     ensures slots { IfOk result (λ slots. slots.items ≡ map empty_slot (slots_of proposal.now)) }
-    ensures apart { IfOk result (λ slots. FitsSeat proposal.now → AreRows (rows_in slots.items)) }
+    ensures apart { IfOk result (λ slots. FitsSeat proposal.now → AreShares (shares_in slots.items)) }
 {
-    let rows = proposal.slots(alloc)?;
-    empty_slots(alloc, rows.as_slice())
+    let shares = proposal.slots(alloc)?;
+    empty_slots(alloc, shares.as_slice())
 }
 
 impl Seat {
@@ -117,7 +116,7 @@ impl Seat {
     /// How many slots are to be paid out: none once it is closed.
     pub fn open_slots(&self) -> usize
         ensures slots { result ≡ open_slots_in self.now }
-        ensures few { result ≤ most_rows }
+        ensures few { result ≤ most_shares }
     {
         match self.last {
             Some(_) => 0,
@@ -165,26 +164,10 @@ impl Seat {
 
     /// What its slots have.
     fn slots_now(&self, alloc: Global) -> Result<Allocation, AllocError>
-        ensures { IfOk result (λ allocation. allocation ≡ rows_in self.now.slots) }
+        ensures { IfOk result (λ allocation. allocation ≡ shares_in self.now.slots) }
     {
-        let rows = rows_of(alloc, self.slots.as_slice())?;
-        Allocation::from_rows(alloc, rows)
-    }
-
-    /// Opens a slot of a brand, with nothing, which stands last (own). On an error all is as before.
-    pub fn open_slot(&mut self, keyword: &Keyword, brand: u16, kind: Kind) -> Result<(), AllocError>
-        requires free { length self.old.slots ≤ place_of keyword.now self.old.slots }
-        requires few { length self.old.slots < most_rows }
-        ensures ok { OnOk result (self.new
-            ≡ with_further keyword.now (empty_amount brand kind) self.old) }
-        ensures err { OnErr result (self.new ≡ self.old) }
-    {
-        let alloc = *self.slots.allocator();
-        let keyword = keyword.copy(alloc)?;
-        self.slots.reserve(1)?;
-        let balance = Balance::empty(alloc, brand, kind);
-        self.slots.push_reserved(Slot { keyword, balance });
-        Ok(())
+        let shares = shares_of(alloc, self.slots.as_slice())?;
+        Allocation::from_shares(alloc, shares)
     }
 
     /// Takes away the slot that was opened last, which has nothing.
@@ -300,7 +283,7 @@ impl Seat {
     /// Opens a further slot with a parcel, or hands it back.
     fn put_further(&mut self, keyword: &Keyword, parcel: Parcel) -> Result<(), Parcel>
         requires free { length self.old.slots ≤ place_of keyword.now self.old.slots }
-        requires few { length self.old.slots < most_rows }
+        requires few { length self.old.slots < most_shares }
         ensures ok { OnOk result (self.new
             ≡ put_in keyword.now parcel (stored_in keyword.now self.new).room self.old) }
         ensures value { OnOk result (IsValue parcel.value.kind parcel.value.content) }
@@ -345,7 +328,7 @@ impl Seat {
     /// closed before. What its slots have stays there until it is taken.
     pub fn close(&mut self) -> Result<Allocation, CloseFault>
         ensures ok { OnOk result (self.new ≡ closed_seat self.old) }
-        ensures last { IfOk result (λ last. last ≡ rows_in self.old.slots) }
+        ensures last { IfOk result (λ last. last ≡ shares_in self.old.slots) }
         ensures was_open { IsOk result → IsOpen self.old }
         ensures exited { IfErr result (λ fault. (fault ≡ CloseFault.SeatExited)
             ↔ IsSome self.old.last) }

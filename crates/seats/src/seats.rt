@@ -7,15 +7,15 @@ ghost use Rattle.std.specs.Option.{option_copied};
 ghost use Rattle.ertp_mint.specs.amount_math.Amount.{Meet};
 ghost use Rattle.ertp_mint.specs.amount_math.Content.{Contains};
 ghost use Rattle.ertp_mint.specs.amount_math.declared.Amount.{Amount};
-ghost use Rattle.ertp_mint.specs.amount_math.Worth.{IsPutRefusal, IsValue};
-ghost use Rattle.ertp_mint.specs.Stocks.{empty_amount, most_made};
-ghost use Rattle.proposals.specs.Rows.{most_rows};
+ghost use Rattle.ertp_mint.specs.amount_math.ValueView.{IsValue};
+ghost use Rattle.ertp_mint.specs.Stocks.{most_made};
+ghost use Rattle.proposals.specs.Shares.{most_shares};
 ghost use Rattle.proposals.specs.Slots.{FitsSeat};
 ghost use Rattle.proposals.specs.declared.offers.Proposal.{Proposal};
 ghost use Rattle.ertp_mint.specs.Balances.{ComesOut, GoesIn, HasRoomFor, HasSpare, held_in};
-ghost use Rattle.seats.specs.Seats.{HasPlace, IsOpen, allocation_of, new_seat, open_slots_in, put_in, reopened_seat, sum_with, with_further, with_less, with_more, with_room, without_last_slot};
+ghost use Rattle.seats.specs.Seats.{HasPlace, IsOpen, allocation_of, new_seat, open_slots_in, put_in, reopened_seat, sum_with, with_less, with_more, with_room, without_last_slot};
 ghost use Rattle.ertp_mint.specs.amount_math.Shortfalls.{IsLossFault};
-ghost use Rattle.seats.specs.Slots.{HasEmptyLast, place_of, rows_in};
+ghost use Rattle.seats.specs.Slots.{HasEmptyLast, shares_in};
 ghost use Rattle.seats.specs.Staging.{staged_at, with_staged, without_staged};
 ghost use Rattle.seats.specs.Store.{AreOpen, HasSlotIn, IsNew, IsSlotRefusal, SeatsView, at_seat, seat_in, seats_of, slot_store, state_of, with_closed, without_last};
 ghost use Rattle.seats.specs.Undone.{HasClosed, HasOpenedSlot, HasPut, HasTaken, IsOpened};
@@ -25,7 +25,7 @@ use crate::seat_slots::{CloseFault, Seat};
 use crate::staging::Staging;
 use ertp_mint::Parcel;
 use ertp_mint::amount_math_lib::shortfall::LossFault;
-use ertp_mint::amount_math_lib::{Holding, Kind, PutFault, Value};
+use ertp_mint::amount_math_lib::{Holding, PutFault, Value};
 use proposals::allocations::Allocation;
 use proposals::host_text_lib::keyword::Keyword;
 use proposals::offers::Proposal;
@@ -102,7 +102,7 @@ impl Seats {
         self.seats.len() as u32
     }
 
-    /// Opens a seat of an instance for a proposal, with a slot for each of its rows and nothing in them,
+    /// Opens a seat of an instance for a proposal, with a slot for each of its shares and nothing in them,
     /// and answers its number, or hands the proposal back (Zoe's escrow seat).
     pub fn open(&mut self, instance: u32, proposal: Proposal) -> Result<u32, (Proposal, OpenFault)>
         requires { FitsSeat proposal }
@@ -206,7 +206,7 @@ impl Seats {
     pub fn open_slots(&self, seat: u32) -> usize
         requires { seat < length self.now.seats }
         ensures slots { result ≡ open_slots_in (seat_in seat self.now) }
-        ensures few { result ≤ most_rows }
+        ensures few { result ≤ most_shares }
     {
         self.seats[seat as usize].open_slots()
     }
@@ -245,28 +245,6 @@ impl Seats {
     {
         let alloc = *self.seats.allocator();
         self.seats[seat as usize].allocation(alloc)
-    }
-
-    /// Opens a further slot of a brand in an open seat, with nothing, which stands last (own). On an error
-    /// all is as before.
-    pub fn open_slot(
-        &mut self,
-        seat: u32,
-        keyword: &Keyword,
-        brand: u16,
-        kind: Kind,
-    ) -> Result<(), AllocError>
-        requires made { seat < length self.old.seats }
-        requires is_open { IsOpen (seat_in seat self.old) }
-        requires free { length (seat_in seat self.old).slots
-            ≤ place_of keyword.now (seat_in seat self.old).slots }
-        requires few { length (seat_in seat self.old).slots < most_rows }
-        ensures ok { OnOk result (self.new
-            ≡ at_seat seat (with_further keyword.now (empty_amount brand kind)) self.old) }
-        ensures err { OnErr result (self.new ≡ self.old) }
-    {
-        let seat = &mut self.seats[seat as usize];
-        seat.open_slot(keyword, brand, kind)
     }
 
     /// Works an opening of a slot backwards: takes the slot that stands last away, which has nothing. It
@@ -430,7 +408,7 @@ impl Seats {
     pub fn close(&mut self, seat: u32) -> Result<Allocation, CloseFault>
         requires { seat < length self.old.seats }
         ensures ok { OnOk result (self.new ≡ with_closed seat self.old) }
-        ensures last { IfOk result (λ last. last ≡ rows_in (seat_in seat self.old).slots) }
+        ensures last { IfOk result (λ last. last ≡ shares_in (seat_in seat self.old).slots) }
         ensures was_open { IsOk result → IsOpen (seat_in seat self.old) }
         ensures exited { IfErr result (λ fault. (fault ≡ CloseFault.SeatExited)
             ↔ IsSome (seat_in seat self.old).last) }
@@ -456,22 +434,22 @@ impl Seats {
 
     /// Stages what a seat is to have, in place of what was, or hands it back: exactly where the seat was
     /// closed before, or for want of memory.
-    pub fn stage(&mut self, seat: u32, rows: Allocation) -> Result<(), (Allocation, StageFault)>
+    pub fn stage(&mut self, seat: u32, shares: Allocation) -> Result<(), (Allocation, StageFault)>
         requires { seat < length self.old.seats }
         ensures ok { OnOk result (self.new
-            ≡ record self.old { staging = with_staged seat rows self.old.staging }) }
+            ≡ record self.old { staging = with_staged seat shares self.old.staging }) }
         ensures was_open { IsOk result → IsOpen (seat_in seat self.old) }
         ensures exited { IfErr result (λ (_, fault). (fault ≡ StageFault.SeatExited)
             ↔ IsSome (seat_in seat self.old).last) }
-        ensures back { IfErr result (λ (back, _). back ≡ rows) }
+        ensures back { IfErr result (λ (back, _). back ≡ shares) }
         ensures err { OnErr result (self.new ≡ self.old) }
     {
         if !self.is_open(seat) {
-            return Err((rows, StageFault::SeatExited));
+            return Err((shares, StageFault::SeatExited));
         }
-        match self.staging.put(seat, rows) {
+        match self.staging.put(seat, shares) {
             Ok(()) => Ok(()),
-            Err(rows) => Err((rows, StageFault::NoMemory)),
+            Err(shares) => Err((shares, StageFault::NoMemory)),
         }
     }
 
@@ -538,24 +516,24 @@ impl Seats {
     {
         let alloc = *self.seats.allocator();
         match self.parts(alloc, seat) {
-            Ok((proposal, rows)) => Ok(self.state_with(seat, proposal, rows)),
+            Ok((proposal, shares)) => Ok(self.state_with(seat, proposal, shares)),
             Err(fault) => Err(fault),
         }
     }
 
-    /// The state of a seat that has this proposal, and these rows in its slots and staged.
+    /// The state of a seat that has this proposal, and these shares in its slots and staged.
     fn state_with(
         &self,
         seat: u32,
         proposal: Proposal,
-        rows: (Allocation, Option<Allocation>),
+        shares: (Allocation, Option<Allocation>),
     ) -> SeatState
         requires made { seat < length self.now.seats }
         requires proposal { proposal ≡ (seat_in seat self.now).proposal }
-        requires rows { rows ≡ (allocation_of (seat_in seat self.now), staged_at seat self.now.staging) }
+        requires shares { shares ≡ (allocation_of (seat_in seat self.now), staged_at seat self.now.staging) }
         ensures { result ≡ state_of seat self.now }
     {
-        let (allocation, staged) = rows;
+        let (allocation, staged) = shares;
         SeatState {
             seat,
             instance: self.instance(seat),
@@ -574,20 +552,24 @@ impl Seats {
     ) -> Result<(Proposal, (Allocation, Option<Allocation>)), AllocError>
         requires { seat < length self.now.seats }
         ensures proposal { IfOk result (λ parts. parts.0 ≡ (seat_in seat self.now).proposal) }
-        ensures rows { IfOk result (λ parts. parts.1
+        ensures shares { IfOk result (λ parts. parts.1
             ≡ (allocation_of (seat_in seat self.now), staged_at seat self.now.staging)) }
     {
         let proposal = self.proposal(seat).copy(alloc)?;
-        match self.rows(alloc, seat) {
-            Ok(rows) => Ok((proposal, rows)),
+        match self.shares(alloc, seat) {
+            Ok(shares) => Ok((proposal, shares)),
             Err(fault) => Err(fault),
         }
     }
 
     /// What the slots of a seat have, or had when it was closed, and what is staged of it.
-    fn rows(&self, alloc: Global, seat: u32) -> Result<(Allocation, Option<Allocation>), AllocError>
+    fn shares(
+        &self,
+        alloc: Global,
+        seat: u32,
+    ) -> Result<(Allocation, Option<Allocation>), AllocError>
         requires { seat < length self.now.seats }
-        ensures { IfOk result (λ rows. rows
+        ensures { IfOk result (λ shares. shares
             ≡ (allocation_of (seat_in seat self.now), staged_at seat self.now.staging)) }
     {
         let staged = self.staged_copy(alloc, seat)?;
@@ -602,7 +584,7 @@ impl Seats {
         ensures { IfOk result (λ staged. staged ≡ staged_at seat self.now.staging) }
     {
         match self.staging.get(seat) {
-            Some(rows) => Ok(Some(rows.copy(alloc)?)),
+            Some(shares) => Ok(Some(shares.copy(alloc)?)),
             None => Ok(None),
         }
     }

@@ -3,7 +3,7 @@ use Rattle.std.specs.Prelude.{◌≢◌, ◌<◌, ◌≤◌, ◌^◌, ℕ, Bool,
 use Rattle.std.proofs.Common.{arith}
 use Rattle.escrow.specs.amount_math.Content.{Content, Contains, Contains-of_nat, Contains-trans, count-sum, of_nat, sum}
 use Rattle.escrow.specs.amount_math.Counted.{counted, counted-of_nat}
-use Rattle.escrow.specs.amount_math.Worth.{nat_bound}
+use Rattle.escrow.specs.amount_math.ValueView.{nat_bound}
 use Rattle.escrow.specs.rights_model.declared.Holder.{Holder}
 use Rattle.escrow.specs.rights_model.declared.Holder.TheVariants.{Outside}
 use Rattle.escrow.specs.rights_model.Supply.{is_outside}

@@ -144,13 +144,23 @@ fn alice(rt: &impl Abort, alloc: Global) -> Parties {
     parties
 }
 
+/// Whether it ends a promise: no other promise would have to be followed.
+fn is_final(settlement: &Settlement) -> bool
+    ensures { result ≡ is_final (settlement_view settlement.now) }
+{
+    match settlement {
+        Settlement::Ok(Data::Object(object)) => !matches!(object.kind, ObjKind::Promise),
+        _ => true,
+    }
+}
+
 fn can_settle(promises: &Promises<u32>, number: u32, settlement: &Settlement) -> bool
     ensures made { IsTrue result → number < (links_now promises.now).made }
     ensures is_pending { IsTrue result → state_at (now_of promises.now) number ≡ pending }
     ensures is_final { IsTrue result → IsTrue (is_final (settlement_view settlement.now)) }
 {
     number < promises.made()
-        && settlement.is_final()
+        && is_final(settlement)
         && matches!(promises.state(number), State::Pending)
 }
 

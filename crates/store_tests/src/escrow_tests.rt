@@ -1,5 +1,5 @@
 ghost use Rattle.std.specs.Prelude.{◌≡◌, ◌≢◌, ◌<◌, ◌≤◌, ℕ, codes, length};
-ghost use Rattle.escrow.specs.amount_math.Worth.{nat_bound};
+ghost use Rattle.escrow.specs.amount_math.ValueView.{nat_bound};
 ghost use Rattle.escrow.specs.rights_model.Table.{Table, no_holdings};
 ghost use Rattle.escrow.specs.rights_model.declared.Holder.TheVariants as holder;
 ghost use Rattle.escrow.specs.Sums.{AreSums};

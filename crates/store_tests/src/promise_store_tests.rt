@@ -4,7 +4,7 @@ ghost use Rattle.actors.specs.promise_store.Turns.{state_at};
 ghost use Rattle.actors.specs.promise_store.Views.{links_now, now_of};
 
 use actors::host_data_lib::data::Data;
-use actors::promise_store_lib::{Event, FollowFault, Promises, Settlement, State};
+use actors::promise_store_lib::{Consequence, FollowFault, Promises, Settlement, State};
 
 #[derive(Clone, Copy)]
 enum Step {
@@ -24,7 +24,7 @@ enum Step {
 enum Answer {
     /// The number of the promise that was made.
     Made(u32),
-    Events(&'static [Event]),
+    Events(&'static [Consequence]),
     Cycle(u32),
 }
 
@@ -36,7 +36,7 @@ fn is_pending(promises: &Promises<u32>, promise: u32) -> bool
 }
 
 /// Whether these are the events.
-fn are(events: &[Event], expected: &[Event]) -> bool {
+fn are(events: &[Consequence], expected: &[Consequence]) -> bool {
     events.len() == expected.len() && events.iter().zip(expected).all(|(a, b)| *a == *b)
 }
 
@@ -53,7 +53,12 @@ fn broken_with(number: i128) -> Settlement
 }
 
 /// Fulfils a promise with a number, and answers whether these are the events.
-fn fulfils(promises: &mut Promises<u32>, promise: u32, number: i128, expected: &[Event]) -> bool {
+fn fulfils(
+    promises: &mut Promises<u32>,
+    promise: u32,
+    number: i128,
+    expected: &[Consequence],
+) -> bool {
     if !is_pending(promises, promise) {
         return false;
     }
@@ -64,7 +69,12 @@ fn fulfils(promises: &mut Promises<u32>, promise: u32, number: i128, expected: &
 }
 
 /// Breaks a promise with a number, and answers whether these are the events.
-fn breaks(promises: &mut Promises<u32>, promise: u32, number: i128, expected: &[Event]) -> bool {
+fn breaks(
+    promises: &mut Promises<u32>,
+    promise: u32,
+    number: i128,
+    expected: &[Consequence],
+) -> bool {
     if !is_pending(promises, promise) {
         return false;
     }
@@ -86,7 +96,7 @@ fn follows(promises: &mut Promises<u32>, promise: u32, target: u32, answer: Answ
 }
 
 /// A request's entry is ten more than the promise that it asks for.
-fn asks(promises: &mut Promises<u32>, promise: u32, expected: &[Event]) -> bool {
+fn asks(promises: &mut Promises<u32>, promise: u32, expected: &[Consequence]) -> bool {
     if promise >= promises.made() {
         return false;
     }
@@ -140,22 +150,22 @@ const STEPS: &[(Step, Answer)] = &[
     (
         Step::Settle(0, 7),
         Answer::Events(&[
-            Event::Settled(0),
-            Event::Settled(1),
-            Event::Settled(2),
-            Event::Notified {
+            Consequence::Settled(0),
+            Consequence::Settled(1),
+            Consequence::Settled(2),
+            Consequence::Notified {
                 promise: 2,
                 request: 2,
             },
-            Event::Notified {
+            Consequence::Notified {
                 promise: 1,
                 request: 1,
             },
-            Event::Notified {
+            Consequence::Notified {
                 promise: 0,
                 request: 0,
             },
-            Event::Notified {
+            Consequence::Notified {
                 promise: 0,
                 request: 3,
             },
@@ -169,24 +179,24 @@ const STEPS: &[(Step, Answer)] = &[
     (
         Step::Settle(0, 8),
         Answer::Events(&[
-            Event::Settled(0),
-            Event::Settled(1),
-            Event::Settled(2),
-            Event::Notified {
+            Consequence::Settled(0),
+            Consequence::Settled(1),
+            Consequence::Settled(2),
+            Consequence::Notified {
                 promise: 2,
                 request: 2,
             },
-            Event::Settled(4),
-            Event::Notified {
+            Consequence::Settled(4),
+            Consequence::Notified {
                 promise: 1,
                 request: 1,
             },
-            Event::Settled(3),
-            Event::Notified {
+            Consequence::Settled(3),
+            Consequence::Notified {
                 promise: 0,
                 request: 0,
             },
-            Event::Notified {
+            Consequence::Notified {
                 promise: 0,
                 request: 3,
             },
@@ -195,7 +205,7 @@ const STEPS: &[(Step, Answer)] = &[
     (Step::Forget, NONE),
     (
         Step::When(2),
-        Answer::Events(&[Event::Notified {
+        Answer::Events(&[Consequence::Notified {
             promise: 2,
             request: 4,
         }]),
@@ -207,9 +217,9 @@ const STEPS: &[(Step, Answer)] = &[
     (
         Step::Follow(5, 4),
         Answer::Events(&[
-            Event::Settled(5),
-            Event::Settled(6),
-            Event::Notified {
+            Consequence::Settled(5),
+            Consequence::Settled(6),
+            Consequence::Notified {
                 promise: 6,
                 request: 5,
             },
@@ -222,13 +232,13 @@ const STEPS: &[(Step, Answer)] = &[
     (Step::Follow(8, 7), Answer::Cycle(8)),
     (
         Step::Break(8, 9),
-        Answer::Events(&[Event::Settled(8), Event::Settled(7)]),
+        Answer::Events(&[Consequence::Settled(8), Consequence::Settled(7)]),
     ),
     (Step::Back, NONE),
     (Step::Make, Answer::Made(5)),
     (
         Step::When(4),
-        Answer::Events(&[Event::Notified {
+        Answer::Events(&[Consequence::Notified {
             promise: 4,
             request: 4,
         }]),
@@ -238,8 +248,8 @@ const STEPS: &[(Step, Answer)] = &[
     (
         Step::Break(5, 1),
         Answer::Events(&[
-            Event::Settled(5),
-            Event::Notified {
+            Consequence::Settled(5),
+            Consequence::Notified {
                 promise: 5,
                 request: 5,
             },

@@ -1,7 +1,7 @@
 //! Purses.
 
 ghost use Rattle.std.specs.Prelude.{◌≡◌, ◌<◌, ◌≤◌, ◌∷◌, [], length};
-ghost use Rattle.escrow.specs.amount_math.Worth.{nat_bound};
+ghost use Rattle.escrow.specs.amount_math.ValueView.{nat_bound};
 ghost use Rattle.holders.specs.ertp_mint.Balances.{empty_store};
 ghost use Rattle.holders.specs.Purses.{store_at};
 

@@ -3,21 +3,21 @@
 use Rattle.std.proofs.Common.{◌≡◌, ◌≤◌, ◌<◌, ◌^◌, ℕ, suc, length, arith, List, [], ◌∷◌, ◌++◌, Some, None, map, sym, ap, subst, ◌∙◌, append-nil}
 use Rattle.std.specs.List.{AllByRecursion}
 use Rattle.std.proofs.lemmas.List.{length-map}
-use Rattle.contract_texts.specs.Reader.{reader}
-use Rattle.contract_texts.proofs.Modules.{reads_modules}
+use Rattle.host_turns.specs.contract_texts.Reader.{reader}
+use Rattle.host_turns.proofs.contract_texts.Modules.{reads_modules}
 use Rattle.run_laws.specs.delivery_turns.Hosts.{HostState, Step, step_of}
 use Rattle.run_laws.specs.fair_rows.Turns.{IsFairJournal}
 use Rattle.run_laws.specs.Limits.{AreFairToLimit, CanBePrinted}
 use Rattle.run_laws.proofs.RunsFair.{run_fair, run_journal, run_prints}
 use Rattle.run_laws.specs.message_lines.InputLines.{lines_of}
 use Rattle.run_laws.specs.message_lines.Meanings.{Meaning, meaning_of}
-use Rattle.contract_texts.specs.turn_records.Printed.{printed}
-use Rattle.contract_texts.specs.turn_rows.Form.{IsInForm}
-use Rattle.contract_texts.specs.world_state.Rights.{most_turns}
+use Rattle.host_turns.specs.turn_records.Printed.{printed}
+use Rattle.host_turns.specs.turn_rows.Form.{IsInForm}
+use Rattle.host_turns.specs.world_state.Rights.{most_turns}
 use Rattle.run_laws.specs.Runs.{HostTurn, Run, drained, first_host, journal_of, left_of, line_run, lines_run, most_meter, run_of, turns_of}
 use Rattle.top_call.specs.Forms.{PrintsInForm}
-use Rattle.top_call.proofs.Drained.{drained_more, drained_none, drained_zero}
-use Rattle.top_call.proofs.RunWritten.{meant, run_parts}
+use Rattle.top_call.proofs.Drains.{drained_more, drained_none, drained_zero}
+use Rattle.top_call.proofs.RunTexts.{meant, run_parts}
 
 abbrev pub PrintInForm : Run → Type 0
 PrintInForm r = AllByRecursion PrintsInForm r.turns

@@ -3,10 +3,10 @@ use Rattle.std.proofs.Common.{◌≡◌, ℕ, ◌≤◌, ◌-◌, ◌^◌, min, 
 use Rattle.std.proofs.KnownBytes.{Appends-nil, Keeps-refl}
 use Rattle.std.specs.Io.KnownBytes.{Appends, Keeps}
 use Rattle.command_words.specs.declared.words.Options.{Options}
-use Rattle.contract_texts.specs.Reader.{reader}
+use Rattle.host_turns.specs.contract_texts.Reader.{reader}
 use Rattle.run_laws.specs.Runs.{AppendsTurns, turns_of}
 use Rattle.run_laws.specs.message_lines.InputLines.{is_too_long}
-use Rattle.contract_texts.specs.turn_rows.Turns.{Turn}
+use Rattle.host_turns.specs.turn_rows.Turns.{Turn}
 use Rattle.top_call.specs.declared.top.Status.{Status}
 use Rattle.top_call.specs.declared.top.Status.TheVariants.{Done, Usage, ReadFault, WriteFault, NoMemory, TurnLimit, TooLong}
 use Rattle.top_call.specs.Top.{BreaksOff, Completes, Counts, Ends, HasRisen, IsFree, IsNotRun, IsOfRun, IsOutOfMemory, IsQuiet, IsReadFault, IsTooLong, IsUnread, Says, Seen, Stops, no_faults, turns_for}

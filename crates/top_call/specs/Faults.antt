@@ -1,6 +1,6 @@
 -- Which fault of a run a step's fault is.
-use Rattle.top_call.specs.declared.hosts.StepFault.{StepFault}
-use Rattle.top_call.specs.declared.hosts.StepFault.TheVariants as step
+use Rattle.host_turns.specs.declared.steps.StepFault.{StepFault}
+use Rattle.host_turns.specs.declared.steps.StepFault.TheVariants as step
 use Rattle.top_call.specs.declared.run.RunFault.{RunFault}
 use Rattle.top_call.specs.declared.run.RunFault.TheVariants.{NoMemory, TurnLimit}
 

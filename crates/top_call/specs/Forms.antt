@@ -1,7 +1,7 @@
 -- Rows in form: the widths of numbers come from the types of the record that was written.
 use Rattle.run_laws.specs.turn_writer.Printing.{CanPrint}
-use Rattle.contract_texts.specs.turn_records.Printed.{printed}
-use Rattle.contract_texts.specs.turn_rows.Form.{IsInForm}
+use Rattle.host_turns.specs.turn_records.Printed.{printed}
+use Rattle.host_turns.specs.turn_rows.Form.{IsInForm}
 use Rattle.run_laws.specs.Runs.{HostTurn}
 
 -- a turn that can be printed is in form

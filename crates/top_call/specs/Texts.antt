@@ -1,15 +1,15 @@
 -- The rows of a host's next turn.
 use Rattle.std.specs.Prelude.{◌≡◌, ◌<◌, List, ℕ, Option, Some, None, Result, Ok, Err, String, string_bytes}
 use Rattle.std.specs.declared.alloc.Global.{Global}
-use Rattle.contract_texts.specs.Reader.{reader}
+use Rattle.host_turns.specs.contract_texts.Reader.{reader}
 use Rattle.run_laws.specs.delivery_turns.Hosts.{HostState, step_of}
 use Rattle.run_laws.specs.Runs.{turn_text}
 use Rattle.run_laws.specs.turn_writer.Printing.{CanPrint}
-use Rattle.contract_texts.specs.turn_records.Printed.{printed}
-use Rattle.contract_texts.specs.turn_records.Turns.{Turn}
-use Rattle.contract_texts.specs.turn_rows.Form.{IsInForm}
-use Rattle.contract_texts.specs.world_state.Rights.{most_turns}
-use Rattle.top_call.specs.Steps.{IsAtLimit, NoneWaits}
+use Rattle.host_turns.specs.turn_records.Printed.{printed}
+use Rattle.host_turns.specs.turn_records.Turns.{Turn}
+use Rattle.host_turns.specs.turn_rows.Form.{IsInForm}
+use Rattle.host_turns.specs.world_state.Rights.{most_turns}
+use Rattle.host_turns.specs.HostSteps.{IsAtLimit, NoneWaits}
 use Rattle.top_call.specs.declared.run.RunFault.{RunFault}
 use Rattle.top_call.specs.declared.run.RunFault.TheVariants.{Failed, NoMemory, TurnLimit}
 

@@ -4,14 +4,14 @@ use Rattle.std.specs.Io.KnownBytes.{Appends, Keeps}
 use Rattle.command_words.specs.declared.words.Options.{Options}
 use Rattle.command_words.specs.declared.words.WordsFault.{WordsFault}
 use Rattle.command_words.specs.declared.words.WordsFault.TheVariants as words
-use Rattle.contract_texts.specs.Reader.{reader}
+use Rattle.host_turns.specs.contract_texts.Reader.{reader}
 use Rattle.run_laws.specs.fair_rows.Turns.{IsFairJournal}
 use Rattle.host_io.specs.Causes.{Rose}
 use Rattle.host_io.specs.Fronts.{AppendsFront}
 use Rattle.run_laws.specs.Runs.{AppendsToLimit, AppendsTurns, journal_of, left_of, turns_of}
 use Rattle.run_laws.specs.message_lines.InputLines.{is_too_long}
-use Rattle.contract_texts.specs.turn_rows.Turns.{Turn}
-use Rattle.contract_texts.specs.world_state.Rights.{most_turns}
+use Rattle.host_turns.specs.turn_rows.Turns.{Turn}
+use Rattle.host_turns.specs.world_state.Rights.{most_turns}
 use Rattle.top_call.specs.declared.top.Status.{Status}
 use Rattle.top_call.specs.declared.top.Status.TheVariants.{Done, Usage, ReadFault, WriteFault, NoMemory, TurnLimit, TooLong}
 

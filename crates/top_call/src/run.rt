@@ -3,26 +3,29 @@
 ghost use Rattle.std.specs.Prelude.{◌≡◌, ◌≤◌, ◌<◌, ◌^◌, length, map, string_bytes, IfOk, OnOk, IsErrOf};
 ghost use Rattle.std.specs.Io.KnownBytes.{Appends, Keeps};
 ghost use Rattle.std.specs.List.{AllByRecursion};
-ghost use Rattle.contract_texts.specs.Reader.{reader};
+ghost use Rattle.host_turns.specs.contract_texts.Reader.{reader};
 ghost use Rattle.run_laws.specs.fair_rows.Turns.{IsFairJournal};
 ghost use Rattle.host_io.specs.Causes.{Rose};
 ghost use Rattle.host_io.specs.Fronts.{AppendsFront};
 ghost use Rattle.run_laws.specs.Runs.{AppendsToLimit, AppendsTurns, close_text, drained, journal_of};
 ghost use Rattle.run_laws.specs.Runs.{left_in, left_of, line_run, lines_run, turn_text};
 ghost use Rattle.run_laws.specs.Runs.{most_meter, turns_in, turns_of, turns_text};
+ghost use Rattle.host_turns.specs.HostStates.{host_of};
 ghost use Rattle.top_call.specs.Forms.{PrintsInForm};
 ghost use Rattle.top_call.specs.Texts.{IsNextText};
 ghost use Rattle.run_laws.specs.message_lines.InputLines.{lines_of};
 ghost use Rattle.run_laws.specs.message_lines.Meanings.{meaning_of};
-ghost use Rattle.contract_texts.specs.turn_records.Views.{turn_view};
+ghost use Rattle.host_turns.specs.turn_records.Views.{turn_view};
 ghost use Rattle.run_laws.specs.turn_writer.Printing.{CanPrint};
-ghost use Rattle.contract_texts.specs.turn_records.Printed.{printed};
-ghost use Rattle.contract_texts.specs.turn_rows.Form.{IsInForm};
-ghost use Rattle.contract_texts.specs.world_state.Rights.{most_turns};
+ghost use Rattle.host_turns.specs.turn_records.Printed.{printed};
+ghost use Rattle.host_turns.specs.turn_rows.Form.{IsInForm};
+ghost use Rattle.host_turns.specs.world_state.Rights.{most_turns};
 
-use crate::hosts::{HostSteps, StepFault, Submitted};
-use contract_texts::turn_records_lib::turns::TurnRecord;
 use host_io::{Failed, Sink, write_all};
+use host_turns::contract_powers_lib::planner::Planner;
+use host_turns::host::Host;
+use host_turns::steps::{StepFault, Submitted};
+use host_turns::turn_records_lib::turns::TurnRecord;
 use run_laws::message_lines_lib::lines::Lines;
 use run_laws::turn_writer_lib::turn_form::is_in_form;
 use run_laws::turn_writer_lib::{write_close, write_turn};
@@ -78,10 +81,10 @@ fn text_of(alloc: Global, turn: TurnRecord) -> Result<String, AllocError>
 }
 
 /// The rows of the turn of the delivery in front, or `None` exactly where none waits.
-fn next_text<H: HostSteps>(alloc: Global, host: &mut H) -> Result<Option<String>, RunFault>
-    ensures { IsNextText (H.state host.old) (H.state host.new) result }
+fn next_text<P: Planner>(alloc: Global, host: &mut Host<P>) -> Result<Option<String>, RunFault>
+    ensures { IsNextText (host_of host.old) (host_of host.new) result }
 {
-    let Some(turn) = host.step(alloc)? else {
+    let Some(turn) = host.next_turn(alloc)? else {
         return Ok(None);
     };
     match text_of(alloc, turn) {
@@ -91,30 +94,30 @@ fn next_text<H: HostSteps>(alloc: Global, host: &mut H) -> Result<Option<String>
 }
 
 /// Runs at most so many deliveries. A turn is written only once all its rows are there.
-fn drain<H: HostSteps, K: Sink>(
+fn drain<P: Planner, K: Sink>(
     alloc: Global,
-    host: &mut H,
+    host: &mut Host<P>,
     most: u32,
     sink: &mut K,
 ) -> Result<(), RunFault>
-    requires few { (H.state host.old).turns ≤ most_turns }
-    ensures few { OnOk result ((H.state host.new).turns ≤ most_turns) }
-    ensures host { OnOk result (H.state host.new ≡ (drained reader most (H.state host.old)).end) }
-    ensures ok { let turns = turns_in (drained reader most (H.state host.old)) in
+    requires few { (host_of host.old).turns ≤ most_turns }
+    ensures few { OnOk result ((host_of host.new).turns ≤ most_turns) }
+    ensures host { OnOk result (host_of host.new ≡ (drained reader most (host_of host.old)).end) }
+    ensures ok { let turns = turns_in (drained reader most (host_of host.old)) in
         OnOk result (Appends (K.written sink.old) (K.written sink.new) (turns_text turns)) }
-    ensures memory { let turns = turns_in (drained reader most (H.state host.old)) in
+    ensures memory { let turns = turns_in (drained reader most (host_of host.old)) in
         IsErrOf result RunFault.NoMemory
         → AppendsTurns (K.written sink.old) (K.written sink.new) turns }
-    ensures limit { let turns = turns_in (drained reader most (H.state host.old)) in
-        let before = (H.state host.old).turns in IsErrOf result RunFault.TurnLimit
+    ensures limit { let turns = turns_in (drained reader most (host_of host.old)) in
+        let before = (host_of host.old).turns in IsErrOf result RunFault.TurnLimit
         → AppendsToLimit (K.written sink.old) (K.written sink.new) before turns }
-    ensures failed { let turns = turns_in (drained reader most (H.state host.old)) in
+    ensures failed { let turns = turns_in (drained reader most (host_of host.old)) in
         IsErrOf result RunFault.Failed
         → AppendsFront (K.written sink.old) (K.written sink.new) (turns_text turns) }
     ensures cause { IsErrOf result RunFault.Failed → Rose (K.faults sink.old) (K.faults sink.new) }
     ensures quiet { (IsErrOf result RunFault.Failed → ⊥)
         → K.faults sink.new ≡ K.faults sink.old }
-    ensures form { let run = drained reader most (H.state host.old) in
+    ensures form { let run = drained reader most (host_of host.old) in
         OnOk result (AllByRecursion PrintsInForm run.turns) }
 {
     for _ in 0..most {
@@ -127,31 +130,31 @@ fn drain<H: HostSteps, K: Sink>(
 }
 
 /// Works a line: its delivery waits, or so many deliveries are run.
-fn work_line<H: HostSteps, K: Sink>(
+fn work_line<P: Planner, K: Sink>(
     alloc: Global,
-    host: &mut H,
+    host: &mut Host<P>,
     line: &[u8],
     sink: &mut K,
 ) -> Result<(), RunFault>
-    requires few { (H.state host.old).turns ≤ most_turns }
-    ensures few { OnOk result ((H.state host.new).turns ≤ most_turns) }
-    ensures host { let run = line_run reader (H.state host.old) (meaning_of line.now) in
-        OnOk result (H.state host.new ≡ run.end) }
-    ensures ok { let run = line_run reader (H.state host.old) (meaning_of line.now) in
+    requires few { (host_of host.old).turns ≤ most_turns }
+    ensures few { OnOk result ((host_of host.new).turns ≤ most_turns) }
+    ensures host { let run = line_run reader (host_of host.old) (meaning_of line.now) in
+        OnOk result (host_of host.new ≡ run.end) }
+    ensures ok { let run = line_run reader (host_of host.old) (meaning_of line.now) in
         OnOk result (Appends (K.written sink.old) (K.written sink.new) (turns_text (turns_in run))) }
-    ensures memory { let run = line_run reader (H.state host.old) (meaning_of line.now) in
+    ensures memory { let run = line_run reader (host_of host.old) (meaning_of line.now) in
         IsErrOf result RunFault.NoMemory
         → AppendsTurns (K.written sink.old) (K.written sink.new) (turns_in run) }
-    ensures limit { let run = line_run reader (H.state host.old) (meaning_of line.now) in
-        let before = (H.state host.old).turns in IsErrOf result RunFault.TurnLimit
+    ensures limit { let run = line_run reader (host_of host.old) (meaning_of line.now) in
+        let before = (host_of host.old).turns in IsErrOf result RunFault.TurnLimit
         → AppendsToLimit (K.written sink.old) (K.written sink.new) before (turns_in run) }
-    ensures failed { let run = line_run reader (H.state host.old) (meaning_of line.now) in
+    ensures failed { let run = line_run reader (host_of host.old) (meaning_of line.now) in
         IsErrOf result RunFault.Failed
         → AppendsFront (K.written sink.old) (K.written sink.new) (turns_text (turns_in run)) }
     ensures cause { IsErrOf result RunFault.Failed → Rose (K.faults sink.old) (K.faults sink.new) }
     ensures quiet { (IsErrOf result RunFault.Failed → ⊥)
         → K.faults sink.new ≡ K.faults sink.old }
-    ensures form { let run = line_run reader (H.state host.old) (meaning_of line.now) in
+    ensures form { let run = line_run reader (host_of host.old) (meaning_of line.now) in
         OnOk result (AllByRecursion PrintsInForm run.turns) }
 {
     match host.submit(alloc, line) {
@@ -162,32 +165,32 @@ fn work_line<H: HostSteps, K: Sink>(
 }
 
 /// Works each line of the input.
-fn work_lines<H: HostSteps, K: Sink>(
+fn work_lines<P: Planner, K: Sink>(
     alloc: Global,
-    host: &mut H,
+    host: &mut Host<P>,
     input: &[u8],
     sink: &mut K,
 ) -> Result<(), RunFault>
-    requires few { (H.state host.old).turns ≤ most_turns }
-    ensures few { OnOk result ((H.state host.new).turns ≤ most_turns) }
+    requires few { (host_of host.old).turns ≤ most_turns }
+    ensures few { OnOk result ((host_of host.new).turns ≤ most_turns) }
     ensures host { let lines = map meaning_of (lines_of input.now) in
-        OnOk result (H.state host.new ≡ (lines_run reader (H.state host.old) lines).end) }
-    ensures ok { let run = lines_run reader (H.state host.old) (map meaning_of (lines_of input.now)) in
+        OnOk result (host_of host.new ≡ (lines_run reader (host_of host.old) lines).end) }
+    ensures ok { let run = lines_run reader (host_of host.old) (map meaning_of (lines_of input.now)) in
         OnOk result (Appends (K.written sink.old) (K.written sink.new) (turns_text (turns_in run))) }
     ensures memory { let lines = map meaning_of (lines_of input.now) in
-        let run = lines_run reader (H.state host.old) lines in IsErrOf result RunFault.NoMemory
+        let run = lines_run reader (host_of host.old) lines in IsErrOf result RunFault.NoMemory
         → AppendsTurns (K.written sink.old) (K.written sink.new) (turns_in run) }
     ensures limit { let lines = map meaning_of (lines_of input.now) in
-        let run = lines_run reader (H.state host.old) lines in
-        let before = (H.state host.old).turns in IsErrOf result RunFault.TurnLimit
+        let run = lines_run reader (host_of host.old) lines in
+        let before = (host_of host.old).turns in IsErrOf result RunFault.TurnLimit
         → AppendsToLimit (K.written sink.old) (K.written sink.new) before (turns_in run) }
     ensures failed { let lines = map meaning_of (lines_of input.now) in
-        let run = lines_run reader (H.state host.old) lines in IsErrOf result RunFault.Failed
+        let run = lines_run reader (host_of host.old) lines in IsErrOf result RunFault.Failed
         → AppendsFront (K.written sink.old) (K.written sink.new) (turns_text (turns_in run)) }
     ensures cause { IsErrOf result RunFault.Failed → Rose (K.faults sink.old) (K.faults sink.new) }
     ensures quiet { (IsErrOf result RunFault.Failed → ⊥)
         → K.faults sink.new ≡ K.faults sink.old }
-    ensures form { let run = lines_run reader (H.state host.old) (map meaning_of (lines_of input.now)) in
+    ensures form { let run = lines_run reader (host_of host.old) (map meaning_of (lines_of input.now)) in
         OnOk result (AllByRecursion PrintsInForm run.turns) }
 {
     for line in Lines::new(input) {
@@ -197,18 +200,18 @@ fn work_lines<H: HostSteps, K: Sink>(
 }
 
 /// Writes the close row.
-fn close<H: HostSteps, K: Sink>(alloc: Global, host: &H, sink: &mut K) -> Result<(), RunFault>
+fn close<P: Planner, K: Sink>(alloc: Global, host: &Host<P>, sink: &mut K) -> Result<(), RunFault>
     ensures ok { OnOk result
-        (Appends (K.written sink.old) (K.written sink.new) (close_text (H.state host.now))) }
+        (Appends (K.written sink.old) (K.written sink.new) (close_text (host_of host.now))) }
     ensures memory { IsErrOf result RunFault.NoMemory
         → Keeps (K.written sink.old) (K.written sink.new) }
     ensures limit { IsErrOf result RunFault.TurnLimit → ⊥ }
     ensures failed { IsErrOf result RunFault.Failed
-        → AppendsFront (K.written sink.old) (K.written sink.new) (close_text (H.state host.now)) }
+        → AppendsFront (K.written sink.old) (K.written sink.new) (close_text (host_of host.now)) }
     ensures cause { IsErrOf result RunFault.Failed → Rose (K.faults sink.old) (K.faults sink.new) }
     ensures quiet { (IsErrOf result RunFault.Failed → ⊥)
         → K.faults sink.new ≡ K.faults sink.old }
-    ensures left { OnOk result (left_in (H.state host.now) < 2 ^ 64) }
+    ensures left { OnOk result (left_in (host_of host.now) < 2 ^ 64) }
 {
     let Ok(text) = write_close(alloc, host.waiting(), host.turns()) else {
         return Err(RunFault::NoMemory);
@@ -218,7 +221,7 @@ fn close<H: HostSteps, K: Sink>(alloc: Global, host: &H, sink: &mut K) -> Result
 
 /// The run on an input: functions of contracts run under the meter, and at most so many deliveries are
 /// run at the input's end.
-pub fn run_input<H: HostSteps, K: Sink>(
+pub fn run_input<P: Planner, K: Sink>(
     alloc: Global,
     input: &[u8],
     meter: u32,
@@ -246,7 +249,7 @@ pub fn run_input<H: HostSteps, K: Sink>(
         let left = left_of reader meter most input.now in
         OnOk result (IsFairJournal (journal_of reader meter most input.now) turns left) }
 {
-    let Ok(mut host) = H::first(alloc, meter) else {
+    let Ok(mut host) = Host::<P>::new(alloc, meter) else {
         return Err(RunFault::NoMemory);
     };
     work_lines(alloc, &mut host, input, sink)?;

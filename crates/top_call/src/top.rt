@@ -4,7 +4,7 @@ ghost use Rattle.std.specs.Prelude.{◌≡◌, ◌≤◌, ℕ, List, map, true, 
 ghost use Rattle.std.specs.Prelude.{IfSome, OnOk, Some};
 ghost use Rattle.std.specs.Io.KnownBytes.{IsAtEnd};
 ghost use Rattle.command_words.specs.Words.{options_of, takes_words};
-ghost use Rattle.contract_texts.specs.Reader.{reader};
+ghost use Rattle.host_turns.specs.contract_texts.Reader.{reader};
 ghost use Rattle.run_laws.specs.Limits.{AreFairToLimit};
 ghost use Rattle.run_laws.specs.Order.{AreInOrder};
 ghost use Rattle.run_laws.specs.Runs.{meanings_of, most_meter, run_of, turns_of};
@@ -13,10 +13,10 @@ ghost use Rattle.run_laws.specs.Steps.{AreCalledForToLimit};
 ghost use Rattle.top_call.specs.Top.{Ends, IsFree, IsNotRun, IsOfRun, IsRefused, Says, exit_code};
 ghost use Rattle.top_call.specs.Top.{no_faults, status_name, words_status};
 
-use crate::hosts::HostSteps;
 use crate::run::{RunFault, run_input};
 use command_words::words::{Options, WordsFault, read_words};
 use host_io::{ReadError, Sink, Source, read_all};
+use host_turns::contract_powers_lib::planner::Planner;
 use run_laws::message_lines_lib::lines::{MAX_INPUT, has_long_line};
 use std::alloc::Global;
 
@@ -91,7 +91,7 @@ impl Status {
 }
 
 /// Why the words give no options.
-fn unread(fault: WordsFault) -> Status
+fn words_status(fault: WordsFault) -> Status
     ensures { result ≡ words_status fault }
 {
     match fault {
@@ -122,7 +122,7 @@ fn read_input<S: Source>(alloc: Global, source: &mut S) -> Result<Vec<u8>, Statu
 }
 
 /// Writes the journal of the run on an input.
-fn run_on<H: HostSteps, K: Sink>(
+fn run_on<P: Planner, K: Sink>(
     alloc: Global,
     input: &[u8],
     options: Options,
@@ -139,7 +139,7 @@ fn run_on<H: HostSteps, K: Sink>(
       sink = record { before = K.faults sink.old; now = K.faults sink.new };
     }) }
 {
-    match run_input::<H, K>(alloc, input, options.meter, options.turns, sink) {
+    match run_input::<P, K>(alloc, input, options.meter, options.turns, sink) {
         Ok(()) => Status::Done,
         Err(RunFault::Failed) => Status::WriteFault,
         Err(RunFault::TurnLimit) => Status::TurnLimit,
@@ -148,8 +148,8 @@ fn run_on<H: HostSteps, K: Sink>(
 }
 
 /// Reads the whole input and writes the journal of the run on it.
-#[tactic(auto, using(run_laws::proofs::RunOrder::runs_in_order, crate::proofs::InForm::runs_fair, crate::proofs::Called::runs_called_for))]
-pub fn zoe_top<H: HostSteps, S: Source, K: Sink>(
+#[tactic(auto, using(run_laws::proofs::RunOrder::runs_in_order, crate::proofs::InForm::runs_fair, crate::proofs::CalledFor::runs_called_for))]
+pub fn zoe_top<P: Planner, S: Source, K: Sink>(
     alloc: Global,
     words: &[String],
     source: &mut S,
@@ -196,10 +196,10 @@ pub fn zoe_top<H: HostSteps, S: Source, K: Sink>(
 {
     let options = match read_words(alloc, words) {
         Ok(options) => options,
-        Err(fault) => return unread(fault),
+        Err(fault) => return words_status(fault),
     };
     match read_input(alloc, source) {
-        Ok(input) => run_on::<H, K>(alloc, &input, options, sink),
+        Ok(input) => run_on::<P, K>(alloc, &input, options, sink),
         Err(status) => status,
     }
 }

@@ -4,7 +4,7 @@ use Rattle.std.specs.Prelude.{slice_set, ◌^◌, ◌≤◌}
 use Rattle.ertp_mint.specs.amount_math.Content.{Contains, count-difference, difference, difference-nothing, nothing, sum, sum-nothing}
 use Rattle.ertp_mint.specs.amount_math.Counted.{counted, counted-difference, counted-nothing}
 use Rattle.ertp_mint.specs.amount_math.Held.{Held, GoesIn, ComesOut, HasRoom, with_less, with_more}
-use Rattle.ertp_mint.specs.amount_math.Worth.{Worth, Fits, IsIssueRefusal, keys_of}
+use Rattle.ertp_mint.specs.amount_math.ValueView.{ValueView, Fits, IsIssueRefusal, keys_of}
 use Rattle.ertp_mint.specs.amount_math.declared.PutFault.{PutFault}
 use Rattle.ertp_mint.specs.amount_math.declared.Kind.{Kind}
 use Rattle.ertp_mint.specs.amount_math.declared.Kind.TheVariants.{Nat}
@@ -45,7 +45,7 @@ module _ (out : List CirculationView) (hand : List Held) (are : AreKept out hand
     changed_view f eq l new = ap (λ m. record { out = m; hand = hand })
         (ap (λ m. wholes m hand) new ∙ wholes-set_out out hand b are.same (made b lt) (f x) ∙ ap (slice_set (wholes out hand) b) (eq ∙ ap f (sym reads)))
 
-    module _ (w : Worth) where
+    module _ (w : ValueView) where
       whole_has : Contains whole.supply.outstanding.content (sum h.value.content w.content) → Contains x.supply.outstanding.content w.content
       whole_has has = on_its_way x h w is (subst (λ (y : CirculationView). Contains y.supply.outstanding.content (sum h.value.content w.content)) reads has)
 
@@ -135,7 +135,7 @@ module _ (out : List CirculationView) (hand : List Held) (are : AreKept out hand
           (can_return x h w is (kind_there way.kind) (whole_has way.has))
 
       -- the same of the element that the code has in its hand
-      pub goes_in_at : CanHold view (record { brand = b; value = w }) → (z : Held) (v : Worth) → z ≡ h → v ≡ w → GoesIn z v
+      pub goes_in_at : CanHold view (record { brand = b; value = w }) → (z : Held) (v : ValueView) → z ≡ h → v ≡ w → GoesIn z v
       goes_in_at can z v at same = subst (λ y. GoesIn y v) (sym at) (subst (λ u. GoesIn h u) (sym same) (goes_in can))
 
       pub comes_out_at : IsInStore view b w → (z : Held) → z ≡ h → ComesOut z w
@@ -145,10 +145,10 @@ module _ (out : List CirculationView) (hand : List Held) (are : AreKept out hand
     module _ (z : Held) (same : z.value ≡ h.value) where
       pub roomed_keeps : AreKept out (slice_set hand b z)
       roomed_keeps = kept_set_hand out hand are b z (made b lt) (record {
-        kind = is.kind ∙ ap (λ (v : Worth). v.kind) (sym same);
-        burned = omega (arith, is.burned, ap (λ (v : Worth). counted v.content) same);
-        fits = subst (λ (v : Worth). Fits x.supply.outstanding.kind (sum x.supply.outstanding.content v.content)) (sym same) is.fits;
-        kept = subst (λ (v : Worth). Contains x.kept v.content) (sym same) is.kept;
+        kind = is.kind ∙ ap (λ (v : ValueView). v.kind) (sym same);
+        burned = omega (arith, is.burned, ap (λ (v : ValueView). counted v.content) same);
+        fits = subst (λ (v : ValueView). Fits x.supply.outstanding.kind (sum x.supply.outstanding.content v.content)) (sym same) is.fits;
+        kept = subst (λ (v : ValueView). Contains x.kept v.content) (sym same) is.kept;
       })
 
       new_there : held_at (slice_set hand b z) b ≡ z
@@ -156,7 +156,7 @@ module _ (out : List CirculationView) (hand : List Held) (are : AreKept out hand
 
       pub roomed_view : ◌≡◌ {A = TransitView} (record { out = wholes out (slice_set hand b z); hand = slice_set hand b z }) (with_hand view b (record { value = h.value; room = (held_at (slice_set hand b z) b).room }))
       roomed_view =
-          ap (λ l. record { out = l; hand = slice_set hand b z }) (wholes-roomed out hand b are.same (made b lt) z (ap (λ (v : Worth). v.content) same))
+          ap (λ l. record { out = l; hand = slice_set hand b z }) (wholes-roomed out hand b are.same (made b lt) z (ap (λ (v : ValueView). v.content) same))
           ∙ (λ i. record { out = wholes out hand; hand = slice_set hand b (record { value = same i; room = (sym new_there i).room }) })
 
       pub has_room : (y : Held) → y ≡ h → (keys : ℕ) → HasRoom y.value.kind (keys_of y.value.content + keys) z.room → HasRoom whole.supply.outstanding.kind (keys_of h.value.content + keys) (held_at (slice_set hand b z) b).room
@@ -166,7 +166,7 @@ module _ (out : List CirculationView) (hand : List Held) (are : AreKept out hand
           (subst (λ (v : Held). HasRoom v.value.kind (keys_of v.value.content + keys) z.room) at has))
 
     -- an issue, where the hand's store has nothing
-    module _ (w : Worth) (empty : h.value.content ≡ nothing) where
+    module _ (w : ValueView) (empty : h.value.content ≡ nothing) where
       pub out_same : whole.supply.outstanding.content ≡ x.supply.outstanding.content
       out_same = ap (λ (y : CirculationView). y.supply.outstanding.content) reads ∙ ap (sum x.supply.outstanding.content) empty ∙ sum-nothing x.supply.outstanding.content
 

@@ -5,14 +5,14 @@ use Rattle.std.proofs.lemmas.Bool.{cases_eq}
 use Rattle.ertp_mint.specs.amount_math.Content.{Content, Contains, count-difference, count-nothing, count-sum, difference, nothing, same_content, sum, sum-nothing}
 use Rattle.ertp_mint.specs.amount_math.Counted.{counted, counted-difference, counted-nothing, counted-sum}
 use Rattle.ertp_mint.specs.amount_math.Held.{Held, with_less, with_more}
-use Rattle.ertp_mint.specs.amount_math.Worth.{Fits, Worth, fits_within}
+use Rattle.ertp_mint.specs.amount_math.ValueView.{Fits, ValueView, fits_within}
 use Rattle.ertp_mint.specs.amount_math.declared.Kind.{Kind}
 use Rattle.ertp_mint.specs.amount_math.declared.Kind.TheVariants.{Nat}
 use Rattle.ertp_mint.specs.Circulating.{CanReturn, CirculationView, circulation_at, new_circulation, with_forgotten, with_issued, with_retired, with_unissued, with_unretired}
 use Rattle.lemmas.proofs.ListEdits.{length_push, length_set, read_before, read_other, read_pushed, read_set, read_take, set_same}
 use Rattle.transit.specs.Transit.{AreKept, IsKept, empty_hand, held_at, whole_of}
 
-module _ (x : CirculationView) (h : Held) (w : Worth) (is : IsKept x h) where
+module _ (x : CirculationView) (h : Held) (w : ValueView) (is : IsKept x h) where
   abbrev out : Content
   out = x.supply.outstanding.content
 
@@ -126,7 +126,7 @@ module _ (x : CirculationView) (h : Held) (w : Worth) (is : IsKept x h) where
   }
 
 -- what was issued, where the hand's store has nothing
-pub kept_issued : (x : CirculationView) (h : Held) (w : Worth) → IsKept x h → h.value.content ≡ nothing → x.supply.outstanding.kind ≡ w.kind → Fits w.kind (sum x.supply.outstanding.content w.content) → IsKept (with_issued x w.content) h
+pub kept_issued : (x : CirculationView) (h : Held) (w : ValueView) → IsKept x h → h.value.content ≡ nothing → x.supply.outstanding.kind ≡ w.kind → Fits w.kind (sum x.supply.outstanding.content w.content) → IsKept (with_issued x w.content) h
 kept_issued x h w is empty same fits =
     let new = sum x.supply.outstanding.content w.content in
     let whole : sum new h.value.content ≡ new = ap (sum new) empty ∙ sum-nothing new in

@@ -3,7 +3,7 @@ use Rattle.std.proofs.Common.{◌≡◌, ℕ, ◌+◌, ◌-◌, ◌<◌, ◌≤�
 use Rattle.ertp_mint.specs.amount_math.Content.{sum}
 use Rattle.ertp_mint.specs.amount_math.Counted.{counted, counted-sum}
 use Rattle.ertp_mint.specs.amount_math.Held.{Held}
-use Rattle.ertp_mint.specs.amount_math.Worth.{Fits}
+use Rattle.ertp_mint.specs.amount_math.ValueView.{Fits}
 use Rattle.ertp_mint.specs.amount_math.declared.Kind.{Kind}
 use Rattle.ertp_mint.specs.BrandSupply.{AddsUp}
 use Rattle.ertp_mint.specs.Circulating.{CirculationView, circulation_at}

@@ -4,7 +4,7 @@ use Rattle.std.specs.Prelude.{slice_set}
 use Rattle.ertp_mint.specs.amount_math.Content.{Content, Contains, count-difference, count-sum, difference, same_content, sum}
 use Rattle.ertp_mint.specs.amount_math.Counted.{counted, counted-difference, counted-sum}
 use Rattle.ertp_mint.specs.amount_math.Held.{Held}
-use Rattle.ertp_mint.specs.amount_math.Worth.{with_content}
+use Rattle.ertp_mint.specs.amount_math.ValueView.{with_content}
 use Rattle.ertp_mint.specs.amount_math.declared.Kind.TheVariants.{Nat}
 use Rattle.ertp_mint.specs.BrandSupply.{BrandSupply, issued, retired}
 use Rattle.ertp_mint.specs.Circulating.{CirculationView, circulation_at, new_circulation, unissued, unretired, with_forgotten, with_issued, with_retired, with_unissued, with_unretired}

@@ -4,7 +4,7 @@ use Rattle.std.specs.Coded.{Coded, code_by, coded×, coded_list}
 use Rattle.ertp_mint.specs.amount_math.Content.{Content, Contains, nothing, sum}
 use Rattle.ertp_mint.specs.amount_math.Counted.{counted}
 use Rattle.ertp_mint.specs.amount_math.Held.{Held, HasRoom, coded_held}
-use Rattle.ertp_mint.specs.amount_math.Worth.{Worth, Fits, keys_of}
+use Rattle.ertp_mint.specs.amount_math.ValueView.{ValueView, Fits, keys_of}
 use Rattle.ertp_mint.specs.amount_math.declared.Amount.{Amount}
 use Rattle.ertp_mint.specs.amount_math.declared.Kind.{Kind}
 use Rattle.ertp_mint.specs.amount_math.declared.Kind.TheVariants.{Nat}
@@ -55,7 +55,7 @@ pub record CanHold (t : TransitView) (a : Amount) : Type 0 where
   pub room : HasRoom a.value.kind (keys_of (sum (in_store t a.brand) a.value.content)) (held_at t.hand a.brand).room
 
 -- the hand's store has a value
-pub record IsInStore (t : TransitView) (b : ℕ) (w : Worth) : Type 0 where
+pub record IsInStore (t : TransitView) (b : ℕ) (w : ValueView) : Type 0 where
   pub made : b < length t.out
   pub kind : kind_in t b ≡ w.kind
   pub has : Contains (in_store t b) w.content

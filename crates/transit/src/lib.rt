@@ -2,16 +2,20 @@
 //! room that was taken before, nothing that undoing needs takes memory.
 #![tactic(auto)]
 
+/// What `ertp_mint` gives to those above.
+pub mod ertp_mint_lib {
+    pub use ertp_mint::{Balance, Circulations, Parcel};
+}
+
 ghost use Rattle.std.specs.Prelude.{◌≡◌, ◌<◌, ◌≤◌, ◌+◌, ◌-◌, ◌^◌, ◌++◌, ◌∷◌, [], length, take, IfErr, IfOk, IsOk, OnErr, OnOk};
 ghost use Rattle.ertp_mint.specs.amount_math.Content.{Contains, nothing, sum};
 ghost use Rattle.ertp_mint.specs.amount_math.Counted.{counted};
 ghost use Rattle.ertp_mint.specs.amount_math.Held.{HasRoom, with_less, with_more};
-ghost use Rattle.ertp_mint.specs.amount_math.Worth.{Fits, IsIssueRefusal, keys_of};
+ghost use Rattle.ertp_mint.specs.amount_math.ValueView.{Fits, IsIssueRefusal, keys_of};
 ghost use Rattle.ertp_mint.specs.BrandSupply.{AddsUp};
 ghost use Rattle.ertp_mint.specs.Circulating.{CanReturn, circulation_at, new_circulation, with_forgotten, with_issued, with_retired, with_unissued, with_unretired};
 ghost use Rattle.transit.specs.Transit.{CanHold, IsInStore, IsOnItsWay, empty_hand, held_at, in_store, kind_in, supply_in, with_hand, with_out};
 
-pub use ertp_mint as ertp_mint_lib;
 use ertp_mint::amount_math_lib::{Holding, Kind, PutFault, Value};
 use ertp_mint::{Circulations, Parcel};
 use std::alloc::{AllocError, Global};

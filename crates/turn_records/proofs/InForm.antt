@@ -11,11 +11,11 @@ use Rattle.turn_rows.specs.rights_model.declared.Sum.{Sum}
 use Rattle.turn_rows.specs.Form.{HasEventForm, HasExitForm, HasExitRuleForm, HasOpeningForm, IsInForm, MayStand}
 use Rattle.turn_rows.specs.Rows.{event_row, sum_row, turn_row}
 use Rattle.turn_records.specs.Events.{Event, called, opened, moved, exited, settled, Leaving, Opening}
-use Rattle.turn_records.specs.Printed.{printed, printed_event, printed_exit, printed_opening, printed_payouts, printed_rows, printed_rule, trees_of}
+use Rattle.turn_records.specs.Printed.{printed, printed_event, printed_exit, printed_opening, printed_payouts, printed_shares, printed_rule, trees_of}
 use Rattle.turn_records.specs.Tellable.{IsTellable, IsTellableEvent, IsTellableExit, IsTellableOpening, IsTellableRule}
 use Rattle.turn_records.specs.Turns.{Turn}
 use Rattle.turn_records.proofs.Parts.{answer_is, call_form, data_are, delivered_is, settlement_is}
-use Rattle.turn_records.proofs.Ordered.{payout_keywords, payout_numbers, payouts_each, payouts_rise, rows_are, rows_count}
+use Rattle.turn_records.proofs.Ordered.{payout_keywords, payout_numbers, payouts_each, payouts_rise, shares_are, shares_count}
 use Rattle.turn_records.proofs.Nested.{answer_depth, event_depth, trees_depth}
 
 rule_is : (e : offered.Exit) → IsTellableRule e → HasExitRuleForm (printed_rule e)
@@ -27,9 +27,9 @@ opening_is : (o : Opening) → IsTellableOpening o → HasOpeningForm (printed_o
 opening_is o h = record {
   seat = h.seat;
   instance = h.instance;
-  give = rows_are o.proposal.give h.give;
-  want = rows_are o.proposal.want h.want;
-  few = rw (length-append (printed_rows o.proposal.give) (printed_rows o.proposal.want)) (omega (arith, h.few, rows_count o.proposal.give, rows_count o.proposal.want));
+  give = shares_are o.proposal.give h.give;
+  want = shares_are o.proposal.want h.want;
+  few = rw (length-append (printed_shares o.proposal.give) (printed_shares o.proposal.want)) (omega (arith, h.few, shares_count o.proposal.give, shares_count o.proposal.want));
   exit = rule_is o.proposal.exit h.rule;
 }
 

@@ -12,7 +12,7 @@ use Rattle.turn_rows.specs.Rows.{amounts_json, answer_json, element_json, elemen
 use Rattle.turn_rows.specs.Turns as rows
 use Rattle.turn_rows.specs.Turns.{Element, ExitRule, KeywordAmount, Payout, Value}
 use Rattle.turn_records.specs.Events.{Answer, given, refused, threw, spent, Event, called, opened, moved, exited, settled}
-use Rattle.turn_records.specs.Printed.{printed_answer, printed_event, printed_payouts, printed_rows, printed_rule, printed_settlement, printed_trees}
+use Rattle.turn_records.specs.Printed.{printed_answer, printed_event, printed_payouts, printed_shares, printed_rule, printed_settlement, printed_trees}
 use Rattle.turn_records.specs.Tellable.{ArePrintable, IsTellableAnswer, IsTellableEvent, IsTellableSettlement}
 
 tree_depth : (t : Tree) → IsPrintable t → depth (data_rows.printed t) ≤ 33
@@ -67,7 +67,7 @@ rule_depth (rows.after_deadline t) = omega (arith, number_depth t (nat_lt t (2 ^
 
 pub event_depth : (e : Event) → IsTellableEvent e → depth (event_row (printed_event e)) ≤ 127
 event_depth (called c) h = omega (arith, answer_depth c.answer h.answer, trees_depth c.arguments h.arguments)
-event_depth (opened o) h = omega (arith, rule_depth (printed_rule o.proposal.exit), amounts_depth (printed_rows o.proposal.give), amounts_depth (printed_rows o.proposal.want))
+event_depth (opened o) h = omega (arith, rule_depth (printed_rule o.proposal.exit), amounts_depth (printed_shares o.proposal.give), amounts_depth (printed_shares o.proposal.want))
 event_depth (moved m) h = omega (arith, value_depth (printed_value m.value))
 event_depth (exited x) h = omega (arith, payouts_depth (printed_payouts x.payouts))
 event_depth (settled n s) h = omega (arith, settlement_depth s h.1)

@@ -9,14 +9,14 @@ use Rattle.turn_rows.specs.host_text.Words.{is_keyword}
 use Rattle.turn_rows.specs.amount_math.Content.{key_cmp}
 use Rattle.turn_records.proofs.Fields.{sorted_put}
 use Rattle.turn_records.proofs.Values.{value_form}
-use Rattle.proposals.specs.declared.allocations.Row.{Row}
+use Rattle.proposals.specs.declared.allocations.Share.{Share}
 use Rattle.turn_rows.proofs.Order.{puts_amount, puts_payout}
 use Rattle.turn_rows.specs.Form.{AreAmounts, HasAmountForm, names_of, objects_end}
 use Rattle.turn_rows.specs.Order.{put_amount, put_payout}
 use Rattle.turn_rows.specs.Rows.{amount_json, amounts_json, payment_name, payouts_json}
 use Rattle.turn_rows.specs.Turns.{KeywordAmount, Payout}
-use Rattle.turn_records.specs.Printed.{printed_payouts, printed_row, printed_rows}
-use Rattle.turn_records.specs.Tellable.{IsTellablePayout, IsTellableRow}
+use Rattle.turn_records.specs.Printed.{printed_payouts, printed_share, printed_shares}
+use Rattle.turn_records.specs.Tellable.{IsTellablePayout, IsTellableShare}
 
 none_sorted : IsStrictlySortedBy key_cmp []
 unfolding IsStrictlySortedBy
@@ -37,12 +37,12 @@ amounts_rise r rs h =
     subst Rise (sym (ap names_of (puts_amount r rs)) ∙ amount_names (put_amount r rs))
     (sorted_put r.keyword (amount_json r.brand r.value) (amounts_json rs) (subst Rise (sym (amount_names rs)) h))
 
-rows_rise : (rs : List Row) → IsStrictlySortedBy key_cmp (map (λ a. a.keyword) (printed_rows rs))
-rows_rise [] = none_sorted
-rows_rise (r ∷ rs) = amounts_rise (printed_row r) (printed_rows rs) (rows_rise rs)
+shares_rise : (rs : List Share) → IsStrictlySortedBy key_cmp (map (λ a. a.keyword) (printed_shares rs))
+shares_rise [] = none_sorted
+shares_rise (r ∷ rs) = amounts_rise (printed_share r) (printed_shares rs) (shares_rise rs)
 
-row_is : (r : Row) → IsTellableRow r → HasAmountForm (printed_row r)
-row_is r h = record { keyword = h.keyword; brand = h.brand; value = value_form r.amount.value h.value.value h.value.texts }
+share_is : (r : Share) → IsTellableShare r → HasAmountForm (printed_share r)
+share_is r h = record { keyword = h.keyword; brand = h.brand; value = value_form r.amount.value h.value.value h.value.texts }
 
 put_each : (o : Ordering) (r u : KeywordAmount) (us vs : List KeywordAmount) → HasAmountForm r → AllByRecursion HasAmountForm (u ∷ us) → AllByRecursion HasAmountForm vs
     → AllByRecursion HasAmountForm (match_ordering o (r ∷ u ∷ us) (record r { keyword = u.keyword } ∷ us) (u ∷ vs))
@@ -54,12 +54,12 @@ amounts_put : (r : KeywordAmount) (rs : List KeywordAmount) → HasAmountForm r 
 amounts_put r [] is h = (is, tt)
 amounts_put r (u ∷ us) is h = put_each (slice_cmp nat_cmp r.keyword u.keyword) r u us (put_amount r us) is h (amounts_put r us is h.1)
 
-rows_each : (rs : List Row) → AllByRecursion IsTellableRow rs → AllByRecursion HasAmountForm (printed_rows rs)
-rows_each [] h = tt
-rows_each (r ∷ rs) h = amounts_put (printed_row r) (printed_rows rs) (row_is r h.0) (rows_each rs h.1)
+shares_each : (rs : List Share) → AllByRecursion IsTellableShare rs → AllByRecursion HasAmountForm (printed_shares rs)
+shares_each [] h = tt
+shares_each (r ∷ rs) h = amounts_put (printed_share r) (printed_shares rs) (share_is r h.0) (shares_each rs h.1)
 
-pub rows_are : (rs : List Row) → AllByRecursion IsTellableRow rs → AreAmounts (printed_rows rs)
-rows_are rs h = record { each = rows_each rs h; rising = rows_rise rs }
+pub shares_are : (rs : List Share) → AllByRecursion IsTellableShare rs → AreAmounts (printed_shares rs)
+shares_are rs h = record { each = shares_each rs h; rising = shares_rise rs }
 
 put_count : (o : Ordering) (r u v : KeywordAmount) (us vs : List KeywordAmount) → length vs ≤ suc (length us) → length (match_ordering o (r ∷ u ∷ us) (v ∷ us) (u ∷ vs)) ≤ suc (suc (length us))
 put_count Less r u v us vs h = omega (arith, h)
@@ -70,9 +70,9 @@ amounts_count : (r : KeywordAmount) (rs : List KeywordAmount) → length (put_am
 amounts_count r [] = omega arith
 amounts_count r (u ∷ us) = put_count (slice_cmp nat_cmp r.keyword u.keyword) r u (record r { keyword = u.keyword }) us (put_amount r us) (amounts_count r us)
 
-pub rows_count : (rs : List Row) → length (printed_rows rs) ≤ length rs
-rows_count [] = omega arith
-rows_count (r ∷ rs) = omega (arith, amounts_count (printed_row r) (printed_rows rs), rows_count rs)
+pub shares_count : (rs : List Share) → length (printed_shares rs) ≤ length rs
+shares_count [] = omega arith
+shares_count (r ∷ rs) = omega (arith, amounts_count (printed_share r) (printed_shares rs), shares_count rs)
 
 -- ---- payouts
 

@@ -13,13 +13,13 @@ use Rattle.std.specs.Ordering.{is_lt}
 use Rattle.std.specs.Str.{IsUtf8}
 use Rattle.turn_rows.specs.amount_math.Entries.{AreEntries, IsEntry, entry_at}
 use Rattle.turn_rows.proofs.amount_math.Listed.{entries_are, listed_at}
-use Rattle.turn_rows.specs.amount_math.Worth.{IsBag, IsSet, IsValue}
+use Rattle.turn_rows.specs.amount_math.ValueView.{IsBag, IsSet, IsValue}
 use Rattle.turn_rows.specs.amount_math.Content.{count_listed, key_cmp}
 use Rattle.turn_rows.specs.Form.{AreElements, HasElementForm, HasValueForm, is_key, key_of}
 use Rattle.turn_rows.specs.Turns.{Element}
 use Rattle.turn_records.specs.Values.{HasTexts}
 use Rattle.turn_rows.specs.amount_math.Content.{Content, count, entries, unit}
-use Rattle.turn_rows.specs.amount_math.Worth.{Worth}
+use Rattle.turn_rows.specs.amount_math.ValueView.{ValueView}
 use Rattle.turn_rows.specs.amount_math.declared.Kind.{Kind}
 use Rattle.turn_rows.specs.amount_math.declared.Kind.TheVariants.{Nat, Set, Bag}
 use Rattle.serde_json.specs.Data as json
@@ -46,7 +46,7 @@ content_alike Nat c = number_alike (count c unit) (nat_lt (count c unit) (2 ^ 63
 content_alike Set c = ap json.array (keys_alike (entries c))
 content_alike Bag c = ap json.array (counted_alike (entries c))
 
-pub values_alike : (w : Worth) → value_json (printed_value w) ≡ printed (value_tree w)
+pub values_alike : (w : ValueView) → value_json (printed_value w) ≡ printed (value_tree w)
 unfolding value_tree
 values_alike w = content_alike w.kind w.content
 
@@ -122,5 +122,5 @@ content_form Nat c is told = is.fits.each unit
 content_form Set c is told = set_form c is told
 content_form Bag c is told = bag_form c is told
 
-pub value_form : (w : Worth) → IsValue w.kind w.content → HasTexts w.content → HasValueForm (printed_value w)
+pub value_form : (w : ValueView) → IsValue w.kind w.content → HasTexts w.content → HasValueForm (printed_value w)
 value_form w is told = content_form w.kind w.content is told

@@ -14,7 +14,7 @@ use Rattle.refusals.specs.host_data.declared.data.Obj.{Obj}
 use Rattle.refusals.specs.host_data.declared.data.ObjKind.{ObjKind}
 use Rattle.refusals.specs.host_data.declared.data.ObjKind.TheVariants.{Facet, Instance, Promise, Seat, Timer, Zseat}
 use Rattle.promise_store.specs.States.{SettlementView, broken, ok}
-use Rattle.proposals.specs.declared.allocations.Row.{Row}
+use Rattle.proposals.specs.declared.allocations.Share.{Share}
 use Rattle.proposals.specs.declared.offers.Exit as offered
 use Rattle.proposals.specs.declared.offers.Exit.TheVariants.{AfterDeadline, OnDemand, Waived}
 use Rattle.refusals.specs.Codes.{code_of, shown_by, shown_trees}
@@ -154,13 +154,13 @@ called_on on = option_map_or object_name on []
 abbrev pub printed_call : Call → rows.Call
 printed_call c = record { how = c.how; on = called_on c.on; method = c.method; arguments = printed_trees c.arguments; answer = printed_answer c.answer }
 
-abbrev pub printed_row : Row → KeywordAmount
-printed_row r = record { keyword = r.keyword; brand = r.amount.brand; value = printed_value r.amount.value }
+abbrev pub printed_share : Share → KeywordAmount
+printed_share r = record { keyword = r.keyword; brand = r.amount.brand; value = printed_value r.amount.value }
 
 -- in byte order of their keywords
-abbrev pub printed_rows : List Row → List KeywordAmount
-printed_rows [] = []
-printed_rows (r ∷ rs) = put_amount (printed_row r) (printed_rows rs)
+abbrev pub printed_shares : List Share → List KeywordAmount
+printed_shares [] = []
+printed_shares (r ∷ rs) = put_amount (printed_share r) (printed_shares rs)
 
 abbrev pub printed_payouts : List Payout → List Payout
 printed_payouts [] = []
@@ -172,7 +172,7 @@ printed_rule Waived = rows.waived
 printed_rule (AfterDeadline t) = rows.after_deadline t
 
 abbrev pub printed_opening : Opening → rows.Opening
-printed_opening o = record { seat = o.seat; instance = o.instance; give = printed_rows o.proposal.give; want = printed_rows o.proposal.want; exit = printed_rule o.proposal.exit }
+printed_opening o = record { seat = o.seat; instance = o.instance; give = printed_shares o.proposal.give; want = printed_shares o.proposal.want; exit = printed_rule o.proposal.exit }
 
 abbrev pub printed_move : Movement → rows.Move
 printed_move m = record { brand = m.brand; from = m.from; to = m.to; value = printed_value m.value }

@@ -3,7 +3,7 @@ use Rattle.std.specs.Prelude.{◌≡◌, ◌<◌, ◌+◌, ◌≤◌, ◌^◌, �
 use Rattle.std.specs.List.{AllByRecursion}
 use Rattle.std.specs.Str.{IsUtf8}
 use Rattle.turn_rows.specs.host_text.Words.{is_field_name, is_keyword, is_label}
-use Rattle.turn_rows.specs.amount_math.Worth.{IsValue, Worth}
+use Rattle.turn_rows.specs.amount_math.ValueView.{IsValue, ValueView}
 use Rattle.turn_records.specs.Names.{numbers_end}
 use Rattle.turn_records.specs.Printable.{IsPrintable}
 use Rattle.turn_records.specs.Values.{HasTexts}
@@ -11,7 +11,7 @@ use Rattle.refusals.specs.host_data.Tree.{Tree}
 use Rattle.refusals.specs.host_data.declared.data.Obj.{Obj}
 use Rattle.refusals.specs.host_data.declared.data.ObjKind.TheVariants.{Promise}
 use Rattle.promise_store.specs.States.{SettlementView, broken, ok}
-use Rattle.proposals.specs.declared.allocations.Row.{Row}
+use Rattle.proposals.specs.declared.allocations.Share.{Share}
 use Rattle.proposals.specs.declared.offers.Exit as offered
 use Rattle.proposals.specs.declared.offers.Exit.TheVariants.{AfterDeadline, OnDemand, Waived}
 use Rattle.refusals.specs.Codes.{shown_by, shown_trees}
@@ -43,7 +43,7 @@ IsTellableAnswer (threw t) = IsPrintable t
 IsTellableAnswer (spent meter) = meter < 2 ^ 64
 
 -- a value that rows may have
-pub record IsTellableValue (w : Worth) : Type 0 where
+pub record IsTellableValue (w : ValueView) : Type 0 where
   pub value : IsValue w.kind w.content
   pub texts : HasTexts w.content
 
@@ -101,7 +101,7 @@ pub record IsTellableCall (c : Call) : Type 0 where
 
 -- ---- events
 
-pub record IsTellableRow (r : Row) : Type 0 where
+pub record IsTellableShare (r : Share) : Type 0 where
   pub keyword : is_keyword r.keyword ≡ true
   pub brand : r.amount.brand < brands_end
   pub value : IsTellableValue r.amount.value
@@ -114,8 +114,8 @@ IsTellableRule (AfterDeadline t) = t < times_end
 pub record IsTellableOpening (o : Opening) : Type 0 where
   pub seat : o.seat < objects_end
   pub instance : o.instance < objects_end
-  pub give : AllByRecursion IsTellableRow o.proposal.give
-  pub want : AllByRecursion IsTellableRow o.proposal.want
+  pub give : AllByRecursion IsTellableShare o.proposal.give
+  pub want : AllByRecursion IsTellableShare o.proposal.want
   pub few : length o.proposal.give + length o.proposal.want ≤ most_keywords
   pub rule : IsTellableRule o.proposal.exit
 

@@ -2,7 +2,7 @@
 use Rattle.std.specs.Prelude.{◌≢◌, ℕ, List, map}
 use Rattle.std.specs.Str.{IsUtf8}
 use Rattle.turn_rows.specs.amount_math.Content.{Content, count, entries, unit}
-use Rattle.turn_rows.specs.amount_math.Worth.{Worth}
+use Rattle.turn_rows.specs.amount_math.ValueView.{ValueView}
 use Rattle.turn_rows.specs.amount_math.declared.Kind.{Kind}
 use Rattle.turn_rows.specs.amount_math.declared.Kind.TheVariants.{Nat, Set, Bag}
 use Rattle.turn_rows.specs.Turns.{Element, Value, counted, elements, key, number}
@@ -19,7 +19,7 @@ printed_content Nat c = number (count c unit)
 printed_content Set c = elements (map key_element (entries c))
 printed_content Bag c = elements (map counted_element (entries c))
 
-abbrev pub printed_value : Worth → Value
+abbrev pub printed_value : ValueView → Value
 printed_value w = printed_content w.kind w.content
 
 -- its keys are texts

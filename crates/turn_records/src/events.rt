@@ -1,10 +1,5 @@
 //! What is answered, and what happens in a turn.
 
-ghost use Rattle.std.specs.Prelude.{◌≡◌};
-ghost use Rattle.std.specs.Option.{option_copied, option_to_list};
-ghost use Rattle.turn_records.specs.Events.{move_in};
-ghost use Rattle.turn_records.specs.Views.{event_view};
-
 use promise_store::Settlement;
 use proposals::offers::Proposal;
 use refusals::codes::Refusal;
@@ -158,18 +153,6 @@ impl Drop for Event {
             Event::Moved(_) => {}
             Event::Exited(_) => {}
             Event::Settled(_, _) => {}
-        }
-    }
-}
-
-impl Event {
-    /// The movement, where it is one.
-    pub fn movement(&self) -> Option<&Movement>
-        ensures { option_to_list (option_copied result) ≡ move_in (event_view self.now) }
-    {
-        match self {
-            Event::Moved(movement) => Some(movement),
-            _ => None,
         }
     }
 }

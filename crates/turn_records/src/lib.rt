@@ -11,8 +11,28 @@ pub mod messages;
 pub mod turn_answers;
 pub mod turns;
 
-pub use promise_store as promise_store_lib;
-pub use proposals as proposals_lib;
-pub use refusals as refusals_lib;
+/// What `promise_store` gives to those above.
+pub mod promise_store_lib {
+    pub use promise_store::{Consequence, FollowFault, MakeFault, Promises, Settlement, State};
+}
+
+/// What `proposals` gives to those above.
+pub mod proposals_lib {
+    pub mod allocations {
+        pub use proposals::allocations::Share;
+    }
+
+    pub mod offers {
+        pub use proposals::offers::Exit;
+    }
+}
+
+/// What `refusals` gives to those above.
+pub mod refusals_lib {
+    pub mod codes {
+        pub use refusals::codes::{BareCode, Refusal, TextCode, Unkept};
+    }
+}
+
 pub use refusals::host_data_lib;
 pub use turn_rows::host_text_lib;

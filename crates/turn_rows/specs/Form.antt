@@ -10,7 +10,7 @@ use Rattle.serde_json.specs.Data.{depth}
 use Rattle.serde_json.specs.Read.{max_depth}
 use Rattle.rights_model.specs.host_text.Words.{is_field_name, is_keyword, is_label}
 use Rattle.rights_model.specs.amount_math.Content.{key_cmp}
-use Rattle.rights_model.specs.amount_math.Worth.{bag_bound, most_keys, nat_bound}
+use Rattle.rights_model.specs.amount_math.ValueView.{bag_bound, most_keys, nat_bound}
 use Rattle.rights_model.specs.declared.Holder.{Holder}
 use Rattle.rights_model.specs.declared.Holder.TheVariants as holders
 use Rattle.rights_model.specs.declared.Sum.{Sum}

@@ -4,5 +4,9 @@
 
 pub mod laws;
 
-pub use rights_model as rights_model_lib;
+/// What `rights_model` gives to those above.
+pub mod rights_model_lib {
+    pub use rights_model::{Holder, Movement, Sum};
+}
+
 pub use rights_model::{amount_math_lib, host_text_lib};

@@ -14,7 +14,7 @@ use Rattle.turn_rows.specs.Turns as rows
 use Rattle.turn_rows.specs.Turns.{Element, KeywordAmount, Payout, Value}
 use Rattle.turn_records.specs.Events.{Answer, given, refused, threw, spent, Event, called, opened, moved, exited, settled}
 use Rattle.turn_records.specs.Printed as turns
-use Rattle.turn_records.specs.Printed.{printed_answer, printed_event, printed_rows, printed_settlement}
+use Rattle.turn_records.specs.Printed.{printed_answer, printed_event, printed_shares, printed_settlement}
 use Rattle.turn_records.specs.Turns.{Turn}
 
 -- ---- data
@@ -110,7 +110,7 @@ flat_settlement (settlements.broken t) = rw (flat t)
 
 pub flat_event : (e : Event) → has_float (event_row (printed_event e)) ≡ false
 flat_event (called c) = rw (flat_answer c.answer, flat_items _)
-flat_event (opened o) = rw (flat_rule _, flat_amounts (printed_rows o.proposal.give), flat_amounts (printed_rows o.proposal.want))
+flat_event (opened o) = rw (flat_rule _, flat_amounts (printed_shares o.proposal.give), flat_amounts (printed_shares o.proposal.want))
 flat_event (moved m) = rw (flat_value _)
 flat_event (exited x) = rw (flat_payouts _)
 flat_event (settled promise s) = rw (flat_settlement s)

@@ -2,7 +2,7 @@
 use Rattle.std.proofs.Common.{◌<◌, ◌+◌, ℕ, List, [], ◌∷◌, Bool, true, false, map, if◌then◌else◌, arith}
 use Rattle.std.specs.List.{AllByRecursion}
 use Rattle.turn_rows.specs.amount_math.Content.{Content, entries}
-use Rattle.turn_rows.specs.amount_math.Worth.{Worth}
+use Rattle.turn_rows.specs.amount_math.ValueView.{ValueView}
 use Rattle.turn_rows.specs.amount_math.declared.Kind.{Kind}
 use Rattle.turn_rows.specs.amount_math.declared.Kind.TheVariants.{Nat, Set, Bag}
 use Rattle.turn_records.specs.host_data.Values.{content_tree, counted_tree, key_tree, value_tree}
@@ -84,6 +84,6 @@ content_form Nat c h = omega (arith, h)
 content_form Set c h = (omega arith, keys_form 1 (entries c) h.each)
 content_form Bag c h = (omega arith, counts_form 1 (omega arith) (entries c) h.each)
 
-pub value_printable : (w : Worth) → IsTellableValue w → IsPrintable (value_tree w)
+pub value_printable : (w : ValueView) → IsTellableValue w → IsPrintable (value_tree w)
 unfolding value_tree
 value_printable w h = content_form w.kind w.content (value_form w h.value h.texts)

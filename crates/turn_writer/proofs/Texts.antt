@@ -9,7 +9,7 @@ use Rattle.std.specs.Ordering.{eq_by_cmp}
 use Rattle.std.specs.Str.{IsUtf8}
 use Rattle.turn_rows.proofs.amount_math.Listed.{same_key}
 use Rattle.turn_rows.specs.amount_math.Content.{Content, count, count-of_nat, count_listed, entries, key_cmp, listed, of_nat, unit}
-use Rattle.turn_rows.specs.amount_math.Worth.{IsNat}
+use Rattle.turn_rows.specs.amount_math.ValueView.{IsNat}
 use Rattle.turn_records.specs.Values.{HasTexts}
 
 listed_text : (es : List (List ℕ × ℕ)) (k : List ℕ) → AllByRecursion (λ e. IsUtf8 e.0) es → listed es k ≢ 0 → IsUtf8 k

@@ -13,7 +13,7 @@ use Rattle.turn_records.specs.refusals.Codes.{shown_by, shown_trees}
 use Rattle.turn_rows.specs.Form.{HasSumForm, objects_end}
 use Rattle.turn_records.specs.Deliveries.{Delivery, call, give, tick, bad, send, start, offer, wake, notify, deadline, Reading, target, gift, settlement}
 use Rattle.turn_records.specs.Events.{Answer, given, refused, threw, spent, Call, Event, called, opened, moved, exited, settled, Opening}
-use Rattle.turn_records.specs.Tellable.{ArePrintable, IsTellableExit, IsTellableMovement, IsTellableRow}
+use Rattle.turn_records.specs.Tellable.{ArePrintable, IsTellableExit, IsTellableMovement, IsTellableShare}
 use Rattle.turn_records.specs.Turns.{Turn}
 
 -- ---- data
@@ -87,8 +87,8 @@ pub record HasCallTypes (c : Call) : Type 0 where
 pub record HasOpeningTypes (o : Opening) : Type 0 where
   pub seat : o.seat < objects_end
   pub instance : o.instance < objects_end
-  pub give : AllByRecursion IsTellableRow o.proposal.give
-  pub want : AllByRecursion IsTellableRow o.proposal.want
+  pub give : AllByRecursion IsTellableShare o.proposal.give
+  pub want : AllByRecursion IsTellableShare o.proposal.want
 
 abbrev pub HasEventTypes : Event → Type 0
 HasEventTypes (called c) = HasCallTypes c

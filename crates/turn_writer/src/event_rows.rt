@@ -7,7 +7,7 @@ ghost use Rattle.turn_records.specs.promise_store.States.{settlement_view};
 ghost use Rattle.turn_rows.specs.Causes as causes;
 ghost use Rattle.turn_rows.specs.Kinds as kinds;
 ghost use Rattle.turn_rows.specs.Rows.{amount_json, amounts_json, brand_name, call_row, event_row, exit_row, exit_rule_json, move_row, only, open_row, payouts_json, value_json};
-ghost use Rattle.turn_records.specs.Printed.{called_on, printed_call, printed_event, printed_exit, printed_move, printed_opening, printed_payouts, printed_rows, printed_rule};
+ghost use Rattle.turn_records.specs.Printed.{called_on, printed_call, printed_event, printed_exit, printed_move, printed_opening, printed_payouts, printed_shares, printed_rule};
 ghost use Rattle.turn_records.specs.Views.{call_view, cause_view, event_view, how_view, leaving_view, opening_view, payout_views};
 ghost use Rattle.turn_writer.specs.JsonRows.{IsJson, IsText};
 ghost use Rattle.turn_writer.specs.Texts.{settled_row};
@@ -22,7 +22,7 @@ use turn_records::events::{Call, Cause, Event, How, Leaving, Opening, Payout};
 use turn_records::host_data_lib::data::Obj;
 use turn_records::host_data_lib::values::value_data;
 use turn_records::promise_store_lib::Settlement;
-use turn_records::proposals_lib::allocations::Row;
+use turn_records::proposals_lib::allocations::Share;
 use turn_records::proposals_lib::offers::Exit;
 use turn_rows::amount_math_lib::{Amount, Value as Held};
 use turn_rows::rights_model_lib::Movement;
@@ -115,16 +115,16 @@ fn amount_value(alloc: Global, amount: &Amount) -> Result<Value, AllocError>
 }
 
 /// The amounts of rows, under their keywords.
-fn amounts_value(alloc: Global, rows: &[Row]) -> Result<Value, AllocError>
-    ensures { IsJson result (object (amounts_json (printed_rows rows.now))) }
+fn amounts_value(alloc: Global, shares: &[Share]) -> Result<Value, AllocError>
+    ensures { IsJson result (object (amounts_json (printed_shares shares.now))) }
 {
     let mut values = Map::new(alloc);
-    let mut left = rows.len();
+    let mut left = shares.len();
     while left > 0 {
         left -= 1;
-        let row = &rows[left];
-        let amount = amount_value(alloc, &row.amount)?;
-        put(&mut values, alloc, row.keyword.as_str(), amount)?;
+        let share = &shares[left];
+        let amount = amount_value(alloc, &share.amount)?;
+        put(&mut values, alloc, share.keyword.as_str(), amount)?;
     }
     Ok(Value::Object(values))
 }
@@ -135,11 +135,11 @@ fn open_value(alloc: Global, opening: &Opening) -> Result<Value, AllocError>
     let proposal = &opening.proposal;
     JsonRow::new(alloc)
         .value("exit", exit_rule_value(alloc, proposal.exit))
-        .value("give", amounts_value(alloc, proposal.give.rows()))
+        .value("give", amounts_value(alloc, proposal.give.shares()))
         .string("instance", instance_text(alloc, opening.instance))
         .text("row", "open")
         .number("seat", opening.seat)
-        .value("want", amounts_value(alloc, proposal.want.rows()))
+        .value("want", amounts_value(alloc, proposal.want.shares()))
         .finish()
 }
 

@@ -20,12 +20,40 @@ mod names;
 pub mod turn_form;
 mod turn_row;
 
+/// What `turn_records` gives to those above.
+pub mod turn_records_lib {
+    pub mod deliveries {
+        pub use turn_records::deliveries::{Delivery, Reading, Start};
+    }
+
+    pub mod events {
+        pub use turn_records::events::{Answer, Event};
+    }
+
+    pub mod log {
+        pub use turn_records::log::Log;
+    }
+
+    pub mod turn_answers {
+        pub mod records {
+            pub use turn_records::turn_answers::records::{Delivered, turn_of};
+        }
+
+        pub mod settlements {
+            pub use turn_records::turn_answers::settlements::settlement_of;
+        }
+    }
+
+    pub mod turns {
+        pub use turn_records::turns::TurnRecord;
+    }
+}
+
 use event_rows::event_value;
 use json_row::JsonRow;
 use names::{brand_text, decimal_text};
 use serde_json::Value;
 use std::alloc::{AllocError, Global};
-pub use turn_records as turn_records_lib;
 use turn_records::events::Event;
 use turn_records::turns::TurnRecord;
 pub use turn_records::{host_data_lib, promise_store_lib, refusals_lib};

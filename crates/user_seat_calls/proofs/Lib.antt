@@ -1,1 +1,2 @@
 pub mod SeatFacts
+pub use Rattle.world_reads.proofs.vault

@@ -4,8 +4,8 @@ use Rattle.std.proofs.Common.{◌≡◌, ℕ, ◌<◌, Bool, true, false, List, 
 use Rattle.rules.specs.actors.SeatPromises.{no_pair, pair_at}
 use Rattle.rules.specs.promise_store.States.{SettlementView, broken, ok}
 use Rattle.user_seat_calls.specs.Fulfilment.{fulfilment}
-use Rattle.rules.specs.SeatRows.{fulfilled}
-use Rattle.world_laws.proofs.Lists.{all_read}
+use Rattle.rules.specs.Seat.{fulfilled}
+use Rattle.world_reads.proofs.world_laws.Lists.{all_read}
 use Rattle.rules.specs.world_state.Good.{IsGoodWorld, IsPair}
 use Rattle.rules.specs.world_state.Promises.{state_by}
 use Rattle.rules.specs.world_state.Worlds.{State, promises_made}

@@ -5,7 +5,7 @@ use Rattle.std.specs.Prelude.{map}
 use Rattle.std.proofs.Common.{◌⊎◌, inl, inr, ◌≡◌, ℕ, ◌<◌, ◌≤◌, List, [], ◌∷◌, Result, Ok, Err, refl, sym, ap, subst, ◌∙◌, arith}
 use Rattle.std.proofs.lemmas.List.Elements.{All-head, All-tail}
 use Rattle.refusals.specs.amount_math.Content.{Content, count, count-nothing, count-sum, sum}
-use Rattle.refusals.specs.amount_math.Worth.{Fits, IsFirstPast, PassesBound, Worth, bound}
+use Rattle.refusals.specs.amount_math.ValueView.{Fits, IsFirstPast, PassesBound, ValueView, bound}
 use Rattle.refusals.specs.amount_math.declared.Kind.{Kind}
 use Rattle.refusals.specs.amount_math.declared.PutFault.TheVariants as put_fault
 use Rattle.refusals.specs.amount_math.declared.TooMuch.{TooMuch}
@@ -73,29 +73,29 @@ module _ (kind : Kind) (c d : Content) (alike : (k : List ℕ) → Alike kind c 
 
 -- ---- a part of what is out
 
-part_small : (out part : Worth) → Fits out.kind out.content → IsPartOf out part → (k : List ℕ) → count part.content k ≤ bound out.kind
+part_small : (out part : ValueView) → Fits out.kind out.content → IsPartOf out part → (k : List ℕ) → count part.content k ≤ bound out.kind
 part_small out part fits is k = elim (is.each k) [
   | inl none ↦ omega (arith, none)
   | inr there ↦ omega (arith, there, fits.each k)
 ]
 
-sums_alike : (out part : Worth) (t : Content) → Fits out.kind out.content → IsPartOf out part → HasAllOf out part t → (k : List ℕ) → Alike out.kind (sum part.content t) (sum out.content t) k
+sums_alike : (out part : ValueView) (t : Content) → Fits out.kind out.content → IsPartOf out part → HasAllOf out part t → (k : List ℕ) → Alike out.kind (sum part.content t) (sum out.content t) k
 sums_alike out part t fits is has k = elim (has.each k) [
   | inl none ↦ inr (omega (arith, count-sum part.content t k, none, part_small out part fits is k), omega (arith, count-sum out.content t k, none, fits.each k))
   | inr there ↦ inl (omega (arith, count-sum part.content t k, count-sum out.content t k, there))
 ]
 
-pub same_test : (out part : Worth) (ws : List Worth) → Fits out.kind out.content → IsPartOf out part → HasAllOf out part (total_of ws) → all_fit_out part ws ≡ all_fit_out out ws
+pub same_test : (out part : ValueView) (ws : List ValueView) → Fits out.kind out.content → IsPartOf out part → HasAllOf out part (total_of ws) → all_fit_out part ws ≡ all_fit_out out ws
 same_test out part ws fits is has =
     ap (λ (kind : Kind). counts_fit kind (sum part.content (total_of ws))) is.kind
     ∙ same_counts out.kind (sum part.content (total_of ws)) (sum out.content (total_of ws)) (sums_alike out part (total_of ws) fits is has)
 
 -- ---- values together
 
-pub all_of_nothing : (out part : Worth) (c : Content) → ((k : List ℕ) → count c k ≡ 0) → HasAllOf out part c
+pub all_of_nothing : (out part : ValueView) (c : Content) → ((k : List ℕ) → count c k ≡ 0) → HasAllOf out part c
 all_of_nothing out part c none = record { each = λ k. inl (none k) }
 
-all_of_sum : (out part : Worth) (c d : Content) → HasAllOf out part c → HasAllOf out part d → HasAllOf out part (sum c d)
+all_of_sum : (out part : ValueView) (c d : Content) → HasAllOf out part c → HasAllOf out part d → HasAllOf out part (sum c d)
 all_of_sum out part c d one other = record {
   each = λ k. elim (one.each k) [
     | inr there ↦ inr there
@@ -106,8 +106,8 @@ all_of_sum out part c d one other = record {
   ];
 }
 
-pub all_of_total : (out part : Worth) (vs : List (Bor Worth)) → All (λ (v : Bor Worth). HasAllOf out part v.now.content) vs → HasAllOf out part (total_of (map (λ v. v.now) vs))
+pub all_of_total : (out part : ValueView) (vs : List (Bor ValueView)) → All (λ (v : Bor ValueView). HasAllOf out part v.now.content) vs → HasAllOf out part (total_of (map (λ v. v.now) vs))
 all_of_total out part [] all = all_of_nothing out part (total_of []) count-nothing
 all_of_total out part (v ∷ vs) all =
-    let P : Bor Worth → Type 0 = λ x. HasAllOf out part x.now.content in
+    let P : Bor ValueView → Type 0 = λ x. HasAllOf out part x.now.content in
     all_of_sum out part v.now.content (total_of (map (λ x. x.now) vs)) (All-head P v vs all) (all_of_total out part vs (All-tail P v vs all))

@@ -17,7 +17,7 @@ use Rattle.refusals.specs.amount_math.Content.{Content, Contains, count, count_l
 use Rattle.refusals.specs.amount_math.Entries.{AreEntries, Entries, IsEntry, IsLowered, IsRising, most_of_key, tally}
 use Rattle.refusals.specs.amount_math.KindData.{IsKeysOf, IsPairsOf, signed}
 use Rattle.refusals.specs.amount_math.KindLaws.{value_of_part}
-use Rattle.refusals.specs.amount_math.Worth.{HasKeys, IsBag, IsSet, Worth}
+use Rattle.refusals.specs.amount_math.ValueView.{HasKeys, IsBag, IsSet, ValueView}
 use Rattle.refusals.specs.amount_math.declared.Kind.TheVariants.{Bag, Set}
 use Rattle.refusals.proofs.host_data.KeyedData.{bag_is, set_is}
 use Rattle.refusals.specs.host_data.declared.refusals.Refusal.{Refusal}
@@ -100,13 +100,13 @@ module _ (a b : Content) (set : IsSet a) (ks : List (List ℕ)) (are : ks ≡ ma
   is_set : IsSet (difference a b)
   is_set = value_of_part Set a (difference a b) (part a b) set
 
-  pub made_set : (w : Worth) → w.kind ≡ Set → IsKeysOf ks w.content → IsSet w.content → w ≡ record { kind = Set; content = difference a b }
+  pub made_set : (w : ValueView) → w.kind ≡ Set → IsKeysOf ks w.content → IsSet w.content → w ≡ record { kind = Set; content = difference a b }
   made_set w kind keys value =
       let one = set_is ks w kind keys value in
       let other = set_is ks (record { kind = Set; content = difference a b }) refl set_keys is_set in
       same (sym one ∙ other)
     where
-      same : ◌≡◌ {A = Result Worth Refusal} (Ok w) (Ok (record { kind = Set; content = difference a b })) → w ≡ record { kind = Set; content = difference a b }
+      same : ◌≡◌ {A = Result ValueView Refusal} (Ok w) (Ok (record { kind = Set; content = difference a b })) → w ≡ record { kind = Set; content = difference a b }
       same e = cc
 
   pub makes_set : ((c : Content) → IsSet c → ¬ IsKeysOf ks c) → ⊥
@@ -123,13 +123,13 @@ module _ (a b : Content) (bag : IsBag a) (ps : List (List ℕ × ℤ)) (are : ps
   is_bag : IsBag (difference a b)
   is_bag = value_of_part Bag a (difference a b) (part a b) bag
 
-  pub made_bag : (w : Worth) → w.kind ≡ Bag → IsPairsOf ps w.content → IsBag w.content → w ≡ record { kind = Bag; content = difference a b }
+  pub made_bag : (w : ValueView) → w.kind ≡ Bag → IsPairsOf ps w.content → IsBag w.content → w ≡ record { kind = Bag; content = difference a b }
   made_bag w kind pairs value =
       let one = bag_is ps w kind pairs value in
       let other = bag_is ps (record { kind = Bag; content = difference a b }) refl bag_pairs is_bag in
       same (sym one ∙ other)
     where
-      same : ◌≡◌ {A = Result Worth Refusal} (Ok w) (Ok (record { kind = Bag; content = difference a b })) → w ≡ record { kind = Bag; content = difference a b }
+      same : ◌≡◌ {A = Result ValueView Refusal} (Ok w) (Ok (record { kind = Bag; content = difference a b })) → w ≡ record { kind = Bag; content = difference a b }
       same e = cc
 
   pub makes_bag : ((c : Content) → IsBag c → ¬ IsPairsOf ps c) → ⊥

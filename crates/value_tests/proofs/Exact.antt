@@ -2,7 +2,7 @@
 use Rattle.std.proofs.Common.{◌≡◌, ◌≢◌, ℕ, ◌<◌, Bool, true, false, Option, Some, None, Result, Ok, Err, List, refl, sym, ap, ◌∙◌, inl, inr}
 use Rattle.std.proofs.lemmas.Bool.{false≢true, le-leb, leb-false, leb-true}
 use Rattle.refusals.specs.amount_math.Content.{Content, count}
-use Rattle.refusals.specs.amount_math.Worth.{Fits, HasFew, bound, keys_of, most_keys}
+use Rattle.refusals.specs.amount_math.ValueView.{Fits, HasFew, bound, keys_of, most_keys}
 use Rattle.refusals.specs.amount_math.declared.Kind.{Kind}
 use Rattle.refusals.specs.amount_math.declared.Kind.TheVariants.{Nat, Set, Bag}
 use Rattle.refusals.specs.amount_math.declared.PutFault.TheVariants as put_fault

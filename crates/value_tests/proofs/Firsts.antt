@@ -13,7 +13,7 @@ use Rattle.std.proofs.lemmas.Option.{same_Some}
 use Rattle.refusals.specs.amount_math.Content.{Content, count, count-sum, count_listed, counts, entries, key_cmp, listed, sum}
 use Rattle.refusals.specs.amount_math.Entries.{Entries, IsRising}
 use Rattle.refusals.specs.amount_math.Totals.{first, less, second}
-use Rattle.refusals.specs.amount_math.Worth.{IsFirstPast}
+use Rattle.refusals.specs.amount_math.ValueView.{IsFirstPast}
 use Rattle.refusals.proofs.amount_math.Listed.{below_rest, rising_rest, same_key}
 use Rattle.value_tests.specs.Firsts.{elements, first_past}
 

@@ -18,7 +18,7 @@ use Rattle.std.proofs.lemmas.List.{drop_all, drop_more}
 use Rattle.refusals.specs.amount_math.Content.{Content, count, count-nothing, count-sum, count_listed, counts, entries, key_cmp, listed, nothing, of_entries, of_entries-entries, of_entries-nil, same_content, unit}
 use Rattle.refusals.specs.amount_math.Entries.{Entries, IsRising, at_key, entry_at, tally}
 use Rattle.refusals.specs.amount_math.Sparse.{at-put, put, put_by}
-use Rattle.refusals.specs.amount_math.Worth.{IsValue, Worth, bound, fits_from_value, keys_of, nat_bound}
+use Rattle.refusals.specs.amount_math.ValueView.{IsValue, ValueView, bound, fits_from_value, keys_of, nat_bound}
 use Rattle.refusals.specs.amount_math.declared.Kind.{Kind}
 use Rattle.refusals.specs.amount_math.declared.Kind.TheVariants.{Nat, Set, Bag}
 use Rattle.refusals.proofs.amount_math.Listed.{at_own_key, listed-tally, listed_at, no_entries, same_key}
@@ -155,17 +155,17 @@ module _ (most : ℕ) (c : Content) (ks : List (List ℕ)) (k : List ℕ) (n : �
 -- ---- value by value
 
 abbrev Lent : Type 0
-Lent = List (Bor Worth)
+Lent = List (Bor ValueView)
 
-abbrev worths : Lent → List Worth
-worths vs = map (λ v. v.now) vs
+abbrev values_now : Lent → List ValueView
+values_now vs = map (λ v. v.now) vs
 
-module _ (vs : Lent) (i : ℕ) (v : Bor Worth) (lt : i < length vs) (at : v ≡ get_or vs i v) where
-  pub total_next : (k : List ℕ) → count (total_of (worths (drop i vs))) k ≡ count v.now.content k + count (total_of (worths (drop (i + 1) vs))) k
-  total_next k = ap (λ us. count (total_of (worths us)) k) (drop_more vs i v lt ∙ ap (λ u. u ∷ drop (i + 1) vs) (sym at)) ∙ count-sum v.now.content (total_of (worths (drop (i + 1) vs))) k
+module _ (vs : Lent) (i : ℕ) (v : Bor ValueView) (lt : i < length vs) (at : v ≡ get_or vs i v) where
+  pub total_next : (k : List ℕ) → count (total_of (values_now (drop i vs))) k ≡ count v.now.content k + count (total_of (values_now (drop (i + 1) vs))) k
+  total_next k = ap (λ us. count (total_of (values_now us)) k) (drop_more vs i v lt ∙ ap (λ u. u ∷ drop (i + 1) vs) (sym at)) ∙ count-sum v.now.content (total_of (values_now (drop (i + 1) vs))) k
 
-pub total_ends : (vs : Lent) (i : ℕ) (c : Content) → length vs ≤ i → ((k : List ℕ) → count c k + count (total_of (worths (drop i vs))) k ≡ count (total_of (worths vs)) k) → c ≡ total_of (worths vs)
-total_ends vs i c past each = same_content c _ (λ k. omega (arith, each k, ap (λ us. count (total_of (worths us)) k) (drop_all i vs past), count-nothing k))
+pub total_ends : (vs : Lent) (i : ℕ) (c : Content) → length vs ≤ i → ((k : List ℕ) → count c k + count (total_of (values_now (drop i vs))) k ≡ count (total_of (values_now vs)) k) → c ≡ total_of (values_now vs)
+total_ends vs i c past each = same_content c _ (λ k. omega (arith, each k, ap (λ us. count (total_of (values_now us)) k) (drop_all i vs past), count-nothing k))
 
 -- of units the one element is the empty text
 pub no_units : (k : List ℕ) (n : ℕ) → k ≢ [] → at_key k unit n ≡ 0

@@ -11,7 +11,7 @@ use Rattle.std.proofs.lemmas.List.Sums.{sum_by-cons}
 use Rattle.refusals.specs.amount_math.Content.{Content, count, count-sum, entries, key_cmp, of_entries, sum}
 use Rattle.refusals.specs.amount_math.Entries.{AreEntries, Entries, IsEntry, IsKey, at_key, tally}
 use Rattle.refusals.specs.amount_math.KindData.{IsPairsOf, signed}
-use Rattle.refusals.specs.amount_math.Worth.{Fits, IsBag, IsFirstPast, IsIssueRefusal, PassesBound, Worth, bound, nat_bound}
+use Rattle.refusals.specs.amount_math.ValueView.{Fits, IsBag, IsFirstPast, IsIssueRefusal, PassesBound, ValueView, bound, nat_bound}
 use Rattle.refusals.specs.amount_math.declared.Kind.{Kind}
 use Rattle.refusals.specs.amount_math.declared.Kind.TheVariants.{Nat, Set, Bag}
 use Rattle.refusals.specs.amount_math.declared.PutFault.{PutFault}
@@ -111,7 +111,7 @@ told_small kind c e told over fits is at =
     (omega (arith, sum), omega (arith, sum, fits.each e, bounded kind))
 
 -- a value that is full of an element, by its kind and the brand's
-pub full_told : (kind : Kind) (c : Content) (full : Worth) (e : List ℕ) (made : Kind) (n : ℕ) → made ≡ kind → Fits kind c → full.kind ≡ made → ((k : List ℕ) → count full.content k ≡ at_key k e n) → n ≡ bound made → (told : Result (Unit {0}) PutFault) → (IsOk told → Fits full.kind (sum c full.content)) → IfErr told (IsIssueRefusal full.kind (sum c full.content)) → IsTold told (count c e)
+pub full_told : (kind : Kind) (c : Content) (full : ValueView) (e : List ℕ) (made : Kind) (n : ℕ) → made ≡ kind → Fits kind c → full.kind ≡ made → ((k : List ℕ) → count full.content k ≡ at_key k e n) → n ≡ bound made → (told : Result (Unit {0}) PutFault) → (IsOk told → Fits full.kind (sum c full.content)) → IfErr told (IsIssueRefusal full.kind (sum c full.content)) → IsTold told (count c e)
 full_told kind c full e made n same fits of has many told ok refused =
     let is : full.kind ≡ kind = of ∙ same in
     is_told full.kind c full.content e n (subst (λ (x : Kind). Fits x c) (sym is) fits) has told (many ∙ ap bound (sym of)) ok refused

@@ -7,7 +7,7 @@ use Rattle.std.proofs.lemmas.List.{drop_all, drop_more}
 use Rattle.refusals.specs.amount_math.Content.{Content, combined, count, count-sum, counts, entries, is_zero, nothing, sum, sum-assoc}
 use Rattle.refusals.specs.amount_math.Entries.{Entries, entry_at}
 use Rattle.refusals.specs.amount_math.Sparse.{is_something, put, put_by}
-use Rattle.refusals.specs.amount_math.Worth.{Fits, HasFew, IsPutRefusal, Worth, keys_of, most_keys}
+use Rattle.refusals.specs.amount_math.ValueView.{Fits, HasFew, IsPutRefusal, ValueView, keys_of, most_keys}
 use Rattle.refusals.specs.amount_math.declared.Kind.{Kind}
 use Rattle.refusals.specs.amount_math.declared.Kind.TheVariants.{Nat, Set, Bag}
 use Rattle.refusals.specs.amount_math.declared.PutFault.{PutFault}
@@ -57,7 +57,7 @@ few_in_sum Bag a b h = omega (arith, h, keys_in_sum a b)
 fits_in_sum : (kind : Kind) (a b : Content) → Fits kind (sum a b) → Fits kind a
 fits_in_sum kind a b h = record { each = λ k. omega (arith, h.each k, count-sum a b k) }
 
-pub can_add : (kind : Kind) (a b : Worth) (rest whole : Content) → a.kind ≡ kind → sum a.content (sum b.content rest) ≡ whole → Fits kind whole → HasFew kind whole → CanAdd a b
+pub can_add : (kind : Kind) (a b : ValueView) (rest whole : Content) → a.kind ≡ kind → sum a.content (sum b.content rest) ≡ whole → Fits kind whole → HasFew kind whole → CanAdd a b
 can_add kind a b rest whole same is fits few =
     let all = sum-assoc a.content b.content rest ∙ is in
     let fits_part = fits_in_sum kind (sum a.content b.content) rest (subst (λ c. Fits kind c) (sym all) fits) in
@@ -68,7 +68,7 @@ can_add kind a b rest whole same is fits few =
     }
 
 -- what can be added is refused for want of memory alone
-pub only_memory : (a b : Worth) (fault : PutFault) → CanAdd a b → IsPutRefusal a.kind (sum a.content b.content) fault → fault ≡ put_fault.NoMemory
+pub only_memory : (a b : ValueView) (fault : PutFault) → CanAdd a b → IsPutRefusal a.kind (sum a.content b.content) fault → fault ≡ put_fault.NoMemory
 only_memory a b (put_fault.Overlap key) can h = let fits = subst (λ k. Fits k (sum a.content b.content)) h.0 can.fits in absurd (omega (arith, fits.each key, h.1.passes))
 only_memory a b (put_fault.TooMuch over) can h = elim h as (λ _. put_fault.TooMuch over ≡ put_fault.NoMemory) [
   | inl p ↦ absurd (omega (arith, p.1.passes, can.fits.each p.1.element))
@@ -84,16 +84,16 @@ only_memory a b put_fault.NoMemory can h = refl
 -- ---- value by value
 
 abbrev Lent : Type 0
-Lent = List (Bor Worth)
+Lent = List (Bor ValueView)
 
-abbrev worths : Lent → List Worth
-worths vs = map (λ v. v.now) vs
+abbrev values_now : Lent → List ValueView
+values_now vs = map (λ v. v.now) vs
 
-pub total_next : (vs : Lent) (i : ℕ) (v : Bor Worth) → i < length vs → v ≡ get_or vs i v → total_of (worths (drop i vs)) ≡ sum v.now.content (total_of (worths (drop (i + 1) vs)))
-total_next vs i v lt at = ap (λ us. total_of (worths us)) (drop_more vs i v lt ∙ ap (λ u. u ∷ drop (i + 1) vs) (sym at))
+pub total_next : (vs : Lent) (i : ℕ) (v : Bor ValueView) → i < length vs → v ≡ get_or vs i v → total_of (values_now (drop i vs)) ≡ sum v.now.content (total_of (values_now (drop (i + 1) vs)))
+total_next vs i v lt at = ap (λ us. total_of (values_now us)) (drop_more vs i v lt ∙ ap (λ u. u ∷ drop (i + 1) vs) (sym at))
 
-pub total_ends : (vs : Lent) (i : ℕ) → length vs ≤ i → total_of (worths (drop i vs)) ≡ nothing
-total_ends vs i past = ap (λ us. total_of (worths us)) (drop_all i vs past)
+pub total_ends : (vs : Lent) (i : ℕ) → length vs ≤ i → total_of (values_now (drop i vs)) ≡ nothing
+total_ends vs i past = ap (λ us. total_of (values_now us)) (drop_all i vs past)
 
-pub not_too_much : (a b : Worth) (over : TooMuch) → CanAdd a b → IsPutRefusal a.kind (sum a.content b.content) (put_fault.TooMuch over) → ⊥
+pub not_too_much : (a b : ValueView) (over : TooMuch) → CanAdd a b → IsPutRefusal a.kind (sum a.content b.content) (put_fault.TooMuch over) → ⊥
 not_too_much a b over can h = let e = only_memory a b (put_fault.TooMuch over) can h in cc

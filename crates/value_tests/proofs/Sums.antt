@@ -3,7 +3,7 @@ use Rattle.std.proofs.Common.{◌≡◌, ◌≢◌, ℕ, ◌<◌, ◌≤◌, ◌
 use Rattle.std.proofs.lemmas.Bool.{le-leb, lt-leb}
 use Rattle.refusals.specs.amount_math.Content.{Content, count-sum, sum}
 use Rattle.refusals.specs.amount_math.Held.{keys_of-sum}
-use Rattle.refusals.specs.amount_math.Worth.{Fits, IsFirstPast, IsIssueRefusal, IsPutRefusal, IsValue, PassesBound, PassesKeys, bag_bound, bound, fits_from_value, keys_of, most_keys, nat_bound}
+use Rattle.refusals.specs.amount_math.ValueView.{Fits, IsFirstPast, IsIssueRefusal, IsPutRefusal, IsValue, PassesBound, PassesKeys, bag_bound, bound, fits_from_value, keys_of, most_keys, nat_bound}
 use Rattle.refusals.specs.amount_math.declared.Kind.{Kind}
 use Rattle.refusals.specs.amount_math.declared.Kind.TheVariants.{Nat, Set, Bag}
 use Rattle.refusals.specs.amount_math.declared.PutFault.{PutFault}

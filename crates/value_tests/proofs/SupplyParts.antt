@@ -6,7 +6,7 @@ use Rattle.std.proofs.lemmas.List.{take_more}
 use Rattle.std.proofs.lemmas.List.Elements.{All-append, All-cons, All-nil}
 use Rattle.refusals.specs.amount_math.Content.{Contains, Content, count, count-nothing, count-of_nat, count-sum, entries, nothing, sum, unit}
 use Rattle.refusals.specs.amount_math.Entries.{Entries, IsEntry, at_key}
-use Rattle.refusals.specs.amount_math.Worth.{Fits, HasKeys, IsValue, Worth, bound, with_content}
+use Rattle.refusals.specs.amount_math.ValueView.{Fits, HasKeys, IsValue, ValueView, bound, with_content}
 use Rattle.refusals.specs.amount_math.declared.Kind.{Kind}
 use Rattle.refusals.specs.amount_math.declared.Kind.TheVariants.{Nat, Set, Bag}
 use Rattle.refusals.proofs.amount_math.Listed.{at_own_key, entries_are}
@@ -15,20 +15,20 @@ use Rattle.value_tests.proofs.Kept.{tally_entries, value_bounded}
 use Rattle.value_tests.specs.Beside.{HasAllOf, IsElement, IsKept, IsPartOf, IsPut, IsThere}
 use Rattle.value_tests.proofs.Probes.{at_cases}
 
-pub empty_part : (out : Worth) (part : Worth) → part.kind ≡ out.kind → part.content ≡ nothing → IsPartOf out part
+pub empty_part : (out : ValueView) (part : ValueView) → part.kind ≡ out.kind → part.content ≡ nothing → IsPartOf out part
 empty_part out part kind none = record { kind = kind; each = λ k. inl (ap (λ c. count c k) none ∙ count-nothing k) }
 
-pub kept_same : (out part : Worth) → IsKept out part part
+pub kept_same : (out part : ValueView) → IsKept out part part
 kept_same out part = record { each = λ k there. there }
 
 -- where none are out, none are there
-pub there_none : (out part : Worth) (e : List ℕ) → IsPartOf out part → count out.content e ≡ 0 → IsThere out part e
+pub there_none : (out part : ValueView) (e : List ℕ) → IsPartOf out part → count out.content e ≡ 0 → IsThere out part e
 there_none out part e is none = elim (is.each e) [
   | inl here ↦ omega (arith, here, none)
   | inr there ↦ there
 ]
 
-module _ (out part : Worth) (e : List ℕ) (n : ℕ) (v : Content) (is : IsPartOf out part) (some : 0 < n) (many : n ≡ count out.content e) (has : (k : List ℕ) → count v k ≡ at_key k e n) where
+module _ (out part : ValueView) (e : List ℕ) (n : ℕ) (v : Content) (is : IsPartOf out part) (some : 0 < n) (many : n ≡ count out.content e) (has : (k : List ℕ) → count v k ≡ at_key k e n) where
   within : IsThere out part e → Contains part.content v
   within there = record {
     each = λ k. elim (at_cases k e) [
@@ -60,7 +60,7 @@ module _ (out part : Worth) (e : List ℕ) (n : ℕ) (v : Content) (is : IsPartO
     ];
   }
 
-  module _ (next : Worth) (put : IsPut part v next) where
+  module _ (next : ValueView) (put : IsPut part v next) where
     -- it stands as it did, or has the element now
     abbrev Cases : Type 0
     Cases = ((next ≡ part) × IsThere out part e) ⊎ (next ≡ with_content part (sum part.content v)) × (count part.content e ≡ 0)
@@ -73,20 +73,20 @@ module _ (out part : Worth) (e : List ℕ) (n : ℕ) (v : Content) (is : IsPartO
 
     pub after_there : IsThere out next e
     after_there = elim cases [
-      | inl same ↦ ap (λ (w : Worth). count w.content e) same.0 ∙ same.1
-      | inr new ↦ ap (λ (w : Worth). count w.content e) new.0 ∙ added new.1
+      | inl same ↦ ap (λ (w : ValueView). count w.content e) same.0 ∙ same.1
+      | inr new ↦ ap (λ (w : ValueView). count w.content e) new.0 ∙ added new.1
     ]
 
     same_else : (k : List ℕ) → ((m : ℕ) → at_key k e m ≡ 0) → count next.content k ≡ count part.content k
     same_else k none = elim cases [
-      | inl same ↦ ap (λ (w : Worth). count w.content k) same.0
-      | inr new ↦ ap (λ (w : Worth). count w.content k) new.0 ∙ omega (arith, count-sum part.content v k, has k, none n)
+      | inl same ↦ ap (λ (w : ValueView). count w.content k) same.0
+      | inr new ↦ ap (λ (w : ValueView). count w.content k) new.0 ∙ omega (arith, count-sum part.content v k, has k, none n)
     ]
 
     same_kind : next.kind ≡ part.kind
     same_kind = elim cases [
-      | inl same ↦ ap (λ (w : Worth). w.kind) same.0
-      | inr new ↦ ap (λ (w : Worth). w.kind) new.0
+      | inl same ↦ ap (λ (w : ValueView). w.kind) same.0
+      | inr new ↦ ap (λ (w : ValueView). w.kind) new.0
     ]
 
     pub after_part : IsPartOf out next
@@ -111,13 +111,13 @@ module _ (out part : Worth) (e : List ℕ) (n : ℕ) (v : Content) (is : IsPartO
 
 -- ---- one after another
 
-pub kept_more : (out a b c : Worth) → IsKept out a b → IsKept out b c → IsKept out a c
+pub kept_more : (out a b c : ValueView) → IsKept out a b → IsKept out b c → IsKept out a c
 kept_more out a b c one other = record { each = λ k there. other.each k (one.each k there) }
 
-pub entries_kept : (out a b : Worth) (es : Entries) → IsKept out a b → All (λ (e : List ℕ × ℕ). IsThere out a e.0) es → All (λ (e : List ℕ × ℕ). IsThere out b e.0) es
+pub entries_kept : (out a b : ValueView) (es : Entries) → IsKept out a b → All (λ (e : List ℕ × ℕ). IsThere out a e.0) es → All (λ (e : List ℕ × ℕ). IsThere out b e.0) es
 entries_kept out a b es kept all = λ i d lt. kept.each _ (all i d lt)
 
-pub all_kept : (out a b : Worth) (c : Content) → IsKept out a b → HasAllOf out a c → HasAllOf out b c
+pub all_kept : (out a b : ValueView) (c : Content) → IsKept out a b → HasAllOf out a c → HasAllOf out b c
 all_kept out a b c kept has = record {
   each = λ k. elim (has.each k) [
     | inl none ↦ inl none
@@ -125,7 +125,7 @@ all_kept out a b c kept has = record {
   ];
 }
 
-pub values_kept : (out a b : Worth) (vs : List (Bor Worth)) → IsKept out a b → All (λ (v : Bor Worth). HasAllOf out a v.now.content) vs → All (λ (v : Bor Worth). HasAllOf out b v.now.content) vs
+pub values_kept : (out a b : ValueView) (vs : List (Bor ValueView)) → IsKept out a b → All (λ (v : Bor ValueView). HasAllOf out a v.now.content) vs → All (λ (v : Bor ValueView). HasAllOf out b v.now.content) vs
 values_kept out a b vs kept all = λ i d lt. all_kept out a b _ kept (all i d lt)
 
 -- ---- the elements of a value
@@ -138,7 +138,7 @@ elements Nat c other value = absurd (other refl)
 elements Set c other value = λ i d lt. (keyed_entries Set c value.keyed.keys (value_bounded Set c value) i d lt).key
 elements Bag c other value = λ i d lt. (keyed_entries Bag c value.keyed.keys (value_bounded Bag c value) i d lt).key
 
-pub all_of_entries : (out part : Worth) (c : Content) → All (λ (e : List ℕ × ℕ). IsThere out part e.0) (entries c) → HasAllOf out part c
+pub all_of_entries : (out part : ValueView) (c : Content) → All (λ (e : List ℕ × ℕ). IsThere out part e.0) (entries c) → HasAllOf out part c
 all_of_entries out part c all = record {
   each = λ k. elim (somewhere (entries c) k) [
     | inl none ↦ inl (sym (tally_entries c k) ∙ none)
@@ -146,7 +146,7 @@ all_of_entries out part c all = record {
   ];
 }
 
-pub all_of_units : (out part : Worth) (c : Content) → IsValue Nat c → IsThere out part unit → HasAllOf out part c
+pub all_of_units : (out part : ValueView) (c : Content) → IsValue Nat c → IsThere out part unit → HasAllOf out part c
 all_of_units out part c value there = record {
   each = λ k. elim (at_cases k unit) [
     | inl same ↦ inr (subst (IsThere out part) (sym same) there)

@@ -2,7 +2,7 @@
 use Rattle.std.specs.Prelude.{◌≡◌, ℕ, ◌+◌, ◌<◌, ◌≤◌, List, ◌⊎◌, Result, Ok, Err}
 use Rattle.refusals.specs.amount_math.Content.{Contains, Content, count, sum, unit}
 use Rattle.refusals.specs.amount_math.Entries.{IsKey}
-use Rattle.refusals.specs.amount_math.Worth.{Worth, bound, with_content}
+use Rattle.refusals.specs.amount_math.ValueView.{ValueView, bound, with_content}
 use Rattle.refusals.specs.amount_math.declared.Kind.{Kind}
 use Rattle.refusals.specs.amount_math.declared.Kind.TheVariants.{Nat, Set, Bag}
 use Rattle.refusals.specs.amount_math.declared.PutFault.{PutFault}
@@ -27,23 +27,23 @@ IsTold (Err (put_fault.TooMuch over)) n = over.sum ≡ n + over.bound
 IsTold (Err put_fault.NoMemory) n = Unit {0}
 
 -- a content was added where it wasn't there
-pub record IsPut (before : Worth) (c : Content) (after : Worth) : Type 0 where
+pub record IsPut (before : ValueView) (c : Content) (after : ValueView) : Type 0 where
   pub there : Contains before.content c → after ≡ before
   pub put : ¬ Contains before.content c → after ≡ with_content before (sum before.content c)
 
 -- as many of an element are there as are out
-abbrev pub IsThere : Worth → Worth → List ℕ → Type 0
+abbrev pub IsThere : ValueView → ValueView → List ℕ → Type 0
 IsThere out part k = count part.content k ≡ count out.content k
 
 -- of each element none is there, or as many as are out
-pub record IsPartOf (out part : Worth) : Type 0 where
+pub record IsPartOf (out part : ValueView) : Type 0 where
   pub kind : part.kind ≡ out.kind
   pub each : (k : List ℕ) → (count part.content k ≡ 0) ⊎ IsThere out part k
 
 -- what was there still is
-pub record IsKept (out before after : Worth) : Type 0 where
+pub record IsKept (out before after : ValueView) : Type 0 where
   pub each : (k : List ℕ) → IsThere out before k → IsThere out after k
 
 -- of each element that a content has, as many are there as are out
-pub record HasAllOf (out part : Worth) (c : Content) : Type 0 where
+pub record HasAllOf (out part : ValueView) (c : Content) : Type 0 where
   pub each : (k : List ℕ) → (count c k ≡ 0) ⊎ IsThere out part k

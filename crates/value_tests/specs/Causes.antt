@@ -1,7 +1,7 @@
 -- Why a test of a sum is refused, by the faults that a sum has.
 use Rattle.std.specs.Prelude.{◌≡◌, ◌≢◌, ◌↔◌, ℕ, List, Result, Ok, Err}
 use Rattle.refusals.specs.amount_math.Content.{Content}
-use Rattle.refusals.specs.amount_math.Worth.{IsFirstPast, IsIssueRefusal, IsPutRefusal}
+use Rattle.refusals.specs.amount_math.ValueView.{IsFirstPast, IsIssueRefusal, IsPutRefusal}
 use Rattle.refusals.specs.amount_math.declared.Kind.{Kind}
 use Rattle.refusals.specs.amount_math.declared.Kind.TheVariants.{Set}
 use Rattle.refusals.specs.amount_math.declared.PutFault.{PutFault}

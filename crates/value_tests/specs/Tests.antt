@@ -1,7 +1,7 @@
 -- Tests of values, as functions that can be computed, each with what it shows where it fails.
 use Rattle.std.specs.Prelude.{ℕ, List, [], ◌∷◌, Bool, true, false, nat_le, Option, Result, Ok}
 use Rattle.refusals.specs.amount_math.Content.{Content, count, difference, sum}
-use Rattle.refusals.specs.amount_math.Worth.{Worth, bag_bound, bound, keys_of, most_keys, nat_bound}
+use Rattle.refusals.specs.amount_math.ValueView.{ValueView, bag_bound, bound, keys_of, most_keys, nat_bound}
 use Rattle.refusals.specs.amount_math.declared.Kind.{Kind}
 use Rattle.refusals.specs.amount_math.declared.Kind.TheVariants.{Nat, Set, Bag}
 use Rattle.value_tests.specs.Firsts.{elements, first_past}
@@ -19,7 +19,7 @@ abbrev pub is_nothing : Content → Bool
 is_nothing c = are_none (elements c)
 
 -- nothing is left of the other that the one hasn't
-unfoldable pub has : Worth → Worth → Bool
+unfoldable pub has : ValueView → ValueView → Bool
 has a b = is_nothing (difference b.content a.content)
 
 -- that a value has too much of an element: a set shows the key, which two have in common
@@ -52,7 +52,7 @@ unfoldable pub value_fits : Kind → Content → Result (Unit {0}) Refusal
 value_fits kind c = counts_then_keys kind c (counts_fit kind c)
 
 -- the sum of two values of one kind
-abbrev pub sum_fits : Worth → Worth → Result (Unit {0}) Refusal
+abbrev pub sum_fits : ValueView → ValueView → Result (Unit {0}) Refusal
 sum_fits a b = value_fits a.kind (sum a.content b.content)
 
 -- of two sets no key is in both, or in what more of them have together in two
@@ -62,9 +62,9 @@ overlap_free Set c = none_such (first_past 1 c) Overlap
 overlap_free Bag c = Ok tt
 
 -- the whole sum of values of one kind
-abbrev pub total_fits : Kind → List Worth → Result (Unit {0}) Refusal
+abbrev pub total_fits : Kind → List ValueView → Result (Unit {0}) Refusal
 total_fits kind ws = value_fits kind (total_of ws)
 
 -- values that come out together, beside what is out of their brand
-abbrev pub all_fit_out : Worth → List Worth → Result (Unit {0}) Refusal
+abbrev pub all_fit_out : ValueView → List ValueView → Result (Unit {0}) Refusal
 all_fit_out out ws = counts_fit out.kind (sum out.content (total_of ws))

@@ -1,10 +1,10 @@
 -- What values have together.
 use Rattle.std.specs.Prelude.{◌≡◌, ℕ, ◌+◌, List, [], ◌∷◌}
 use Rattle.refusals.specs.amount_math.Content.{Content, count, nothing, sum}
-use Rattle.refusals.specs.amount_math.Worth.{Worth}
+use Rattle.refusals.specs.amount_math.ValueView.{ValueView}
 
 -- the sum of the values' contents
-abbrev pub total_of : List Worth → Content
+abbrev pub total_of : List ValueView → Content
 total_of [] = nothing
 total_of (w ∷ ws) = sum w.content (total_of ws)
 

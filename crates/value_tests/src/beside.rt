@@ -2,7 +2,7 @@
 
 ghost use Rattle.std.specs.Prelude.{◌≡◌, ◌<◌, All, IfOk, OnOk, length, map};
 ghost use Rattle.refusals.specs.amount_math.Content.{Contains, nothing, sum};
-ghost use Rattle.refusals.specs.amount_math.Worth.{Fits, with_content};
+ghost use Rattle.refusals.specs.amount_math.ValueView.{Fits, with_content};
 ghost use Rattle.refusals.specs.Outcomes.{Gives};
 ghost use Rattle.value_tests.specs.Beside.{HasAllOf, IsElement, IsKept, IsPartOf, IsPut, IsThere};
 ghost use Rattle.transit.specs.Transit.{in_store, kind_in, supply_in};

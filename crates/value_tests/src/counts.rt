@@ -3,7 +3,7 @@
 ghost use Rattle.std.specs.Prelude.{◌≡◌, ◌<◌, ◌≤◌, ◌+◌, ℕ, Err, IfOk, List, length};
 ghost use Rattle.refusals.specs.amount_math.Content.{count, nothing};
 ghost use Rattle.refusals.specs.amount_math.Entries.{IsKey, at_key};
-ghost use Rattle.refusals.specs.amount_math.Worth.{bound, nat_bound};
+ghost use Rattle.refusals.specs.amount_math.ValueView.{bound, nat_bound};
 ghost use Rattle.refusals.specs.amount_math.declared.TooMuch.{TooMuch};
 ghost use Rattle.value_tests.specs.Beside.{CanBeOut, IsElement, IsTold};
 ghost use Rattle.transit.specs.Transit.{in_store, kind_in, supply_in};

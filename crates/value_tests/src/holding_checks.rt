@@ -5,15 +5,14 @@
 
 ghost use Rattle.std.specs.Prelude.{◌≡◌, ◌<◌, true, length, OnOk};
 ghost use Rattle.refusals.specs.amount_math.Content.{Contains, nothing, sum};
-ghost use Rattle.refusals.specs.amount_math.Worth.{Fits, IsValue};
+ghost use Rattle.refusals.specs.amount_math.ValueView.{Fits, IsValue};
 ghost use Rattle.refusals.specs.Codes.{not_enough};
 ghost use Rattle.refusals.specs.Outcomes.{Gives, Refuses, need};
 ghost use Rattle.transit.specs.Transit.{in_store};
-ghost use Rattle.value_tests.specs.Tests.{counts_fit, has, overlap_free, sum_fits};
+ghost use Rattle.value_tests.specs.Tests.{counts_fit, has, sum_fits};
 ghost use Rattle.value_tests.specs.Supplies.{outstanding_in};
 
-use refusals::amount_math_lib::{Holding, PutFault, Value};
-use refusals::codes::Refusal;
+use refusals::amount_math_lib::{Holding, Value};
 use refusals::stops::{Stop, not_enough};
 use transit::Transit;
 
@@ -50,21 +49,6 @@ pub fn check_has(held: &Holding, asked: &Value) -> Result<(), Stop>
         Ok(())
     } else {
         Err(lacks(held, asked))
-    }
-}
-
-/// That a set that is held and another have no key in common: else `Overlap` with the least (ERTP). Values
-/// of another kind pass.
-pub fn check_overlap(held: &Holding, given: &Value) -> Result<(), Stop>
-    requires { held.now.value.kind ≡ given.now.kind }
-    ensures { Gives (λ _. tt) result
-        (overlap_free held.now.value.kind (sum held.now.value.content given.now.content)) }
-{
-    match held.can_absorb(given) {
-        Err(PutFault::Overlap(key)) => Err(Stop::Refused(Refusal::Overlap(key))),
-        Err(PutFault::NoMemory) => Err(Stop::NoMemory),
-        Err(PutFault::TooMuch(_)) => Ok(()),
-        Ok(()) => Ok(()),
     }
 }
 

@@ -2,7 +2,7 @@
 
 ghost use Rattle.std.specs.Prelude.{◌≡◌, ◌↔◌, IsTrue, OnOk};
 ghost use Rattle.refusals.specs.amount_math.Content.{Contains, sum};
-ghost use Rattle.refusals.specs.amount_math.Worth.{IsValue};
+ghost use Rattle.refusals.specs.amount_math.ValueView.{IsValue};
 ghost use Rattle.refusals.specs.Codes.{not_enough};
 ghost use Rattle.refusals.specs.Outcomes.{Gives, need};
 ghost use Rattle.value_tests.specs.Tests.{has, overlap_free, sum_fits};

@@ -1,8 +1,8 @@
-// What a call is refused for where a total passes a bound.
+//! What a call is refused for where a total passes a bound.
 
 ghost use Rattle.std.specs.Prelude.{◌≡◌, ◌<◌, ◌^◌};
 ghost use Rattle.refusals.specs.amount_math.Content.{Content, count};
-ghost use Rattle.refusals.specs.amount_math.Worth.{bound, keys_of};
+ghost use Rattle.refusals.specs.amount_math.ValueView.{bound, keys_of};
 ghost use Rattle.refusals.specs.Codes.{too_much};
 ghost use Rattle.refusals.specs.Outcomes.{Gives, Refuses};
 ghost use Rattle.refusals.specs.declared.codes.Refusal.TheVariants as refusals;

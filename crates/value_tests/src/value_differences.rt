@@ -6,7 +6,7 @@ ghost use Rattle.std.specs.Prelude.{◌≡◌, ◌≢◌, ◌-◌, IfOk, map};
 ghost use Rattle.refusals.specs.amount_math.Content.{difference, entries};
 ghost use Rattle.refusals.specs.amount_math.Entries.{IsRising, tally};
 ghost use Rattle.refusals.specs.amount_math.KindData.{signed};
-ghost use Rattle.refusals.specs.amount_math.Worth.{with_content};
+ghost use Rattle.refusals.specs.amount_math.ValueView.{with_content};
 ghost use Rattle.refusals.specs.amount_math.declared.Kind.{Kind};
 ghost use Rattle.value_tests.specs.Left.{left_of};
 

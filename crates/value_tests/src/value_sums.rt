@@ -4,7 +4,7 @@
 
 ghost use Rattle.std.specs.Prelude.{◌≡◌, All, map, IfOk, OnOk};
 ghost use Rattle.refusals.specs.amount_math.Content.{sum};
-ghost use Rattle.refusals.specs.amount_math.Worth.{Fits, HasFew, with_content};
+ghost use Rattle.refusals.specs.amount_math.ValueView.{Fits, HasFew, with_content};
 ghost use Rattle.value_tests.specs.Totals.{total_of};
 ghost use Rattle.refusals.specs.Outcomes.{Gives};
 ghost use Rattle.value_tests.specs.Sums.{CanAdd, sum_value, whole_sum};

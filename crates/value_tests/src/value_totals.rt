@@ -7,7 +7,7 @@ ghost use Rattle.std.specs.Prelude.{◌≡◌, ◌+◌, ◌<◌, ◌≤◌, ◌^
 ghost use Rattle.refusals.specs.amount_math.Content.{count, counts, nothing, sum, unit};
 ghost use Rattle.refusals.specs.amount_math.Entries.{IsRising, at_key, tally};
 ghost use Rattle.refusals.specs.amount_math.Sparse.{put};
-ghost use Rattle.refusals.specs.amount_math.Worth.{keys_of, nat_bound};
+ghost use Rattle.refusals.specs.amount_math.ValueView.{keys_of, nat_bound};
 ghost use Rattle.value_tests.specs.Listing.{most_shown};
 ghost use Rattle.value_tests.specs.Totals.{HasMore, total_of};
 ghost use Rattle.value_tests.specs.Firsts.{IsCountOf, element_of, first_past};

@@ -2,7 +2,7 @@
 
 ghost use Rattle.std.specs.Prelude.{◌≡◌, map, OnOk};
 ghost use Rattle.refusals.specs.amount_math.Content.{sum};
-ghost use Rattle.refusals.specs.amount_math.Worth.{Fits, HasFew};
+ghost use Rattle.refusals.specs.amount_math.ValueView.{Fits, HasFew};
 ghost use Rattle.value_tests.specs.Totals.{total_of};
 ghost use Rattle.refusals.specs.Outcomes.{Gives};
 ghost use Rattle.value_tests.specs.Tests.{all_fit_out, counts_fit, total_fits};

@@ -1,23 +1,23 @@
 -- The arms of the stores' calls: what each makes, in the words that the calls promise.
 use Rattle.std.proofs.Common.{◌≡◌, ◌≢◌, ℕ, ◌<◌, ◌≤◌, ◌==◌, Bool, true, false, cond, List, ◌∷◌, length, map, Result, Ok, Err, refl, sym, ◌∙◌, ap, subst, arith}
 use Rattle.std.specs.Prelude.{OnOk, slice_set}
-use Rattle.right_steps.specs.amount_math.Held.{Held}
-use Rattle.right_steps.specs.amount_math.Worth.{Fits, Worth}
-use Rattle.right_steps.specs.amount_math.declared.Amount.{Amount}
-use Rattle.right_steps.specs.amount_math.declared.Kind.TheVariants.{Nat}
-use Rattle.right_steps.specs.ertp_mint.Balances.{StoredAmount, ComesOut, GoesIn}
-use Rattle.right_steps.specs.ertp_mint.BrandSupply.{BrandSupply, issued, new_supply, retired, supply_at}
-use Rattle.right_steps.specs.ertp_mint.Circulating.{CanReturn, CirculationView, circulation_at, new_circulation, unissued, unretired, with_forgotten, with_issued, with_retired, with_unissued, with_unretired}
-use Rattle.right_steps.proofs.lemmas.ListEdits.{keeps, length_set, map_set, read_map, set_same}
-use Rattle.right_steps.specs.holders.Purses.{put_in_room, room_at, store_at, taken_at}
-use Rattle.right_steps.specs.Backwards.{retired_by, to_outside}
-use Rattle.right_steps.specs.Tables.{hand_minus, hand_plus}
-use Rattle.right_steps.specs.rights_model.declared.Holder.{Holder}
-use Rattle.right_steps.specs.rights_model.declared.Movement.{Movement}
-use Rattle.right_steps.specs.amount_math.Content.{Content, Contains, count-sum, difference, difference-sum, sum}
+use Rattle.vault_model.specs.amount_math.Held.{Held}
+use Rattle.vault_model.specs.amount_math.ValueView.{Fits, ValueView}
+use Rattle.vault_model.specs.amount_math.declared.Amount.{Amount}
+use Rattle.vault_model.specs.amount_math.declared.Kind.TheVariants.{Nat}
+use Rattle.vault_model.specs.ertp_mint.Balances.{BalanceView, ComesOut, GoesIn}
+use Rattle.vault_model.specs.ertp_mint.BrandSupply.{BrandSupply, issued, new_supply, retired, supply_at}
+use Rattle.vault_model.specs.ertp_mint.Circulating.{CanReturn, CirculationView, circulation_at, new_circulation, unissued, unretired, with_forgotten, with_issued, with_retired, with_unissued, with_unretired}
+use Rattle.vault_model.proofs.lemmas.ListEdits.{keeps, length_set, map_set, read_map, set_same}
+use Rattle.vault_model.specs.holders.Purses.{put_in_room, room_at, store_at, taken_at}
+use Rattle.vault_model.specs.Backwards.{retired_by, to_outside}
+use Rattle.vault_model.specs.Tables.{hand_minus, hand_plus}
+use Rattle.vault_model.specs.rights_model.declared.Holder.{Holder}
+use Rattle.vault_model.specs.rights_model.declared.Movement.{Movement}
+use Rattle.vault_model.specs.amount_math.Content.{Content, Contains, count-sum, difference, difference-sum, sum}
 use Rattle.std.proofs.lemmas.Bool.{eq-eqb}
-use Rattle.right_steps.specs.Lists.{purse_at, ungiven, untaken, with_out, with_outs}
-use Rattle.right_steps.specs.rights_model.declared.Holder.TheVariants.{Purse, Payment, Slot, Hand, Outside}
+use Rattle.vault_model.specs.Lists.{purse_at, ungiven, untaken, with_out, with_outs}
+use Rattle.vault_model.specs.rights_model.declared.Holder.TheVariants.{Purse, Payment, Slot, Hand, Outside}
 use Rattle.transit.specs.Transit.{TransitView, empty_hand, held_at, supply_in, with_hand}
 use Rattle.transit.specs.Transit as transit
 use Rattle.vault.specs.Memory.{IsForward, IsGiven, IsHalf, IsRoomed, IsTaken, content_in_store, given_up_in, kept_of, lists_of, staged_of, store_of}
@@ -31,7 +31,7 @@ pub both_ok : {A E P Q S : Type 0} (r : Result A E) → (P → Q → S) → OnOk
 both_ok (Ok x) f p q = f p q
 both_ok (Err e) f p q = tt
 
-module _ (p : Stores) (t : TransitView) (b : ℕ) (w : Worth) where
+module _ (p : Stores) (t : TransitView) (b : ℕ) (w : ValueView) where
   abbrev s : BrandSupply
   s = supply_in p.transit b
 
@@ -130,8 +130,8 @@ transit_roomed p t b is le =
     refl
 
 -- a purse
-module _ (p : Stores) (n : ℕ) (l : List StoredAmount) where
-  pub taken_of_purse : (w : Worth) (a : Amount) → IsPurseOf (lists_of p) n w → l ≡ taken_at p.purses n w.content → a ≡ record { brand = (store_at p.purses n).amount.brand; value = w } → GoesIn (store_at l n) a → IsTaken p (record p { purses = l }) (Purse n) (purse_at (lists_of p).purses n).brand w
+module _ (p : Stores) (n : ℕ) (l : List BalanceView) where
+  pub taken_of_purse : (w : ValueView) (a : Amount) → IsPurseOf (lists_of p) n w → l ≡ taken_at p.purses n w.content → a ≡ record { brand = (store_at p.purses n).amount.brand; value = w } → GoesIn (store_at l n) a → IsTaken p (record p { purses = l }) (Purse n) (purse_at (lists_of p).purses n).brand w
   taken_of_purse w a source is made goes = purse_taken p n l w (purse_made p n source.made) (purse_at (lists_of p).purses n).brand is
       (subst (λ x. GoesIn (store_at l n) x) (made ∙ (λ i. record { brand = (sym (purse_read p.purses n) i).brand; value = w })) goes)
 

@@ -1,36 +1,34 @@
--- What was taken in the hand can be put or given up, which leave the hand as it was or given up; and both movements together are one of the table.
-use Rattle.std.proofs.Common.{◌≡◌, ℕ, ◌<◌, ◌==◌, Bool, true, false, cond, List, [], ◌∷◌, ◌++◌, length, refl, sym, ◌∙◌, ap, subst, arith}
+-- What was taken in the hand can be put or given up, and what was given up is what the hand has.
+use Rattle.std.proofs.Common.{◌≡◌, ℕ, ◌<◌, ◌==◌, Bool, true, false, cond, List, length, refl, sym, ◌∙◌, ap, subst, arith}
 use Rattle.std.specs.Prelude.{is_some, slice_index_or, slice_set}
 use Rattle.std.proofs.lemmas.Bool.{eq-eqb}
-use Rattle.right_steps.specs.amount_math.Content.{Content, Contains, count-sum, difference, difference-sum, nothing, sum}
-use Rattle.right_steps.specs.amount_math.Worth.{Worth}
-use Rattle.right_steps.specs.amount_math.declared.Amount.{Amount}
-use Rattle.right_steps.specs.ertp_mint.BrandSupply.{BrandSupply}
-use Rattle.right_steps.proofs.lemmas.ListEdits.{read_other, read_set}
-use Rattle.right_steps.specs.proposals.Rows.{amount_under}
-use Rattle.right_steps.specs.Backwards.{from_hand, to_hand}
-use Rattle.right_steps.specs.Lists.{Lists, given, taken, with_new_slot}
-use Rattle.right_steps.specs.Seats.{kept_seat_at}
-use Rattle.right_steps.proofs.Sound.{at_or_else}
-use Rattle.right_steps.specs.rights_model.declared.Holder.{Holder}
-use Rattle.right_steps.specs.rights_model.declared.Holder.TheVariants.{Purse, Payment, Slot, Hand, Outside}
-use Rattle.right_steps.specs.rights_model.Table.{Table, moved, movement}
-use Rattle.right_steps.proofs.rights_model.TableLaws.{table_after-push, through_hand}
-use Rattle.right_steps.specs.Tables.{table_of}
-use Rattle.vault.specs.Drafts.{DraftState, HandGoes, HandKeeps, IsOfBrand, IsValid, MayPut, given_at, given_up_too, hand_now, opened, slotted, table_now}
+use Rattle.vault_model.specs.amount_math.Content.{Content, Contains, count-sum, nothing, sum}
+use Rattle.vault_model.specs.amount_math.ValueView.{ValueView}
+use Rattle.vault_model.specs.amount_math.declared.Amount.{Amount}
+use Rattle.vault_model.specs.ertp_mint.BrandSupply.{BrandSupply}
+use Rattle.vault_model.proofs.lemmas.ListEdits.{read_other, read_set}
+use Rattle.vault_model.specs.proposals.Shares.{amount_under}
+use Rattle.vault_model.specs.Backwards.{from_hand, to_hand}
+use Rattle.vault_model.specs.Lists.{Lists, given, taken, with_new_slot}
+use Rattle.vault_model.specs.Seats.{kept_seat_at}
+use Rattle.vault_model.proofs.Sound.{at_or_else}
+use Rattle.vault_model.specs.rights_model.declared.Holder.{Holder}
+use Rattle.vault_model.specs.rights_model.declared.Holder.TheVariants.{Purse, Payment, Slot, Hand, Outside}
+use Rattle.vault_model.specs.rights_model.Table.{movement}
+use Rattle.vault.specs.Drafts.{DraftState, HandGoes, HandKeeps, IsOfBrand, IsValid, MayPut, given_at, given_up_too, hand_now, slotted}
 use Rattle.vault.proofs.HandLaws.{hand_after}
 use Rattle.vault.specs.Asked.{IsSource, brand_of}
-use Rattle.vault.specs.Transfers.{part_of, transfer_of, transferred, with_part_taken}
+use Rattle.vault.specs.Taking.{part_of, with_part_taken}
 
 -- a brand that was made stays, with its kind
-still_of_brand : (s : Lists) (from : Holder) (w v : Worth) (b e : ℕ) → IsSource s from v → IsOfBrand s e w → IsOfBrand (taken s from b v) e w
+still_of_brand : (s : Lists) (from : Holder) (w v : ValueView) (b e : ℕ) → IsSource s from v → IsOfBrand s e w → IsOfBrand (taken s from b v) e w
 still_of_brand s (Purse n) w v b e source is = record { made = is.made; kind = is.kind }
 still_of_brand s (Payment n) w v b e source is = record { made = is.made; kind = is.kind }
 still_of_brand s (Slot n k) w v b e source is = record { made = is.made; kind = is.kind }
 still_of_brand s Hand w v b e source is = absurd source
 still_of_brand s Outside w v b e source is = absurd source
 
-not_from_hand : (s : Lists) (from : Holder) (w : Worth) (c d : Content) → IsSource s from w → from_hand from c d ≡ c
+not_from_hand : (s : Lists) (from : Holder) (w : ValueView) (c d : Content) → IsSource s from w → from_hand from c d ≡ c
 not_from_hand s (Purse n) w c d source = refl
 not_from_hand s (Payment n) w c d source = refl
 not_from_hand s (Slot n k) w c d source = refl
@@ -46,7 +44,7 @@ not_to_hand s Outside a c part target = absurd target
 
 -- what is out stays
 
-out_taken : (s : Lists) (from : Holder) (w : Worth) (b : ℕ) → IsSource s from w → (taken s from b w).out ≡ s.out
+out_taken : (s : Lists) (from : Holder) (w : ValueView) (b : ℕ) → IsSource s from w → (taken s from b w).out ≡ s.out
 out_taken s (Purse n) w b source = refl
 out_taken s (Payment n) w b source = refl
 out_taken s (Slot n k) w b source = refl
@@ -64,7 +62,7 @@ out_given s (Slot n k) a target = either (is_some (amount_under k (kept_seat_at 
 out_given s Hand a target = absurd target
 out_given s Outside a target = absurd target
 
-module _ (d : DraftState) (from : Holder) (w : Worth) (source : IsSource d.now from w) where
+module _ (d : DraftState) (from : Holder) (w : ValueView) (source : IsSource d.now from w) where
   abbrev b : ℕ
   b = brand_of d.now from
 
@@ -91,27 +89,3 @@ module _ (d : DraftState) (from : Holder) (w : Worth) (source : IsSource d.now f
           (subst (λ (l : List BrandSupply). e < length l) (out_taken d.now from w b source) lt)
           ∙ sym (hand_taken e);
     }
-
-  -- what was taken and put: the hand is as it was
-  module _ (to : Holder) (target : MayPut (with_part_taken d from w).now to (part_of d from w)) where
-    pub hand_stays : (e : ℕ) → hand_now (transferred d from to w) e ≡ hand_now d e
-    hand_stays e =
-        hand_after (opened (with_part_taken d from w) (slotted (with_part_taken d from w).now to (part_of d from w))) (movement b Hand to w) e
-        ∙ ap (λ x. cond (b == e) (to_hand to (difference x c) c) x) (hand_taken e)
-        ∙ there (b == e)
-      where
-        there : (t : Bool) → cond t (to_hand to (difference (cond t (sum (hand_now d e) c) (hand_now d e)) c) c) (cond t (sum (hand_now d e) c) (hand_now d e)) ≡ hand_now d e
-        there true = not_to_hand (with_part_taken d from w).now to (part_of d from w) (difference (sum (hand_now d e) c) c) c target ∙ difference-sum (hand_now d e) c
-        there false = refl
-
-    pub goes_on : HandGoes d → HandGoes (transferred d from to w)
-    goes_on goes = record {
-      each = λ e lt. goes.each e (subst (λ (l : List BrandSupply). e < length l) (out_given (with_part_taken d from w).now to (part_of d from w) target ∙ out_taken d.now from w b source) lt) ∙ sym (hand_stays e);
-    }
-
--- both movements together
-pub transferred_table : (d : DraftState) (from to : Holder) (w : Worth) → table_now (transferred d from to w) ≡ moved (table_now d) (transfer_of d from to w)
-transferred_table d from to w =
-    table_after-push (table_of d.kept) (d.movements ++ movement (brand_of d.now from) from Hand w ∷ []) (movement (brand_of d.now from) Hand to w)
-    ∙ ap (λ (t : Table). moved t (movement (brand_of d.now from) Hand to w)) (table_after-push (table_of d.kept) d.movements (movement (brand_of d.now from) from Hand w))
-    ∙ through_hand (table_now d) from to (brand_of d.now from) w

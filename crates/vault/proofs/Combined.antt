@@ -1,16 +1,16 @@
 -- What is done of a combination of payments makes the table and the lists of what is written.
 use Rattle.std.proofs.Common.{◌≡◌, ◌≢◌, ℕ, List, [], ◌∷◌, ◌++◌, length, refl, ◌∙◌, ap, arith}
-use Rattle.right_steps.specs.holders.Papers.{live_paper}
-use Rattle.right_steps.specs.Flows.{AreInside, IsApart, gathered}
-use Rattle.right_steps.specs.Lists.{Lists, amount_of, kind_of, with_payments}
-use Rattle.right_steps.specs.rights_model.declared.Holder.{Holder}
-use Rattle.right_steps.specs.rights_model.declared.Holder.TheVariants.{Purse, Payment, Slot, Hand, Outside}
-use Rattle.right_steps.specs.rights_model.Table.{movement, table_after}
+use Rattle.vault_model.specs.holders.PaymentViews.{live_payment}
+use Rattle.vault_model.specs.Flows.{AreInside, IsApart, gathered}
+use Rattle.vault_model.specs.Lists.{Lists, amount_of, kind_of, with_payments}
+use Rattle.vault_model.specs.rights_model.declared.Holder.{Holder}
+use Rattle.vault_model.specs.rights_model.declared.Holder.TheVariants.{Purse, Payment, Slot, Hand, Outside}
+use Rattle.vault_model.specs.rights_model.Table.{movement, table_after}
 use Rattle.vault.specs.Drafts.{DraftState, IsValid, after, table_now}
 use Rattle.vault.specs.Together.{HandHoldsGiven, HandStays, after_all}
 use Rattle.vault.proofs.Hands.{combined_stays}
 use Rattle.vault.proofs.Tables.{after_append, combined_table}
-use Rattle.vault.specs.Combinations.{AreLive, brand_of_all, combination_done, combination_written, combined_lists, next_payment, parts_at, with_spent, worth_at, worth_of_all}
+use Rattle.vault.specs.Combinations.{AreLive, brand_of_all, combination_done, combination_written, combined_lists, next_payment, parts_at, with_spent, value_at, value_of_all}
 
 abbrev number_of : Holder → ℕ
 number_of (Payment n) = n
@@ -41,12 +41,12 @@ written_table d ns live valid = combined_table d (brand_of_all d.now ns) (kind_o
 
 pub now_gathered : (d : DraftState) (b : ℕ) (s : Lists) (ns : List ℕ) → (after_all d (gathered b Hand (parts_at s ns))).now ≡ with_payments d.now (with_spent b ns d.now.payments)
 now_gathered d b s [] = refl
-now_gathered d b s (n ∷ ns) = now_gathered (after d (movement b (Payment n) Hand (worth_at s n))) b s ns
+now_gathered d b s (n ∷ ns) = now_gathered (after d (movement b (Payment n) Hand (value_at s n))) b s ns
 
 pub combined_now : (d : DraftState) (ns : List ℕ) → (after_all d (combination_done d.now ns)).now ≡ combined_lists d.now ns
 combined_now d ns =
-    ap (λ (x : DraftState). x.now) (after_append d (gathered (brand_of_all d.now ns) Hand (parts_at d.now ns)) (movement (brand_of_all d.now ns) Hand (next_payment d.now) (worth_of_all d.now ns) ∷ []))
-    ∙ ap (λ (s : Lists). with_payments s (s.payments ++ live_paper (amount_of (brand_of_all d.now ns) (worth_of_all d.now ns)) ∷ [])) (now_gathered d (brand_of_all d.now ns) d.now ns)
+    ap (λ (x : DraftState). x.now) (after_append d (gathered (brand_of_all d.now ns) Hand (parts_at d.now ns)) (movement (brand_of_all d.now ns) Hand (next_payment d.now) (value_of_all d.now ns) ∷ []))
+    ∙ ap (λ (s : Lists). with_payments s (s.payments ++ live_payment (amount_of (brand_of_all d.now ns) (value_of_all d.now ns)) ∷ [])) (now_gathered d (brand_of_all d.now ns) d.now ns)
 
 pub hand_stays : (d : DraftState) (ns : List ℕ) → HandHoldsGiven d → HandStays d (after_all d (combination_done d.now ns))
 hand_stays d ns holds = combined_stays d (brand_of_all d.now ns) (kind_of d.now (brand_of_all d.now ns)) (next_payment d.now) (parts_at d.now ns) (apart_hand d.now ns) (λ is. cc) holds

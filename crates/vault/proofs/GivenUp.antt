@@ -1,7 +1,7 @@
 -- What was given up, listed by brand: how it is read, and how it changes.
 use Rattle.std.proofs.Common.{◌≡◌, ◌≢◌, ℕ, zero, suc, ◌+◌, ◌<◌, [], ◌∷◌, ◌++◌, length, refl, sym, ◌∙◌, ap, subst, arith}
 use Rattle.std.specs.Prelude.{slice_index_or, slice_set}
-use Rattle.right_steps.specs.amount_math.Content.{Content, Contains, count-nothing, nothing}
+use Rattle.vault_model.specs.amount_math.Content.{Content, Contains, count-nothing, nothing}
 use Rattle.vault.specs.Drafts.{by_number, given_list}
 use Rattle.vault.specs.Memory.{store_of}
 use Rattle.vault.specs.declared.stores.Stores.{Stores}

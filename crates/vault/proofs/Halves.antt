@@ -1,22 +1,22 @@
 -- What each call of a store, as a half of a movement, makes of the lists, of the hand's store and of the rooms.
 use Rattle.std.proofs.Common.{◌≡◌, ℕ, zero, suc, ◌+◌, ◌-◌, ◌<◌, ◌≤◌, true, cond, List, [], ◌∷◌, length, take, map, refl, sym, ◌∙◌, ap, subst, arith}
 use Rattle.std.specs.Prelude.{slice_set, unwrap_or}
-use Rattle.right_steps.specs.amount_math.Content.{Content, Contains, difference, sum}
-use Rattle.right_steps.specs.amount_math.Held.{Held, with_less, with_more}
-use Rattle.right_steps.specs.amount_math.Worth.{Worth}
-use Rattle.right_steps.specs.amount_math.declared.Amount.{Amount}
-use Rattle.right_steps.specs.amount_math.declared.Kind.TheVariants.{Nat}
-use Rattle.right_steps.specs.ertp_mint.Balances.{StoredAmount, ComesOut, GoesIn, no_store, with_taken}
-use Rattle.right_steps.specs.ertp_mint.BrandSupply.{supply_at}
-use Rattle.right_steps.specs.ertp_mint.Circulating.{CirculationView, circulation_at, new_circulation, with_retired}
-use Rattle.right_steps.proofs.lemmas.ListEdits.{length_map, length_push, length_set, map_set, read_map, read_other, read_pushed, read_set, take_all_but}
-use Rattle.right_steps.specs.holders.Papers.{IsMade, IsRoomier, IsSpent, IsUnmade, IsUnspent, Paper, PaymentBook, is_live, live_paper, paper_at, spent_paper}
-use Rattle.right_steps.specs.holders.Purses.{put_in_room, room_at, store_at, taken_at}
-use Rattle.right_steps.specs.Backwards.{HasGrown, IsLast, Rooms, TakesBack}
-use Rattle.right_steps.specs.Lists.{GivesUp, Lists, amount_of, less, more, purse_at, ungiven, untaken, with_out, with_outs, with_payments, with_purses}
-use Rattle.right_steps.specs.Tables.{hand_minus, hand_plus}
-use Rattle.right_steps.proofs.Sound.{at_or_else}
-use Rattle.right_steps.specs.rights_model.declared.Holder.TheVariants.{Purse, Payment}
+use Rattle.vault_model.specs.amount_math.Content.{Content, Contains, difference, sum}
+use Rattle.vault_model.specs.amount_math.Held.{Held, with_less, with_more}
+use Rattle.vault_model.specs.amount_math.ValueView.{ValueView}
+use Rattle.vault_model.specs.amount_math.declared.Amount.{Amount}
+use Rattle.vault_model.specs.amount_math.declared.Kind.TheVariants.{Nat}
+use Rattle.vault_model.specs.ertp_mint.Balances.{BalanceView, ComesOut, GoesIn, no_store, with_taken}
+use Rattle.vault_model.specs.ertp_mint.BrandSupply.{supply_at}
+use Rattle.vault_model.specs.ertp_mint.Circulating.{CirculationView, circulation_at, new_circulation, with_retired}
+use Rattle.vault_model.proofs.lemmas.ListEdits.{length_map, length_push, length_set, map_set, read_map, read_other, read_pushed, read_set, take_all_but}
+use Rattle.vault_model.specs.holders.PaymentViews.{IsMade, IsRoomier, IsSpent, IsUnmade, IsUnspent, PaymentView, PaymentBook, is_live, live_payment, payment_view_at, spent_payment}
+use Rattle.vault_model.specs.holders.Purses.{put_in_room, room_at, store_at, taken_at}
+use Rattle.vault_model.specs.Backwards.{HasGrown, IsLast, Rooms, TakesBack}
+use Rattle.vault_model.specs.Lists.{GivesUp, Lists, amount_of, less, more, purse_at, ungiven, untaken, with_out, with_outs, with_payments, with_purses}
+use Rattle.vault_model.specs.Tables.{hand_minus, hand_plus}
+use Rattle.vault_model.proofs.Sound.{at_or_else}
+use Rattle.vault_model.specs.rights_model.declared.Holder.TheVariants.{Purse, Payment}
 use Rattle.transit.specs.Transit.{TransitView, empty_hand, held_at, in_store, with_hand}
 use Rattle.transit.specs.Transit as transit
 use Rattle.vault.specs.Memory.{IsGiven, IsHalf, IsForward, IsRoomed, IsTaken, amount_in, given_up_in, kept_of, kept_seat, lists_of, rooms_of, staged_of, store_of, supply_of}
@@ -24,15 +24,15 @@ use Rattle.vault.specs.declared.stores.Stores.{Stores}
 
 -- ---- reads
 
-pub purse_read : (l : List StoredAmount) (n : ℕ) → purse_at (map amount_in l) n ≡ (store_at l n).amount
+pub purse_read : (l : List BalanceView) (n : ℕ) → purse_at (map amount_in l) n ≡ (store_at l n).amount
 purse_read l n = read_map amount_in l n no_store
 
 pub supply_read : (l : List CirculationView) (b : ℕ) → supply_at (map supply_of l) b ≡ (circulation_at l b).supply
 supply_read l b = read_map supply_of l b (new_circulation Nat)
 
 -- a payment tells its parcel
-pub same_parcel : (a c : Amount) → live_paper a ≡ live_paper c → a ≡ c
-same_parcel a c is = ap (λ (p : Paper). record { brand = p.brand; value = unwrap_or p.held a.value }) is
+pub same_parcel : (a c : Amount) → live_payment a ≡ live_payment c → a ≡ c
+same_parcel a c is = ap (λ (p : PaymentView). record { brand = p.brand; value = unwrap_or p.held a.value }) is
 
 -- ---- rooms
 
@@ -47,7 +47,7 @@ grown_twice R Q S first then = record {
   hand = λ b. omega (arith, first.hand b, then.hand b);
 }
 
-room_grows : (l : List StoredAmount) (n : ℕ) (x : StoredAmount) → (store_at l n).room ≤ x.room → (q : ℕ) → room_at l q ≤ room_at (slice_set l n x) q
+room_grows : (l : List BalanceView) (n : ℕ) (x : BalanceView) → (store_at l n).room ≤ x.room → (q : ℕ) → room_at l q ≤ room_at (slice_set l n x) q
 room_grows [] n x le q = omega arith
 room_grows (z ∷ zs) zero x le zero = le
 room_grows (z ∷ zs) zero x le (suc q) = omega arith
@@ -64,7 +64,7 @@ hand_room_grows (z ∷ zs) (suc n) x le (suc q) = hand_room_grows zs n x le q
 -- ---- one store is another
 
 module _ (p : Stores) where
-  pub purses_half : (l : List StoredAmount) (m : List Amount) → map amount_in l ≡ m → ((q : ℕ) → room_at p.purses q ≤ room_at l q) → IsHalf p (record p { purses = l }) (with_purses (lists_of p) m) (store_of p) (kept_of p)
+  pub purses_half : (l : List BalanceView) (m : List Amount) → map amount_in l ≡ m → ((q : ℕ) → room_at p.purses q ≤ room_at l q) → IsHalf p (record p { purses = l }) (with_purses (lists_of p) m) (store_of p) (kept_of p)
   purses_half l m is grown = record {
     lists = ap (with_purses (lists_of p)) is;
     hand = λ b. refl;
@@ -72,7 +72,7 @@ module _ (p : Stores) where
     rooms = record { purses = grown; slots = λ n k. omega arith; capacity = omega arith; hand = λ b. omega arith };
   }
 
-  pub payments_half : (book : PaymentBook) (l : List Paper) → book.papers ≡ l → book.slots ≡ p.payments.slots → p.payments.capacity ≤ book.capacity → IsHalf p (record p { payments = book }) (with_payments (lists_of p) l) (store_of p) (kept_of p)
+  pub payments_half : (book : PaymentBook) (l : List PaymentView) → book.views ≡ l → book.slots ≡ p.payments.slots → p.payments.capacity ≤ book.capacity → IsHalf p (record p { payments = book }) (with_payments (lists_of p) l) (store_of p) (kept_of p)
   payments_half book l is slots room = record {
     lists = λ i. record { purses = map amount_in p.purses; payments = is i; seats = map kept_seat p.seats.seats; owed = slots i; out = map supply_of p.transit.out };
     hand = λ b. refl;
@@ -137,7 +137,7 @@ less_there l b c e lt = at_or_else (λ q t. (held_at (slice_set l b (with_less (
 -- ---- purses
 
 module _ (p : Stores) (n : ℕ) where
-  abbrev store : StoredAmount
+  abbrev store : BalanceView
   store = store_at p.purses n
 
   abbrev purse : Amount
@@ -147,7 +147,7 @@ module _ (p : Stores) (n : ℕ) where
   purse_made lt = omega (arith, lt, length_map amount_in p.purses)
 
   -- what a purse gives comes out of its store
-  pub comes_out : (b : ℕ) (w : Worth) → GivesUp (lists_of p) n b w → ComesOut store w
+  pub comes_out : (b : ℕ) (w : ValueView) → GivesUp (lists_of p) n b w → ComesOut store w
   comes_out b w can = record {
     kind = ap (λ (a : Amount). a.value.kind) (sym (purse_read p.purses n)) ∙ can.kind;
     has = subst (λ (a : Amount). Contains a.value.content w.content) (purse_read p.purses n) can.has;
@@ -159,10 +159,10 @@ module _ (p : Stores) (n : ℕ) where
   pub more_listed : (c : Content) (room : ℕ) → map amount_in (put_in_room p.purses n c room) ≡ slice_set (lists_of p).purses n (more purse c)
   more_listed c room = map_set amount_in p.purses n _ ∙ ap (λ a. slice_set (lists_of p).purses n (more a c)) (sym (purse_read p.purses n))
 
-  pub half_less : (l : List StoredAmount) (c : Content) → l ≡ taken_at p.purses n c → IsHalf p (record p { purses = l }) (with_purses (lists_of p) (slice_set (lists_of p).purses n (less purse c))) (store_of p) (kept_of p)
+  pub half_less : (l : List BalanceView) (c : Content) → l ≡ taken_at p.purses n c → IsHalf p (record p { purses = l }) (with_purses (lists_of p) (slice_set (lists_of p).purses n (less purse c))) (store_of p) (kept_of p)
   half_less l c is = purses_half p l _ (ap (map amount_in) is ∙ less_listed c) (λ q. subst (λ m. room_at p.purses q ≤ room_at m q) (sym is) (room_grows p.purses n (with_taken store c) (omega arith) q))
 
-  pub half_more : (l : List StoredAmount) (c : Content) (room : ℕ) → l ≡ put_in_room p.purses n c room → store.room ≤ room → IsHalf p (record p { purses = l }) (with_purses (lists_of p) (slice_set (lists_of p).purses n (more purse c))) (store_of p) (kept_of p)
+  pub half_more : (l : List BalanceView) (c : Content) (room : ℕ) → l ≡ put_in_room p.purses n c room → store.room ≤ room → IsHalf p (record p { purses = l }) (with_purses (lists_of p) (slice_set (lists_of p).purses n (more purse c))) (store_of p) (kept_of p)
   half_more l c room is le = purses_half p l _ (ap (map amount_in) is ∙ more_listed c room) (λ q. subst (λ m. room_at p.purses q ≤ room_at m q) (sym is) (room_grows p.purses n (record { amount = more store.amount c; room = room }) le q))
 
   -- and what comes back goes in
@@ -170,13 +170,13 @@ module _ (p : Stores) (n : ℕ) where
   goes_in a can = subst (λ (x : Amount). GoesIn (record { amount = x; room = store.room }) a) (purse_read p.purses n) can.goes
 
   -- a purse once taken from can take that back, and once put to can give that
-  pub takes_back : (l : List StoredAmount) (b : ℕ) (w : Worth) → n < length l → GoesIn (store_at l n) (amount_of b w) → TakesBack (rooms_of (record p { purses = l })) (lists_of (record p { purses = l })) n b w
+  pub takes_back : (l : List BalanceView) (b : ℕ) (w : ValueView) → n < length l → GoesIn (store_at l n) (amount_of b w) → TakesBack (rooms_of (record p { purses = l })) (lists_of (record p { purses = l })) n b w
   takes_back l b w lt goes = record {
     made = omega (arith, lt, length_map amount_in l);
     goes = subst (λ (x : Amount). GoesIn (record { amount = x; room = room_at l n }) (amount_of b w)) (sym (purse_read l n)) goes;
   }
 
-  pub gives_up : (l : List StoredAmount) (b : ℕ) (w : Worth) → n < length l → (store_at l n).amount.brand ≡ b → ComesOut (store_at l n) w → GivesUp (lists_of (record p { purses = l })) n b w
+  pub gives_up : (l : List BalanceView) (b : ℕ) (w : ValueView) → n < length l → (store_at l n).amount.brand ≡ b → ComesOut (store_at l n) w → GivesUp (lists_of (record p { purses = l })) n b w
   gives_up l b w lt brand out = record {
     made = omega (arith, lt, length_map amount_in l);
     brand = ap (λ (a : Amount). a.brand) (purse_read l n) ∙ brand;
@@ -188,55 +188,55 @@ module _ (p : Stores) (n : ℕ) where
 
 module _ (p : Stores) (n : ℕ) where
   -- the last payment, undone
-  pub last_parcel : (b : ℕ) (w : Worth) (book : PaymentBook) (a : Amount) → IsLast (lists_of p) n b w → IsUnmade p.payments book a → a ≡ amount_of b w
+  pub last_parcel : (b : ℕ) (w : ValueView) (book : PaymentBook) (a : Amount) → IsLast (lists_of p) n b w → IsUnmade p.payments book a → a ≡ amount_of b w
   last_parcel b w book a can is = same_parcel a (amount_of b w)
-      (sym (ap (λ l. paper_at l n) is.papers ∙ read_pushed book.papers (live_paper a) (spent_paper 0) n (omega (arith, can.last, ap length is.papers, length_push book.papers (live_paper a)))) ∙ can.is)
+      (sym (ap (λ l. payment_view_at l n) is.views ∙ read_pushed book.views (live_payment a) (spent_payment 0) n (omega (arith, can.last, ap length is.views, length_push book.views (live_payment a)))) ∙ can.is)
 
-  pub half_unmade : (b : ℕ) (w : Worth) (book : PaymentBook) (a : Amount) → IsLast (lists_of p) n b w → IsUnmade p.payments book a → book.slots ≡ p.payments.slots → IsHalf p (record p { payments = book }) (ungiven (lists_of p) (Payment n) b w) (store_of p) (kept_of p)
-  half_unmade b w book a can is slots = payments_half p book (take n p.payments.papers)
-      (sym (ap (take n) is.papers ∙ take_all_but book.papers (live_paper a) n (omega (arith, can.last, ap length is.papers, length_push book.papers (live_paper a)))))
+  pub half_unmade : (b : ℕ) (w : ValueView) (book : PaymentBook) (a : Amount) → IsLast (lists_of p) n b w → IsUnmade p.payments book a → book.slots ≡ p.payments.slots → IsHalf p (record p { payments = book }) (ungiven (lists_of p) (Payment n) b w) (store_of p) (kept_of p)
+  half_unmade b w book a can is slots = payments_half p book (take n p.payments.views)
+      (sym (ap (take n) is.views ∙ take_all_but book.views (live_payment a) n (omega (arith, can.last, ap length is.views, length_push book.views (live_payment a)))))
       slots (omega (arith, is.room))
 
-  pub last_is_live : (b : ℕ) (w : Worth) → IsLast (lists_of p) n b w → is_live (paper_at p.payments.papers (length p.payments.papers - 1)) ≡ true
-  last_is_live b w can = subst (λ q. is_live (paper_at p.payments.papers q) ≡ true) (the_last (length p.payments.papers) can.last) (ap is_live can.is)
+  pub last_is_live : (b : ℕ) (w : ValueView) → IsLast (lists_of p) n b w → is_live (payment_view_at p.payments.views (length p.payments.views - 1)) ≡ true
+  last_is_live b w can = subst (λ q. is_live (payment_view_at p.payments.views q) ≡ true) (the_last (length p.payments.views) can.last) (ap is_live can.is)
     where
       the_last : (m : ℕ) → m ≡ n + 1 → n ≡ m - 1
       the_last m is = omega (arith, is)
 
   pub half_unspent : (book : PaymentBook) (a : Amount) → IsUnspent p.payments book n a → book.slots ≡ p.payments.slots → IsHalf p (record p { payments = book }) (untaken (lists_of p) (Payment n) a.brand a.value) (store_of p) (kept_of p)
-  half_unspent book a is slots = payments_half p book _ is.papers slots (omega (arith, is.room))
+  half_unspent book a is slots = payments_half p book _ is.views slots (omega (arith, is.room))
 
   -- a payment spent
-  pub spent_parcel : (b : ℕ) (w : Worth) (book : PaymentBook) (a : Amount) → paper_at p.payments.papers n ≡ live_paper (amount_of b w) → IsSpent p.payments book n a → a ≡ amount_of b w
-  spent_parcel b w book a whole is = same_parcel a (amount_of b w) (sym is.paper ∙ whole)
+  pub spent_parcel : (b : ℕ) (w : ValueView) (book : PaymentBook) (a : Amount) → payment_view_at p.payments.views n ≡ live_payment (amount_of b w) → IsSpent p.payments book n a → a ≡ amount_of b w
+  spent_parcel b w book a whole is = same_parcel a (amount_of b w) (sym is.payment_view ∙ whole)
 
-  pub payment_taken : (b : ℕ) (w : Worth) (book : PaymentBook) (a : Amount) → n < length p.payments.papers → paper_at p.payments.papers n ≡ live_paper (amount_of b w) → IsSpent p.payments book n a → book.slots ≡ p.payments.slots → IsTaken p (record p { payments = book }) (Payment n) b w
+  pub payment_taken : (b : ℕ) (w : ValueView) (book : PaymentBook) (a : Amount) → n < length p.payments.views → payment_view_at p.payments.views n ≡ live_payment (amount_of b w) → IsSpent p.payments book n a → book.slots ≡ p.payments.slots → IsTaken p (record p { payments = book }) (Payment n) b w
   payment_taken b w book a made whole is slots =
-      let papers : book.papers ≡ slice_set p.payments.papers n (spent_paper b) = is.papers ∙ ap (λ (x : Amount). slice_set p.payments.papers n (spent_paper x.brand)) (spent_parcel b w book a whole is) in
+      let views : book.views ≡ slice_set p.payments.views n (spent_payment b) = is.views ∙ ap (λ (x : Amount). slice_set p.payments.views n (spent_payment x.brand)) (spent_parcel b w book a whole is) in
       record {
-        half = forward p _ _ _ _ (payments_half p book _ papers slots (omega (arith, is.room))) refl refl;
+        half = forward p _ _ _ _ (payments_half p book _ views slots (omega (arith, is.room))) refl refl;
         back = record {
-          made = omega (arith, made, ap length papers, length_set p.payments.papers n (spent_paper b));
-          spent = ap (λ l. paper_at l n) papers ∙ read_set p.payments.papers n (spent_paper b) (spent_paper 0) made;
+          made = omega (arith, made, ap length views, length_set p.payments.views n (spent_payment b));
+          spent = ap (λ l. payment_view_at l n) views ∙ read_set p.payments.views n (spent_payment b) (spent_payment 0) made;
           vacancy = is.vacancy;
         };
       }
 
   -- and one made
-  pub payment_given : (book : PaymentBook) (a : Amount) → n ≡ length p.payments.papers → IsMade p.payments book a → book.slots ≡ p.payments.slots → IsGiven p (record p { payments = book }) (Payment n) a.brand a.value
+  pub payment_given : (book : PaymentBook) (a : Amount) → n ≡ length p.payments.views → IsMade p.payments book a → book.slots ≡ p.payments.slots → IsGiven p (record p { payments = book }) (Payment n) a.brand a.value
   payment_given book a next is slots = record {
-    half = forward p _ _ _ _ (payments_half p book _ is.papers slots is.room) refl refl;
+    half = forward p _ _ _ _ (payments_half p book _ is.views slots is.room) refl refl;
     back = record {
-      last = omega (arith, next, ap length is.papers, length_push p.payments.papers (live_paper a));
-      is = ap (λ l. paper_at l n) is.papers ∙ read_pushed p.payments.papers (live_paper a) (spent_paper 0) n next;
+      last = omega (arith, next, ap length is.views, length_push p.payments.views (live_payment a));
+      is = ap (λ l. payment_view_at l n) is.views ∙ read_pushed p.payments.views (live_payment a) (spent_payment 0) n next;
     };
   }
 
   pub payments_roomed : (book : PaymentBook) → IsRoomier p.payments book → book.slots ≡ p.payments.slots → IsRoomed p (record p { payments = book })
-  payments_roomed book is slots = forward p _ _ _ _ (payments_half p book p.payments.papers is.papers slots is.room) refl refl
+  payments_roomed book is slots = forward p _ _ _ _ (payments_half p book p.payments.views is.views slots is.room) refl refl
 
 -- a purse taken from, and one put to
-module _ (p : Stores) (n : ℕ) (l : List StoredAmount) (w : Worth) (made : n < length p.purses) where
+module _ (p : Stores) (n : ℕ) (l : List BalanceView) (w : ValueView) (made : n < length p.purses) where
   pub purse_taken : (b : ℕ) → l ≡ taken_at p.purses n w.content → GoesIn (store_at l n) (amount_of b w) → IsTaken p (record p { purses = l }) (Purse n) b w
   purse_taken b is goes = record {
     half = forward p _ _ _ _ (half_less p n l w.content is) refl refl;
@@ -245,9 +245,9 @@ module _ (p : Stores) (n : ℕ) (l : List StoredAmount) (w : Worth) (made : n < 
 
   pub purse_given : (b room : ℕ) → l ≡ put_in_room p.purses n w.content room → room_at p.purses n ≤ room → (store_at p.purses n).amount.brand ≡ b → ComesOut (store_at l n) w → IsGiven p (record p { purses = l }) (Purse n) b w
   purse_given b room is le brand out =
-      let x : StoredAmount = record { amount = more (store_at p.purses n).amount w.content; room = room } in
+      let x : BalanceView = record { amount = more (store_at p.purses n).amount w.content; room = room } in
       record {
         half = forward p _ _ _ _ (half_more p n l w.content room is le) refl refl;
         back = gives_up p n l b w (omega (arith, made, ap length is, length_set p.purses n x))
-            (ap (λ m. (store_at m n).amount.brand) is ∙ ap (λ (s : StoredAmount). s.amount.brand) (read_set p.purses n x no_store made) ∙ brand) out;
+            (ap (λ m. (store_at m n).amount.brand) is ∙ ap (λ (s : BalanceView). s.amount.brand) (read_set p.purses n x no_store made) ∙ brand) out;
       }

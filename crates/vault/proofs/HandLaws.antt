@@ -1,10 +1,10 @@
 -- What the hand has after one movement more, and in a draft that was just begun.
 use Rattle.std.proofs.Common.{◌≡◌, ℕ, ◌==◌, cond, List, [], ◌∷◌, length, refl, ap}
 use Rattle.std.proofs.lemmas.List.{reverse-append}
-use Rattle.right_steps.specs.amount_math.Content.{nothing}
-use Rattle.right_steps.specs.Backwards.{from_hand, in_hand, to_hand}
-use Rattle.right_steps.specs.Lists.{Lists}
-use Rattle.right_steps.specs.rights_model.declared.Movement.{Movement}
+use Rattle.vault_model.specs.amount_math.Content.{nothing}
+use Rattle.vault_model.specs.Backwards.{from_hand, in_hand, to_hand}
+use Rattle.vault_model.specs.Lists.{Lists}
+use Rattle.vault_model.specs.rights_model.declared.Movement.{Movement}
 use Rattle.vault.specs.Drafts.{DraftState, HandGoes, IsClean, IsValid, after, begun, given_at, hand_now}
 use Rattle.vault.proofs.GivenUp.{read_nothing}
 use Rattle.vault.proofs.Steps.{none_within}

@@ -3,19 +3,19 @@ use Rattle.std.proofs.Common.{◌≡◌, ◌≢◌, ℕ, zero, suc, ◌+◌, ◌
 use Rattle.std.specs.Prelude.{◌⊎◌, slice_index_or, slice_set}
 use Rattle.std.proofs.lemmas.Bool.{cases_eq, eq-eqb, ne_eqb}
 use Rattle.std.proofs.lemmas.List.{reverse-append}
-use Rattle.right_steps.specs.amount_math.Content.{Content, Contains, count, count-difference, count-nothing, count-sum, difference, nothing, same_content, sum}
-use Rattle.right_steps.specs.amount_math.Worth.{Worth}
-use Rattle.right_steps.specs.amount_math.declared.Amount.{Amount}
-use Rattle.right_steps.specs.amount_math.declared.Kind.{Kind}
-use Rattle.right_steps.proofs.lemmas.ListEdits.{length_set, read_other, read_set}
-use Rattle.right_steps.specs.rights_model.declared.Holder.{Holder}
-use Rattle.right_steps.specs.rights_model.declared.Holder.TheVariants.{Purse, Payment, Slot, Hand, Outside}
-use Rattle.right_steps.specs.rights_model.declared.Movement.{Movement}
-use Rattle.right_steps.specs.rights_model.Table.{movement}
-use Rattle.right_steps.specs.Backwards.{from_hand, in_hand, to_hand}
-use Rattle.right_steps.specs.Flows.{IsApart, Part, combined, content_of, gathered, split_up, spread, whole_of}
-use Rattle.right_steps.specs.Lists.{Lists, given, taken}
-use Rattle.right_steps.specs.Tables.{no_hand}
+use Rattle.vault_model.specs.amount_math.Content.{Content, Contains, count, count-difference, count-nothing, count-sum, difference, nothing, same_content, sum}
+use Rattle.vault_model.specs.amount_math.ValueView.{ValueView}
+use Rattle.vault_model.specs.amount_math.declared.Amount.{Amount}
+use Rattle.vault_model.specs.amount_math.declared.Kind.{Kind}
+use Rattle.vault_model.proofs.lemmas.ListEdits.{length_set, read_other, read_set}
+use Rattle.vault_model.specs.rights_model.declared.Holder.{Holder}
+use Rattle.vault_model.specs.rights_model.declared.Holder.TheVariants.{Purse, Payment, Slot, Hand, Outside}
+use Rattle.vault_model.specs.rights_model.declared.Movement.{Movement}
+use Rattle.vault_model.specs.rights_model.Table.{movement}
+use Rattle.vault_model.specs.Backwards.{from_hand, in_hand, to_hand}
+use Rattle.vault_model.specs.Flows.{IsApart, Part, combined, content_of, gathered, split_up, spread, whole_of}
+use Rattle.vault_model.specs.Lists.{Lists, given, taken}
+use Rattle.vault_model.specs.Tables.{no_hand}
 use Rattle.vault.specs.Drafts.{DraftState, HandGoes, after, given_at, given_up_too, hand_now}
 use Rattle.vault.specs.Together.{AreTogether, HandHoldsGiven, HandStays, HasMore, IsListed, after_all, only}
 use Rattle.vault.proofs.Tables.{after_append}
@@ -64,14 +64,14 @@ less_by x y z whole part rest is some both = record {
 pub as_much : (x y : DraftState) (one other : ℕ → Content) → ((e : ℕ) (k : List ℕ) → count (one e) k ≡ count (other e) k) → HasMore x y one → HasMore x y other
 as_much x y one other same has = record { kept = has.kept; brands = has.brands; hand = λ e k. omega (arith, has.hand e k, same e k) }
 
-brands_taken : (s : Lists) (h : Holder) (b : ℕ) (w : Worth) → length (taken s h b w).out ≡ length s.out
+brands_taken : (s : Lists) (h : Holder) (b : ℕ) (w : ValueView) → length (taken s h b w).out ≡ length s.out
 brands_taken s (Purse n) b w = refl
 brands_taken s (Payment n) b w = refl
 brands_taken s (Slot n k) b w = refl
 brands_taken s Hand b w = refl
 brands_taken s Outside b w = length_set s.out b _
 
-brands_given : (s : Lists) (h : Holder) (b : ℕ) (w : Worth) → length (given s h b w).out ≡ length s.out
+brands_given : (s : Lists) (h : Holder) (b : ℕ) (w : ValueView) → length (given s h b w).out ≡ length s.out
 brands_given s (Purse n) b w = refl
 brands_given s (Payment n) b w = refl
 brands_given s (Slot n k) b w = refl
@@ -101,7 +101,7 @@ to_elsewhere (Slot n k) c d apart = refl
 to_elsewhere Hand c d apart = absurd (apart refl)
 to_elsewhere Outside c d apart = refl
 
-module _ (d : DraftState) (h : Holder) (b : ℕ) (w : Worth) (apart : h ≢ Hand) where
+module _ (d : DraftState) (h : Holder) (b : ℕ) (w : ValueView) (apart : h ≢ Hand) where
   hand_taken : (e : ℕ) → hand_now (after d (movement b h Hand w)) e ≡ cond (b == e) (sum (hand_now d e) w.content) (hand_now d e)
   hand_taken e = hand_after d (movement b h Hand w) e ∙ ap (λ x. cond (b == e) (sum x w.content) (hand_now d e)) (from_elsewhere h (hand_now d e) w.content apart)
 
@@ -182,7 +182,7 @@ read_written (y ∷ ys) (suc n) x d = read_written ys n x d
 
 module _ (d : DraftState) (b : ℕ) where
   -- a parcel in hand has a part taken to it
-  pub keeps_more : (h : Holder) (c : Content) (w : Worth) → h ≢ Hand → Contains (hand_now d b) (sum (given_at d b) c) → Contains (hand_now (after d (movement b h Hand w)) b) (sum (given_at d b) (sum c w.content))
+  pub keeps_more : (h : Holder) (c : Content) (w : ValueView) → h ≢ Hand → Contains (hand_now d b) (sum (given_at d b) c) → Contains (hand_now (after d (movement b h Hand w)) b) (sum (given_at d b) (sum c w.content))
   keeps_more h c w apart has = record {
     each = λ k. omega (
       arith,
@@ -201,7 +201,7 @@ module _ (d : DraftState) (b : ℕ) where
   given_most c k (inr is) = omega (arith, ap (λ x. count x k) is, count-nothing k)
 
   -- two parcels are in hand, and the second is given up
-  pub keeps_first : (c : Content) (w : Worth) → Contains (hand_now d b) (sum (given_at d b) (sum c w.content)) → Contains (hand_now d b) (sum (given_at (given_up_too d (record { brand = b; value = w })) b) c)
+  pub keeps_first : (c : Content) (w : ValueView) → Contains (hand_now d b) (sum (given_at d b) (sum c w.content)) → Contains (hand_now d b) (sum (given_at (given_up_too d (record { brand = b; value = w })) b) c)
   keeps_first c w has = record {
     each = λ k. omega (
       arith,

@@ -1,25 +1,25 @@
 -- A step worked backwards in memory: it can be, and what is left stands.
 use Rattle.std.proofs.Common.{◌≡◌, ℕ, ◌<◌, ◌==◌, Bool, true, false, cond, List, ◌∷◌, length, refl, sym, ◌∙◌, ap, subst, arith}
 use Rattle.std.proofs.lemmas.Bool.{eq-eqb}
-use Rattle.right_steps.specs.amount_math.Content.{Content, Contains, count-sum, difference, difference-sum, sum, sum-difference}
-use Rattle.right_steps.specs.amount_math.Held.{HasRoom, more_room}
-use Rattle.right_steps.specs.amount_math.Worth.{Fits, Worth, keys_of}
-use Rattle.right_steps.specs.amount_math.declared.Kind.TheVariants.{Nat}
-use Rattle.right_steps.specs.ertp_mint.BrandSupply.{BrandSupply, new_supply, supply_at}
-use Rattle.right_steps.specs.ertp_mint.Circulating.{circulation_at, unretired}
-use Rattle.right_steps.proofs.lemmas.ListEdits.{length_map, length_set, read_set}
-use Rattle.right_steps.specs.holders.Purses.{room_at}
-use Rattle.right_steps.specs.declared.Step.{Step}
-use Rattle.right_steps.specs.declared.Step.TheVariants.{Moves}
-use Rattle.right_steps.specs.Backwards.{CanAllBack, CanBack, CanUngive, CanUntake, HandHas, Rooms, all_back, from_hand, in_hand, retired_by, to_hand, to_outside}
-use Rattle.right_steps.specs.Lists.{Lists, amount_of, back, kind_of, purse_at, slot_of, ungiven, untaken}
-use Rattle.right_steps.specs.Seats.{HasSlotOf}
-use Rattle.right_steps.proofs.SlotRows.{slot_was}
+use Rattle.vault_model.specs.amount_math.Content.{Content, Contains, count-sum, difference, difference-sum, sum, sum-difference}
+use Rattle.vault_model.specs.amount_math.Held.{HasRoom, more_room}
+use Rattle.vault_model.specs.amount_math.ValueView.{Fits, ValueView, keys_of}
+use Rattle.vault_model.specs.amount_math.declared.Kind.TheVariants.{Nat}
+use Rattle.vault_model.specs.ertp_mint.BrandSupply.{BrandSupply, new_supply, supply_at}
+use Rattle.vault_model.specs.ertp_mint.Circulating.{circulation_at, unretired}
+use Rattle.vault_model.proofs.lemmas.ListEdits.{length_map, length_set, read_set}
+use Rattle.vault_model.specs.holders.Purses.{room_at}
+use Rattle.vault_model.specs.declared.Undo.{Undo}
+use Rattle.vault_model.specs.declared.Undo.TheVariants.{Moves}
+use Rattle.vault_model.specs.Backwards.{CanAllBack, CanBack, CanUngive, CanUntake, HandHas, Rooms, all_back, from_hand, in_hand, retired_by, to_hand, to_outside}
+use Rattle.vault_model.specs.Lists.{Lists, amount_of, back, kind_of, purse_at, slot_of, ungiven, untaken}
+use Rattle.vault_model.specs.Seats.{HasSlotOf}
+use Rattle.vault_model.proofs.SlotShares.{slot_was}
 use Rattle.seats.specs.Store.{slot_store}
-use Rattle.right_steps.proofs.Sound.{at_or_else}
-use Rattle.right_steps.specs.rights_model.declared.Holder.{Holder}
-use Rattle.right_steps.specs.rights_model.declared.Holder.TheVariants.{Purse, Payment, Slot, Hand, Outside}
-use Rattle.right_steps.specs.rights_model.declared.Movement.{Movement}
+use Rattle.vault_model.proofs.Sound.{at_or_else}
+use Rattle.vault_model.specs.rights_model.declared.Holder.{Holder}
+use Rattle.vault_model.specs.rights_model.declared.Holder.TheVariants.{Purse, Payment, Slot, Hand, Outside}
+use Rattle.vault_model.specs.rights_model.declared.Movement.{Movement}
 use Rattle.transit.specs.Transit.{IsOnItsWay, held_at}
 use Rattle.vault.specs.Memory.{CanUngiveHere, CanUntakeHere, IsBack, IsHalf, amount_in, kept_of, kept_ungiven, lists_of, store_of, store_ungiven, store_untaken, supply_of}
 use Rattle.vault.specs.Working.{IsWorking}
@@ -65,35 +65,35 @@ module _ (b : ℕ) (c : Content) where
 
 -- ---- lengths and kinds stay
 
-purses_long : (s : Lists) (h : Holder) (b : ℕ) (w : Worth) → length (ungiven s h b w).purses ≡ length s.purses
+purses_long : (s : Lists) (h : Holder) (b : ℕ) (w : ValueView) → length (ungiven s h b w).purses ≡ length s.purses
 purses_long s (Purse n) b w = length_set s.purses n _
 purses_long s (Payment n) b w = refl
 purses_long s (Slot v j) b w = refl
 purses_long s Hand b w = refl
 purses_long s Outside b w = refl
 
-outs_long : (s : Lists) (h : Holder) (b : ℕ) (w : Worth) → length (ungiven s h b w).out ≡ length s.out
+outs_long : (s : Lists) (h : Holder) (b : ℕ) (w : ValueView) → length (ungiven s h b w).out ≡ length s.out
 outs_long s (Purse n) b w = refl
 outs_long s (Payment n) b w = refl
 outs_long s (Slot v j) b w = refl
 outs_long s Hand b w = refl
 outs_long s Outside b w = length_set s.out b _
 
-untaken_purses : (s : Lists) (h : Holder) (b : ℕ) (w : Worth) → length (untaken s h b w).purses ≡ length s.purses
+untaken_purses : (s : Lists) (h : Holder) (b : ℕ) (w : ValueView) → length (untaken s h b w).purses ≡ length s.purses
 untaken_purses s (Purse n) b w = length_set s.purses n _
 untaken_purses s (Payment n) b w = refl
 untaken_purses s (Slot v j) b w = refl
 untaken_purses s Hand b w = refl
 untaken_purses s Outside b w = refl
 
-untaken_outs : (s : Lists) (h : Holder) (b : ℕ) (w : Worth) → length (untaken s h b w).out ≡ length s.out
+untaken_outs : (s : Lists) (h : Holder) (b : ℕ) (w : ValueView) → length (untaken s h b w).out ≡ length s.out
 untaken_outs s (Purse n) b w = refl
 untaken_outs s (Payment n) b w = refl
 untaken_outs s (Slot v j) b w = refl
 untaken_outs s Hand b w = refl
 untaken_outs s Outside b w = length_set s.out b _
 
-kind_stays : (s : Lists) (h : Holder) (b : ℕ) (w : Worth) → b < length s.out → kind_of (ungiven s h b w) b ≡ kind_of s b
+kind_stays : (s : Lists) (h : Holder) (b : ℕ) (w : ValueView) → b < length s.out → kind_of (ungiven s h b w) b ≡ kind_of s b
 kind_stays s (Purse n) b w lt = refl
 kind_stays s (Payment n) b w lt = refl
 kind_stays s (Slot v j) b w lt = refl
@@ -102,14 +102,14 @@ kind_stays s Outside b w lt = ap (λ (x : BrandSupply). x.outstanding.kind) (rea
 
 -- a slot that is there was there
 
-ungiven_slots : (s : Lists) (h : Holder) (b : ℕ) (w : Worth) (v : ℕ) (j : List ℕ) → HasSlotOf (ungiven s h b w).seats v j → HasSlotOf s.seats v j
+ungiven_slots : (s : Lists) (h : Holder) (b : ℕ) (w : ValueView) (v : ℕ) (j : List ℕ) → HasSlotOf (ungiven s h b w).seats v j → HasSlotOf s.seats v j
 ungiven_slots s (Purse n) b w v j has = has
 ungiven_slots s (Payment n) b w v j has = has
 ungiven_slots s (Slot n k) b w v j has = slot_was s.seats n v k j _ has
 ungiven_slots s Hand b w v j has = has
 ungiven_slots s Outside b w v j has = has
 
-untaken_slots : (s : Lists) (h : Holder) (b : ℕ) (w : Worth) (v : ℕ) (j : List ℕ) → HasSlotOf (untaken s h b w).seats v j → HasSlotOf s.seats v j
+untaken_slots : (s : Lists) (h : Holder) (b : ℕ) (w : ValueView) (v : ℕ) (j : List ℕ) → HasSlotOf (untaken s h b w).seats v j → HasSlotOf s.seats v j
 untaken_slots s (Purse n) b w v j has = has
 untaken_slots s (Payment n) b w v j has = has
 untaken_slots s (Slot n k) b w v j has = slot_was s.seats n v k j _ has
@@ -118,11 +118,11 @@ untaken_slots s Outside b w v j has = has
 
 -- ---- one movement
 
-module _ (R : Rooms) (kept : Lists) (p : Stores) (m : Movement) (ks : List Step) (ms : List Movement) (is : IsWorking R kept p (Moves ∷ ks) (m ∷ ms)) where
+module _ (R : Rooms) (kept : Lists) (p : Stores) (m : Movement) (ks : List Undo) (ms : List Movement) (is : IsWorking R kept p (Moves ∷ ks) (m ∷ ms)) where
   abbrev b : ℕ
   b = m.brand
 
-  abbrev w : Worth
+  abbrev w : ValueView
   w = m.value
 
   abbrev s : Lists
@@ -253,7 +253,7 @@ module _ (R : Rooms) (kept : Lists) (p : Stores) (m : Movement) (ks : List Step)
 
 -- ---- what opened or closed
 
-pub stepped_back : (R : Rooms) (kept : Lists) (p q : Stores) (k : Step) (s : Lists) (ks : List Step) (ms : List Movement) → IsWorking R kept p (k ∷ ks) ms → IsBack p q s → all_back s ks ms ≡ kept → CanAllBack R s ks ms → IsWorking R kept q ks ms
+pub stepped_back : (R : Rooms) (kept : Lists) (p q : Stores) (k : Undo) (s : Lists) (ks : List Undo) (ms : List Movement) → IsWorking R kept p (k ∷ ks) ms → IsBack p q s → all_back s ks ms ≡ kept → CanAllBack R s ks ms → IsWorking R kept q ks ms
 stepped_back R kept p q k s ks ms is back kept_is can = record {
   kept_is = ap (λ (l : Lists). all_back l ks ms) back.lists ∙ kept_is;
   can = subst (λ (l : Lists). CanAllBack R l ks ms) (sym back.lists) can;

@@ -1,17 +1,17 @@
 -- Takes and puts as the code makes them, with what it pushed.
 use Rattle.std.proofs.Common.{◌≡◌, ℕ, ◌+◌, Bool, false, List, [], ◌∷◌, ◌++◌, sym, ◌∙◌, ap, subst, arith}
-use Rattle.right_steps.specs.amount_math.Content.{nothing, sum}
-use Rattle.right_steps.specs.amount_math.Held.{HasRoom, keys_in}
-use Rattle.right_steps.specs.amount_math.Worth.{Fits, Worth, keys_of}
-use Rattle.right_steps.specs.amount_math.declared.Amount.{Amount}
-use Rattle.right_steps.specs.ertp_mint.BrandSupply.{BrandSupply, supply_at}
-use Rattle.right_steps.specs.declared.Step.{Step}
-use Rattle.right_steps.specs.declared.Step.TheVariants.{Moves}
-use Rattle.right_steps.specs.Lists.{CanGive, CanTake, Lists, MayCome, kind_of}
-use Rattle.right_steps.specs.rights_model.declared.Holder.{Holder}
-use Rattle.right_steps.specs.rights_model.declared.Holder.TheVariants.{Hand, Outside}
-use Rattle.right_steps.specs.rights_model.declared.Movement.{Movement}
-use Rattle.right_steps.specs.rights_model.Table.{movement}
+use Rattle.vault_model.specs.amount_math.Content.{nothing, sum}
+use Rattle.vault_model.specs.amount_math.Held.{HasRoom, keys_in}
+use Rattle.vault_model.specs.amount_math.ValueView.{Fits, ValueView, keys_of}
+use Rattle.vault_model.specs.amount_math.declared.Amount.{Amount}
+use Rattle.vault_model.specs.ertp_mint.BrandSupply.{BrandSupply, supply_at}
+use Rattle.vault_model.specs.declared.Undo.{Undo}
+use Rattle.vault_model.specs.declared.Undo.TheVariants.{Moves}
+use Rattle.vault_model.specs.Lists.{CanGive, CanTake, Lists, MayCome, kind_of}
+use Rattle.vault_model.specs.rights_model.declared.Holder.{Holder}
+use Rattle.vault_model.specs.rights_model.declared.Holder.TheVariants.{Hand, Outside}
+use Rattle.vault_model.specs.rights_model.declared.Movement.{Movement}
+use Rattle.vault_model.specs.rights_model.Table.{movement}
 use Rattle.transit.specs.Transit.{in_store, supply_in}
 use Rattle.vault.specs.Memory.{IsGiven, IsRoomed, IsTaken, lists_of, rooms_of, store_of}
 use Rattle.vault.specs.Drafts.{HandKeeps, IsDraft, IsOfBrand, after, draft_of, given_at}
@@ -21,7 +21,7 @@ use Rattle.vault.proofs.GivenUp.{given_there}
 use Rattle.vault.proofs.Steps.{brands_there, same_store}
 use Rattle.vault.proofs.Taking.{can_retire, draft_put, draft_put_after, draft_taken, draft_taken_after}
 
-module _ (p q : Stores) (ks ls : List Step) (ms ns : List Movement) (keys : ℕ) (spoiled : Bool) (to : Holder) (a : Amount) (m : Movement) (sound : spoiled ≡ false) (is : IsDraft p ks ms keys spoiled) (keep : HandKeeps (draft_of p ks ms spoiled) a) (gave : IsGiven p q to a.brand a.value)
+module _ (p q : Stores) (ks ls : List Undo) (ms ns : List Movement) (keys : ℕ) (spoiled : Bool) (to : Holder) (a : Amount) (m : Movement) (sound : spoiled ≡ false) (is : IsDraft p ks ms keys spoiled) (keep : HandKeeps (draft_of p ks ms spoiled) a) (gave : IsGiven p q to a.brand a.value)
     (steps : ls ≡ ks ++ Moves ∷ []) (moves : ns ≡ ms ++ m ∷ []) (noted : m ≡ movement a.brand Hand to a.value) where
   all_moves : ns ≡ ms ++ movement a.brand Hand to a.value ∷ []
   all_moves = moves ∙ ap (λ x. ms ++ x ∷ []) noted
@@ -45,7 +45,7 @@ module _ (p q : Stores) (ks ls : List Step) (ms ns : List Movement) (keys : ℕ)
   pub can_retire_so : CanGive (lists_of p) Outside a.brand a.value
   can_retire_so = can_retire p ks ms keys a is_sound keep_sound
 
-module _ (p r q : Stores) (ks ls : List Step) (ms ns : List Movement) (keys more : ℕ) (spoiled : Bool) (from : Holder) (b c : ℕ) (w : Worth) (m : Movement) (sound : spoiled ≡ false) (is : IsDraft p ks ms keys spoiled) (roomed : IsRoomed p r) (took : IsTaken r q from b w) (can : CanTake (lists_of p) from b w) (at : c ≡ b)
+module _ (p r q : Stores) (ks ls : List Undo) (ms ns : List Movement) (keys more : ℕ) (spoiled : Bool) (from : Holder) (b c : ℕ) (w : ValueView) (m : Movement) (sound : spoiled ≡ false) (is : IsDraft p ks ms keys spoiled) (roomed : IsRoomed p r) (took : IsTaken r q from b w) (can : CanTake (lists_of p) from b w) (at : c ≡ b)
     (steps : ls ≡ ks ++ Moves ∷ []) (moves : ns ≡ ms ++ m ∷ []) (noted : m ≡ movement c from Hand w) where
   moves_so : ns ≡ ms ++ movement b from Hand w ∷ []
   moves_so = moves ∙ ap (λ x. ms ++ x ∷ []) (noted ∙ ap (λ x. movement x from Hand w) at)
@@ -64,7 +64,7 @@ module _ (p r q : Stores) (ks ls : List Step) (ms ns : List Movement) (keys more
       (draft_taken p r q ks ms keys more from b w was_sound roomed took can brand counted (subst (λ x. HasRoom (kind_of (lists_of p) x) (keys_of (store_of p x) + more) ((rooms_of r).hand x)) at room))))
 
 -- what may come out, and that the hand's store has nothing then, where it had nothing
-module _ (p r : Stores) (ks : List Step) (ms : List Movement) (keys : ℕ) (spoiled : Bool) (b : ℕ) (w : Worth) (roomed : IsRoomed p r) (brand : IsOfBrand (lists_of p) b w) where
+module _ (p r : Stores) (ks : List Undo) (ms : List Movement) (keys : ℕ) (spoiled : Bool) (b : ℕ) (w : ValueView) (roomed : IsRoomed p r) (brand : IsOfBrand (lists_of p) b w) where
   pub none_in_store : given_at (draft_of p ks ms spoiled) b ≡ nothing → in_store r.transit b ≡ nothing
   none_in_store none = same_store p r roomed.given_up b ∙ sym (given_there p b (omega (arith, brand.made, brands_there p))) ∙ none
 

@@ -2,28 +2,28 @@
 use Rattle.std.proofs.Common.{◌≡◌, ◌≢◌, inl, inr, ℕ, zero, suc, ◌+◌, ◌-◌, ◌<◌, ◌≤◌, Bool, false, List, [], ◌∷◌, ◌++◌, length, map, reverse, refl, sym, ◌∙◌, ap, subst, arith}
 use Rattle.std.specs.Prelude.{slice_index_or}
 use Rattle.std.proofs.lemmas.Bool.{cases_eq}
-use Rattle.right_steps.specs.amount_math.Content.{Contains, Content, nothing}
-use Rattle.right_steps.specs.amount_math.Held.{Held, HasRoom, keys_in, more_room}
-use Rattle.right_steps.specs.amount_math.Worth.{keys_of}
-use Rattle.right_steps.specs.amount_math.declared.Amount.{Amount}
-use Rattle.right_steps.specs.amount_math.declared.Kind.{Kind}
-use Rattle.right_steps.specs.amount_math.declared.Kind.TheVariants.{Nat}
-use Rattle.right_steps.specs.ertp_mint.Balances.{StoredAmount, empty_store}
-use Rattle.right_steps.specs.ertp_mint.BrandSupply.{BrandSupply, new_supply, supply_at}
-use Rattle.right_steps.specs.ertp_mint.Circulating.{CirculationView, circulation_at, new_circulation}
-use Rattle.right_steps.specs.ertp_mint.Stocks.{empty_amount, no_amount}
-use Rattle.right_steps.proofs.lemmas.ListEdits.{length_map, length_push, map_push, read_before, read_past, read_pushed}
-use Rattle.right_steps.specs.holders.Purses.{room_at}
-use Rattle.right_steps.specs.declared.Step.{Step}
-use Rattle.right_steps.specs.declared.Step.TheVariants.{OpensPurse, AddsBrand}
-use Rattle.right_steps.specs.Backwards.{CanAllBack, HasGrown, all_back, in_hand}
-use Rattle.right_steps.specs.Lists.{Lists, kind_of, purse_at, with_new_brand, with_new_purse, with_outs, with_purses, without_last_brand, without_last_purse}
-use Rattle.right_steps.specs.Tables.{Agrees, IsSound, no_hand, table_of}
-use Rattle.right_steps.proofs.Agreeing.{agrees_new_brand, agrees_new_purse}
-use Rattle.right_steps.proofs.Sound.{none_past, sound_new_brand, sound_new_purse}
-use Rattle.right_steps.proofs.Undone.{all_grows, unadded, unopened}
-use Rattle.right_steps.specs.rights_model.declared.Movement.{Movement}
-use Rattle.right_steps.specs.rights_model.Table.{CanMoveAll, table_after}
+use Rattle.vault_model.specs.amount_math.Content.{Contains, Content, nothing}
+use Rattle.vault_model.specs.amount_math.Held.{Held, HasRoom, keys_in, more_room}
+use Rattle.vault_model.specs.amount_math.ValueView.{keys_of}
+use Rattle.vault_model.specs.amount_math.declared.Amount.{Amount}
+use Rattle.vault_model.specs.amount_math.declared.Kind.{Kind}
+use Rattle.vault_model.specs.amount_math.declared.Kind.TheVariants.{Nat}
+use Rattle.vault_model.specs.ertp_mint.Balances.{BalanceView, empty_store}
+use Rattle.vault_model.specs.ertp_mint.BrandSupply.{BrandSupply, new_supply, supply_at}
+use Rattle.vault_model.specs.ertp_mint.Circulating.{CirculationView, circulation_at, new_circulation}
+use Rattle.vault_model.specs.ertp_mint.Stocks.{empty_amount, no_amount}
+use Rattle.vault_model.proofs.lemmas.ListEdits.{length_map, length_push, map_push, read_before, read_past, read_pushed}
+use Rattle.vault_model.specs.holders.Purses.{room_at}
+use Rattle.vault_model.specs.declared.Undo.{Undo}
+use Rattle.vault_model.specs.declared.Undo.TheVariants.{OpensPurse, AddsBrand}
+use Rattle.vault_model.specs.Backwards.{CanAllBack, HasGrown, all_back, in_hand}
+use Rattle.vault_model.specs.Lists.{Lists, kind_of, purse_at, with_new_brand, with_new_purse, with_outs, with_purses, without_last_brand, without_last_purse}
+use Rattle.vault_model.specs.Tables.{Agrees, IsSound, no_hand, table_of}
+use Rattle.vault_model.proofs.Agreeing.{agrees_new_brand, agrees_new_purse}
+use Rattle.vault_model.proofs.Sound.{none_past, sound_new_brand, sound_new_purse}
+use Rattle.vault_model.proofs.Undone.{all_grows, unadded, unopened}
+use Rattle.vault_model.specs.rights_model.declared.Movement.{Movement}
+use Rattle.vault_model.specs.rights_model.Table.{CanMoveAll, table_after}
 use Rattle.transit.specs.Transit.{TransitView, empty_hand, held_at}
 use Rattle.vault.specs.Memory.{amount_in, kept_of, lists_of, rooms_of, staged_of, store_of, supply_of}
 use Rattle.vault.specs.Drafts.{IsDraft, by_number, draft_of, given_list, opened, table_now, with_brand}
@@ -33,7 +33,7 @@ use Rattle.vault.proofs.Steps.{brands_there, given_long, keys_none, last_first, 
 
 -- ---- a purse
 
-module _ (p : Stores) (ks : List Step) (ms : List Movement) (keys : ℕ) (spoiled : Bool) (b : ℕ) (kind : Kind) (is : IsDraft p ks ms keys spoiled) (l : List StoredAmount) (new : l ≡ p.purses ++ empty_store b kind ∷ []) where
+module _ (p : Stores) (ks : List Undo) (ms : List Movement) (keys : ℕ) (spoiled : Bool) (b : ℕ) (kind : Kind) (is : IsDraft p ks ms keys spoiled) (l : List BalanceView) (new : l ≡ p.purses ++ empty_store b kind ∷ []) where
   abbrev q : Stores
   q = record p { purses = l }
 
@@ -44,12 +44,12 @@ module _ (p : Stores) (ks : List Step) (ms : List Movement) (keys : ℕ) (spoile
   back_there = ap without_last_purse lists ∙ unopened (lists_of p) b kind
 
   kept_after : all_back (lists_of q) (reverse (ks ++ OpensPurse ∷ [])) (reverse ms) ≡ all_back (lists_of p) (reverse ks) (reverse ms)
-  kept_after = ap (λ (r : List Step). all_back (lists_of q) r (reverse ms)) (last_first ks OpensPurse) ∙ ap (λ (s : Lists). all_back s (reverse ks) (reverse ms)) back_there
+  kept_after = ap (λ (r : List Undo). all_back (lists_of q) r (reverse ms)) (last_first ks OpensPurse) ∙ ap (λ (s : Lists). all_back s (reverse ks) (reverse ms)) back_there
 
   room_before : (n : ℕ) → room_at p.purses n ≤ room_at l n
   room_before n = subst (λ m. room_at p.purses n ≤ room_at m n) (sym new) (along p.purses n)
     where
-      along : (xs : List StoredAmount) (n : ℕ) → room_at xs n ≤ room_at (xs ++ empty_store b kind ∷ []) n
+      along : (xs : List BalanceView) (n : ℕ) → room_at xs n ≤ room_at (xs ++ empty_store b kind ∷ []) n
       along [] n = omega arith
       along (x ∷ xs) zero = omega arith
       along (x ∷ xs) (suc n) = along xs n
@@ -67,7 +67,7 @@ module _ (p : Stores) (ks : List Step) (ms : List Movement) (keys : ℕ) (spoile
 
   pub opened_keeps : IsDraft q (ks ++ OpensPurse ∷ []) ms keys spoiled
   opened_keeps = record {
-    can = subst (λ (r : List Step). CanAllBack (rooms_of q) (lists_of q) r (reverse ms)) (sym (last_first ks OpensPurse)) (
+    can = subst (λ (r : List Undo). CanAllBack (rooms_of q) (lists_of q) r (reverse ms)) (sym (last_first ks OpensPurse)) (
       record {
         some = omega (arith, length_map amount_in l, ap length new, length_push p.purses (empty_store b kind));
         empty = last_is_empty;
@@ -90,7 +90,7 @@ module _ (p : Stores) (ks : List Step) (ms : List Movement) (keys : ℕ) (spoile
 
 -- ---- a brand
 
-module _ (p : Stores) (ks : List Step) (ms : List Movement) (keys : ℕ) (kind : Kind) (is : IsDraft p ks ms keys false) (t : TransitView) (new : t ≡ record { out = p.transit.out ++ new_circulation kind ∷ []; hand = p.transit.hand ++ empty_hand kind ∷ [] }) (alike : length p.transit.hand ≡ length p.transit.out) where
+module _ (p : Stores) (ks : List Undo) (ms : List Movement) (keys : ℕ) (kind : Kind) (is : IsDraft p ks ms keys false) (t : TransitView) (new : t ≡ record { out = p.transit.out ++ new_circulation kind ∷ []; hand = p.transit.hand ++ empty_hand kind ∷ [] }) (alike : length p.transit.hand ≡ length p.transit.out) where
   abbrev r : Stores
   r = record p { transit = t }
 
@@ -101,7 +101,7 @@ module _ (p : Stores) (ks : List Step) (ms : List Movement) (keys : ℕ) (kind :
   back_too = ap without_last_brand lists_too ∙ unadded (lists_of p) kind
 
   kept_too : all_back (lists_of r) (reverse (ks ++ AddsBrand ∷ [])) (reverse ms) ≡ all_back (lists_of p) (reverse ks) (reverse ms)
-  kept_too = ap (λ (x : List Step). all_back (lists_of r) x (reverse ms)) (last_first ks AddsBrand) ∙ ap (λ (s : Lists). all_back s (reverse ks) (reverse ms)) back_too
+  kept_too = ap (λ (x : List Undo). all_back (lists_of r) x (reverse ms)) (last_first ks AddsBrand) ∙ ap (λ (s : Lists). all_back s (reverse ks) (reverse ms)) back_too
 
   kept_same : (e : ℕ) → kept_of r e ≡ kept_of p e
   kept_same e = ap (λ (u : TransitView). (circulation_at u.out e).kept) new ∙ along p.transit.out e
@@ -168,7 +168,7 @@ module _ (p : Stores) (ks : List Step) (ms : List Movement) (keys : ℕ) (kind :
 
   pub added_keeps : IsDraft r (ks ++ AddsBrand ∷ []) ms keys false
   added_keeps = record {
-    can = subst (λ (x : List Step). CanAllBack (rooms_of r) (lists_of r) x (reverse ms)) (sym (last_first ks AddsBrand)) (
+    can = subst (λ (x : List Undo). CanAllBack (rooms_of r) (lists_of r) x (reverse ms)) (sym (last_first ks AddsBrand)) (
       record {
         some = omega (arith, brands_there r, long);
         fresh = last_is_fresh;

@@ -1,25 +1,25 @@
 -- What opens and closes, worked forwards and back: what it makes of the lists, and what room is left.
 use Rattle.std.proofs.Common.{◌≡◌, ℕ, zero, suc, ◌+◌, ◌-◌, ◌<◌, ◌≤◌, inr, Bool, length-append, true, false, cond, List, [], ◌∷◌, ◌++◌, length, take, map, Some, None, Option, refl, sym, ◌∙◌, ap, subst, arith}
 use Rattle.std.specs.Prelude.{IsNone, IsSome, slice_index_or, is_none}
-use Rattle.right_steps.specs.amount_math.Content.{nothing}
-use Rattle.right_steps.specs.amount_math.Held.{Held}
-use Rattle.right_steps.specs.amount_math.declared.Amount.{Amount}
-use Rattle.right_steps.specs.amount_math.declared.Kind.TheVariants.{Nat}
-use Rattle.right_steps.specs.ertp_mint.Balances.{StoredAmount, no_store}
-use Rattle.right_steps.specs.ertp_mint.BrandSupply.{BrandSupply}
-use Rattle.right_steps.specs.ertp_mint.Circulating.{CirculationView, circulation_at, new_circulation}
-use Rattle.right_steps.proofs.lemmas.ListEdits.{length_map, length_taken, map_push, map_take, read_map, read_take}
-use Rattle.right_steps.specs.holders.Papers.{PaymentBook, made_and_open}
-use Rattle.right_steps.specs.ertp_mint.Stocks.{most_made}
-use Rattle.right_steps.specs.proposals.Slots.{emptied, in_byte_order, is_upto, placed, slots_of}
-use Rattle.right_steps.specs.proposals.declared.allocations.Row.{Row}
-use Rattle.right_steps.specs.proposals.declared.offers.Proposal.{Proposal}
-use Rattle.right_steps.specs.holders.Purses.{content_at, room_at}
-use Rattle.right_steps.specs.Backwards.{HasEmptyLast, HasEmptySlot, HasFreshLast, HasNewLast}
-use Rattle.right_steps.specs.Lists.{with_closed_seat, with_new_seat, with_outs, with_purses, with_reopened_seat, without_last_brand, without_last_purse, without_last_seat, without_last_slot_of}
-use Rattle.right_steps.specs.Seats.{HasEmptyRow, HasRow, HasSlotOf, KeptSeat, kept_seat_at, new_kept_seat, no_kept_seat, no_row, with_slots}
+use Rattle.vault_model.specs.amount_math.Content.{nothing}
+use Rattle.vault_model.specs.amount_math.Held.{Held}
+use Rattle.vault_model.specs.amount_math.declared.Amount.{Amount}
+use Rattle.vault_model.specs.amount_math.declared.Kind.TheVariants.{Nat}
+use Rattle.vault_model.specs.ertp_mint.Balances.{BalanceView, no_store}
+use Rattle.vault_model.specs.ertp_mint.BrandSupply.{BrandSupply}
+use Rattle.vault_model.specs.ertp_mint.Circulating.{CirculationView, circulation_at, new_circulation}
+use Rattle.vault_model.proofs.lemmas.ListEdits.{length_map, length_taken, map_push, map_take, read_map, read_take}
+use Rattle.vault_model.specs.holders.PaymentViews.{PaymentBook, made_and_open}
+use Rattle.vault_model.specs.ertp_mint.Stocks.{most_made}
+use Rattle.vault_model.specs.proposals.Slots.{emptied, in_byte_order, is_upto, placed, slots_of}
+use Rattle.vault_model.specs.proposals.declared.allocations.Share.{Share}
+use Rattle.vault_model.specs.proposals.declared.offers.Proposal.{Proposal}
+use Rattle.vault_model.specs.holders.Purses.{content_at, room_at}
+use Rattle.vault_model.specs.Backwards.{HasEmptyLast, HasEmptySlot, HasFreshLast, HasNewLast}
+use Rattle.vault_model.specs.Lists.{with_closed_seat, with_new_seat, with_outs, with_purses, with_reopened_seat, without_last_brand, without_last_purse, without_last_seat, without_last_slot_of}
+use Rattle.vault_model.specs.Seats.{HasEmptyShare, HasShare, HasSlotOf, KeptSeat, kept_seat_at, new_kept_seat, no_kept_seat, empty_share, with_slots}
 use Rattle.seats.specs.Seats.{SeatView, closed_seat, new_seat, open_slots_in, reopened_seat, stored_in, without_last_slot}
-use Rattle.seats.specs.Slots.{HasSlot, SlotView, empty_slot, no_slot, row_in, rows_in}
+use Rattle.seats.specs.Slots.{HasSlot, SlotView, empty_slot, no_slot, share_in, shares_in}
 use Rattle.seats.specs.Slots as slots
 use Rattle.seats.specs.Staging.{without_staged}
 use Rattle.seats.specs.Store.{IsNew, SeatsView, at_seat, changed_at, no_seat, seat_at, seat_in, slot_store, with_closed, without_last}
@@ -42,7 +42,7 @@ module _ (p : Stores) where
     ap (λ n. content_at p.purses (n - 1)) (sym (length_map amount_in p.purses)) ∙ ap (λ (a : Amount). a.value.content) (sym (purse_read p.purses (length (lists_of p).purses - 1))) ∙ is.empty,
   )
 
-  pub purse_closed : (l : List StoredAmount) → l ≡ take (length p.purses - 1) p.purses → IsBack p (record p { purses = l }) (without_last_purse (lists_of p))
+  pub purse_closed : (l : List BalanceView) → l ≡ take (length p.purses - 1) p.purses → IsBack p (record p { purses = l }) (without_last_purse (lists_of p))
   purse_closed l new = record {
     lists = ap (with_purses (lists_of p)) (ap (map amount_in) new ∙ map_take amount_in p.purses (length p.purses - 1) ∙ ap (λ n. take (n - 1) (map amount_in p.purses)) (sym (length_map amount_in p.purses)));
     brands = omega arith;
@@ -55,7 +55,7 @@ module _ (p : Stores) where
             arith,
             has.purses n (shorter p.purses (length p.purses - 1) n there),
             ap (λ m. room_at m n) new,
-            ap (λ (x : StoredAmount). x.room) (read_take p.purses (length p.purses - 1) n no_store there),
+            ap (λ (x : BalanceView). x.room) (read_take p.purses (length p.purses - 1) n no_store there),
           );
       slots = has.slots;
       capacity = has.capacity;
@@ -90,11 +90,11 @@ module _ (p : Stores) where
 
   -- ---- seats: forwards
 
-  pub seats_forward : (book : PaymentBook) (l : SeatsView) (m : List KeptSeat) (owed : ℕ) (staged : List (ℕ × List Row)) → book.papers ≡ p.payments.papers → p.payments.capacity ≤ book.capacity → book.slots ≡ owed
+  pub seats_forward : (book : PaymentBook) (l : SeatsView) (m : List KeptSeat) (owed : ℕ) (staged : List (ℕ × List Share)) → book.views ≡ p.payments.views → p.payments.capacity ≤ book.capacity → book.slots ≡ owed
       → map kept_seat l.seats ≡ m → l.staging ≡ staged → ((q : ℕ) (j : List ℕ) → (slot_store q j p.seats).room ≤ (slot_store q j l).room)
       → IsForward p (record p { payments = book; seats = l }) (record (lists_of p) { seats = m; owed = owed }) staged (kept_of p)
-  seats_forward book l m owed staged papers capacity slots is staging grown = record {
-    lists = λ i. record { purses = (lists_of p).purses; payments = papers i; seats = is i; owed = slots i; out = (lists_of p).out };
+  seats_forward book l m owed staged views capacity slots is staging grown = record {
+    lists = λ i. record { purses = (lists_of p).purses; payments = views i; seats = is i; owed = slots i; out = (lists_of p).out };
     staging = staging;
     given_up = refl;
     kept = λ b. refl;
@@ -102,11 +102,11 @@ module _ (p : Stores) where
   }
 
   -- and back
-  pub seats_back : (book : PaymentBook) (l : SeatsView) (m : List KeptSeat) (owed : ℕ) → book.papers ≡ p.payments.papers → p.payments.capacity ≤ book.capacity → book.slots ≡ owed → map kept_seat l.seats ≡ m
+  pub seats_back : (book : PaymentBook) (l : SeatsView) (m : List KeptSeat) (owed : ℕ) → book.views ≡ p.payments.views → p.payments.capacity ≤ book.capacity → book.slots ≡ owed → map kept_seat l.seats ≡ m
       → ((q : ℕ) (j : List ℕ) → HasSlotOf m q j → (HasSlotOf (lists_of p).seats q j) × (slot_store q j l ≡ slot_store q j p.seats))
       → IsBack p (record p { payments = book; seats = l }) (record (lists_of p) { seats = m; owed = owed })
-  seats_back book l m owed papers capacity slots is left = record {
-    lists = λ i. record { purses = (lists_of p).purses; payments = papers i; seats = is i; owed = slots i; out = (lists_of p).out };
+  seats_back book l m owed views capacity slots is left = record {
+    lists = λ i. record { purses = (lists_of p).purses; payments = views i; seats = is i; owed = slots i; out = (lists_of p).out };
     brands = omega arith;
     hand = λ b lt. refl;
     kept = λ b lt. refl;
@@ -114,7 +114,7 @@ module _ (p : Stores) where
       purses = has.purses;
       slots = λ q j there.
           let same : (HasSlotOf (lists_of p).seats q j) × (slot_store q j l ≡ slot_store q j p.seats) = left q j (subst (λ (x : List KeptSeat). HasSlotOf x q j) is there) in
-          omega (arith, has.slots q j same.0, ap (λ (x : StoredAmount). x.room) same.1);
+          omega (arith, has.slots q j same.0, ap (λ (x : BalanceView). x.room) same.1);
       capacity = omega (arith, has.capacity, capacity);
       hand = has.hand;
     };
@@ -122,14 +122,14 @@ module _ (p : Stores) where
 
 -- ---- a seat opened
 
-rows_empty : (rs : List Row) → rows_in (map empty_slot rs) ≡ map emptied rs
-rows_empty [] = refl
-rows_empty (r ∷ rs) = ap (λ l. emptied r ∷ l) (rows_empty rs)
+shares_empty : (rs : List Share) → shares_in (map empty_slot rs) ≡ map emptied rs
+shares_empty [] = refl
+shares_empty (r ∷ rs) = ap (λ l. emptied r ∷ l) (shares_empty rs)
 
 kept_new : (instance : ℕ) (proposal : Proposal) → kept_seat (new_seat instance proposal) ≡ new_kept_seat instance proposal
-kept_new instance proposal = ap (with_slots (new_kept_seat instance proposal)) (rows_empty (slots_of proposal))
+kept_new instance proposal = ap (with_slots (new_kept_seat instance proposal)) (shares_empty (slots_of proposal))
 
-length_placed : (r : Row) (rs : List Row) → length (placed r rs) ≡ suc (length rs)
+length_placed : (r : Share) (rs : List Share) → length (placed r rs) ≡ suc (length rs)
 length_placed r [] = refl
 length_placed r (x ∷ xs) = by (is_upto r.keyword x.keyword) (length_placed r xs)
   where
@@ -137,7 +137,7 @@ length_placed r (x ∷ xs) = by (is_upto r.keyword x.keyword) (length_placed r x
     by true later = refl
     by false later = ap suc later
 
-length_ordered : (rs : List Row) → length (in_byte_order rs) ≡ length rs
+length_ordered : (rs : List Share) → length (in_byte_order rs) ≡ length rs
 length_ordered [] = refl
 length_ordered (r ∷ rs) = length_placed r (in_byte_order rs) ∙ ap suc (length_ordered rs)
 
@@ -149,7 +149,7 @@ module _ (p : Stores) (book : PaymentBook) (l : SeatsView) where
   pub seat_opened : (instance : ℕ) (proposal : Proposal) (k : ℕ) → book ≡ record p.payments { slots = p.payments.slots + k } → k ≡ length proposal.give + length proposal.want
       → l ≡ record p.seats { seats = p.seats.seats ++ new_seat instance proposal ∷ [] } → HasBecome p (record p { payments = book; seats = l }) (with_new_seat (lists_of p) instance proposal)
   seat_opened instance proposal k reserved counted is = seats_forward p book l (with_new_seat (lists_of p) instance proposal).seats _ (staged_of p)
-      (ap (λ (b : PaymentBook). b.papers) reserved)
+      (ap (λ (b : PaymentBook). b.views) reserved)
       (omega (arith, ap (λ (b : PaymentBook). b.capacity) reserved))
       (ap (λ (b : PaymentBook). b.slots) reserved ∙ ap (λ n. p.payments.slots + n) (counted ∙ sym (slots_counted proposal)))
       (ap (λ (v : SeatsView). map kept_seat v.seats) is ∙ map_push kept_seat p.seats.seats (new_seat instance proposal) ∙ ap (λ s. map kept_seat p.seats.seats ++ s ∷ []) (kept_new instance proposal))
@@ -162,9 +162,9 @@ module _ (p : Stores) (book : PaymentBook) (l : SeatsView) where
       pushed_rooms (y ∷ ys) x (suc q) j = pushed_rooms ys x q j
 
   -- payments no longer owed
-  pub slots_after : (k : ℕ) → p.payments ≡ record book { slots = book.slots + k } → (book.papers ≡ p.payments.papers) × ((p.payments.capacity ≤ book.capacity) × (book.slots ≡ p.payments.slots - k))
+  pub slots_after : (k : ℕ) → p.payments ≡ record book { slots = book.slots + k } → (book.views ≡ p.payments.views) × ((p.payments.capacity ≤ book.capacity) × (book.slots ≡ p.payments.slots - k))
   slots_after k is = (
-    sym (ap (λ (b : PaymentBook). b.papers) is),
+    sym (ap (λ (b : PaymentBook). b.views) is),
     (omega (arith, ap (λ (b : PaymentBook). b.capacity) is), omega (arith, ap (λ (b : PaymentBook). b.slots) is)),
   )
 
@@ -180,7 +180,7 @@ module _ (p : Stores) (book : PaymentBook) (l : SeatsView) where
       let within : q < length (take (length p.seats.seats - 1) p.seats.seats) = omega (arith, short, length_map kept_seat (take (length p.seats.seats - 1) p.seats.seats), ap length (map_take kept_seat p.seats.seats (length p.seats.seats - 1) ∙ ap (λ n. take (n - 1) (map kept_seat p.seats.seats)) (sym (length_map kept_seat p.seats.seats)))) in (
         record {
           made = shorter (lists_of p).seats (length (lists_of p).seats - 1) q short;
-          there = subst (λ (s : KeptSeat). HasRow j s.slots) (read_take (lists_of p).seats (length (lists_of p).seats - 1) q no_kept_seat short) has.there;
+          there = subst (λ (s : KeptSeat). HasShare j s.slots) (read_take (lists_of p).seats (length (lists_of p).seats - 1) q no_kept_seat short) has.there;
         },
         ap (λ (v : SeatsView). slot_store q j v) is ∙ ap (stored_in j) (read_take p.seats.seats (length p.seats.seats - 1) q no_seat within),
       ))
@@ -198,7 +198,7 @@ module _ (p : Stores) (book : PaymentBook) (l : SeatsView) where
     where
       listed : map kept_seat (changed_at n without_last_slot p.seats.seats) ≡ (without_last_slot_of n (lists_of p)).seats
       listed = changed_kept n without_last_slot (λ s. with_slots s (take (length s.slots - 1) s.slots)) p.seats.seats
-          (ap (with_slots (kept_seat (seat_in n p.seats))) (map_take row_in (seat_in n p.seats).slots (length (seat_in n p.seats).slots - 1) ∙ ap (λ m. take (m - 1) (rows_in (seat_in n p.seats).slots)) (sym (length_map row_in (seat_in n p.seats).slots))))
+          (ap (with_slots (kept_seat (seat_in n p.seats))) (map_take share_in (seat_in n p.seats).slots (length (seat_in n p.seats).slots - 1) ∙ ap (λ m. take (m - 1) (shares_in (seat_in n p.seats).slots)) (sym (length_map share_in (seat_in n p.seats).slots))))
 
       fewer : (j : List ℕ) → HasSlot j (without_last_slot (seat_in n p.seats)).slots → HasSlot j (seat_in n p.seats).slots × (stored_in j (without_last_slot (seat_in n p.seats)) ≡ stored_in j (seat_in n p.seats))
       fewer j has = (taken_has (length (seat_in n p.seats).slots - 1) (seat_in n p.seats).slots j has, taken_slots (length (seat_in n p.seats).slots - 1) (seat_in n p.seats).slots j has)
@@ -216,7 +216,7 @@ module _ (p : Stores) (book : PaymentBook) (l : SeatsView) where
   pub seat_reopened : (n k : ℕ) → n < length p.seats.seats → k ≡ length (kept_seat_at (lists_of p).seats n).slots → book ≡ record p.payments { slots = p.payments.slots + k } → l ≡ at_seat n reopened_seat p.seats → IsBack p (record p { payments = book; seats = l }) (with_reopened_seat n (lists_of p))
   seat_reopened n k lt counted reserved is =
       seats_back p book l (with_reopened_seat n (lists_of p)).seats _
-      (ap (λ (b : PaymentBook). b.papers) reserved)
+      (ap (λ (b : PaymentBook). b.views) reserved)
       (omega (arith, ap (λ (b : PaymentBook). b.capacity) reserved))
       (ap (λ (b : PaymentBook). b.slots) reserved ∙ ap (λ m. p.payments.slots + m) counted)
       (ap (λ (v : SeatsView). map kept_seat v.seats) is ∙ listed)
@@ -236,9 +236,9 @@ module _ (p : Stores) where
   pub open_count : (n : ℕ) → IsNone (seat_in n p.seats).last → open_slots_in (seat_in n p.seats) ≡ length (kept_seat_at (lists_of p).seats n).slots
   open_count n is =
       counts (seat_in n p.seats).last is
-      ∙ sym (ap (λ (s : KeptSeat). length s.slots) (seat_read p.seats.seats n) ∙ length_map row_in (seat_in n p.seats).slots)
+      ∙ sym (ap (λ (s : KeptSeat). length s.slots) (seat_read p.seats.seats n) ∙ length_map share_in (seat_in n p.seats).slots)
     where
-      counts : (o : Option (List Row)) → IsNone o → cond (is_none o) (length (seat_in n p.seats).slots) 0 ≡ length (seat_in n p.seats).slots
+      counts : (o : Option (List Share)) → IsNone o → cond (is_none o) (length (seat_in n p.seats).slots) 0 ≡ length (seat_in n p.seats).slots
       counts None none = refl
       counts (Some x) none = absurd cc
 
@@ -246,7 +246,7 @@ module _ (p : Stores) where
   reopened_count n l lt is =
       ap (λ (v : SeatsView). open_slots_in (seat_in n v)) is
       ∙ ap open_slots_in (changed_read n reopened_seat p.seats.seats lt)
-      ∙ sym (ap (λ (s : KeptSeat). length s.slots) (seat_read p.seats.seats n) ∙ length_map row_in (seat_in n p.seats).slots)
+      ∙ sym (ap (λ (s : KeptSeat). length s.slots) (seat_read p.seats.seats n) ∙ length_map share_in (seat_in n p.seats).slots)
 
   pub is_open_here : (n : ℕ) → IsNone (kept_seat_at (lists_of p).seats n).last → IsNone (seat_in n p.seats).last
   is_open_here n is = subst (λ (s : KeptSeat). IsNone s.last) (seat_read p.seats.seats n) is
@@ -269,12 +269,12 @@ module _ (p : Stores) where
 
   pub last_is_empty : (n : ℕ) → HasEmptySlot n (lists_of p) → slots.HasEmptyLast (seat_in n p.seats).slots
   last_is_empty n is =
-      let rows : (kept_seat_at (lists_of p).seats n).slots ≡ rows_in (seat_in n p.seats).slots = ap (λ (s : KeptSeat). s.slots) (seat_read p.seats.seats n) in
-      let many : length (rows_in (seat_in n p.seats).slots) ≡ length (seat_in n p.seats).slots = length_map row_in (seat_in n p.seats).slots in
-      let empty : HasEmptyRow (rows_in (seat_in n p.seats).slots) = subst HasEmptyRow rows is.empty in
+      let shares : (kept_seat_at (lists_of p).seats n).slots ≡ shares_in (seat_in n p.seats).slots = ap (λ (s : KeptSeat). s.slots) (seat_read p.seats.seats n) in
+      let many : length (shares_in (seat_in n p.seats).slots) ≡ length (seat_in n p.seats).slots = length_map share_in (seat_in n p.seats).slots in
+      let empty : HasEmptyShare (shares_in (seat_in n p.seats).slots) = subst HasEmptyShare shares is.empty in
       record {
         some = omega (arith, empty.some, many);
-        empty = ap (λ (r : Row). r.amount.value.content) (sym (read_map row_in (seat_in n p.seats).slots (length (seat_in n p.seats).slots - 1) no_slot)) ∙ ap (λ m. (slice_index_or (rows_in (seat_in n p.seats).slots) (m - 1) no_row).amount.value.content) (sym many) ∙ empty.empty;
+        empty = ap (λ (r : Share). r.amount.value.content) (sym (read_map share_in (seat_in n p.seats).slots (length (seat_in n p.seats).slots - 1) no_slot)) ∙ ap (λ m. (slice_index_or (shares_in (seat_in n p.seats).slots) (m - 1) empty_share).amount.value.content) (sym many) ∙ empty.empty;
       }
 
 -- no room for the payments of so many slots

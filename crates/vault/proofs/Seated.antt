@@ -1,31 +1,31 @@
 -- A draft after a seat was opened, after a further slot was, and after a seat was closed.
 use Rattle.std.proofs.Common.{◌≡◌, ℕ, ◌+◌, ◌-◌, ◌<◌, ◌≤◌, Bool, false, List, [], ◌∷◌, ◌++◌, length, reverse, Result, Ok, Err, Some, None, Option, refl, sym, ◌∙◌, ap, subst, arith}
 use Rattle.std.specs.Prelude.{OnErr, OnOk, IsNone, IsSome, is_some, slice_index_or, slice_set, unwrap_or}
-use Rattle.right_steps.specs.amount_math.Content.{Contains, nothing, sum}
-use Rattle.right_steps.specs.amount_math.Held.{HasRoom, keys_in, more_room}
-use Rattle.right_steps.specs.amount_math.Worth.{IsValue, keys_of}
-use Rattle.right_steps.specs.amount_math.declared.Amount.{Amount}
-use Rattle.right_steps.specs.amount_math.declared.Kind.{Kind}
-use Rattle.right_steps.specs.ertp_mint.BrandSupply.{BrandSupply, supply_at}
-use Rattle.right_steps.specs.ertp_mint.Stocks.{empty_amount, most_made, no_amount}
-use Rattle.right_steps.proofs.lemmas.ListEdits.{length_map, length_push, length_set, read_pushed, read_set}
-use Rattle.right_steps.specs.proposals.Rows.{amount_under, row_of}
-use Rattle.right_steps.specs.proposals.Slots.{emptied, slots_of}
-use Rattle.right_steps.specs.proposals.declared.allocations.Row.{Row}
-use Rattle.right_steps.specs.proposals.declared.offers.Proposal.{Proposal}
-use Rattle.right_steps.specs.declared.Step.{Step}
-use Rattle.right_steps.specs.declared.Step.TheVariants.{Moves, OpensSeat, OpensSlot, ClosesSeat}
-use Rattle.right_steps.specs.Backwards.{CanAllBack, Rooms, all_back, in_hand}
-use Rattle.right_steps.specs.Lists.{CanGive, Lists, kind_of, slot_of, with_closed_seat, with_new_seat, with_new_slot}
-use Rattle.right_steps.specs.Seats.{HasRow, HasSlotOf, IsOpenSeat, KeptSeat, HasEmptyRow, amount_at, kept_seat_at, new_kept_seat, no_kept_seat, no_row, with_slots}
-use Rattle.right_steps.specs.Tables.{Agrees, IsSound, no_hand, table_of}
-use Rattle.right_steps.proofs.Agreeing.{agrees_closed, agrees_new_seat, agrees_new_slot}
-use Rattle.right_steps.proofs.SlotRows.{pushed_there}
-use Rattle.right_steps.proofs.Sound.{owes_its_slots, sound_closed, sound_new_seat, sound_new_slot}
-use Rattle.right_steps.proofs.Undone.{all_grows, reopened, unopened_slot, unseated}
-use Rattle.right_steps.specs.rights_model.declared.Holder.TheVariants.{Hand, Slot}
-use Rattle.right_steps.specs.rights_model.declared.Movement.{Movement}
-use Rattle.right_steps.specs.rights_model.Table.{CanMoveAll, Table, movement, table_after}
+use Rattle.vault_model.specs.amount_math.Content.{Contains, nothing, sum}
+use Rattle.vault_model.specs.amount_math.Held.{HasRoom, keys_in, more_room}
+use Rattle.vault_model.specs.amount_math.ValueView.{IsValue, keys_of}
+use Rattle.vault_model.specs.amount_math.declared.Amount.{Amount}
+use Rattle.vault_model.specs.amount_math.declared.Kind.{Kind}
+use Rattle.vault_model.specs.ertp_mint.BrandSupply.{BrandSupply, supply_at}
+use Rattle.vault_model.specs.ertp_mint.Stocks.{empty_amount, most_made, no_amount}
+use Rattle.vault_model.proofs.lemmas.ListEdits.{length_map, length_push, length_set, read_pushed, read_set}
+use Rattle.vault_model.specs.proposals.Shares.{amount_under, keyed_share}
+use Rattle.vault_model.specs.proposals.Slots.{emptied, slots_of}
+use Rattle.vault_model.specs.proposals.declared.allocations.Share.{Share}
+use Rattle.vault_model.specs.proposals.declared.offers.Proposal.{Proposal}
+use Rattle.vault_model.specs.declared.Undo.{Undo}
+use Rattle.vault_model.specs.declared.Undo.TheVariants.{Moves, OpensSeat, OpensSlot, ClosesSeat}
+use Rattle.vault_model.specs.Backwards.{CanAllBack, Rooms, all_back, in_hand}
+use Rattle.vault_model.specs.Lists.{CanGive, Lists, kind_of, slot_of, with_closed_seat, with_new_seat, with_new_slot}
+use Rattle.vault_model.specs.Seats.{HasShare, HasSlotOf, IsOpenSeat, KeptSeat, HasEmptyShare, amount_at, kept_seat_at, new_kept_seat, no_kept_seat, empty_share, with_slots}
+use Rattle.vault_model.specs.Tables.{Agrees, IsSound, no_hand, table_of}
+use Rattle.vault_model.proofs.Agreeing.{agrees_closed, agrees_new_seat, agrees_new_slot}
+use Rattle.vault_model.proofs.SlotShares.{pushed_there}
+use Rattle.vault_model.proofs.Sound.{owes_its_slots, sound_closed, sound_new_seat, sound_new_slot}
+use Rattle.vault_model.proofs.Undone.{all_grows, reopened, unopened_slot, unseated}
+use Rattle.vault_model.specs.rights_model.declared.Holder.TheVariants.{Hand, Slot}
+use Rattle.vault_model.specs.rights_model.declared.Movement.{Movement}
+use Rattle.vault_model.specs.rights_model.Table.{CanMoveAll, Table, movement, table_after}
 use Rattle.seats.specs.Staging.{without_staged}
 use Rattle.seats.specs.Store.{SeatsView}
 use Rattle.vault.specs.Asked.{MayClose, MayOpenSlot, TakesIn}
@@ -37,10 +37,10 @@ use Rattle.vault.proofs.Steps.{brands_there, given_long, last_first, same_given,
 
 -- ---- any step that moves nothing
 
-module _ (p q : Stores) (k : Step) (s : Lists) (staged : List (ℕ × List Row)) (ks : List Step) (ms : List Movement) (keys : ℕ) (spoiled : Bool) (is : IsDraft p ks ms keys spoiled) (become : IsForward p q s staged (kept_of p))
+module _ (p q : Stores) (k : Undo) (s : Lists) (staged : List (ℕ × List Share)) (ks : List Undo) (ms : List Movement) (keys : ℕ) (spoiled : Bool) (is : IsDraft p ks ms keys spoiled) (become : IsForward p q s staged (kept_of p))
     (undone : all_back s (k ∷ reverse ks) (reverse ms) ≡ all_back (lists_of p) (reverse ks) (reverse ms)) where
   kept_after : all_back (lists_of q) (reverse (ks ++ k ∷ [])) (reverse ms) ≡ all_back (lists_of p) (reverse ks) (reverse ms)
-  kept_after = ap (λ (r : List Step). all_back (lists_of q) r (reverse ms)) (last_first ks k) ∙ ap (λ (l : Lists). all_back l (k ∷ reverse ks) (reverse ms)) become.lists ∙ undone
+  kept_after = ap (λ (r : List Undo). all_back (lists_of q) r (reverse ms)) (last_first ks k) ∙ ap (λ (l : Lists). all_back l (k ∷ reverse ks) (reverse ms)) become.lists ∙ undone
 
   same_list : s.out ≡ (lists_of p).out → given_list q ≡ given_list p
   same_list outs = same_given p q become.given_up (ap (λ (l : Lists). length l.out) become.lists ∙ ap length outs)
@@ -50,7 +50,7 @@ module _ (p q : Stores) (k : Step) (s : Lists) (staged : List (ℕ × List Row))
 
   pub stepped_keeps : ((R : Rooms) → CanAllBack R (lists_of p) (reverse ks) (reverse ms) → CanAllBack R s (k ∷ reverse ks) (reverse ms)) → s.out ≡ (lists_of p).out → IsSound s (in_hand (reverse ms)) → ((t : Table) → Agrees (lists_of p) (in_hand (reverse ms)) t → Agrees s (in_hand (reverse ms)) t) → IsDraft q (ks ++ k ∷ []) ms keys spoiled
   stepped_keeps can outs sound agrees = record {
-    can = subst (λ (r : List Step). CanAllBack (rooms_of q) (lists_of q) r (reverse ms)) (sym (last_first ks k))
+    can = subst (λ (r : List Undo). CanAllBack (rooms_of q) (lists_of q) r (reverse ms)) (sym (last_first ks k))
         (subst (λ (l : Lists). CanAllBack (rooms_of q) l (k ∷ reverse ks) (reverse ms)) (sym become.lists)
         (can (rooms_of q) (all_grows (rooms_of p) (rooms_of q) become.rooms (lists_of p) (reverse ks) (reverse ms) is.can)));
     bounded = λ b. subst (λ (l : List BrandSupply). keys_in (supply_at l b).outstanding.kind (in_hand (reverse ms) b) ≤ keys) (sym out_same) (is.bounded b);
@@ -74,7 +74,7 @@ module _ (p q : Stores) (k : Step) (s : Lists) (staged : List (ℕ × List Row))
       before : (b : ℕ) → b < length q.transit.out → b < length p.transit.out
       before b lt = omega (arith, lt, brands_there p, brands_there q, ap length out_same)
 
-module _ (p q : Stores) (ks : List Step) (ms : List Movement) (keys : ℕ) (spoiled : Bool) (is : IsDraft p ks ms keys spoiled) where
+module _ (p q : Stores) (ks : List Undo) (ms : List Movement) (keys : ℕ) (spoiled : Bool) (is : IsDraft p ks ms keys spoiled) where
   -- ---- a seat
 
   module _ (instance : ℕ) (proposal : Proposal) (become : HasBecome p q (with_new_seat (lists_of p) instance proposal)) where
@@ -141,19 +141,19 @@ module _ (p q : Stores) (ks : List Step) (ms : List Movement) (keys : ℕ) (spoi
 
 module _ (s : Lists) (n : ℕ) (k : List ℕ) (b : ℕ) (kind : Kind) (may : MayOpenSlot s n k) where
   abbrev with_it : KeptSeat
-  with_it = with_slots (kept_seat_at s.seats n) ((kept_seat_at s.seats n).slots ++ row_of k (empty_amount b kind) ∷ [])
+  with_it = with_slots (kept_seat_at s.seats n) ((kept_seat_at s.seats n).slots ++ keyed_share k (empty_amount b kind) ∷ [])
 
   it_there : kept_seat_at (with_new_slot s n k b kind).seats n ≡ with_it
   it_there = read_set s.seats n with_it no_kept_seat may.made
 
-  row_there : amount_under k with_it.slots ≡ Some (empty_amount b kind)
-  row_there = pushed_there k (kept_seat_at s.seats n).slots (empty_amount b kind) may.free
+  share_there : amount_under k with_it.slots ≡ Some (empty_amount b kind)
+  share_there = pushed_there k (kept_seat_at s.seats n).slots (empty_amount b kind) may.free
 
   slot_now : HasSlotOf (with_new_slot s n k b kind).seats n k
-  slot_now = record { made = omega (arith, may.made, length_set s.seats n with_it); there = subst (λ (x : KeptSeat). HasRow k x.slots) (sym it_there) (ap is_some row_there) }
+  slot_now = record { made = omega (arith, may.made, length_set s.seats n with_it); there = subst (λ (x : KeptSeat). HasShare k x.slots) (sym it_there) (ap is_some share_there) }
 
   empty_now : slot_of (with_new_slot s n k b kind) n k ≡ empty_amount b kind
-  empty_now = ap (λ (x : KeptSeat). amount_at k x.slots) it_there ∙ ap (λ o. unwrap_or o no_amount) row_there
+  empty_now = ap (λ (x : KeptSeat). amount_at k x.slots) it_there ∙ ap (λ o. unwrap_or o no_amount) share_there
 
   was_nothing : (slot_of s n k).value.content ≡ nothing
   was_nothing = by (amount_under k (kept_seat_at s.seats n).slots) may.free
@@ -162,13 +162,13 @@ module _ (s : Lists) (n : ℕ) (k : List ℕ) (b : ℕ) (kind : Kind) (may : May
       by None none = refl
       by (Some x) none = absurd cc
 
-  pub new_slot_can : (R : Rooms) (ks : List Step) (ms : List Movement) → CanAllBack R s ks ms → CanAllBack R (with_new_slot s n k b kind) (OpensSlot n ∷ ks) ms
+  pub new_slot_can : (R : Rooms) (ks : List Undo) (ms : List Movement) → CanAllBack R s ks ms → CanAllBack R (with_new_slot s n k b kind) (OpensSlot n ∷ ks) ms
   new_slot_can R ks ms can = (
     record {
       made = slot_now.made;
-      empty = subst (λ (x : KeptSeat). HasEmptyRow x.slots) (sym it_there) (record {
-        some = omega (arith, length_push (kept_seat_at s.seats n).slots (row_of k (empty_amount b kind)));
-        empty = ap (λ (r : Row). r.amount.value.content) (read_pushed (kept_seat_at s.seats n).slots (row_of k (empty_amount b kind)) no_row _ (omega (arith, length_push (kept_seat_at s.seats n).slots (row_of k (empty_amount b kind)))));
+      empty = subst (λ (x : KeptSeat). HasEmptyShare x.slots) (sym it_there) (record {
+        some = omega (arith, length_push (kept_seat_at s.seats n).slots (keyed_share k (empty_amount b kind)));
+        empty = ap (λ (r : Share). r.amount.value.content) (read_pushed (kept_seat_at s.seats n).slots (keyed_share k (empty_amount b kind)) empty_share _ (omega (arith, length_push (kept_seat_at s.seats n).slots (keyed_share k (empty_amount b kind)))));
       });
       owed = omega arith;
     },
@@ -183,7 +183,7 @@ module _ (s : Lists) (n : ℕ) (k : List ℕ) (b : ℕ) (kind : Kind) (may : May
         (subst (λ x. IsValue w.value.kind (sum x w.value.content)) (was_nothing ∙ ap (λ (x : Amount). x.value.content) (sym empty_now)) value);
   }
 
-module _ (p q : Stores) (ks ls : List Step) (ms ns : List Movement) (keys : ℕ) (spoiled : Bool) (n : ℕ) (k : List ℕ) (a : Amount) (m : Movement) (sound : spoiled ≡ false) (is : IsDraft p ks ms keys spoiled) (keep : HandKeeps (draft_of p ks ms spoiled) a) (may : MayOpenSlot (lists_of p) n k) (gave : IsGivenFurther p q n k a) (value : TakesIn (lists_of p) (Slot n k) a)
+module _ (p q : Stores) (ks ls : List Undo) (ms ns : List Movement) (keys : ℕ) (spoiled : Bool) (n : ℕ) (k : List ℕ) (a : Amount) (m : Movement) (sound : spoiled ≡ false) (is : IsDraft p ks ms keys spoiled) (keep : HandKeeps (draft_of p ks ms spoiled) a) (may : MayOpenSlot (lists_of p) n k) (gave : IsGivenFurther p q n k a) (value : TakesIn (lists_of p) (Slot n k) a)
     (steps : ls ≡ (ks ++ OpensSlot n ∷ []) ++ Moves ∷ []) (moves : ns ≡ ms ++ m ∷ []) (noted : m ≡ movement a.brand Hand (Slot n k) a.value) where
   abbrev wider : Lists
   wider = with_new_slot (lists_of p) n k a.brand a.value.kind
@@ -218,7 +218,7 @@ module _ (p q : Stores) (ks ls : List Step) (ms ns : List Movement) (keys : ℕ)
 
 -- ---- staging alone
 
-pub staged_keeps : (p : Stores) (ks : List Step) (ms : List Movement) (keys : ℕ) (spoiled : Bool) (staged : List (ℕ × List Row)) (l : SeatsView) → IsDraft p ks ms keys spoiled → l ≡ record p.seats { staging = staged } → IsDraft (record p { seats = l }) ks ms keys spoiled
+pub staged_keeps : (p : Stores) (ks : List Undo) (ms : List Movement) (keys : ℕ) (spoiled : Bool) (staged : List (ℕ × List Share)) (l : SeatsView) → IsDraft p ks ms keys spoiled → l ≡ record p.seats { staging = staged } → IsDraft (record p { seats = l }) ks ms keys spoiled
 staged_keeps p ks ms keys spoiled staged l is new = subst (λ (v : SeatsView). IsDraft (record p { seats = v }) ks ms keys spoiled) (sym new) (record {
   can = is.can;
   bounded = is.bounded;
@@ -234,7 +234,7 @@ staged_keeps p ks ms keys spoiled staged l is new = subst (λ (v : SeatsView). I
   };
 })
 
-pub same_keeps : (p : Stores) (ks : List Step) (ms : List Movement) (keys : ℕ) (spoiled : Bool) (l : SeatsView) → IsDraft p ks ms keys spoiled → l ≡ p.seats → IsDraft (record p { seats = l }) ks ms keys spoiled
+pub same_keeps : (p : Stores) (ks : List Undo) (ms : List Movement) (keys : ℕ) (spoiled : Bool) (l : SeatsView) → IsDraft p ks ms keys spoiled → l ≡ p.seats → IsDraft (record p { seats = l }) ks ms keys spoiled
 same_keeps p ks ms keys spoiled l is new = subst (λ (v : SeatsView). IsDraft (record p { seats = v }) ks ms keys spoiled) (sym new) is
 
 -- of what succeeded or failed

@@ -3,27 +3,27 @@ use Rattle.std.proofs.Common.{◌≡◌, ℕ, ◌+◌, ◌<◌, ◌≤◌, cond,
 use Rattle.std.specs.Prelude.{IsNone, is_some, slice_set, unwrap_or}
 use Rattle.std.specs.Option.{option_map_or}
 use Rattle.std.proofs.lemmas.Bool.{le-ltb}
-use Rattle.right_steps.specs.amount_math.Content.{Content, Contains, nothing, sum}
-use Rattle.right_steps.specs.amount_math.Amount.{Meet}
-use Rattle.right_steps.specs.amount_math.Held.{Held}
-use Rattle.right_steps.specs.amount_math.KindLaws.{value_of_sum}
-use Rattle.right_steps.specs.amount_math.Worth.{Fits, HasFew, IsPutRefusal, IsValue, Worth}
-use Rattle.right_steps.specs.amount_math.declared.Amount.{Amount}
-use Rattle.right_steps.specs.amount_math.declared.PutFault.{PutFault}
-use Rattle.right_steps.specs.ertp_mint.Balances.{ComesOut, GoesIn, HasRoomFor, StoredAmount, empty_store, held_in, with_put, with_taken}
-use Rattle.right_steps.specs.ertp_mint.Stocks.{no_amount}
-use Rattle.right_steps.proofs.lemmas.ListEdits.{map_push, set_same}
-use Rattle.right_steps.specs.holders.Papers.{PaymentBook}
-use Rattle.right_steps.specs.proposals.Rows.{amount_under, content_under, row_of}
-use Rattle.right_steps.specs.proposals.declared.allocations.Row.{Row}
-use Rattle.right_steps.specs.Backwards.{SlotTakesBack}
-use Rattle.right_steps.specs.Lists.{Lists, SlotGivesUp, amount_of, less, more, slot_of, with_new_slot, with_seats, with_slot_of}
-use Rattle.right_steps.specs.Seats.{HasRow, HasSlotOf, KeptSeat, amount_at, kept_seat_at, no_kept_seat, with_amount, with_slot, with_slots}
-use Rattle.right_steps.proofs.SlotRows.{pushed_there, slot_stays}
-use Rattle.right_steps.proofs.SlotRows.{slot_there as slot_written_there}
-use Rattle.right_steps.specs.rights_model.declared.Holder.TheVariants.{Slot}
+use Rattle.vault_model.specs.amount_math.Content.{Content, Contains, nothing, sum}
+use Rattle.vault_model.specs.amount_math.Amount.{Meet}
+use Rattle.vault_model.specs.amount_math.Held.{Held}
+use Rattle.vault_model.specs.amount_math.KindLaws.{value_of_sum}
+use Rattle.vault_model.specs.amount_math.ValueView.{Fits, HasFew, IsPutRefusal, IsValue, ValueView}
+use Rattle.vault_model.specs.amount_math.declared.Amount.{Amount}
+use Rattle.vault_model.specs.amount_math.declared.PutFault.{PutFault}
+use Rattle.vault_model.specs.ertp_mint.Balances.{ComesOut, GoesIn, HasRoomFor, BalanceView, empty_store, held_in, with_put, with_taken}
+use Rattle.vault_model.specs.ertp_mint.Stocks.{no_amount}
+use Rattle.vault_model.proofs.lemmas.ListEdits.{map_push, set_same}
+use Rattle.vault_model.specs.holders.PaymentViews.{PaymentBook}
+use Rattle.vault_model.specs.proposals.Shares.{amount_under, content_under, keyed_share}
+use Rattle.vault_model.specs.proposals.declared.allocations.Share.{Share}
+use Rattle.vault_model.specs.Backwards.{SlotTakesBack}
+use Rattle.vault_model.specs.Lists.{Lists, SlotGivesUp, amount_of, less, more, slot_of, with_new_slot, with_seats, with_slot_of}
+use Rattle.vault_model.specs.Seats.{HasShare, HasSlotOf, KeptSeat, amount_at, kept_seat_at, no_kept_seat, with_amount, with_slot, with_slots}
+use Rattle.vault_model.proofs.SlotShares.{pushed_there, slot_stays}
+use Rattle.vault_model.proofs.SlotShares.{slot_there as slot_written_there}
+use Rattle.vault_model.specs.rights_model.declared.Holder.TheVariants.{Slot}
 use Rattle.seats.specs.Seats.{SeatView, put_in, stored_in, sum_with, with_further, with_less, with_more, with_room, with_stored}
-use Rattle.seats.specs.Slots.{HasSlot, SlotView, place_of, rows_in}
+use Rattle.seats.specs.Slots.{HasSlot, SlotView, place_of, shares_in}
 use Rattle.seats.specs.Slots as slots
 use Rattle.seats.specs.Store.{HasSlotIn, SeatsView, at_seat, seat_in, slot_store}
 use Rattle.vault.specs.Asked.{IsSlotFor, IsSlotOf, MayOpenSlot}
@@ -44,7 +44,7 @@ module _ (p : Stores) where
   -- ---- one slot written
 
   module _ (n : ℕ) (k : List ℕ) where
-    abbrev stored : StoredAmount
+    abbrev stored : BalanceView
     stored = slot_store n k p.seats
 
     abbrev slot : Amount
@@ -53,7 +53,7 @@ module _ (p : Stores) where
     pub slot_is : slot ≡ stored.amount
     slot_is = slot_read p.seats.seats n k
 
-    pub half_written : (l : SeatsView) (x : StoredAmount) (a : Amount) → l ≡ at_seat n (with_stored k x) p.seats → x.amount ≡ a → stored.room ≤ x.room → IsHalf p (record p { seats = l }) (with_slot_of (lists_of p) n k a) (store_of p) (kept_of p)
+    pub half_written : (l : SeatsView) (x : BalanceView) (a : Amount) → l ≡ at_seat n (with_stored k x) p.seats → x.amount ≡ a → stored.room ≤ x.room → IsHalf p (record p { seats = l }) (with_slot_of (lists_of p) n k a) (store_of p) (kept_of p)
     half_written l x a is same le = seats_half l (with_slot (lists_of p).seats n k a)
         (ap (λ (v : SeatsView). map kept_seat v.seats) is ∙ slot_written n k x p.seats.seats ∙ ap (with_slot (lists_of p).seats n k) same)
         (λ q j. subst (λ (v : SeatsView). (slot_store q j p.seats).room ≤ (slot_store q j v).room) (sym is) (written_rooms n k x p.seats.seats le q j))
@@ -65,7 +65,7 @@ module _ (p : Stores) where
     half_slot_more l c is = half_written l (with_put stored c) (more slot c) is (ap (λ a. more a c) (sym slot_is)) (omega arith)
 
     -- what is asked of a slot, as the seats' store asks it
-    pub slot_gives : (b : ℕ) (w : Worth) → SlotGivesUp (lists_of p) n k b w → ComesOut stored w
+    pub slot_gives : (b : ℕ) (w : ValueView) → SlotGivesUp (lists_of p) n k b w → ComesOut stored w
     slot_gives b w can = record {
       kind = ap (λ (a : Amount). a.value.kind) (sym slot_is) ∙ can.kind;
       has = subst (λ (a : Amount). Contains a.value.content w.content) slot_is can.has;
@@ -86,7 +86,7 @@ module _ (p : Stores) (n : ℕ) (k : List ℕ) (a : Amount) (q : Stores) (is : l
   still_slot = subst (λ (s : Lists). HasSlotOf s.seats n k) (sym is) (slot_stays (lists_of p).seats n k a has)
 
   -- and it gives up what it took
-  pub gives_back : (b : ℕ) (w : Worth) → a.brand ≡ b → ComesOut (slot_store n k q.seats) w → SlotGivesUp (lists_of q) n k b w
+  pub gives_back : (b : ℕ) (w : ValueView) → a.brand ≡ b → ComesOut (slot_store n k q.seats) w → SlotGivesUp (lists_of q) n k b w
   gives_back b w brand out = record {
     slot = still_slot;
     brand = ap (λ (s : Lists). (slot_of s n k).brand) is ∙ ap (λ (x : Amount). x.brand) (slot_written_there (lists_of p).seats n k has a) ∙ brand;
@@ -95,7 +95,7 @@ module _ (p : Stores) (n : ℕ) (k : List ℕ) (a : Amount) (q : Stores) (is : l
   }
 
 -- a slot once taken from can take that back, and once put to can give that
-module _ (p : Stores) (n : ℕ) (k : List ℕ) (l : SeatsView) (w : Worth) (has : HasSlotOf (lists_of p).seats n k) where
+module _ (p : Stores) (n : ℕ) (k : List ℕ) (l : SeatsView) (w : ValueView) (has : HasSlotOf (lists_of p).seats n k) where
   abbrev q : Stores
   q = record p { seats = l }
 
@@ -132,7 +132,7 @@ module _ (p : Stores) (n : ℕ) (k : List ℕ) (l : SeatsView) where
       same_seat = set_same (lists_of p).seats n no_kept_seat
 
 -- a half after room was made
-pub given_then : (p r q : Stores) (n : ℕ) (k : List ℕ) (b : ℕ) (w : Worth) → IsRoomed p r → IsGiven r q (Slot n k) b w → IsGiven p q (Slot n k) b w
+pub given_then : (p r q : Stores) (n : ℕ) (k : List ℕ) (b : ℕ) (w : ValueView) → IsRoomed p r → IsGiven r q (Slot n k) b w → IsGiven p q (Slot n k) b w
 given_then p r q n k b w roomed gave = record {
   half = record {
     lists = gave.half.lists ∙ ap (λ (s : Lists). with_slot_of s n k (more (slot_of s n k) w.content)) roomed.lists;
@@ -159,15 +159,15 @@ module _ (p : Stores) (n : ℕ) (k : List ℕ) (a : Amount) (may : MayOpenSlot (
   abbrev between : PaymentBook → Stores
   between book = record p { payments = book; seats = further }
 
-  rows_further : kept_seat (with_further k a (seat_in n p.seats)) ≡ with_slots (kept_seat (seat_in n p.seats)) ((kept_seat (seat_in n p.seats)).slots ++ row_of k (empty_store a.brand a.value.kind).amount ∷ [])
-  rows_further = ap (with_slots (kept_seat (seat_in n p.seats))) (map_push slots.row_in (seat_in n p.seats).slots (slots.slot_of k (empty_store a.brand a.value.kind)))
+  shares_further : kept_seat (with_further k a (seat_in n p.seats)) ≡ with_slots (kept_seat (seat_in n p.seats)) ((kept_seat (seat_in n p.seats)).slots ++ keyed_share k (empty_store a.brand a.value.kind).amount ∷ [])
+  shares_further = ap (with_slots (kept_seat (seat_in n p.seats))) (map_push slots.share_in (seat_in n p.seats).slots (slots.slot_of k (empty_store a.brand a.value.kind)))
 
   seats_further : map kept_seat further.seats ≡ (with_new_slot (lists_of p) n k a.brand a.value.kind).seats
-  seats_further = changed_kept n (with_further k a) (λ s. with_slots s (s.slots ++ row_of k (empty_store a.brand a.value.kind).amount ∷ [])) p.seats.seats rows_further
+  seats_further = changed_kept n (with_further k a) (λ s. with_slots s (s.slots ++ keyed_share k (empty_store a.brand a.value.kind).amount ∷ [])) p.seats.seats shares_further
 
   pub opened_further : (book : PaymentBook) → book ≡ record p.payments { slots = p.payments.slots + 1 } → HasBecome p (between book) (with_new_slot (lists_of p) n k a.brand a.value.kind)
   opened_further book is = record {
-    lists = λ i. record { purses = (lists_of p).purses; payments = (is i).papers; seats = seats_further i; owed = (is i).slots; out = (lists_of p).out };
+    lists = λ i. record { purses = (lists_of p).purses; payments = (is i).views; seats = seats_further i; owed = (is i).slots; out = (lists_of p).out };
     staging = refl;
     given_up = refl;
     kept = λ b. refl;
@@ -180,26 +180,26 @@ module _ (p : Stores) (n : ℕ) (k : List ℕ) (a : Amount) (may : MayOpenSlot (
   }
 
   -- the slot is there then, with nothing
-  slot_new : (rows : List Row) → IsNone (amount_under k rows) → amount_under k (rows ++ row_of k (empty_store a.brand a.value.kind).amount ∷ []) ≡ Some (empty_store a.brand a.value.kind).amount
-  slot_new rows none = pushed_there k rows (empty_store a.brand a.value.kind).amount none
+  slot_new : (shares : List Share) → IsNone (amount_under k shares) → amount_under k (shares ++ keyed_share k (empty_store a.brand a.value.kind).amount ∷ []) ≡ Some (empty_store a.brand a.value.kind).amount
+  slot_new shares none = pushed_there k shares (empty_store a.brand a.value.kind).amount none
 
-  seat_new : (book : PaymentBook) → kept_seat_at (lists_of (between book)).seats n ≡ with_slots (kept_seat (seat_in n p.seats)) ((kept_seat (seat_in n p.seats)).slots ++ row_of k (empty_store a.brand a.value.kind).amount ∷ [])
-  seat_new book = seat_read further.seats n ∙ ap kept_seat (changed_read n (with_further k a) p.seats.seats seat_made) ∙ rows_further
+  seat_new : (book : PaymentBook) → kept_seat_at (lists_of (between book)).seats n ≡ with_slots (kept_seat (seat_in n p.seats)) ((kept_seat (seat_in n p.seats)).slots ++ keyed_share k (empty_store a.brand a.value.kind).amount ∷ [])
+  seat_new book = seat_read further.seats n ∙ ap kept_seat (changed_read n (with_further k a) p.seats.seats seat_made) ∙ shares_further
 
-  free_here : IsNone (amount_under k (rows_in (seat_in n p.seats).slots))
+  free_here : IsNone (amount_under k (shares_in (seat_in n p.seats).slots))
   free_here = subst (λ (s : KeptSeat). IsNone (amount_under k s.slots)) (seat_read p.seats.seats n) may.free
 
   pub there_now : (book : PaymentBook) → HasSlotOf (lists_of (between book)).seats n k
   there_now book = record {
     made = made_there further.seats n (omega (arith, seat_made, changed_long n (with_further k a) p.seats.seats));
-    there = subst (λ (s : KeptSeat). HasRow k s.slots) (sym (seat_new book)) (ap is_some (slot_new (rows_in (seat_in n p.seats).slots) free_here));
+    there = subst (λ (s : KeptSeat). HasShare k s.slots) (sym (seat_new book)) (ap is_some (slot_new (shares_in (seat_in n p.seats).slots) free_here));
   }
 
   pub nothing_now : (book : PaymentBook) → slot_of (lists_of (between book)) n k ≡ (empty_store a.brand a.value.kind).amount
-  nothing_now book = ap (λ (s : KeptSeat). amount_at k s.slots) (seat_new book) ∙ ap (λ o. unwrap_or o no_amount) (slot_new (rows_in (seat_in n p.seats).slots) free_here)
+  nothing_now book = ap (λ (s : KeptSeat). amount_at k s.slots) (seat_new book) ∙ ap (λ o. unwrap_or o no_amount) (slot_new (shares_in (seat_in n p.seats).slots) free_here)
 
   room_new : (slot_store n k further).room ≡ 0
-  room_new = ap (λ (s : SeatView). (stored_in k s).room) (changed_read n (with_further k a) p.seats.seats seat_made) ∙ ap (λ (x : StoredAmount). x.room) (stored_pushed k (empty_store a.brand a.value.kind) (seat_in n p.seats).slots none_here)
+  room_new = ap (λ (s : SeatView). (stored_in k s).room) (changed_read n (with_further k a) p.seats.seats seat_made) ∙ ap (λ (x : BalanceView). x.room) (stored_pushed k (empty_store a.brand a.value.kind) (seat_in n p.seats).slots none_here)
 
   module _ (book : PaymentBook) (owed : book ≡ record p.payments { slots = p.payments.slots + 1 }) (l : SeatsView) (room : ℕ) (put : l ≡ at_seat n (put_in k a room) p.seats) (out : ComesOut (slot_store n k l) a.value) where
     abbrev c : Content
@@ -221,7 +221,7 @@ module _ (p : Stores) (n : ℕ) (k : List ℕ) (a : Amount) (may : MayOpenSlot (
     abbrev s0 : SeatView
     s0 = seat_in n further
 
-    abbrev x : StoredAmount
+    abbrev x : BalanceView
     x = with_put (stored_in k s0) c
 
     kept_put : kept_seat (write s0) ≡ with_slots (kept_seat s0) (with_amount k x.amount (kept_seat s0).slots)
@@ -237,7 +237,7 @@ module _ (p : Stores) (n : ℕ) (k : List ℕ) (a : Amount) (may : MayOpenSlot (
     there_before = slot_there further.seats n k (there_now book)
 
     room_after : (stored_in k (with_more k c s0)).room ≤ room
-    room_after = omega (arith, ap (λ (y : StoredAmount). y.room) (stored_there k x s0.slots there_before), room_new)
+    room_after = omega (arith, ap (λ (y : BalanceView). y.room) (stored_there k x s0.slots there_before), room_new)
 
     grows : (j : List ℕ) → (stored_in j s0).room ≤ (stored_in j (write s0)).room
     grows j = omega (
@@ -260,15 +260,15 @@ module _ (p : Stores) (n : ℕ) (k : List ℕ) (a : Amount) (may : MayOpenSlot (
     }
 
 -- what stands under a keyword, read two ways
-pub same_content : (k : List ℕ) (rows : List Row) → content_under k rows ≡ (amount_at k rows).value.content
-same_content k rows = by (amount_under k rows)
+pub same_content : (k : List ℕ) (shares : List Share) → content_under k shares ≡ (amount_at k shares).value.content
+same_content k shares = by (amount_under k shares)
   where
     by : (o : Option Amount) → option_map_or (λ (a : Amount). a.value.content) o nothing ≡ (unwrap_or o no_amount).value.content
     by None = refl
     by (Some a) = refl
 
 pub same_sum : (p : Stores) (n : ℕ) (k : List ℕ) (a : Amount) → sum_with k a (seat_in n p.seats) ≡ sum (slot_of (lists_of p) n k).value.content a.value.content
-same_sum p n k a = ap (λ c. sum c a.value.content) (same_content k (rows_in (seat_in n p.seats).slots) ∙ ap (λ (s : KeptSeat). (amount_at k s.slots).value.content) (sym (seat_read p.seats.seats n)))
+same_sum p n k a = ap (λ c. sum c a.value.content) (same_content k (shares_in (seat_in n p.seats).slots) ∙ ap (λ (s : KeptSeat). (amount_at k s.slots).value.content) (sym (seat_read p.seats.seats n)))
 
 pub further_value : (p : Stores) (n : ℕ) (k : List ℕ) (a : Amount) → IsValue a.value.kind (sum_with k a (seat_in n p.seats)) → IsValue a.value.kind (sum (slot_of (lists_of p) n k).value.content a.value.content)
 further_value p n k a value = subst (IsValue a.value.kind) (same_sum p n k a) value
@@ -279,26 +279,26 @@ further_refused p n k a fault refused = subst (λ c. IsPutRefusal a.value.kind c
 -- ---- what the calls ask of a slot, and what they give
 
 module _ (p : Stores) (n : ℕ) (k : List ℕ) where
-  pub slot_parcel : (b : ℕ) (w : Worth) (a : Amount) → (slot_of (lists_of p) n k).brand ≡ b → a ≡ record { brand = (slot_store n k p.seats).amount.brand; value = w } → a ≡ amount_of b w
+  pub slot_parcel : (b : ℕ) (w : ValueView) (a : Amount) → (slot_of (lists_of p) n k).brand ≡ b → a ≡ record { brand = (slot_store n k p.seats).amount.brand; value = w } → a ≡ amount_of b w
   slot_parcel b w a brand is = is ∙ ap (λ x. amount_of x w) (ap (λ (x : Amount). x.brand) (sym (slot_is p n k)) ∙ brand)
 
-  pub slot_kind : (w : Worth) → (slot_of (lists_of p) n k).value.kind ≡ w.kind → (slot_store n k p.seats).amount.value.kind ≡ w.kind
+  pub slot_kind : (w : ValueView) → (slot_of (lists_of p) n k).value.kind ≡ w.kind → (slot_store n k p.seats).amount.value.kind ≡ w.kind
   slot_kind w kind = ap (λ (x : Amount). x.value.kind) (sym (slot_is p n k)) ∙ kind
 
-  pub slot_comes_out : (w : Worth) → IsSlotOf (lists_of p) n k w → Contains (slot_of (lists_of p) n k).value.content w.content → ComesOut (slot_store n k p.seats) w
+  pub slot_comes_out : (w : ValueView) → IsSlotOf (lists_of p) n k w → Contains (slot_of (lists_of p) n k).value.content w.content → ComesOut (slot_store n k p.seats) w
   slot_comes_out w source has = record { kind = slot_kind w source.kind; has = subst (λ (x : Amount). Contains x.value.content w.content) (slot_is p n k) has }
 
   module _ (h : Held) (is : h ≡ held_in (slot_store n k p.seats)) where
-    pub held_kind : (w : Worth) → (slot_of (lists_of p) n k).value.kind ≡ w.kind → h.value.kind ≡ w.kind
+    pub held_kind : (w : ValueView) → (slot_of (lists_of p) n k).value.kind ≡ w.kind → h.value.kind ≡ w.kind
     held_kind w kind = ap (λ (x : Held). x.value.kind) is ∙ slot_kind w kind
 
     pub held_content : h.value.content ≡ (slot_of (lists_of p) n k).value.content
     held_content = ap (λ (x : Held). x.value.content) is ∙ ap (λ (x : Amount). x.value.content) (sym (slot_is p n k))
 
-    pub held_refused : (w : Worth) (fault : PutFault) → (slot_of (lists_of p) n k).value.kind ≡ w.kind → IsPutRefusal h.value.kind (sum h.value.content w.content) fault → IsPutRefusal w.kind (sum (slot_of (lists_of p) n k).value.content w.content) fault
+    pub held_refused : (w : ValueView) (fault : PutFault) → (slot_of (lists_of p) n k).value.kind ≡ w.kind → IsPutRefusal h.value.kind (sum h.value.content w.content) fault → IsPutRefusal w.kind (sum (slot_of (lists_of p) n k).value.content w.content) fault
     held_refused w fault kind refused = subst (λ x. IsPutRefusal w.kind (sum x w.content) fault) held_content (subst (λ x. IsPutRefusal x (sum h.value.content w.content) fault) (held_kind w kind) refused)
 
-    pub held_value : (w : Worth) → (slot_of (lists_of p) n k).value.kind ≡ w.kind → IsValue h.value.kind h.value.content → IsValue w.kind w.content → Fits h.value.kind (sum h.value.content w.content) → HasFew h.value.kind (sum h.value.content w.content) → IsValue w.kind (sum (slot_of (lists_of p) n k).value.content w.content)
+    pub held_value : (w : ValueView) → (slot_of (lists_of p) n k).value.kind ≡ w.kind → IsValue h.value.kind h.value.content → IsValue w.kind w.content → Fits h.value.kind (sum h.value.content w.content) → HasFew h.value.kind (sum h.value.content w.content) → IsValue w.kind (sum (slot_of (lists_of p) n k).value.content w.content)
     held_value w kind value also fits few = subst (λ x. IsValue w.kind (sum x w.content)) held_content
         (value_of_sum w.kind h.value.content w.content
         (subst (λ x. IsValue x h.value.content) (held_kind w kind) value) also
@@ -310,15 +310,15 @@ module _ (p r : Stores) (n : ℕ) (k : List ℕ) (a : Amount) (roomed : IsRoomed
   pub slot_roomy : HasSlotOf (lists_of r).seats n k
   slot_roomy = subst (λ (s : Lists). HasSlotOf s.seats n k) (sym roomed.lists) target.slot
 
-  pub goes_in_slot : (w : Worth) → w ≡ a.value → IsValue w.kind (sum (slot_of (lists_of p) n k).value.content w.content) → HasRoomFor (slot_store n k r.seats) w.content → GoesIn (slot_store n k r.seats) a
+  pub goes_in_slot : (w : ValueView) → w ≡ a.value → IsValue w.kind (sum (slot_of (lists_of p) n k).value.content w.content) → HasRoomFor (slot_store n k r.seats) w.content → GoesIn (slot_store n k r.seats) a
   goes_in_slot w same value room =
       let slot : slot_of (lists_of p) n k ≡ (slot_store n k r.seats).amount = ap (λ (s : Lists). slot_of s n k) (sym roomed.lists) ∙ slot_is r n k in
       let met : Meet (slot_store n k r.seats).amount a = subst (λ (x : Amount). Meet x a) slot target.meet in
       record {
         meet = met;
         value = subst (λ x. IsValue x (sum (slot_store n k r.seats).amount.value.content a.value.content)) (sym met.kind)
-            (subst (λ (x : Amount). IsValue a.value.kind (sum x.value.content a.value.content)) slot (subst (λ (x : Worth). IsValue x.kind (sum (slot_of (lists_of p) n k).value.content x.content)) same value));
-        room = subst (λ (x : Worth). HasRoomFor (slot_store n k r.seats) x.content) same room;
+            (subst (λ (x : Amount). IsValue a.value.kind (sum x.value.content a.value.content)) slot (subst (λ (x : ValueView). IsValue x.kind (sum (slot_of (lists_of p) n k).value.content x.content)) same value));
+        room = subst (λ (x : ValueView). HasRoomFor (slot_store n k r.seats) x.content) same room;
       }
 
   pub given_after_room : (l : SeatsView) → l ≡ at_seat n (with_more k a.value.content) r.seats → ComesOut (slot_store n k l) a.value → IsGiven p (record r { seats = l }) (Slot n k) a.brand a.value

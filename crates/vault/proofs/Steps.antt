@@ -3,31 +3,31 @@ use Rattle.std.proofs.Common.{◌≡◌, ◌≢◌, inl, inr, ℕ, zero, suc, �
 use Rattle.std.specs.Prelude.{slice_index_or, slice_set}
 use Rattle.std.proofs.lemmas.Bool.{cases_eq, eq-eqb}
 use Rattle.std.proofs.lemmas.List.{length-reverse, reverse-append}
-use Rattle.right_steps.specs.amount_math.Content.{Content, Contains, Contains-trans, count, count-difference, count-nothing, count-sum, difference, nothing, same_content, sum, sum-difference}
-use Rattle.right_steps.specs.amount_math.Held.{Held, HasRoom, keys_in, keys_of-sum, more_room, room_for_fewer, with_less, with_more}
-use Rattle.right_steps.specs.amount_math.KindLaws.{keys_within}
-use Rattle.right_steps.specs.amount_math.Worth.{Worth, keys_of}
-use Rattle.right_steps.specs.amount_math.declared.Amount.{Amount}
-use Rattle.right_steps.specs.amount_math.declared.Kind.{Kind}
-use Rattle.right_steps.specs.amount_math.declared.Kind.TheVariants.{Nat, Set, Bag}
-use Rattle.right_steps.proofs.amount_math.Places.{keys_of-nothing}
-use Rattle.right_steps.specs.ertp_mint.BrandSupply.{BrandSupply, issued, new_supply, retired, supply_at}
-use Rattle.right_steps.specs.ertp_mint.Circulating.{CirculationView, circulation_at}
-use Rattle.right_steps.proofs.lemmas.ListEdits.{keeps, length_map, length_set, read_map, read_other, read_set}
-use Rattle.right_steps.specs.declared.Step.{Step}
-use Rattle.right_steps.specs.declared.Step.TheVariants.{Moves, OpensPurse, AddsBrand, OpensSeat, OpensSlot, ClosesSeat}
-use Rattle.right_steps.specs.Backwards.{CanAllBack, CanBack, HandHas, Rooms, all_back, from_hand, in_hand, retired_by, to_outside}
-use Rattle.right_steps.specs.Lists.{CanGive, CanTake, Lists, back, given, kind_of, moved, no_lists, taken, ungiven, untaken, with_reopened_seat, without_last_brand, without_last_purse, without_last_seat, without_last_slot_of}
-use Rattle.right_steps.specs.Tables.{Agrees, IsSound, hand_minus, hand_plus, no_hand, table_of}
-use Rattle.right_steps.proofs.Agreeing.{agrees_alike, agrees_from_hand, agrees_given, agrees_in_hand, agrees_taken, can_move_in, can_move_out, one_table, table_agrees}
-use Rattle.right_steps.proofs.Sound.{at_or_else, hand_is_out, sound_alike, sound_given, sound_taken}
-use Rattle.right_steps.proofs.Undone.{all_grows, ungiven-given, untaken-taken}
-use Rattle.right_steps.specs.rights_model.declared.Holder.{Holder}
-use Rattle.right_steps.specs.rights_model.declared.Holder.TheVariants.{Purse, Payment, Slot, Hand, Outside}
-use Rattle.right_steps.specs.rights_model.declared.Movement.{Movement}
-use Rattle.right_steps.specs.rights_model.Table as table
-use Rattle.right_steps.specs.rights_model.Table.{Table, CanMove, CanMoveAll, movement, table_after}
-use Rattle.right_steps.proofs.rights_model.TableLaws.{CanMoveAll-push, table_after-push}
+use Rattle.vault_model.specs.amount_math.Content.{Content, Contains, Contains-trans, count, count-difference, count-nothing, count-sum, difference, nothing, same_content, sum, sum-difference}
+use Rattle.vault_model.specs.amount_math.Held.{Held, HasRoom, keys_in, keys_of-sum, more_room, room_for_fewer, with_less, with_more}
+use Rattle.vault_model.specs.amount_math.KindLaws.{keys_within}
+use Rattle.vault_model.specs.amount_math.ValueView.{ValueView, keys_of}
+use Rattle.vault_model.specs.amount_math.declared.Amount.{Amount}
+use Rattle.vault_model.specs.amount_math.declared.Kind.{Kind}
+use Rattle.vault_model.specs.amount_math.declared.Kind.TheVariants.{Nat, Set, Bag}
+use Rattle.vault_model.proofs.amount_math.Places.{keys_of-nothing}
+use Rattle.vault_model.specs.ertp_mint.BrandSupply.{BrandSupply, issued, new_supply, retired, supply_at}
+use Rattle.vault_model.specs.ertp_mint.Circulating.{CirculationView, circulation_at}
+use Rattle.vault_model.proofs.lemmas.ListEdits.{keeps, length_map, length_set, read_map, read_other, read_set}
+use Rattle.vault_model.specs.declared.Undo.{Undo}
+use Rattle.vault_model.specs.declared.Undo.TheVariants.{Moves, OpensPurse, AddsBrand, OpensSeat, OpensSlot, ClosesSeat}
+use Rattle.vault_model.specs.Backwards.{CanAllBack, CanBack, HandHas, Rooms, all_back, from_hand, in_hand, retired_by, to_outside}
+use Rattle.vault_model.specs.Lists.{CanGive, CanTake, Lists, back, given, kind_of, moved, no_lists, taken, ungiven, untaken, with_reopened_seat, without_last_brand, without_last_purse, without_last_seat, without_last_slot_of}
+use Rattle.vault_model.specs.Tables.{Agrees, IsSound, hand_minus, hand_plus, no_hand, table_of}
+use Rattle.vault_model.proofs.Agreeing.{agrees_alike, agrees_from_hand, agrees_given, agrees_in_hand, agrees_taken, can_move_in, can_move_out, one_table, table_agrees}
+use Rattle.vault_model.proofs.Sound.{at_or_else, hand_is_out, sound_alike, sound_given, sound_taken}
+use Rattle.vault_model.proofs.Undone.{all_grows, ungiven-given, untaken-taken}
+use Rattle.vault_model.specs.rights_model.declared.Holder.{Holder}
+use Rattle.vault_model.specs.rights_model.declared.Holder.TheVariants.{Purse, Payment, Slot, Hand, Outside}
+use Rattle.vault_model.specs.rights_model.declared.Movement.{Movement}
+use Rattle.vault_model.specs.rights_model.Table as table
+use Rattle.vault_model.specs.rights_model.Table.{Table, CanMove, CanMoveAll, movement, table_after}
+use Rattle.vault_model.proofs.rights_model.TableLaws.{CanMoveAll-push, table_after-push}
 use Rattle.transit.specs.Transit.{CanHold, IsInStore, TransitView, empty_hand, held_at, in_store, with_hand}
 use Rattle.vault.specs.Memory.{IsForward, IsGiven, IsRoomed, IsTaken, content_in_store, given_up_in, kept_given, kept_of, lists_of, rooms_of, staged_of, store_of, supply_of}
 use Rattle.vault.specs.Forgetting.{AreMade, IsForgetting, IsForgotten}
@@ -83,14 +83,14 @@ brands_there p = length_map supply_of p.transit.out
 
 -- ---- brands stay
 
-long_taken : (s : Lists) (h : Holder) (b : ℕ) (w : Worth) → length (taken s h b w).out ≡ length s.out
+long_taken : (s : Lists) (h : Holder) (b : ℕ) (w : ValueView) → length (taken s h b w).out ≡ length s.out
 long_taken s (Purse n) b w = refl
 long_taken s (Payment n) b w = refl
 long_taken s (Slot v j) b w = refl
 long_taken s Hand b w = refl
 long_taken s Outside b w = length_set s.out b _
 
-long_given : (s : Lists) (h : Holder) (b : ℕ) (w : Worth) → length (given s h b w).out ≡ length s.out
+long_given : (s : Lists) (h : Holder) (b : ℕ) (w : ValueView) → length (given s h b w).out ≡ length s.out
 long_given s (Purse n) b w = refl
 long_given s (Payment n) b w = refl
 long_given s (Slot v j) b w = refl
@@ -117,8 +117,8 @@ none_kept [] none b = refl
 none_kept (x ∷ l) none zero = none 0 (omega arith)
 none_kept (x ∷ l) none (suc b) = none_kept l (λ e lt. none (suc e) (omega (arith, lt))) b
 
-pub begins : (p : Stores) (ks : List Step) (ms : List Movement) → IsVault p ks ms → IsDraft p ks ms 0 false
-begins p ks ms is = subst (λ (l : List Step). IsDraft p l ms 0 false) (sym is.no_steps) (subst (λ (l : List Movement). IsDraft p [] l 0 false) (sym is.no_movements) (record {
+pub begins : (p : Stores) (ks : List Undo) (ms : List Movement) → IsVault p ks ms → IsDraft p ks ms 0 false
+begins p ks ms is = subst (λ (l : List Undo). IsDraft p l ms 0 false) (sym is.no_steps) (subst (λ (l : List Movement). IsDraft p [] l 0 false) (sym is.no_movements) (record {
   can = refl;
   bounded = λ b. no_keys (kind_of (lists_of p) b);
   room = λ b lt. room_for_none (kind_of (lists_of p) b) ((rooms_of p).hand b);
@@ -133,11 +133,11 @@ begins p ks ms is = subst (λ (l : List Step). IsDraft p l ms 0 false) (sym is.n
   };
 }))
 
-pub kept_start : (p : Stores) (ks : List Step) (ms : List Movement) → IsVault p ks ms → all_back (lists_of p) (reverse ks) (reverse ms) ≡ lists_of p
-kept_start p ks ms is = ap (λ (l : List Step). all_back (lists_of p) (reverse l) (reverse ms)) is.no_steps
+pub kept_start : (p : Stores) (ks : List Undo) (ms : List Movement) → IsVault p ks ms → all_back (lists_of p) (reverse ks) (reverse ms) ≡ lists_of p
+kept_start p ks ms is = ap (λ (l : List Undo). all_back (lists_of p) (reverse l) (reverse ms)) is.no_steps
 
 -- the draft with which a turn begins
-pub begins_so : (p : Stores) (ks : List Step) (ms : List Movement) → IsVault p ks ms → draft_of p ks ms false ≡ begun (lists_of p)
+pub begins_so : (p : Stores) (ks : List Undo) (ms : List Movement) → IsVault p ks ms → draft_of p ks ms false ≡ begun (lists_of p)
 begins_so p ks ms is = λ i. record {
   kept = kept_start p ks ms is i;
   now = lists_of p;
@@ -147,7 +147,7 @@ begins_so p ks ms is = λ i. record {
   is_spoiled = false;
 }
 
-pub starts : (p : Stores) (ks : List Step) (ms : List Movement) (keys : ℕ) (spoiled : Bool) → IsDraft p ks ms keys spoiled → HandGoes (draft_of p ks ms spoiled)
+pub starts : (p : Stores) (ks : List Undo) (ms : List Movement) (keys : ℕ) (spoiled : Bool) → IsDraft p ks ms keys spoiled → HandGoes (draft_of p ks ms spoiled)
     → IsWorking (rooms_of p) (all_back (lists_of p) (reverse ks) (reverse ms)) p (reverse ks) (reverse ms)
 starts p ks ms keys spoiled is goes = record {
   kept_is = refl;
@@ -164,9 +164,9 @@ no_items (x ∷ xs) e = absurd (omega arith)
 pub none_reversed : {X : Type 0} (xs : List X) → reverse xs ≡ [] → xs ≡ []
 none_reversed xs is = no_items xs (omega (arith, length-reverse xs, ap length is))
 
-pub ended : (R : Rooms) (kept : Lists) (p q : Stores) (ks : List Step) (ms : List Movement) → IsSound kept no_hand → ks ≡ [] → IsWorking R kept p (reverse ks) (reverse ms) → lists_of q ≡ lists_of p → staged_of q ≡ [] → q.transit ≡ p.transit → (lists_of q ≡ kept) × IsVault q ks ms
+pub ended : (R : Rooms) (kept : Lists) (p q : Stores) (ks : List Undo) (ms : List Movement) → IsSound kept no_hand → ks ≡ [] → IsWorking R kept p (reverse ks) (reverse ms) → lists_of q ≡ lists_of p → staged_of q ≡ [] → q.transit ≡ p.transit → (lists_of q ≡ kept) × IsVault q ks ms
 ended R kept p q ks ms sound none is lists staging transit =
-    let at_end : IsWorking R kept p [] (reverse ms) = subst (λ (l : List Step). IsWorking R kept p (reverse l) (reverse ms)) none is in
+    let at_end : IsWorking R kept p [] (reverse ms) = subst (λ (l : List Undo). IsWorking R kept p (reverse l) (reverse ms)) none is in
     let no_more : ms ≡ [] = none_reversed ms at_end.can in
     let there : (b : ℕ) → b < length q.transit.out → b < length p.transit.out = λ b lt. omega (arith, lt, ap (λ (t : TransitView). length t.out) transit) in (
       lists ∙ at_end.kept_is,
@@ -181,19 +181,19 @@ ended R kept p q ks ms sound none is lists staging transit =
     )
 
 -- what is done to forget starts and ends
-brands_made : (R : Rooms) (s : Lists) (ks : List Step) (ms : List Movement) (n : ℕ) → length s.out ≤ n → CanAllBack R s ks ms → AreMade n ms
+brands_made : (R : Rooms) (s : Lists) (ks : List Undo) (ms : List Movement) (n : ℕ) → length s.out ≤ n → CanAllBack R s ks ms → AreMade n ms
 brands_made R s [] ms n le can = subst (AreMade n) (sym can) tt
 brands_made R s (Moves ∷ ks) [] n le can = absurd can
 brands_made R s (Moves ∷ ks) (m ∷ ms) n le can = (omega (arith, le, can.0.made), brands_made R (back s m) ks ms n (omega (arith, le, back_long s m)) can.1)
   where
-    ungiven_long : (x : Lists) (h : Holder) (b : ℕ) (w : Worth) → length (ungiven x h b w).out ≡ length x.out
+    ungiven_long : (x : Lists) (h : Holder) (b : ℕ) (w : ValueView) → length (ungiven x h b w).out ≡ length x.out
     ungiven_long x (Purse n) b w = refl
     ungiven_long x (Payment n) b w = refl
     ungiven_long x (Slot v j) b w = refl
     ungiven_long x Hand b w = refl
     ungiven_long x Outside b w = length_set x.out b _
 
-    untaken_long : (x : Lists) (h : Holder) (b : ℕ) (w : Worth) → length (untaken x h b w).out ≡ length x.out
+    untaken_long : (x : Lists) (h : Holder) (b : ℕ) (w : ValueView) → length (untaken x h b w).out ≡ length x.out
     untaken_long x (Purse n) b w = refl
     untaken_long x (Payment n) b w = refl
     untaken_long x (Slot v j) b w = refl
@@ -214,7 +214,7 @@ brands_made R s (AddsBrand ∷ ks) ms n le can = brands_made R (without_last_bra
     taken_short (x ∷ xs) zero = omega arith
     taken_short (x ∷ xs) (suc n) = omega (arith, taken_short xs n)
 
-pub forget_starts : (p : Stores) (ks : List Step) (ms : List Movement) (keys : ℕ) (spoiled : Bool) → IsDraft p ks ms keys spoiled → IsForgetting p p (reverse ms)
+pub forget_starts : (p : Stores) (ks : List Undo) (ms : List Movement) (keys : ℕ) (spoiled : Bool) → IsDraft p ks ms keys spoiled → IsForgetting p p (reverse ms)
 forget_starts p ks ms keys spoiled is = record {
   lists = refl;
   staging = refl;
@@ -230,7 +230,7 @@ forget_ends p q ms none is = record { lists = is.lists; staging = is.staging; gi
 pub none_within : (x y : Content) → x ≡ nothing → Contains x y → y ≡ nothing
 none_within x y none has = same_content y nothing (λ k. omega (arith, has.each k, ap (λ c. count c k) none, count-nothing k))
 
-pub committed : (p q r : Stores) (ks ls : List Step) (ms ns : List Movement) (keys : ℕ) (spoiled : Bool) → IsDraft p ks ms keys spoiled → IsForgotten p q → lists_of r ≡ lists_of q → staged_of r ≡ [] → r.transit ≡ q.transit → ls ≡ [] → ns ≡ [] → IsClean (draft_of p ks ms spoiled) → IsVault r ls ns
+pub committed : (p q r : Stores) (ks ls : List Undo) (ms ns : List Movement) (keys : ℕ) (spoiled : Bool) → IsDraft p ks ms keys spoiled → IsForgotten p q → lists_of r ≡ lists_of q → staged_of r ≡ [] → r.transit ≡ q.transit → ls ≡ [] → ns ≡ [] → IsClean (draft_of p ks ms spoiled) → IsVault r ls ns
 committed p q r ks ls ms ns keys spoiled is gone lists staging transit no_steps no_movements clean =
     let there : (b : ℕ) → b < length r.transit.out → b < length p.transit.out = λ b lt. omega (arith, lt, ap (λ (t : TransitView). length t.out) transit, brands_there p, brands_there q, ap (λ (s : Lists). length s.out) gone.lists) in
     record {
@@ -242,16 +242,16 @@ committed p q r ks ls ms ns keys spoiled is gone lists staging transit no_steps 
       sound = subst (λ (s : Lists). IsSound s no_hand) (sym (lists ∙ gone.lists)) (sound_alike (lists_of p) (in_hand (reverse ms)) no_hand clean.hand is.valid.sound);
     }
 
-pub committed_table : (p q r : Stores) (ks : List Step) (ms : List Movement) (keys : ℕ) (spoiled : Bool) → IsDraft p ks ms keys spoiled → IsForgotten p q → lists_of r ≡ lists_of q → IsClean (draft_of p ks ms spoiled) → table_of (lists_of r) ≡ table_now (draft_of p ks ms spoiled)
+pub committed_table : (p q r : Stores) (ks : List Undo) (ms : List Movement) (keys : ℕ) (spoiled : Bool) → IsDraft p ks ms keys spoiled → IsForgotten p q → lists_of r ≡ lists_of q → IsClean (draft_of p ks ms spoiled) → table_of (lists_of r) ≡ table_now (draft_of p ks ms spoiled)
 committed_table p q r ks ms keys spoiled is gone lists clean =
     ap table_of (lists ∙ gone.lists) ∙ one_table (lists_of p) no_hand _ _ (table_agrees (lists_of p)) (agrees_alike (lists_of p) (in_hand (reverse ms)) no_hand _ clean.hand is.valid.agrees)
 
 -- ---- room alone is made
 
-pub same_draft : (p q : Stores) (ks : List Step) (ms : List Movement) (spoiled : Bool) → IsRoomed p q → draft_of q ks ms spoiled ≡ draft_of p ks ms spoiled
+pub same_draft : (p q : Stores) (ks : List Undo) (ms : List Movement) (spoiled : Bool) → IsRoomed p q → draft_of q ks ms spoiled ≡ draft_of p ks ms spoiled
 same_draft p q ks ms spoiled roomed = λ i. record { kept = all_back (roomed.lists i) (reverse ks) (reverse ms); now = roomed.lists i; staging = roomed.staging i; movements = ms; given_up = same_given p q roomed.given_up (ap (λ (s : Lists). length s.out) roomed.lists) i; is_spoiled = spoiled }
 
-pub room_stays : (p q : Stores) (ks : List Step) (ms : List Movement) (keys : ℕ) (spoiled : Bool) → IsDraft p ks ms keys spoiled → IsRoomed p q → IsDraft q ks ms keys spoiled
+pub room_stays : (p q : Stores) (ks : List Undo) (ms : List Movement) (keys : ℕ) (spoiled : Bool) → IsDraft p ks ms keys spoiled → IsRoomed p q → IsDraft q ks ms keys spoiled
 room_stays p q ks ms keys spoiled is roomed = record {
   can = subst (λ (s : Lists). CanAllBack (rooms_of q) s (reverse ks) (reverse ms)) (sym roomed.lists) (all_grows (rooms_of p) (rooms_of q) roomed.rooms (lists_of p) (reverse ks) (reverse ms) is.can);
   bounded = λ b. subst (λ (s : Lists). keys_in (kind_of s b) (in_hand (reverse ms) b) ≤ keys) (sym roomed.lists) (is.bounded b);
@@ -269,7 +269,7 @@ room_stays p q ks ms keys spoiled is roomed = record {
 pub last_first : {X : Type 0} (xs : List X) (x : X) → reverse (xs ++ x ∷ []) ≡ x ∷ reverse xs
 last_first xs x = reverse-append xs (x ∷ [])
 
-module _ (p q : Stores) (ks : List Step) (ms : List Movement) (m : Movement) (keys more : ℕ) (k : ℕ → Content) (is : IsDraft p ks ms keys false)
+module _ (p q : Stores) (ks : List Undo) (ms : List Movement) (m : Movement) (keys more : ℕ) (k : ℕ → Content) (is : IsDraft p ks ms keys false)
     (step : IsForward p q (moved (lists_of p) m) (staged_of p) k) (undone : back (moved (lists_of p) m) m ≡ lists_of p) where
   back_there : back (lists_of q) m ≡ lists_of p
   back_there = ap (λ (s : Lists). back s m) step.lists ∙ undone
@@ -297,7 +297,7 @@ module _ (p q : Stores) (ks : List Step) (ms : List Movement) (m : Movement) (ke
       → IsDraft q (ks ++ Moves ∷ []) (ms ++ m ∷ []) more false
   pushed can bounded room brands retires sound agrees moves inside = record {
     can = subst (λ (l : List Movement). CanAllBack (rooms_of q) (lists_of q) (reverse (ks ++ Moves ∷ [])) l) (sym (last_first ms m))
-        (subst (λ (l : List Step). CanAllBack (rooms_of q) (lists_of q) l (m ∷ reverse ms)) (sym (last_first ks Moves))
+        (subst (λ (l : List Undo). CanAllBack (rooms_of q) (lists_of q) l (m ∷ reverse ms)) (sym (last_first ks Moves))
         (can, subst (λ (s : Lists). CanAllBack (rooms_of q) s (reverse ks) (reverse ms)) (sym back_there) (all_grows (rooms_of p) (rooms_of q) step.rooms (lists_of p) (reverse ks) (reverse ms) is.can)));
     bounded = λ b. subst (λ (l : List Movement). keys_in (kind_of (lists_of q) b) (in_hand l b) ≤ more) (sym (last_first ms m)) (bounded b);
     room = λ b lt. subst (λ (l : List Movement). HasRoom (kind_of (lists_of q) b) (keys_of (in_hand l b)) ((rooms_of q).hand b)) (sym (last_first ms m)) (room b lt);
@@ -319,14 +319,14 @@ module _ (p q : Stores) (ks : List Step) (ms : List Movement) (m : Movement) (ke
 
 -- ---- kinds stay
 
-kind_taken : (s : Lists) (h : Holder) (b : ℕ) (w : Worth) (e : ℕ) → kind_of (taken s h b w) e ≡ kind_of s e
+kind_taken : (s : Lists) (h : Holder) (b : ℕ) (w : ValueView) (e : ℕ) → kind_of (taken s h b w) e ≡ kind_of s e
 kind_taken s (Purse n) b w e = refl
 kind_taken s (Payment n) b w e = refl
 kind_taken s (Slot v j) b w e = refl
 kind_taken s Hand b w e = refl
 kind_taken s Outside b w e = keeps (λ (x : BrandSupply). x.outstanding.kind) s.out b (issued (supply_at s.out b) w.content) (new_supply Nat) refl e
 
-kind_given : (s : Lists) (h : Holder) (b : ℕ) (w : Worth) (e : ℕ) → kind_of (given s h b w) e ≡ kind_of s e
+kind_given : (s : Lists) (h : Holder) (b : ℕ) (w : ValueView) (e : ℕ) → kind_of (given s h b w) e ≡ kind_of s e
 kind_given s (Purse n) b w e = refl
 kind_given s (Payment n) b w e = refl
 kind_given s (Slot v j) b w e = refl
@@ -353,28 +353,28 @@ still_has : (t : Bool) (x c y : Content) → Contains x y → Contains (cond t (
 still_has true x c y has = record { each = λ k. omega (arith, has.each k, count-sum x c k) }
 still_has false x c y has = has
 
-in_hand_plus : (s : Lists) (h : Holder) (b : ℕ) (w : Worth) (ms : List Movement) → CanTake s h b w → in_hand (movement b h Hand w ∷ ms) ≡ hand_plus (in_hand ms) b w.content
+in_hand_plus : (s : Lists) (h : Holder) (b : ℕ) (w : ValueView) (ms : List Movement) → CanTake s h b w → in_hand (movement b h Hand w ∷ ms) ≡ hand_plus (in_hand ms) b w.content
 in_hand_plus s (Purse n) b w ms can = refl
 in_hand_plus s (Payment n) b w ms can = refl
 in_hand_plus s (Slot v j) b w ms can = refl
 in_hand_plus s Hand b w ms can = absurd can
 in_hand_plus s Outside b w ms can = refl
 
-no_hand_needed : (s : Lists) (h : Holder) (b : ℕ) (w : Worth) (x : Content) → CanTake s h b w → HandHas h x w.content
+no_hand_needed : (s : Lists) (h : Holder) (b : ℕ) (w : ValueView) (x : Content) → CanTake s h b w → HandHas h x w.content
 no_hand_needed s (Purse n) b w x can = tt
 no_hand_needed s (Payment n) b w x can = tt
 no_hand_needed s (Slot v j) b w x can = tt
 no_hand_needed s Hand b w x can = absurd can
 no_hand_needed s Outside b w x can = tt
 
-not_from_hand : (s : Lists) (h : Holder) (b : ℕ) (w : Worth) (x : Content) → CanTake s h b w → from_hand h x w.content ≡ x
+not_from_hand : (s : Lists) (h : Holder) (b : ℕ) (w : ValueView) (x : Content) → CanTake s h b w → from_hand h x w.content ≡ x
 not_from_hand s (Purse n) b w x can = refl
 not_from_hand s (Payment n) b w x can = refl
 not_from_hand s (Slot v j) b w x can = refl
 not_from_hand s Hand b w x can = absurd can
 not_from_hand s Outside b w x can = refl
 
-module _ (p q : Stores) (ks : List Step) (ms : List Movement) (keys more : ℕ) (from : Holder) (b : ℕ) (w : Worth) (is : IsDraft p ks ms keys false) (took : IsTaken p q from b w) (can : CanTake (lists_of p) from b w) where
+module _ (p q : Stores) (ks : List Undo) (ms : List Movement) (keys more : ℕ) (from : Holder) (b : ℕ) (w : ValueView) (is : IsDraft p ks ms keys false) (took : IsTaken p q from b w) (can : CanTake (lists_of p) from b w) where
   abbrev h : ℕ → Content
   h = in_hand (reverse ms)
 
@@ -438,14 +438,14 @@ module _ (p q : Stores) (ks : List Step) (ms : List Movement) (keys more : ℕ) 
 
 -- ---- a put from the hand
 
-in_hand_minus : (s : Lists) (h : Holder) (b : ℕ) (w : Worth) (ms : List Movement) → CanGive s h b w → in_hand (movement b Hand h w ∷ ms) ≡ hand_minus (in_hand ms) b w.content
+in_hand_minus : (s : Lists) (h : Holder) (b : ℕ) (w : ValueView) (ms : List Movement) → CanGive s h b w → in_hand (movement b Hand h w ∷ ms) ≡ hand_minus (in_hand ms) b w.content
 in_hand_minus s (Purse n) b w ms can = refl
 in_hand_minus s (Payment n) b w ms can = refl
 in_hand_minus s (Slot v j) b w ms can = refl
 in_hand_minus s Hand b w ms can = absurd can
 in_hand_minus s Outside b w ms can = refl
 
-module _ (p q : Stores) (ks : List Step) (ms : List Movement) (keys : ℕ) (to : Holder) (b : ℕ) (w : Worth) (is : IsDraft p ks ms keys false) (gave : IsGiven p q to b w) (can : CanGive (lists_of p) to b w) where
+module _ (p q : Stores) (ks : List Undo) (ms : List Movement) (keys : ℕ) (to : Holder) (b : ℕ) (w : ValueView) (is : IsDraft p ks ms keys false) (gave : IsGiven p q to b w) (can : CanGive (lists_of p) to b w) where
   abbrev g : ℕ → Content
   g = in_hand (reverse ms)
 
@@ -512,7 +512,7 @@ module _ (p q : Stores) (ks : List Step) (ms : List Movement) (keys : ℕ) (to :
 
 -- ---- the hand's own store, which takes a parcel in and lets a value go
 
-module _ (p : Stores) (ks : List Step) (ms : List Movement) (keys : ℕ) (spoiled now_spoiled : Bool) (is : IsDraft p ks ms keys spoiled) (b : ℕ) (there : b < length p.transit.out) (x : Held) (roomy : x.room ≡ (held_at p.transit.hand b).room)
+module _ (p : Stores) (ks : List Undo) (ms : List Movement) (keys : ℕ) (spoiled now_spoiled : Bool) (is : IsDraft p ks ms keys spoiled) (b : ℕ) (there : b < length p.transit.out) (x : Held) (roomy : x.room ≡ (held_at p.transit.hand b).room)
     (within : Contains (in_hand (reverse ms) b) x.value.content) (t : TransitView) (new : t ≡ with_hand p.transit b x) (inside : b < length p.transit.hand) where
   abbrev q : Stores
   q = record p { transit = t }
@@ -576,7 +576,7 @@ module _ (p : Stores) (ks : List Step) (ms : List Movement) (keys : ℕ) (spoile
 
 -- ---- a parcel that is held there
 
-module _ (p : Stores) (ks : List Step) (ms : List Movement) (keys : ℕ) (spoiled : Bool) (a : Amount) (is : IsDraft p ks ms keys spoiled) (keep : HandKeeps (draft_of p ks ms spoiled) a) where
+module _ (p : Stores) (ks : List Undo) (ms : List Movement) (keys : ℕ) (spoiled : Bool) (a : Amount) (is : IsDraft p ks ms keys spoiled) (keep : HandKeeps (draft_of p ks ms spoiled) a) where
   there : a.brand < length p.transit.out
   there = omega (arith, keep.brand.made, brands_there p)
 
@@ -620,7 +620,7 @@ module _ (p : Stores) (ks : List Step) (ms : List Movement) (keys : ℕ) (spoile
 
 -- ---- a value that is let go from there
 
-module _ (p : Stores) (ks : List Step) (ms : List Movement) (keys : ℕ) (spoiled : Bool) (b : ℕ) (w : Worth) (is : IsDraft p ks ms keys spoiled) (stored : IsStored (draft_of p ks ms spoiled) b w) where
+module _ (p : Stores) (ks : List Undo) (ms : List Movement) (keys : ℕ) (spoiled : Bool) (b : ℕ) (w : ValueView) (is : IsDraft p ks ms keys spoiled) (stored : IsStored (draft_of p ks ms spoiled) b w) where
   here : b < length p.transit.out
   here = omega (arith, stored.brand.made, brands_there p)
 
@@ -649,7 +649,7 @@ module _ (p : Stores) (ks : List Step) (ms : List Movement) (keys : ℕ) (spoile
 
 -- ---- a vault in which nothing was made
 
-pub nothing_made : (p : Stores) (ks : List Step) (ms : List Movement) → lists_of p ≡ no_lists → staged_of p ≡ [] → p.transit.out ≡ [] → ks ≡ [] → ms ≡ [] → IsVault p ks ms
+pub nothing_made : (p : Stores) (ks : List Undo) (ms : List Movement) → lists_of p ≡ no_lists → staged_of p ≡ [] → p.transit.out ≡ [] → ks ≡ [] → ms ≡ [] → IsVault p ks ms
 nothing_made p ks ms lists staging out steps movements = record {
   no_steps = steps;
   no_movements = movements;
@@ -664,7 +664,7 @@ nothing_made p ks ms lists staging out steps movements = record {
 
 -- ---- keys counted anew, where the hand has nothing
 
-pub counted_anew : (p : Stores) (ks : List Step) (ms : List Movement) (keys : ℕ) (spoiled : Bool) → IsDraft p ks ms keys spoiled → IsClean (draft_of p ks ms spoiled) → IsDraft p ks ms 0 spoiled
+pub counted_anew : (p : Stores) (ks : List Undo) (ms : List Movement) (keys : ℕ) (spoiled : Bool) → IsDraft p ks ms keys spoiled → IsClean (draft_of p ks ms spoiled) → IsDraft p ks ms 0 spoiled
 counted_anew p ks ms keys spoiled is clean = record {
   can = is.can;
   bounded = λ b. subst (λ (x : Content). keys_in (kind_of (lists_of p) b) x ≤ 0) (sym (clean.hand b)) (no_keys (kind_of (lists_of p) b));

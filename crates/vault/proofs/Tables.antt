@@ -1,17 +1,17 @@
 -- The table of a draft after movements made together, as they are written and as they are done.
 use Rattle.std.proofs.Common.{◌≡◌, ◌≢◌, ℕ, List, [], ◌∷◌, ◌++◌, refl, sym, ◌∙◌, ap, subst, arith, append_assoc}
-use Rattle.right_steps.specs.amount_math.Content.{Contains, count, count-difference, count-sum}
-use Rattle.right_steps.specs.amount_math.declared.Kind.{Kind}
-use Rattle.right_steps.specs.rights_model.declared.Holder.{Holder}
-use Rattle.right_steps.specs.rights_model.declared.Holder.TheVariants.{Hand, Outside}
-use Rattle.right_steps.specs.rights_model.declared.Movement.{Movement}
-use Rattle.right_steps.specs.rights_model.Place.{Place, place}
-use Rattle.right_steps.specs.rights_model.Table.{Table, CanMoveAll, holds, moved, movement, table_after, taken}
-use Rattle.right_steps.proofs.rights_model.TableLaws.{holds-given_other, holds-taken, table_after-push}
-use Rattle.right_steps.specs.Flows.{AreInside, IsApart, Part, combined, content_of, gathered, split_up, spread, whole_of}
-use Rattle.right_steps.specs.Lists.{Lists}
-use Rattle.right_steps.specs.Tables.{table_of}
-use Rattle.right_steps.proofs.FlowLaws.{can_elsewhere, combine_law, split_law}
+use Rattle.vault_model.specs.amount_math.Content.{Contains, count, count-difference, count-sum}
+use Rattle.vault_model.specs.amount_math.declared.Kind.{Kind}
+use Rattle.vault_model.specs.rights_model.declared.Holder.{Holder}
+use Rattle.vault_model.specs.rights_model.declared.Holder.TheVariants.{Hand, Outside}
+use Rattle.vault_model.specs.rights_model.declared.Movement.{Movement}
+use Rattle.vault_model.specs.rights_model.Place.{Place, place}
+use Rattle.vault_model.specs.rights_model.Table.{Table, CanMoveAll, holds, moved, movement, table_after, taken}
+use Rattle.vault_model.proofs.rights_model.TableLaws.{holds-given_other, holds-taken, table_after-push}
+use Rattle.vault_model.specs.Flows.{AreInside, IsApart, Part, combined, content_of, gathered, split_up, spread, whole_of}
+use Rattle.vault_model.specs.Lists.{Lists}
+use Rattle.vault_model.specs.Tables.{table_of}
+use Rattle.vault_model.proofs.FlowLaws.{can_elsewhere, combine_law, split_law}
 use Rattle.vault.specs.Drafts.{DraftState, IsValid, after, table_now}
 use Rattle.vault.specs.Together.{after_all}
 

@@ -1,19 +1,19 @@
 -- A take and a put as the draft's calls make them: room first, then the step.
 use Rattle.std.proofs.Common.{◌≡◌, ℕ, ◌+◌, false, List, [], ◌∷◌, ◌++◌, length, reverse, refl, sym, ◌∙◌, ap, subst, arith}
-use Rattle.right_steps.specs.amount_math.Content.{Contains, Contains-trans, count-sum, sum}
-use Rattle.right_steps.specs.amount_math.Held.{HasRoom, keys_in, more_room, room_for_fewer}
-use Rattle.right_steps.specs.amount_math.Worth.{IsValue, Worth, keys_of}
-use Rattle.right_steps.specs.amount_math.declared.Amount.{Amount}
-use Rattle.right_steps.specs.ertp_mint.BrandSupply.{supply_at}
-use Rattle.right_steps.specs.declared.Step.{Step}
-use Rattle.right_steps.specs.declared.Step.TheVariants.{Moves}
-use Rattle.right_steps.specs.Backwards.{in_hand}
-use Rattle.right_steps.specs.Lists.{CanGive, CanTake, Lists, kind_of, slot_of}
-use Rattle.right_steps.proofs.Sound.{hand_is_out}
-use Rattle.right_steps.specs.rights_model.declared.Holder.{Holder}
-use Rattle.right_steps.specs.rights_model.declared.Holder.TheVariants.{Purse, Payment, Slot, Hand, Outside}
-use Rattle.right_steps.specs.rights_model.declared.Movement.{Movement}
-use Rattle.right_steps.specs.rights_model.Table.{movement}
+use Rattle.vault_model.specs.amount_math.Content.{Contains, Contains-trans, count-sum, sum}
+use Rattle.vault_model.specs.amount_math.Held.{HasRoom, keys_in, more_room, room_for_fewer}
+use Rattle.vault_model.specs.amount_math.ValueView.{IsValue, ValueView, keys_of}
+use Rattle.vault_model.specs.amount_math.declared.Amount.{Amount}
+use Rattle.vault_model.specs.ertp_mint.BrandSupply.{supply_at}
+use Rattle.vault_model.specs.declared.Undo.{Undo}
+use Rattle.vault_model.specs.declared.Undo.TheVariants.{Moves}
+use Rattle.vault_model.specs.Backwards.{in_hand}
+use Rattle.vault_model.specs.Lists.{CanGive, CanTake, Lists, kind_of, slot_of}
+use Rattle.vault_model.proofs.Sound.{hand_is_out}
+use Rattle.vault_model.specs.rights_model.declared.Holder.{Holder}
+use Rattle.vault_model.specs.rights_model.declared.Holder.TheVariants.{Purse, Payment, Slot, Hand, Outside}
+use Rattle.vault_model.specs.rights_model.declared.Movement.{Movement}
+use Rattle.vault_model.specs.rights_model.Table.{movement}
 use Rattle.vault.specs.Memory.{IsGiven, IsRoomed, IsTaken, lists_of, rooms_of, store_of}
 use Rattle.vault.specs.Drafts.{DraftState, HandKeeps, IsDraft, IsOfBrand, after, draft_of, given_at}
 use Rattle.vault.specs.Asked.{IsSource, IsTarget, TakesIn, brand_of, held_by}
@@ -21,7 +21,7 @@ use Rattle.vault.specs.declared.stores.Stores.{Stores}
 use Rattle.vault.proofs.Steps.{brands_there, put_after, put_keeps, room_stays, same_draft, take_after, take_keeps}
 
 -- what is there can be taken
-pub can_take : (s : Lists) (h : Holder) (w : Worth) → IsSource s h w → Contains (held_by s h) w.content → CanTake s h (brand_of s h) w
+pub can_take : (s : Lists) (h : Holder) (w : ValueView) → IsSource s h w → Contains (held_by s h) w.content → CanTake s h (brand_of s h) w
 can_take s (Purse n) w source has = record { made = source.made; brand = refl; kind = source.kind; has = has }
 can_take s (Payment n) w source has = record { made = source.made; is = source.is }
 can_take s (Slot v j) w source has = record { slot = source.slot; brand = refl; kind = source.kind; has = has }
@@ -41,14 +41,14 @@ pub carried : (d : DraftState) (a : Amount) → HandKeeps d a → Contains (in_h
 carried d a keep = record { each = λ k. omega (arith, keep.has.each k, count-sum (given_at d a.brand) a.value.content k) }
 
 -- so it can be retired
-pub can_retire : (p : Stores) (ks : List Step) (ms : List Movement) (keys : ℕ) (a : Amount) → IsDraft p ks ms keys false → HandKeeps (draft_of p ks ms false) a → CanGive (lists_of p) Outside a.brand a.value
+pub can_retire : (p : Stores) (ks : List Undo) (ms : List Movement) (keys : ℕ) (a : Amount) → IsDraft p ks ms keys false → HandKeeps (draft_of p ks ms false) a → CanGive (lists_of p) Outside a.brand a.value
 can_retire p ks ms keys a is keep = record {
   made = keep.brand.made;
   kind = keep.brand.kind;
   has = Contains-trans (supply_at (lists_of p).out a.brand).outstanding.content (in_hand (reverse ms) a.brand) a.value.content (hand_is_out (lists_of p) (in_hand (reverse ms)) is.valid.sound a.brand) (carried (draft_of p ks ms false) a keep);
 }
 
-module _ (p r q : Stores) (ks : List Step) (ms : List Movement) (keys more : ℕ) (from : Holder) (b : ℕ) (w : Worth) (is : IsDraft p ks ms keys false) (roomed : IsRoomed p r) (took : IsTaken r q from b w) (can : CanTake (lists_of p) from b w) where
+module _ (p r q : Stores) (ks : List Undo) (ms : List Movement) (keys more : ℕ) (from : Holder) (b : ℕ) (w : ValueView) (is : IsDraft p ks ms keys false) (roomed : IsRoomed p r) (took : IsTaken r q from b w) (can : CanTake (lists_of p) from b w) where
   roomed_draft : IsDraft r ks ms keys false
   roomed_draft = room_stays p r ks ms keys false is roomed
 
@@ -68,7 +68,7 @@ module _ (p r q : Stores) (ks : List Step) (ms : List Movement) (keys more : ℕ
       (more_room (kind_of (lists_of p) b) more ((rooms_of r).hand b) ((rooms_of q).hand b) (took.half.rooms.hand b)
       (room_for_fewer (kind_of (lists_of p) b) more (keys_of (store_of p b) + more) ((rooms_of r).hand b) (omega arith) room)))
 
-module _ (p q : Stores) (ks : List Step) (ms : List Movement) (keys : ℕ) (to : Holder) (a : Amount) (is : IsDraft p ks ms keys false) (gave : IsGiven p q to a.brand a.value) (can : CanGive (lists_of p) to a.brand a.value) where
+module _ (p q : Stores) (ks : List Undo) (ms : List Movement) (keys : ℕ) (to : Holder) (a : Amount) (is : IsDraft p ks ms keys false) (gave : IsGiven p q to a.brand a.value) (can : CanGive (lists_of p) to a.brand a.value) where
   pub draft_put_after : draft_of q (ks ++ Moves ∷ []) (ms ++ movement a.brand Hand to a.value ∷ []) false ≡ after (draft_of p ks ms false) (movement a.brand Hand to a.value)
   draft_put_after = put_after p q ks ms keys to a.brand a.value is gave can
 

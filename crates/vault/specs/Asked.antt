@@ -1,36 +1,36 @@
 -- What the stores are asked for, told by their lists: what a holder may be asked for, and why a put is refused.
 use Rattle.std.specs.Prelude.{◌≡◌, ℕ, ◌+◌, ◌<◌, ◌≤◌, List, ◌⊎◌, IsNone, length}
-use Rattle.right_steps.specs.amount_math.Amount.{Meet}
-use Rattle.right_steps.specs.amount_math.Content.{Content, nothing, sum}
-use Rattle.right_steps.specs.amount_math.Worth.{IsPutRefusal, IsValue, Worth}
-use Rattle.right_steps.specs.amount_math.declared.Amount.{Amount}
-use Rattle.right_steps.specs.amount_math.declared.PutFault.{PutFault}
-use Rattle.right_steps.specs.amount_math.declared.PutFault.TheVariants.{NoMemory}
-use Rattle.right_steps.specs.ertp_mint.Stocks.{most_made}
-use Rattle.right_steps.specs.holders.Papers.{live_paper, paper_at}
-use Rattle.right_steps.specs.proposals.Rows.{amount_under, most_rows}
-use Rattle.right_steps.specs.proposals.Slots.{slots_of}
-use Rattle.right_steps.specs.proposals.declared.offers.Proposal.{Proposal}
-use Rattle.right_steps.specs.rights_model.declared.Holder.{Holder}
-use Rattle.right_steps.specs.rights_model.declared.Holder.TheVariants.{Purse, Payment, Slot, Hand, Outside}
-use Rattle.right_steps.specs.Lists.{Lists, amount_of, purse_at, slot_of}
-use Rattle.right_steps.specs.Seats.{HasSlotOf, IsOpenSeat, kept_seat_at}
-use Rattle.right_steps.specs.Tables.{content_held}
+use Rattle.vault_model.specs.amount_math.Amount.{Meet}
+use Rattle.vault_model.specs.amount_math.Content.{Content, nothing, sum}
+use Rattle.vault_model.specs.amount_math.ValueView.{IsPutRefusal, IsValue, ValueView}
+use Rattle.vault_model.specs.amount_math.declared.Amount.{Amount}
+use Rattle.vault_model.specs.amount_math.declared.PutFault.{PutFault}
+use Rattle.vault_model.specs.amount_math.declared.PutFault.TheVariants.{NoMemory}
+use Rattle.vault_model.specs.ertp_mint.Stocks.{most_made}
+use Rattle.vault_model.specs.holders.PaymentViews.{live_payment, payment_view_at}
+use Rattle.vault_model.specs.proposals.Shares.{amount_under, most_shares}
+use Rattle.vault_model.specs.proposals.Slots.{slots_of}
+use Rattle.vault_model.specs.proposals.declared.offers.Proposal.{Proposal}
+use Rattle.vault_model.specs.rights_model.declared.Holder.{Holder}
+use Rattle.vault_model.specs.rights_model.declared.Holder.TheVariants.{Purse, Payment, Slot, Hand, Outside}
+use Rattle.vault_model.specs.Lists.{Lists, amount_of, purse_at, slot_of}
+use Rattle.vault_model.specs.Seats.{HasSlotOf, IsOpenSeat, kept_seat_at}
+use Rattle.vault_model.specs.Tables.{content_held}
 
 -- a holder that a part may be asked of: a purse that was made, a payment that is live and has just that, or a slot, also of a closed seat
-pub record IsPurseOf (s : Lists) (n : ℕ) (w : Worth) : Type 0 where
+pub record IsPurseOf (s : Lists) (n : ℕ) (w : ValueView) : Type 0 where
   pub made : n < length s.purses
   pub kind : (purse_at s.purses n).value.kind ≡ w.kind
 
-pub record IsPaymentOf (s : Lists) (n : ℕ) (w : Worth) : Type 0 where
+pub record IsPaymentOf (s : Lists) (n : ℕ) (w : ValueView) : Type 0 where
   pub made : n < length s.payments
-  pub is : paper_at s.payments n ≡ live_paper (amount_of (paper_at s.payments n).brand w)
+  pub is : payment_view_at s.payments n ≡ live_payment (amount_of (payment_view_at s.payments n).brand w)
 
-pub record IsSlotOf (s : Lists) (n : ℕ) (keyword : List ℕ) (w : Worth) : Type 0 where
+pub record IsSlotOf (s : Lists) (n : ℕ) (keyword : List ℕ) (w : ValueView) : Type 0 where
   pub slot : HasSlotOf s.seats n keyword
   pub kind : (slot_of s n keyword).value.kind ≡ w.kind
 
-abbrev pub IsSource : Lists → Holder → Worth → Type 0
+abbrev pub IsSource : Lists → Holder → ValueView → Type 0
 IsSource s (Purse n) w = IsPurseOf s n w
 IsSource s (Payment n) w = IsPaymentOf s n w
 IsSource s (Slot n keyword) w = IsSlotOf s n keyword w
@@ -40,14 +40,14 @@ IsSource s Outside w = ⊥
 -- the brand of a holder, and what it has
 abbrev pub brand_of : Lists → Holder → ℕ
 brand_of s (Purse n) = (purse_at s.purses n).brand
-brand_of s (Payment n) = (paper_at s.payments n).brand
+brand_of s (Payment n) = (payment_view_at s.payments n).brand
 brand_of s (Slot n keyword) = (slot_of s n keyword).brand
 brand_of s Hand = 0
 brand_of s Outside = 0
 
 abbrev pub held_by : Lists → Holder → Content
 held_by s (Purse n) = (purse_at s.purses n).value.content
-held_by s (Payment n) = content_held (paper_at s.payments n).held
+held_by s (Payment n) = content_held (payment_view_at s.payments n).held
 held_by s (Slot n keyword) = (slot_of s n keyword).value.content
 held_by s Hand = nothing
 held_by s Outside = nothing
@@ -78,7 +78,7 @@ pub record MayOpenSlot (s : Lists) (n : ℕ) (keyword : List ℕ) : Type 0 where
   pub made : n < length s.seats
   pub is_open : IsOpenSeat (kept_seat_at s.seats n)
   pub free : IsNone (amount_under keyword (kept_seat_at s.seats n).slots)
-  pub few : length (kept_seat_at s.seats n).slots < most_rows
+  pub few : length (kept_seat_at s.seats n).slots < most_shares
   pub left : length s.payments + s.owed < most_made
 
 -- the sum that a put makes is a value; and why a put is refused

@@ -2,24 +2,24 @@
 use Rattle.std.specs.Prelude.{◌≡◌, ℕ, zero, suc, ◌+◌, ◌<◌, ◌≤◌, List, [], ◌∷◌, ◌++◌, Bool, true, false, IsNone, if◌then◌else◌, is_some, length, slice_index_or, slice_set, refl}
 use Rattle.std.proofs.Common.{reverse}
 use Rattle.std.specs.Coded.{Coded, code_by, coded×, coded_bool, coded_list}
-use Rattle.right_steps.specs.amount_math.Amount.{Meet}
-use Rattle.right_steps.specs.amount_math.Content.{Content, coded_content, Contains, difference, nothing, sum}
-use Rattle.right_steps.specs.amount_math.Held.{HasRoom, keys_in}
-use Rattle.right_steps.specs.amount_math.Worth.{Worth, keys_of}
-use Rattle.right_steps.specs.amount_math.declared.Amount.{Amount}
-use Rattle.right_steps.specs.amount_math.declared.Kind.{Kind}
-use Rattle.right_steps.specs.ertp_mint.Stocks.{most_made}
-use Rattle.right_steps.specs.proposals.Rows.{amount_under, most_rows}
-use Rattle.right_steps.specs.proposals.declared.allocations.Row.{Row}
-use Rattle.right_steps.specs.rights_model.declared.Holder.{Holder}
-use Rattle.right_steps.specs.rights_model.declared.Holder.TheVariants.{Purse, Payment, Slot, Hand, Outside}
-use Rattle.right_steps.specs.rights_model.declared.Movement.{Movement}
-use Rattle.right_steps.specs.rights_model.Table.{Table, CanMoveAll, coded_movement, table_after}
-use Rattle.right_steps.specs.declared.Step.{Step}
-use Rattle.right_steps.specs.Backwards.{CanAllBack, all_back, in_hand, retired_by}
-use Rattle.right_steps.specs.Lists.{Lists, coded_lists, kind_of, moved, slot_of, with_new_brand, with_new_slot}
-use Rattle.right_steps.specs.Seats.{HasRow, IsOpenSeat, kept_seat_at}
-use Rattle.right_steps.specs.Tables.{Agrees, IsSound, no_hand, table_of}
+use Rattle.vault_model.specs.amount_math.Amount.{Meet}
+use Rattle.vault_model.specs.amount_math.Content.{Content, coded_content, Contains, difference, nothing, sum}
+use Rattle.vault_model.specs.amount_math.Held.{HasRoom, keys_in}
+use Rattle.vault_model.specs.amount_math.ValueView.{ValueView, keys_of}
+use Rattle.vault_model.specs.amount_math.declared.Amount.{Amount}
+use Rattle.vault_model.specs.amount_math.declared.Kind.{Kind}
+use Rattle.vault_model.specs.ertp_mint.Stocks.{most_made}
+use Rattle.vault_model.specs.proposals.Shares.{amount_under, most_shares}
+use Rattle.vault_model.specs.proposals.declared.allocations.Share.{Share}
+use Rattle.vault_model.specs.rights_model.declared.Holder.{Holder}
+use Rattle.vault_model.specs.rights_model.declared.Holder.TheVariants.{Purse, Payment, Slot, Hand, Outside}
+use Rattle.vault_model.specs.rights_model.declared.Movement.{Movement}
+use Rattle.vault_model.specs.rights_model.Table.{Table, CanMoveAll, coded_movement, table_after}
+use Rattle.vault_model.specs.declared.Undo.{Undo}
+use Rattle.vault_model.specs.Backwards.{CanAllBack, all_back, in_hand, retired_by}
+use Rattle.vault_model.specs.Lists.{Lists, coded_lists, kind_of, moved, slot_of, with_new_brand, with_new_slot}
+use Rattle.vault_model.specs.Seats.{HasShare, IsOpenSeat, kept_seat_at}
+use Rattle.vault_model.specs.Tables.{Agrees, IsSound, no_hand, table_of}
 use Rattle.seats.specs.Staging.{coded_staging}
 use Rattle.vault.specs.Asked.{IsTarget}
 use Rattle.vault.specs.Memory.{kept_of, lists_of, rooms_of, staged_of, store_of}
@@ -29,7 +29,7 @@ use Rattle.vault.specs.declared.stores.Stores.{Stores}
 pub record DraftState : Type 0 where
   pub kept : Lists
   pub now : Lists
-  pub staging : List (ℕ × List Row)
+  pub staging : List (ℕ × List Share)
   pub movements : List Movement
   pub given_up : List Content
   pub is_spoiled : Bool
@@ -37,7 +37,7 @@ pub record DraftState : Type 0 where
 -- the numbers that stand for it, which a model needs
 abbrev pub coded_draft : Coded DraftState
 coded_draft =
-    code_by (Lists × (Lists × (List (ℕ × List Row) × (List Movement × (List Content × Bool))))) (coded× coded_lists (coded× coded_lists (coded× coded_staging (coded× (coded_list coded_movement) (coded× (coded_list coded_content) coded_bool)))))
+    code_by (Lists × (Lists × (List (ℕ × List Share) × (List Movement × (List Content × Bool))))) (coded× coded_lists (coded× coded_lists (coded× coded_staging (coded× (coded_list coded_movement) (coded× (coded_list coded_content) coded_bool)))))
     (λ d. (d.kept, (d.now, (d.staging, (d.movements, (d.given_up, d.is_spoiled)))))) (λ p. record { kept = p.0; now = p.1.0; staging = p.1.1.0; movements = p.1.1.1.0; given_up = p.1.1.1.1.0; is_spoiled = p.1.1.1.1.1 }) (λ _. refl)
 
 -- what is told of each of so many brands, listed by number
@@ -49,7 +49,7 @@ by_number (suc n) of_brand = of_brand 0 ∷ by_number n (λ b. of_brand (suc b))
 abbrev pub given_list : Stores → List Content
 given_list p = by_number (length p.transit.out) (store_of p)
 
-abbrev pub draft_of : Stores → List Step → List Movement → Bool → DraftState
+abbrev pub draft_of : Stores → List Undo → List Movement → Bool → DraftState
 draft_of p ks ms spoiled = record { kept = all_back (lists_of p) (reverse ks) (reverse ms); now = lists_of p; staging = staged_of p; movements = ms; given_up = given_list p; is_spoiled = spoiled }
 
 -- the draft with which a turn begins: nothing has moved, and nothing was given up
@@ -75,7 +75,7 @@ after d m = record d { now = moved d.now m; movements = d.movements ++ m ∷ [] 
 abbrev pub opened : DraftState → Lists → DraftState
 opened d now = record d { now = now }
 
-abbrev pub with_staging : DraftState → List (ℕ × List Row) → DraftState
+abbrev pub with_staging : DraftState → List (ℕ × List Share) → DraftState
 with_staging d staged = record d { staging = staged }
 
 abbrev pub with_brand : DraftState → Kind → DraftState
@@ -88,7 +88,7 @@ given_up_too d a = record d { given_up = slice_set d.given_up a.brand (sum (give
 abbrev pub held_too : DraftState → Amount → DraftState
 held_too d a = record d { given_up = slice_set d.given_up a.brand (sum (given_at d a.brand) a.value.content) }
 
-abbrev pub let_out : DraftState → ℕ → Worth → DraftState
+abbrev pub let_out : DraftState → ℕ → ValueView → DraftState
 let_out d b w = record d { given_up = slice_set d.given_up b (difference (given_at d b) w.content) }
 
 -- ---- what a caller may know of a draft
@@ -105,7 +105,7 @@ pub record IsValid (d : DraftState) : Type 0 where
 -- ---- what the calls ask for
 
 -- a brand that was made, whose values are of the kind
-pub record IsOfBrand (s : Lists) (b : ℕ) (w : Worth) : Type 0 where
+pub record IsOfBrand (s : Lists) (b : ℕ) (w : ValueView) : Type 0 where
   pub made : b < length s.out
   pub kind : kind_of s b ≡ w.kind
 
@@ -113,8 +113,8 @@ pub record IsOfBrand (s : Lists) (b : ℕ) (w : Worth) : Type 0 where
 pub record MayPutInSlot (s : Lists) (n : ℕ) (keyword : List ℕ) (a : Amount) : Type 0 where
   pub made : n < length s.seats
   pub is_open : IsOpenSeat (kept_seat_at s.seats n)
-  pub meet : HasRow keyword (kept_seat_at s.seats n).slots → Meet (slot_of s n keyword) a
-  pub few : IsNone (amount_under keyword (kept_seat_at s.seats n).slots) → length (kept_seat_at s.seats n).slots < most_rows
+  pub meet : HasShare keyword (kept_seat_at s.seats n).slots → Meet (slot_of s n keyword) a
+  pub few : IsNone (amount_under keyword (kept_seat_at s.seats n).slots) → length (kept_seat_at s.seats n).slots < most_shares
   pub left : IsNone (amount_under keyword (kept_seat_at s.seats n).slots) → length s.payments + s.owed < most_made
 
 -- a holder that a parcel may be put to
@@ -139,7 +139,7 @@ pub record HandKeeps (d : DraftState) (a : Amount) : Type 0 where
   pub has : Contains (hand_now d a.brand) (sum (given_at d a.brand) a.value.content)
 
 -- the hand's own store has it
-pub record IsStored (d : DraftState) (b : ℕ) (w : Worth) : Type 0 where
+pub record IsStored (d : DraftState) (b : ℕ) (w : ValueView) : Type 0 where
   pub brand : IsOfBrand d.now b w
   pub has : Contains (given_at d b) w.content
 
@@ -155,7 +155,7 @@ pub record IsClean (d : DraftState) : Type 0 where
 -- ---- what is kept of a draft in memory
 
 -- all of it can be worked backwards in the room that there is; for what the hand has there is room in its own store, which is bounded by the keys that were taken; and what is kept was retired by movements
-pub record IsDraft (p : Stores) (ks : List Step) (ms : List Movement) (keys : ℕ) (spoiled : Bool) : Type 0 where
+pub record IsDraft (p : Stores) (ks : List Undo) (ms : List Movement) (keys : ℕ) (spoiled : Bool) : Type 0 where
   pub can : CanAllBack (rooms_of p) (lists_of p) (reverse ks) (reverse ms)
   pub bounded : (b : ℕ) → keys_in (kind_of (lists_of p) b) (in_hand (reverse ms) b) ≤ keys
   pub room : (b : ℕ) → b < length p.transit.out → HasRoom (kind_of (lists_of p) b) (keys_of (in_hand (reverse ms) b)) ((rooms_of p).hand b)
@@ -163,7 +163,7 @@ pub record IsDraft (p : Stores) (ks : List Step) (ms : List Movement) (keys : �
   pub valid : IsValid (draft_of p ks ms spoiled)
 
 -- nothing is on its way in a vault, nothing is staged, and nothing retired is kept
-pub record IsVault (p : Stores) (ks : List Step) (ms : List Movement) : Type 0 where
+pub record IsVault (p : Stores) (ks : List Undo) (ms : List Movement) : Type 0 where
   pub no_steps : ks ≡ []
   pub no_movements : ms ≡ []
   pub no_staging : staged_of p ≡ []

@@ -1,8 +1,8 @@
 -- What movements retired is kept while they may be worked backwards, and is forgotten at a turn's end.
 use Rattle.std.specs.Prelude.{◌≡◌, ℕ, ◌<◌, List, [], ◌∷◌, length}
-use Rattle.right_steps.specs.amount_math.Content.{nothing}
-use Rattle.right_steps.specs.Backwards.{retired_by}
-use Rattle.right_steps.specs.rights_model.declared.Movement.{Movement}
+use Rattle.vault_model.specs.amount_math.Content.{nothing}
+use Rattle.vault_model.specs.Backwards.{retired_by}
+use Rattle.vault_model.specs.rights_model.declared.Movement.{Movement}
 use Rattle.vault.specs.Memory.{given_up_in, kept_of, lists_of, staged_of}
 use Rattle.vault.specs.declared.stores.Stores.{Stores}
 

@@ -3,9 +3,9 @@ pub mod Asked
 pub mod Forgetting
 pub mod Drafts
 pub mod Working
-pub mod Transfers
+pub mod Taking
 pub mod Together
 pub mod Combinations
 pub mod Splits
-pub use Rattle.right_steps.specs.holders
+pub use Rattle.vault_model.specs.holders
 pub use Rattle.seats.specs as seats

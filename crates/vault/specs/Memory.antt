@@ -1,27 +1,27 @@
 -- The stores in memory, as lists and as rooms, and what each step, worked forwards or back, leaves of them.
 use Rattle.std.specs.Prelude.{◌≡◌, ℕ, ◌<◌, ◌≤◌, List, length, map}
-use Rattle.right_steps.specs.amount_math.Content.{Content}
-use Rattle.right_steps.specs.amount_math.Held.{Held}
-use Rattle.right_steps.specs.amount_math.Worth.{Worth}
-use Rattle.right_steps.specs.amount_math.declared.Amount.{Amount}
-use Rattle.right_steps.specs.ertp_mint.Balances.{StoredAmount}
-use Rattle.right_steps.specs.ertp_mint.BrandSupply.{BrandSupply}
-use Rattle.right_steps.specs.ertp_mint.Circulating.{CirculationView, CanReturn, circulation_at}
-use Rattle.right_steps.specs.proposals.declared.allocations.Row.{Row}
-use Rattle.right_steps.specs.holders.Purses.{room_at}
-use Rattle.right_steps.specs.Backwards.{CanUngive, CanUntake, HasGrown, Rooms}
-use Rattle.right_steps.specs.Lists.{Lists, given, taken, with_new_slot}
-use Rattle.right_steps.specs.Seats.{HasSlotOf, KeptSeat}
-use Rattle.right_steps.specs.Tables.{hand_minus, hand_plus}
-use Rattle.right_steps.specs.rights_model.declared.Holder.{Holder}
-use Rattle.right_steps.specs.rights_model.declared.Holder.TheVariants.{Purse, Payment, Slot, Hand, Outside}
+use Rattle.vault_model.specs.amount_math.Content.{Content}
+use Rattle.vault_model.specs.amount_math.Held.{Held}
+use Rattle.vault_model.specs.amount_math.ValueView.{ValueView}
+use Rattle.vault_model.specs.amount_math.declared.Amount.{Amount}
+use Rattle.vault_model.specs.ertp_mint.Balances.{BalanceView}
+use Rattle.vault_model.specs.ertp_mint.BrandSupply.{BrandSupply}
+use Rattle.vault_model.specs.ertp_mint.Circulating.{CirculationView, CanReturn, circulation_at}
+use Rattle.vault_model.specs.proposals.declared.allocations.Share.{Share}
+use Rattle.vault_model.specs.holders.Purses.{room_at}
+use Rattle.vault_model.specs.Backwards.{CanUngive, CanUntake, HasGrown, Rooms}
+use Rattle.vault_model.specs.Lists.{Lists, given, taken, with_new_slot}
+use Rattle.vault_model.specs.Seats.{HasSlotOf, KeptSeat}
+use Rattle.vault_model.specs.Tables.{hand_minus, hand_plus}
+use Rattle.vault_model.specs.rights_model.declared.Holder.{Holder}
+use Rattle.vault_model.specs.rights_model.declared.Holder.TheVariants.{Purse, Payment, Slot, Hand, Outside}
 use Rattle.seats.specs.Seats.{SeatView}
-use Rattle.seats.specs.Slots.{rows_in}
+use Rattle.seats.specs.Slots.{shares_in}
 use Rattle.seats.specs.Store.{slot_store}
 use Rattle.transit.specs.Transit.{CanHold, IsInStore, IsOnItsWay, held_at, in_store}
 use Rattle.vault.specs.declared.stores.Stores.{Stores}
 
-abbrev pub amount_in : StoredAmount → Amount
+abbrev pub amount_in : BalanceView → Amount
 amount_in s = s.amount
 
 abbrev pub supply_of : CirculationView → BrandSupply
@@ -29,16 +29,16 @@ supply_of s = s.supply
 
 -- a seat, whatever rooms its slots have
 abbrev pub kept_seat : SeatView → KeptSeat
-kept_seat s = record { instance = s.instance; proposal = s.proposal; slots = rows_in s.slots; last = s.last }
+kept_seat s = record { instance = s.instance; proposal = s.proposal; slots = shares_in s.slots; last = s.last }
 
 abbrev pub lists_of : Stores → Lists
-lists_of p = record { purses = map amount_in p.purses; payments = p.payments.papers; seats = map kept_seat p.seats.seats; owed = p.payments.slots; out = map supply_of p.transit.out }
+lists_of p = record { purses = map amount_in p.purses; payments = p.payments.views; seats = map kept_seat p.seats.seats; owed = p.payments.slots; out = map supply_of p.transit.out }
 
 abbrev pub rooms_of : Stores → Rooms
 rooms_of p = record { purses = λ n. room_at p.purses n; slots = λ n k. (slot_store n k p.seats).room; capacity = p.payments.capacity; hand = λ b. (held_at p.transit.hand b).room }
 
 -- what is staged of seats, apart from the lists
-abbrev pub staged_of : Stores → List (ℕ × List Row)
+abbrev pub staged_of : Stores → List (ℕ × List Share)
 staged_of p = p.seats.staging
 
 -- what the hand's own store has
@@ -88,11 +88,11 @@ kept_given k (Slot seat keyword) b c = k
 kept_given k Hand b c = k
 
 -- what was retired can be out again
-pub record Returns (p : Stores) (b : ℕ) (w : Worth) : Type 0 where
+pub record Returns (p : Stores) (b : ℕ) (w : ValueView) : Type 0 where
   pub made : b < length p.transit.out
   pub can : CanReturn (circulation_at p.transit.out b) w
 
-abbrev pub CanUngiveHere : Stores → Holder → ℕ → Worth → Type 0
+abbrev pub CanUngiveHere : Stores → Holder → ℕ → ValueView → Type 0
 CanUngiveHere p (Purse n) b w = CanUngive (rooms_of p) (lists_of p) (Purse n) b w
 CanUngiveHere p (Payment n) b w = CanUngive (rooms_of p) (lists_of p) (Payment n) b w
 CanUngiveHere p (Slot seat keyword) b w = CanUngive (rooms_of p) (lists_of p) (Slot seat keyword) b w
@@ -133,7 +133,7 @@ abbrev pub given_up_in : Stores → List Content
 given_up_in p = map content_in_store p.transit.hand
 
 -- the lists are these, this is staged, what was given up is the same, this is kept, and no room is less
-pub record IsForward (p q : Stores) (s : Lists) (staged : List (ℕ × List Row)) (k : ℕ → Content) : Type 0 where
+pub record IsForward (p q : Stores) (s : Lists) (staged : List (ℕ × List Share)) (k : ℕ → Content) : Type 0 where
   pub lists : lists_of q ≡ s
   pub staging : staged_of q ≡ staged
   pub given_up : given_up_in q ≡ given_up_in p
@@ -149,11 +149,11 @@ abbrev pub IsRoomed : Stores → Stores → Type 0
 IsRoomed p q = HasBecome p q (lists_of p)
 
 -- a half was made, and can be worked backwards
-pub record IsTaken (p q : Stores) (h : Holder) (b : ℕ) (w : Worth) : Type 0 where
+pub record IsTaken (p q : Stores) (h : Holder) (b : ℕ) (w : ValueView) : Type 0 where
   pub half : HasBecome p q (taken (lists_of p) h b w)
   pub back : CanUntake (rooms_of q) (lists_of q) h b w
 
-pub record IsGiven (p q : Stores) (h : Holder) (b : ℕ) (w : Worth) : Type 0 where
+pub record IsGiven (p q : Stores) (h : Holder) (b : ℕ) (w : ValueView) : Type 0 where
   pub half : IsForward p q (given (lists_of p) h b w) (staged_of p) (kept_given (kept_of p) h b w.content)
   pub back : CanUngive (rooms_of q) (lists_of q) h b w
 

@@ -1,8 +1,8 @@
 -- Movements that are made together in a draft, and what the hand has of two drafts.
 use Rattle.std.specs.Prelude.{◌≡◌, ℕ, ◌+◌, ◌==◌, if◌then◌else◌, List, [], ◌∷◌, length}
-use Rattle.right_steps.specs.amount_math.Content.{Contains, Content, count, nothing}
-use Rattle.right_steps.specs.rights_model.declared.Movement.{Movement}
-use Rattle.right_steps.specs.Tables.{no_hand}
+use Rattle.vault_model.specs.amount_math.Content.{Contains, Content, count, nothing}
+use Rattle.vault_model.specs.rights_model.declared.Movement.{Movement}
+use Rattle.vault_model.specs.Tables.{no_hand}
 use Rattle.vault.specs.Drafts.{DraftState, after, given_at, hand_now}
 
 -- what was given up is in the hand, as in each valid draft

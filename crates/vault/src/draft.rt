@@ -2,19 +2,19 @@
 
 ghost use Rattle.std.specs.Prelude.{◌≡◌, ◌<◌, ◌≤◌, ◌+◌, ◌^◌, ◌==◌, ◌↔◌, ℕ, [], ◌∷◌, List, None, false, if◌then◌else◌, length, map, reverse, IfErr, IfOk, IsErr, IsOk, IsSome, OnErr, OnOk};
 ghost use Rattle.std.specs.Vec.{vec_capacity, vec_len};
-ghost use Rattle.right_steps.specs.amount_math.Content.{Contains, nothing, sum};
-ghost use Rattle.right_steps.specs.amount_math.Counted.{counted};
-ghost use Rattle.right_steps.specs.amount_math.Held.{HasRoom, keys_in};
-ghost use Rattle.right_steps.specs.amount_math.Worth.{Fits, IsIssueRefusal, IsTakeRefusal, keys_of};
-ghost use Rattle.right_steps.specs.ertp_mint.BrandSupply.{supply_at};
-ghost use Rattle.right_steps.specs.ertp_mint.Stocks.{most_made};
-ghost use Rattle.right_steps.specs.proposals.Slots.{FitsSeat};
+ghost use Rattle.vault_model.specs.amount_math.Content.{Contains, nothing, sum};
+ghost use Rattle.vault_model.specs.amount_math.Counted.{counted};
+ghost use Rattle.vault_model.specs.amount_math.Held.{HasRoom, keys_in};
+ghost use Rattle.vault_model.specs.amount_math.ValueView.{Fits, IsIssueRefusal, IsTakeRefusal, keys_of};
+ghost use Rattle.vault_model.specs.ertp_mint.BrandSupply.{supply_at};
+ghost use Rattle.vault_model.specs.ertp_mint.Stocks.{most_made};
+ghost use Rattle.vault_model.specs.proposals.Slots.{FitsSeat};
 ghost use Rattle.seats.specs.Staging.{staged_at, with_staged, without_staged};
-ghost use Rattle.right_steps.specs.Backwards.{Rooms};
-ghost use Rattle.right_steps.specs.Lists.{Lists, amount_of, kind_of, no_lists, with_closed_seat, with_new_purse, with_new_seat, with_new_slot};
-ghost use Rattle.right_steps.specs.Seats.{IsOpenSeat, kept_seat_at};
-ghost use Rattle.right_steps.specs.Tables.{table_of};
-ghost use Rattle.right_steps.specs.rights_model.Table.{movement};
+ghost use Rattle.vault_model.specs.Backwards.{Rooms};
+ghost use Rattle.vault_model.specs.Lists.{Lists, amount_of, kind_of, no_lists, with_closed_seat, with_new_purse, with_new_seat, with_new_slot};
+ghost use Rattle.vault_model.specs.Seats.{IsOpenSeat, kept_seat_at};
+ghost use Rattle.vault_model.specs.Tables.{table_of};
+ghost use Rattle.vault_model.specs.rights_model.Table.{movement};
 ghost use Rattle.transit.specs.Transit.{in_store};
 ghost use Rattle.vault.specs.Drafts.{HandGoes, HandKeeps, IsClean, IsOfBrand, IsStored, IsValid, MayPut, MayPutInSlot, after, begun, given_at, given_up_too, held_too, let_out, opened, slotted, table_now, with_brand, with_staging};
 ghost use Rattle.vault.specs.Working.{IsWorking};
@@ -23,31 +23,31 @@ ghost use Rattle.vault.specs.Forgetting.{IsForgetting, IsForgotten};
 ghost use Rattle.vault.specs.Memory.{IsRoomed, amount_in, kept_seat, lists_of, rooms_of, store_of, supply_of};
 
 use crate::stores::Stores;
-use right_steps::Step;
-use right_steps::amount_math_lib::{Kind, PutFault, TakeFault, Value};
-use right_steps::ertp_mint_lib::Parcel;
-use right_steps::holders_lib::payments::Payments;
-use right_steps::holders_lib::purses::{OpenFault, Purses};
-use right_steps::host_text_lib::keyword::Keyword;
-use right_steps::proposals_lib::allocations::Allocation;
-use right_steps::proposals_lib::offers::Proposal;
-use right_steps::rights_model_lib::{Holder, Movement};
 use seats::seats::{OpenFault as SeatFault, SeatExited, Seats, StageFault};
 use std::alloc::{AllocError, Global};
 use std::marker::Model;
 use transit::Transit;
+use vault_model::Undo;
+use vault_model::amount_math_lib::{Kind, PutFault, TakeFault, Value};
+use vault_model::ertp_mint_lib::Parcel;
+use vault_model::holders_lib::payments::Payments;
+use vault_model::holders_lib::purses::{OpenFault, Purses};
+use vault_model::host_text_lib::keyword::Keyword;
+use vault_model::proposals_lib::allocations::Allocation;
+use vault_model::proposals_lib::offers::Proposal;
+use vault_model::rights_model_lib::{Holder, Movement};
 
 /// What all parties and seats have, between turns. Contracts see its lists: purses, payments, seats with
 /// their slots, how many payments are owed to open seats, and what is out of each brand.
 #[derive(Drop)]
 pub struct Vault {
     stores: Stores,
-    steps: Vec<Step>,
+    steps: Vec<Undo>,
     movements: Vec<Movement>,
 }
 
 impl Model for Vault {
-    ghost use Rattle.right_steps.specs.Lists.{Lists, coded_lists};
+    ghost use Rattle.vault_model.specs.Lists.{Lists, coded_lists};
     ghost use Rattle.vault.specs.Memory.{lists_of};
     ghost use Rattle.vault.specs.Drafts.{IsVault};
 
@@ -63,7 +63,7 @@ impl Model for Vault {
 /// A turn's changes of a vault, which are to be committed or undone: it can't be dropped.
 pub struct Draft {
     stores: Stores,
-    steps: Vec<Step>,
+    steps: Vec<Undo>,
     movements: Vec<Movement>,
     /// At least as many keys as the hand has of any brand.
     keys: usize,
@@ -116,13 +116,13 @@ impl Vault {
 }
 
 /// Works a step backwards: the last one. It takes no memory.
-fn work_back(stores: &mut Stores, movements: &mut Vec<Movement>, step: Step)
-    requires { (rooms : Rooms) × (kept : Lists) × (steps : List Step) × IsWorking rooms kept stores.old (step ∷ steps) (reverse movements.old.items) }
-    ensures { (rooms : Rooms) (kept : Lists) (steps : List Step) → IsWorking rooms kept stores.old (step ∷ steps) (reverse movements.old.items)
+fn work_back(stores: &mut Stores, movements: &mut Vec<Movement>, step: Undo)
+    requires { (rooms : Rooms) × (kept : Lists) × (steps : List Undo) × IsWorking rooms kept stores.old (step ∷ steps) (reverse movements.old.items) }
+    ensures { (rooms : Rooms) (kept : Lists) (steps : List Undo) → IsWorking rooms kept stores.old (step ∷ steps) (reverse movements.old.items)
         → IsWorking rooms kept stores.new steps (reverse movements.new.items) }
 {
     match step {
-        Step::Moves => {
+        Undo::Moves => {
             let Some(movement) = movements.pop() else {
                 unreachable!();
             };
@@ -135,11 +135,11 @@ fn work_back(stores: &mut Stores, movements: &mut Vec<Movement>, step: Step)
             let parcel = stores.ungive(&to, brand, value);
             stores.untake(&from, parcel);
         }
-        Step::OpensPurse => stores.unopen_purse(),
-        Step::AddsBrand => stores.unadd_brand(),
-        Step::OpensSeat => stores.unopen_seat(),
-        Step::OpensSlot(seat) => stores.unopen_slot(seat),
-        Step::ClosesSeat(seat) => stores.reopen_seat(seat),
+        Undo::OpensPurse => stores.unopen_purse(),
+        Undo::AddsBrand => stores.unadd_brand(),
+        Undo::OpensSeat => stores.unopen_seat(),
+        Undo::OpensSlot(seat) => stores.unopen_slot(seat),
+        Undo::ClosesSeat(seat) => stores.reopen_seat(seat),
     }
 }
 
@@ -226,7 +226,7 @@ impl Draft {
 
     /// The payments, to read.
     pub fn payments(&self) -> &Payments
-        ensures papers { result.now.papers ≡ self.now.now.payments }
+        ensures views { result.now.views ≡ self.now.now.payments }
         ensures owed { result.now.slots ≡ self.now.now.owed }
     {
         let _ = &self.steps;
@@ -309,7 +309,7 @@ impl Draft {
         let parcel = self.stores.take_from(from, value);
         self.keys = keys;
         self.movements.push_reserved(movement);
-        self.steps.push_reserved(Step::Moves);
+        self.steps.push_reserved(Undo::Moves);
         Ok(parcel)
     }
 
@@ -361,7 +361,7 @@ impl Draft {
         match self.stores.give_to(to, parcel) {
             Ok(()) => {
                 self.movements.push_reserved(movement);
-                self.steps.push_reserved(Step::Moves);
+                self.steps.push_reserved(Undo::Moves);
                 Ok(())
             }
             Err(fault) => Err(fault),
@@ -396,9 +396,9 @@ impl Draft {
         };
         match self.stores.give_further(seat, keyword, parcel) {
             Ok(()) => {
-                self.steps.push_reserved(Step::OpensSlot(seat));
+                self.steps.push_reserved(Undo::OpensSlot(seat));
                 self.movements.push_reserved(movement);
-                self.steps.push_reserved(Step::Moves);
+                self.steps.push_reserved(Undo::Moves);
                 Ok(())
             }
             Err(fault) => Err(fault),
@@ -435,7 +435,7 @@ impl Draft {
                 let Noted { movement, keys } = noted;
                 self.keys = keys;
                 self.movements.push_reserved(movement);
-                self.steps.push_reserved(Step::Moves);
+                self.steps.push_reserved(Undo::Moves);
                 Ok(parcel)
             }
             Err(fault) => Err(fault),
@@ -461,7 +461,7 @@ impl Draft {
         };
         self.stores.retire(parcel);
         self.movements.push_reserved(movement);
-        self.steps.push_reserved(Step::Moves);
+        self.steps.push_reserved(Undo::Moves);
         Ok(())
     }
 
@@ -481,14 +481,14 @@ impl Draft {
         }
         match self.stores.purses.open(brand, kind) {
             Ok(number) => {
-                self.steps.push_reserved(Step::OpensPurse);
+                self.steps.push_reserved(Undo::OpensPurse);
                 Ok(number)
             }
             Err(fault) => Err(fault),
         }
     }
 
-    /// Opens a seat of an instance for a proposal, with a slot for each of its rows and nothing in them, and
+    /// Opens a seat of an instance for a proposal, with a slot for each of its shares and nothing in them, and
     /// answers its number, or hands the proposal back: `Limit` only where there may be no more seats, or not
     /// that many payments (Zoe's escrow seat). On an error all is as before.
     pub fn open_seat(
@@ -508,7 +508,7 @@ impl Draft {
         }
         match self.stores.open_seat(instance, proposal) {
             Ok(seat) => {
-                self.steps.push_reserved(Step::OpensSeat);
+                self.steps.push_reserved(Undo::OpensSeat);
                 Ok(seat)
             }
             Err(fault) => Err(fault),
@@ -527,20 +527,20 @@ impl Draft {
         let _made = self.stores.payments.made();
         self.steps.reserve(1)?;
         let last = self.stores.close_seat(seat)?;
-        self.steps.push_reserved(Step::ClosesSeat(seat));
+        self.steps.push_reserved(Undo::ClosesSeat(seat));
         Ok(last)
     }
 
     /// Stages what a seat is to have, in place of what was, until the turn ends (own), or hands it back:
     /// exactly where the seat was closed before, or for want of memory.
-    pub fn stage(&mut self, seat: u32, rows: Allocation) -> Result<(), (Allocation, StageFault)>
+    pub fn stage(&mut self, seat: u32, shares: Allocation) -> Result<(), (Allocation, StageFault)>
         requires { seat < length self.old.now.seats }
-        ensures ok { OnOk result (self.new ≡ with_staging self.old (with_staged seat rows self.old.staging)) }
+        ensures ok { OnOk result (self.new ≡ with_staging self.old (with_staged seat shares self.old.staging)) }
         ensures exited { IfErr result (λ (_, fault). (fault ≡ StageFault.SeatExited) ↔ IsSome (kept_seat_at self.old.now.seats seat).last) }
-        ensures back { IfErr result (λ (back, _). back ≡ rows) }
+        ensures back { IfErr result (λ (back, _). back ≡ shares) }
         ensures err { OnErr result (self.new ≡ self.old) }
     {
-        self.stores.seats.stage(seat, rows)
+        self.stores.seats.stage(seat, shares)
     }
 
     /// Lets go of what is staged of a seat, or answers the fault exactly where it was closed before.
@@ -579,7 +579,7 @@ impl Draft {
     {
         self.steps.reserve(1)?;
         self.stores.transit.add_brand(kind)?;
-        self.steps.push_reserved(Step::AddsBrand);
+        self.steps.push_reserved(Undo::AddsBrand);
         Ok(())
     }
 
@@ -620,7 +620,7 @@ struct Noted {
 }
 
 /// Takes room for one step more.
-fn reserve_step(steps: &mut Vec<Step>, movements: &mut Vec<Movement>) -> Result<(), AllocError>
+fn reserve_step(steps: &mut Vec<Undo>, movements: &mut Vec<Movement>) -> Result<(), AllocError>
     ensures steps { steps.new.items ≡ steps.old.items }
     ensures movements { movements.new.items ≡ movements.old.items }
     ensures step_room { OnOk result (vec_len steps.new < vec_capacity steps.new) }
@@ -635,7 +635,7 @@ fn reserve_step(steps: &mut Vec<Step>, movements: &mut Vec<Movement>) -> Result<
 /// with this value's. On an error room alone was made.
 fn room_for_take(
     stores: &mut Stores,
-    steps: &mut Vec<Step>,
+    steps: &mut Vec<Undo>,
     movements: &mut Vec<Movement>,
     brand: u16,
     keys: usize,
@@ -655,7 +655,7 @@ fn room_for_take(
 /// Makes ready for a take of a value: takes its room, and notes it. On an error room alone was made.
 fn note_take(
     stores: &mut Stores,
-    steps: &mut Vec<Step>,
+    steps: &mut Vec<Undo>,
     movements: &mut Vec<Movement>,
     keys: usize,
     brand: u16,
@@ -683,7 +683,7 @@ fn note_take(
 
 /// Makes ready for a put of a value.
 fn note_put(
-    steps: &mut Vec<Step>,
+    steps: &mut Vec<Undo>,
     movements: &mut Vec<Movement>,
     brand: u16,
     to: &Holder,
@@ -702,7 +702,7 @@ fn note_put(
 
 /// Makes ready for a put of a value in a further slot.
 fn note_further(
-    steps: &mut Vec<Step>,
+    steps: &mut Vec<Undo>,
     movements: &mut Vec<Movement>,
     seat: u32,
     keyword: &Keyword,

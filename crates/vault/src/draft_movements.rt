@@ -4,13 +4,13 @@
 //! is proved of the definitions.
 
 ghost use Rattle.std.specs.Prelude.{◌≡◌, ◌≢◌, ℕ, List};
-ghost use Rattle.right_steps.specs.amount_math.declared.Kind.{Kind as AmountKind};
+ghost use Rattle.vault_model.specs.amount_math.declared.Kind.{Kind as AmountKind};
 ghost use Rattle.vault.specs.Together.{HandHoldsGiven, HandStays, after_all};
-ghost use Rattle.right_steps.specs.Flows.{AreInside, IsApart, Part, combined, gathered, split_up, spread};
-ghost use Rattle.right_steps.specs.rights_model.Table.{CanMoveAll, table_after};
+ghost use Rattle.vault_model.specs.Flows.{AreInside, IsApart, Part, combined, gathered, split_up, spread};
+ghost use Rattle.vault_model.specs.rights_model.Table.{CanMoveAll, table_after};
 ghost use Rattle.vault.specs.Drafts.{DraftState, HandGoes, IsValid, table_now};
 
-use right_steps::rights_model_lib::{Holder, Movement};
+use vault_model::rights_model_lib::{Holder, Movement};
 
 /// The table of a draft follows movements that are made in their turn, which could be made.
 pub fn the_table_follows_movements(moves: &[Movement])

@@ -7,7 +7,10 @@ pub mod draft_movements;
 pub mod openings;
 pub mod payment_parts;
 pub mod stores;
-pub mod vault_transfers;
 
-pub use right_steps::holders_lib;
-pub use seats as seats_lib;
+/// What `seats` gives to those above.
+pub mod seats_lib {
+    pub use seats::seats::{OpenFault, StageFault};
+}
+
+pub use vault_model::holders_lib;

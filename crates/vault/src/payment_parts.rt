@@ -8,10 +8,10 @@ ghost use Rattle.std.specs.Prelude.{◌≡◌, ◌<◌, length};
 ghost use Rattle.vault.specs.Together.{HandHoldsGiven, HandStays, after_all};
 ghost use Rattle.vault.specs.Combinations.{AreLive, brand_of_all, combination_done, combination_written, combined_lists};
 ghost use Rattle.vault.specs.Splits.{split_done, split_lists, split_written};
-ghost use Rattle.right_steps.specs.rights_model.Table.{table_after};
+ghost use Rattle.vault_model.specs.rights_model.Table.{table_after};
 ghost use Rattle.vault.specs.Drafts.{DraftState, IsValid, table_now};
 
-use right_steps::amount_math_lib::Value;
+use vault_model::amount_math_lib::Value;
 
 /// A combination of live payments that was done makes the table of what is written of it. Those payments
 /// are spent then, the new one has all that they had, and the lists are else as they were.

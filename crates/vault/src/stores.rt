@@ -1,30 +1,30 @@
 //! The stores of a vault, and the halves of a movement on them.
 
 ghost use Rattle.std.specs.Prelude.{◌≡◌, ◌<◌, ◌+◌, ◌^◌, ◌∷◌, [], List, is_some, length, IfErr, IsTrue, IfOk, OnErr, OnOk, ◌↔◌};
-ghost use Rattle.right_steps.specs.amount_math.Content.{Contains, nothing, sum};
-ghost use Rattle.right_steps.specs.amount_math.Counted.{counted};
-ghost use Rattle.right_steps.specs.amount_math.Worth.{Fits, IsIssueRefusal, IsValue, Worth};
-ghost use Rattle.right_steps.specs.ertp_mint.Balances.{HasRoomFor};
-ghost use Rattle.right_steps.specs.ertp_mint.Stocks.{most_made};
-ghost use Rattle.right_steps.specs.holders.Papers.{IsKept};
-ghost use Rattle.right_steps.specs.Lists.{no_lists, slot_of, ungiven, untaken};
-ghost use Rattle.right_steps.specs.proposals.Rows.{amount_under};
-ghost use Rattle.right_steps.specs.Seats.{HasSlotOf, kept_seat_at};
+ghost use Rattle.vault_model.specs.amount_math.Content.{Contains, nothing, sum};
+ghost use Rattle.vault_model.specs.amount_math.Counted.{counted};
+ghost use Rattle.vault_model.specs.amount_math.ValueView.{Fits, IsIssueRefusal, IsValue, ValueView};
+ghost use Rattle.vault_model.specs.ertp_mint.Balances.{HasRoomFor};
+ghost use Rattle.vault_model.specs.ertp_mint.Stocks.{most_made};
+ghost use Rattle.vault_model.specs.holders.PaymentViews.{IsKept};
+ghost use Rattle.vault_model.specs.Lists.{no_lists, slot_of, ungiven, untaken};
+ghost use Rattle.vault_model.specs.proposals.Shares.{amount_under};
+ghost use Rattle.vault_model.specs.Seats.{HasSlotOf, kept_seat_at};
 ghost use Rattle.seats.specs.Store.{slot_store};
 ghost use Rattle.transit.specs.Transit.{IsOnItsWay, in_store, kind_in, supply_in};
 ghost use Rattle.vault.specs.Asked.{IsPutFault, IsSlotFor, IsSource, IsTarget, MayOpenSlot, TakesIn, brand_of, held_by};
 ghost use Rattle.vault.specs.Forgetting.{IsForgetting};
 ghost use Rattle.vault.specs.Memory.{CanUngiveHere, CanUntakeHere, IsGiven, IsGivenFurther, IsHalf, IsRoomed, IsTaken, kept_of, kept_ungiven, lists_of, store_of, store_ungiven, store_untaken};
 
-use right_steps::amount_math_lib::{PutFault, Value};
-use right_steps::ertp_mint_lib::Parcel;
-use right_steps::holders_lib::payments::{MakeFault, PaymentRef, Payments};
-use right_steps::holders_lib::purses::Purses;
-use right_steps::host_text_lib::keyword::Keyword;
-use right_steps::rights_model_lib::{Holder, Movement};
 use seats::seats::{Seats, SlotFault};
 use std::alloc::{AllocError, Global};
 use transit::Transit;
+use vault_model::amount_math_lib::{PutFault, Value};
+use vault_model::ertp_mint_lib::Parcel;
+use vault_model::holders_lib::payments::{MakeFault, PaymentRef, Payments};
+use vault_model::holders_lib::purses::Purses;
+use vault_model::host_text_lib::keyword::Keyword;
+use vault_model::rights_model_lib::{Holder, Movement};
 
 /// Purses, payments, seats, and what is out of each brand with the hand's own store.
 #[derive(Drop)]
@@ -81,7 +81,7 @@ impl Stores {
 
     /// The brand of a purse, a payment or a slot.
     pub fn brand(&self, holder: &Holder) -> u16
-        requires { (part : Worth) × IsSource (lists_of self.now) holder.now part }
+        requires { (part : ValueView) × IsSource (lists_of self.now) holder.now part }
         ensures { result ≡ brand_of (lists_of self.now) holder.now }
     {
         match holder {
@@ -268,8 +268,8 @@ impl Stores {
 
     /// Makes the next payment of a parcel, or hands it back for want of memory.
     fn make(&mut self, parcel: Parcel) -> Result<(), (Parcel, PutFault)>
-        requires { length self.old.payments.papers + self.old.payments.slots < most_made }
-        ensures ok { OnOk result (IsGiven self.old self.new (Holder.Payment (length self.old.payments.papers)) parcel.brand parcel.value) }
+        requires { length self.old.payments.views + self.old.payments.slots < most_made }
+        ensures ok { OnOk result (IsGiven self.old self.new (Holder.Payment (length self.old.payments.views)) parcel.brand parcel.value) }
         ensures back { IfErr result (λ (back, _). back ≡ parcel) }
         ensures err { OnErr result (IsRoomed self.old self.new) }
         ensures refused { IfErr result (λ (_, fault). fault ≡ PutFault.NoMemory) }
@@ -284,7 +284,7 @@ impl Stores {
 
 /// Where the payment of a number stands, which was made.
 fn ref_of(payments: &Payments, payment: u32) -> PaymentRef
-    requires { payment < length payments.now.papers }
+    requires { payment < length payments.now.views }
     ensures kept { IsKept payments.now result }
     ensures number { result.number ≡ payment }
 {

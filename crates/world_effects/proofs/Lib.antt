@@ -1,10 +1,10 @@
-pub mod Fresh
 pub mod Facts
-pub mod Joined
-pub mod Carrying
-pub mod Invited
-pub use Rattle.world_reads.proofs.draft_reads
-pub use Rattle.world_reads.proofs.escrow
+pub mod JoinedStores
+pub mod EffectSequences
+pub mod InvitationMoves
+pub use Rattle.register_effects.proofs.draft_reads
+pub use Rattle.register_effects.proofs.escrow
 pub use Rattle.world_laws.proofs.lemmas
 pub use Rattle.world_laws.proofs as world_laws
-pub use Rattle.world_reads.proofs as world_reads
+pub use Rattle.register_effects.proofs.world_reads
+pub use Rattle.register_effects.proofs.registers

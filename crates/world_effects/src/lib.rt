@@ -2,32 +2,25 @@
 //! what their definitions say, and whatever a call answers the turn can be undone.
 #![tactic(auto)]
 
-pub mod beside_seats;
-pub mod carry;
-pub mod instances;
-pub mod labels;
-pub mod plain;
-pub mod promises;
 pub mod rights_effects;
 pub mod seat_effects;
 
 ghost use Rattle.std.specs.Prelude.{◌≡◌, OnOk};
-ghost use Rattle.world_reads.specs.call_plans.Lists.{IsEachShaped, effects_view};
-ghost use Rattle.world_reads.specs.call_plans.Views.{AreShaped, IsShaped, effect_view, effect_views};
-ghost use Rattle.world_reads.specs.host_world.Worlds.{IsUndoable, world_of};
-ghost use Rattle.world_effects.specs.Carried.{AreCarried, IsCarried, IsInTurn};
+ghost use Rattle.register_effects.specs.call_outcomes.Lists.{IsEachShaped, effects_view};
+ghost use Rattle.register_effects.specs.call_outcomes.Views.{AreShaped, IsShaped, effect_view, effect_views};
+ghost use Rattle.register_effects.specs.host_world.Worlds.{IsUndoable, world_of};
+ghost use Rattle.world_effects.specs.CarriedEffects.{AreCarried, IsCarried, IsInTurn};
 ghost use Rattle.world_laws.specs.world_state.Good.{AreGood, IsGoodEffect};
 
-use crate::plain::{on_instances, on_labels, on_promises};
 use crate::rights_effects::carry_rights;
 use crate::seat_effects::carry_seats;
+use register_effects::call_outcomes_lib::effects::Effect;
+use register_effects::call_outcomes_lib::lists::Effects;
+use register_effects::carry::{carry_instances, carry_labels, carry_promises};
+use register_effects::host_world_lib::World;
+pub use register_effects::{call_outcomes_lib, escrow_lib, host_world_lib, world_reads_lib};
 use std::alloc::{AllocError, Global};
 pub use world_laws::{actors_lib, rights_model_lib, turn_records_lib};
-pub use world_reads as world_reads_lib;
-use world_reads::call_plans_lib::effects::Effect;
-use world_reads::call_plans_lib::lists::Effects;
-use world_reads::host_world_lib::World;
-pub use world_reads::{call_plans_lib, escrow_lib, host_world_lib};
 
 /// A good effect is carried out.
 fn carry_one(world: &mut World, alloc: Global, effect: Effect) -> Result<(), AllocError>
@@ -40,9 +33,9 @@ fn carry_one(world: &mut World, alloc: Global, effect: Effect) -> Result<(), All
     match effect {
         Effect::Rights(effect) => carry_rights(world, effect),
         Effect::Seats(effect) => carry_seats(world, alloc, effect),
-        Effect::Promises(effect) => on_promises(world, alloc, effect),
-        Effect::Instances(effect) => on_instances(world, effect),
-        Effect::Labels(effect) => on_labels(world, effect),
+        Effect::Promises(effect) => carry_promises(&mut world.registers, alloc, effect),
+        Effect::Instances(effect) => carry_instances(&mut world.registers, effect),
+        Effect::Labels(effect) => carry_labels(&mut world.registers, effect),
     }
 }
 

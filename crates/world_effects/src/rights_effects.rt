@@ -3,32 +3,32 @@
 //! a call answers, the turn can be undone.
 
 ghost use Rattle.std.specs.Prelude.{◌≡◌, List, Option, OnOk};
-ghost use Rattle.world_laws.specs.proposals.declared.allocations.Row.{Row};
-ghost use Rattle.world_reads.specs.call_plans.Moves.{HasShape, moves_view};
-ghost use Rattle.world_reads.specs.call_plans.Views.{IsRightsShaped, rights_view};
-ghost use Rattle.world_reads.specs.draft_reads.Views.{CanGoBack, HasNow, rights_in, seats_in, staging_in};
-ghost use Rattle.world_reads.specs.host_world.Worlds.{IsUndoable, world_now, world_of};
-ghost use Rattle.world_reads.specs.vault.Drafts.{IsClean};
-ghost use Rattle.world_effects.specs.Carried.{IsCarried, IsInTurn};
+ghost use Rattle.world_laws.specs.proposals.declared.allocations.Share.{Share};
+ghost use Rattle.register_effects.specs.call_outcomes.Moves.{HasShape, moves_view};
+ghost use Rattle.register_effects.specs.call_outcomes.Views.{IsRightsShaped, rights_view};
+ghost use Rattle.register_effects.specs.draft_reads.Views.{CanGoBack, HasNow, rights_in, seats_in, staging_in};
+ghost use Rattle.register_effects.specs.host_world.Worlds.{IsUndoable, world_now, world_of};
+ghost use Rattle.register_effects.specs.vault.Drafts.{IsClean};
+ghost use Rattle.world_effects.specs.CarriedEffects.{IsCarried, IsInTurn};
 ghost use Rattle.world_laws.specs.world_state.Good.{CanMakeEmpty, CanMoveTogether, CanOpenPurse};
 ghost use Rattle.world_laws.specs.world_state.Good.{IsGoodEffect};
 ghost use Rattle.world_laws.specs.world_state.Rights.{moved_together};
 ghost use Rattle.world_laws.specs.world_state.Worlds as worlds;
 
-use crate::beside_seats::log_moves;
 use draft_effects::draft_openings::{empty_payment, open_purse};
 use draft_effects::draft_rearrangements::rearrange;
 use draft_effects::draft_staging::{end_staging, stage, unstage};
-use draft_effects::draft_transfers::transfer_all;
+use draft_effects::movements::move_all;
 use draft_effects::payment_combinations::combine;
 use draft_effects::payment_splits::split;
+use register_effects::beside_seats::log_moves;
+use register_effects::call_outcomes_lib::effects::RightsEffect;
+use register_effects::call_outcomes_lib::moves::Moves;
+use register_effects::host_world_lib::World;
+use register_effects::vault_lib::draft::Draft;
 use std::alloc::AllocError;
 use world_laws::proposals_lib::allocations::Allocation;
 use world_laws::rights_model_lib::Movement;
-use world_reads::call_plans_lib::effects::RightsEffect;
-use world_reads::call_plans_lib::moves::Moves;
-use world_reads::host_world_lib::World;
-use world_reads::vault_lib::draft::Draft;
 
 /// An empty purse of a brand is opened.
 fn new_purse(world: &mut World, brand: u16) -> Result<(), AllocError>
@@ -37,7 +37,7 @@ fn new_purse(world: &mut World, brand: u16) -> Result<(), AllocError>
     ensures ok { OnOk result (IsCarried world.old world.new (worlds.new_purse brand)) }
     ensures back { IsUndoable world.old world.new }
 {
-    let kind = world.plain.brands.kind(brand);
+    let kind = world.registers.brands.kind(brand);
     match open_purse(&mut world.draft, brand, kind) {
         Ok(_) => Ok(()),
         Err(fault) => Err(fault),
@@ -51,7 +51,7 @@ fn new_payment(world: &mut World, brand: u16) -> Result<(), AllocError>
     ensures ok { OnOk result (IsCarried world.old world.new (worlds.empty_payment brand)) }
     ensures back { IsUndoable world.old world.new }
 {
-    let kind = world.plain.brands.kind(brand);
+    let kind = world.registers.brands.kind(brand);
     match empty_payment(&mut world.draft, brand, kind) {
         Ok(_) => Ok(()),
         Err(fault) => Err(fault),
@@ -62,7 +62,7 @@ fn new_payment(world: &mut World, brand: u16) -> Result<(), AllocError>
 fn move_in_draft(draft: &mut Draft, moves: &Moves) -> Result<(), AllocError>
     requires clean { IsClean draft.old }
     requires shape { HasShape moves.now }
-    requires can { (staging : List (Option (List Row)))
+    requires can { (staging : List (Option (List Share)))
         × CanMoveTogether (rights_in draft.old) (seats_in draft.old) staging (moves_view moves.now) }
     ensures ok { OnOk result (HasNow draft.new
         (moved_together (rights_in draft.old) (moves_view moves.now))
@@ -70,7 +70,7 @@ fn move_in_draft(draft: &mut Draft, moves: &Moves) -> Result<(), AllocError>
     ensures back { CanGoBack draft.old draft.new }
 {
     match moves {
-        Moves::Transfers(list) => transfer_all(draft, list),
+        Moves::Movements(list) => move_all(draft, list),
         Moves::Combination(list) => combine(draft, list),
         Moves::Split(list) => split(draft, list),
         Moves::Rearrangement(list) => rearrange(draft, list),
@@ -78,11 +78,11 @@ fn move_in_draft(draft: &mut Draft, moves: &Moves) -> Result<(), AllocError>
 }
 
 /// The movements, as they are written.
-fn written(moves: Moves) -> Vec<Movement>
+fn movements_of(moves: Moves) -> Vec<Movement>
     ensures { result.items ≡ moves_view moves }
 {
     match moves {
-        Moves::Transfers(moves) => moves,
+        Moves::Movements(moves) => moves,
         Moves::Combination(moves) => moves,
         Moves::Split(moves) => moves,
         Moves::Rearrangement(moves) => moves,
@@ -98,17 +98,17 @@ fn make_moves(world: &mut World, moves: Moves) -> Result<(), AllocError>
     ensures back { IsUndoable world.old world.new }
 {
     move_in_draft(&mut world.draft, &moves)?;
-    log_moves(&mut world.plain.log, written(moves))
+    log_moves(&mut world.registers.log, movements_of(moves))
 }
 
-/// Rows are staged of an open seat.
-fn stage_rows(world: &mut World, seat: u32, rows: Allocation) -> Result<(), AllocError>
+/// Shares are staged of an open seat.
+fn stage_shares(world: &mut World, seat: u32, shares: Allocation) -> Result<(), AllocError>
     requires turn { IsInTurn world.old }
-    requires can { IsGoodEffect (world_of world.old) (worlds.stage seat rows) }
-    ensures ok { OnOk result (IsCarried world.old world.new (worlds.stage seat rows)) }
+    requires can { IsGoodEffect (world_of world.old) (worlds.stage seat shares) }
+    ensures ok { OnOk result (IsCarried world.old world.new (worlds.stage seat shares)) }
     ensures back { IsUndoable world.old world.new }
 {
-    stage(&mut world.draft, seat, rows)
+    stage(&mut world.draft, seat, shares)
 }
 
 /// What is staged of a seat is dropped.
@@ -141,7 +141,7 @@ pub fn carry_rights(world: &mut World, effect: RightsEffect) -> Result<(), Alloc
         RightsEffect::NewPurse(brand) => new_purse(world, brand),
         RightsEffect::EmptyPayment(brand) => new_payment(world, brand),
         RightsEffect::Moves(moves) => make_moves(world, moves),
-        RightsEffect::Stage(seat, rows) => stage_rows(world, seat, rows),
+        RightsEffect::Stage(seat, shares) => stage_shares(world, seat, shares),
         RightsEffect::Unstage(seat) => {
             drop_staging(world, seat);
             Ok(())

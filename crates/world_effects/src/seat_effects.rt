@@ -5,33 +5,33 @@
 mod invitation_moves;
 
 ghost use Rattle.std.specs.Prelude.{◌≡◌, IfOk, OnOk, length};
-ghost use Rattle.world_reads.specs.plain_stores.Makers.{maker_view};
-ghost use Rattle.world_reads.specs.call_plans.Views.{offering_view, seats_view};
-ghost use Rattle.world_reads.specs.draft_reads.Views.{CanGoBack, seats_in};
-ghost use Rattle.world_reads.specs.host_world.Worlds.{IsUndoable, world_now, world_of};
+ghost use Rattle.register_effects.specs.registers.Makers.{maker_view};
+ghost use Rattle.register_effects.specs.call_outcomes.Views.{offering_view, seats_view};
+ghost use Rattle.register_effects.specs.draft_reads.Views.{CanGoBack, seats_in};
+ghost use Rattle.register_effects.specs.host_world.Worlds.{IsUndoable, world_now, world_of};
 ghost use Rattle.world_laws.specs.turn_stores.Details.{details_view};
-ghost use Rattle.world_effects.specs.Offered.{HasOffered, IsOffering};
+ghost use Rattle.world_effects.specs.DraftOffers.{HasOffered, IsOffering};
 ghost use Rattle.world_laws.specs.turn_records.Views.{cause_view};
-ghost use Rattle.world_reads.specs.vault.Drafts.{IsClean};
-ghost use Rattle.world_effects.specs.Carried.{IsCarried, IsInTurn};
+ghost use Rattle.register_effects.specs.vault.Drafts.{IsClean};
+ghost use Rattle.world_effects.specs.CarriedEffects.{IsCarried, IsInTurn};
 ghost use Rattle.world_laws.specs.world_state.Good.{CanInvite, CanOffer, CanOpenSeat, IsGoodEffect};
 ghost use Rattle.world_laws.specs.world_state.Worlds as worlds;
 ghost use Rattle.world_laws.specs.world_state.Worlds.{IsOpen, State, seat_at};
 
-use crate::beside_seats as beside;
 use crate::seat_effects::invitation_moves::invitation_move;
 use draft_effects::draft_openings::{add_brand, empty_seat, issue_payment};
 use draft_effects::seat_exits::{PaidOut, leave};
 use draft_effects::seat_offers::offer;
+use register_effects::beside_seats as beside;
+use register_effects::call_outcomes_lib::effects::{Offering, SeatsEffect};
+use register_effects::host_world_lib::World;
+use register_effects::registers_lib::brand_makers::Maker;
+use register_effects::vault_lib::draft::Draft;
 use std::alloc::{AllocError, Global};
 use world_laws::brands_lib::Brand;
 use world_laws::proposals_lib::offers::Exit;
 use world_laws::turn_records_lib::events::Cause;
 use world_laws::turn_stores_lib::invitations::Details;
-use world_reads::call_plans_lib::effects::{Offering, SeatsEffect};
-use world_reads::host_world_lib::World;
-use world_reads::plain_stores_lib::brand_makers::Maker;
-use world_reads::vault_lib::draft::Draft;
 
 /// A brand is made, by whom.
 fn new_brand(world: &mut World, brand: Brand, maker: Maker) -> Result<(), AllocError>
@@ -41,7 +41,7 @@ fn new_brand(world: &mut World, brand: Brand, maker: Maker) -> Result<(), AllocE
     ensures back { IsUndoable world.old world.new }
 {
     add_brand(&mut world.draft, brand.kind)?;
-    beside::new_brand(&mut world.plain, brand, maker)
+    beside::new_brand(&mut world.registers, brand, maker)
 }
 
 /// The seat of an offer is opened in a draft, its invitation is burned, and its payments are escrowed. It answers
@@ -71,10 +71,10 @@ fn make_offer(world: &mut World, alloc: Global, offering: Offering) -> Result<()
         (worlds.offer (offering_view offering))) }
     ensures back { IsUndoable world.old world.new }
 {
-    let invitations = &world.plain.invitations;
+    let invitations = &world.registers.invitations;
     let instance = invitations.details(offering.invitation).instance;
     let seat = offer_in_draft(&mut world.draft, alloc, instance, &offering)?;
-    beside::offer(&mut world.plain, alloc, seat, instance, offering)
+    beside::offer(&mut world.registers, alloc, seat, instance, offering)
 }
 
 /// An instance opens a seat of its own.
@@ -85,7 +85,7 @@ fn open_own(world: &mut World, alloc: Global, instance: u32, rule: Exit) -> Resu
     ensures back { IsUndoable world.old world.new }
 {
     let seat = empty_seat(&mut world.draft, alloc, instance, rule)?;
-    beside::empty_seat(&mut world.plain, alloc, seat, instance, rule)
+    beside::empty_seat(&mut world.registers, alloc, seat, instance, rule)
 }
 
 /// A seat is left, and paid out.
@@ -97,7 +97,7 @@ fn leave_seat(world: &mut World, alloc: Global, seat: u32, cause: Cause) -> Resu
     ensures back { IsUndoable world.old world.new }
 {
     let PaidOut { payouts, moves } = leave(&mut world.draft, alloc, seat)?;
-    beside::exit(&mut world.plain, alloc, seat, cause, payouts, moves)
+    beside::exit(&mut world.registers, alloc, seat, cause, payouts, moves)
 }
 
 /// An invitation is made, and the next payment is one of it.
@@ -108,11 +108,11 @@ fn make_invitation(world: &mut World, alloc: Global, details: Details) -> Result
         (worlds.invite (details_view details))) }
     ensures back { IsUndoable world.old world.new }
 {
-    let invitation = world.plain.invitations.made();
+    let invitation = world.registers.invitations.made();
     let payment = world.draft.payments().made();
     let movement = invitation_move(alloc, invitation, payment)?;
     issue_payment(&mut world.draft, &movement)?;
-    beside::invite(&mut world.plain, details, movement)
+    beside::invite(&mut world.registers, details, movement)
 }
 
 /// An effect on brands, seats and invitations.

@@ -4,10 +4,10 @@ use Rattle.std.specs.List.{AllByRecursion}
 use Rattle.std.proofs.Common.{inl, inr, sym, ◌∙◌, ap, subst, arith}
 use Rattle.std.proofs.lemmas.Bool.{cases_eq, eq-eqb, ne_eqb}
 use Rattle.world_state.specs.amount_math.Content.{Content, Contains, count, count-nothing, difference, nothing, same_content, sum}
-use Rattle.world_state.specs.amount_math.Worth.{Worth}
+use Rattle.world_state.specs.amount_math.ValueView.{ValueView}
 use Rattle.world_state.specs.amount_math.declared.Amount.{Amount}
-use Rattle.world_state.specs.holders.Papers.{Paper, paper_at, spent_paper}
-use Rattle.world_state.specs.proposals.Rows.{amount_under}
+use Rattle.world_state.specs.holders.PaymentViews.{PaymentView, payment_view_at, spent_payment}
+use Rattle.world_state.specs.proposals.Shares.{amount_under}
 use Rattle.world_state.specs.rights_model.declared.Holder.{Holder}
 use Rattle.world_state.specs.rights_model.declared.Holder.TheVariants.{Purse, Payment, Slot, Hand, Outside}
 use Rattle.world_state.specs.rights_model.declared.Movement.{Movement}
@@ -15,10 +15,10 @@ use Rattle.world_state.specs.rights_model.Place.{Place, place}
 use Rattle.world_state.specs.rights_model.Table as table
 use Rattle.world_state.specs.rights_model.Table.{Table, holds, movement, table_after}
 use Rattle.world_state.proofs.rights_model.TableLaws.{given_outside, holds-given, holds-given_other, holds-taken, holds-taken_other, same_place, taken_outside}
-use Rattle.world_state.specs.right_steps.Lists.{amount_of, purse_at}
-use Rattle.world_state.specs.right_steps.Tables.{content_held, hand_minus, hand_plus, in_brand, no_hand, right_in, right_on}
+use Rattle.world_state.specs.vault_model.Lists.{amount_of, purse_at}
+use Rattle.world_state.specs.vault_model.Tables.{content_held, hand_minus, hand_plus, in_brand, no_hand, right_in, right_on}
 use Rattle.world_state.specs.Good.{HasNothing, HoldsNothing}
-use Rattle.world_state.specs.Rights.{CanGive, CanMove, CanMoveAll, CanTake, HasOrOpens, IsEmptyHand, IsPaperWith, Has, Rights, all_moved, all_spent, given, hand_after, hand_in, hand_out, moved, moved_together, slots_at, spent_from, taken}
+use Rattle.world_state.specs.Rights.{CanGive, CanMove, CanMoveAll, CanTake, HasOrOpens, IsEmptyHand, IsPaymentWith, Has, Rights, all_moved, all_spent, given, hand_after, hand_in, hand_out, moved, moved_together, slots_at, spent_from, taken}
 use Rattle.world_laws.specs.Tables.{Agrees, content_at, in_slot}
 use Rattle.world_laws.proofs.Changes.{Change, IsStore, given_here, given_others, none_either, of_brand, taken_here, taken_others}
 
@@ -39,7 +39,7 @@ module _ (F G : Holder → ℕ → Content) (h : Holder) (b : ℕ) (x : Content)
     | inr differs ↦ others g (λ same. differs (ap (λ y. place y b) same)) e
   ]
 
-module _ (r : Rights) (hand : ℕ → Content) (t : Table) (b : ℕ) (w : Worth) (is : Agrees r hand t) where
+module _ (r : Rights) (hand : ℕ → Content) (t : Table) (b : ℕ) (w : ValueView) (is : Agrees r hand t) where
   abbrev c : Content
   c = w.content
 
@@ -96,7 +96,7 @@ module _ (r : Rights) (hand : ℕ → Content) (t : Table) (b : ℕ) (w : Worth)
 
   unread : (s : Rights) → s.purses ≡ r.purses → s.payments ≡ r.payments → s.slots ≡ r.slots → (g : Holder) (e : ℕ) → content_at s hand g e ≡ content_at r hand g e
   unread s ps qs ss (Purse n) e = ap (λ l. in_brand (right_in (purse_at l n)) e) ps
-  unread s ps qs ss (Payment n) e = ap (λ l. in_brand (right_on (paper_at l n)) e) qs
+  unread s ps qs ss (Payment n) e = ap (λ l. in_brand (right_on (payment_view_at l n)) e) qs
   unread s ps qs ss (Slot q k) e = ap (λ l. in_slot (amount_under k (slots_at l q)) e) ss
   unread s ps qs ss Hand e = refl
   unread s ps qs ss Outside e = refl
@@ -118,12 +118,12 @@ module _ (r : Rights) (hand : ℕ → Content) (t : Table) (b : ℕ) (w : Worth)
   -- what is taken is there
   contained : (h : Holder) → CanTake r hand h b w → h ≢ Outside → Contains (content_at r hand h b) c
   contained (Purse n) can inside = subst (λ (x : Content). Contains x c) (sym (of_brand (right_in (purse_at r.purses n)) b can.has.brand)) can.has.has
-  contained (Payment n) can inside = by (paper_at r.payments n) can.has
+  contained (Payment n) can inside = by (payment_view_at r.payments n) can.has
     where
-      by : (p : Paper) → IsPaperWith p (λ a. Has a b w) → Contains (in_brand (right_on p) b) c
+      by : (p : PaymentView) → IsPaymentWith p (λ a. Has a b w) → Contains (in_brand (right_on p) b) c
       by p has = of_held p.held has
         where
-          of_held : (o : Option Worth) → IsPaperWith (record { brand = p.brand; held = o }) (λ a. Has a b w) → Contains (in_brand (record { brand = p.brand; content = content_held o }) b) c
+          of_held : (o : Option ValueView) → IsPaymentWith (record { brand = p.brand; held = o }) (λ a. Has a b w) → Contains (in_brand (record { brand = p.brand; content = content_held o }) b) c
           of_held None h = absurd h
           of_held (Some v) h = subst (λ (x : Content). Contains x c) (sym (of_brand (right_in (amount_of p.brand v)) b h.brand)) h.has
   contained (Slot s k) can inside = by (amount_under k (slots_at r.slots s)) can.has
@@ -169,8 +169,8 @@ read_or P (y ∷ ys) zero (suc q) x d new old = old
 read_or P (y ∷ ys) (suc n) zero x d new old = old
 read_or P (y ∷ ys) (suc n) (suc q) x d new old = read_or P ys n q x d new old
 
-nothing_still : (g : Holder) (ps : List Paper) (h : Holder) → HasNothing ps h → HasNothing (spent_from g ps) h
-nothing_still (Payment n) ps (Payment q) none = read_or HoldsNothing ps n q (spent_paper (paper_at ps n).brand) (spent_paper 0) tt none
+nothing_still : (g : Holder) (ps : List PaymentView) (h : Holder) → HasNothing ps h → HasNothing (spent_from g ps) h
+nothing_still (Payment n) ps (Payment q) none = read_or HoldsNothing ps n q (spent_payment (payment_view_at ps n).brand) (spent_payment 0) tt none
 nothing_still (Payment n) ps (Purse q) none = tt
 nothing_still (Payment n) ps (Slot s k) none = tt
 nothing_still (Payment n) ps Hand none = tt
@@ -180,34 +180,34 @@ nothing_still (Slot s k) ps h none = none
 nothing_still Hand ps h none = none
 nothing_still Outside ps h none = none
 
-all_still : (g : Holder) (ps : List Paper) (ms : List Movement) → AllByRecursion (λ (m : Movement). HasNothing ps m.from) ms → AllByRecursion (λ (m : Movement). HasNothing (spent_from g ps) m.from) ms
+all_still : (g : Holder) (ps : List PaymentView) (ms : List Movement) → AllByRecursion (λ (m : Movement). HasNothing ps m.from) ms → AllByRecursion (λ (m : Movement). HasNothing (spent_from g ps) m.from) ms
 all_still g ps [] all = tt
 all_still g ps (m ∷ ms) all = (nothing_still g ps m.from all.0, all_still g ps ms all.1)
 
 -- a payment that has nothing is the same spent
-same_spent : (p : Paper) → HoldsNothing p → (e : ℕ) → in_brand (right_on (spent_paper p.brand)) e ≡ in_brand (right_on p) e
+same_spent : (p : PaymentView) → HoldsNothing p → (e : ℕ) → in_brand (right_on (spent_payment p.brand)) e ≡ in_brand (right_on p) e
 same_spent p none e = by p.held none
   where
-    by : (o : Option Worth) → IfSome o (λ (w : Worth). (k : List ℕ) → count w.content k ≡ 0) → cond (p.brand == e) nothing nothing ≡ cond (p.brand == e) (content_held o) nothing
+    by : (o : Option ValueView) → IfSome o (λ (w : ValueView). (k : List ℕ) → count w.content k ≡ 0) → cond (p.brand == e) nothing nothing ≡ cond (p.brand == e) (content_held o) nothing
     by None h = refl
     by (Some w) h = ap (λ x. cond (p.brand == e) x nothing) (sym (same_content w.content nothing (λ k. h k ∙ sym (count-nothing k))))
 
 -- a read of a list with an element that reads the same
-read_alike : (ps : List Paper) (n q : ℕ) (x : Paper) (e : ℕ) → in_brand (right_on x) e ≡ in_brand (right_on (paper_at ps n)) e → in_brand (right_on (paper_at (slice_set ps n x) q)) e ≡ in_brand (right_on (paper_at ps q)) e
+read_alike : (ps : List PaymentView) (n q : ℕ) (x : PaymentView) (e : ℕ) → in_brand (right_on x) e ≡ in_brand (right_on (payment_view_at ps n)) e → in_brand (right_on (payment_view_at (slice_set ps n x) q)) e ≡ in_brand (right_on (payment_view_at ps q)) e
 read_alike [] n q x e same = refl
 read_alike (p ∷ ps) zero zero x e same = same
 read_alike (p ∷ ps) zero (suc q) x e same = refl
 read_alike (p ∷ ps) (suc n) zero x e same = refl
 read_alike (p ∷ ps) (suc n) (suc q) x e same = read_alike ps n q x e same
 
-spent_alike : (h : Holder) (ps : List Paper) → HasNothing ps h → (q e : ℕ) → in_brand (right_on (paper_at (spent_from h ps) q)) e ≡ in_brand (right_on (paper_at ps q)) e
-spent_alike (Payment n) ps none q e = read_alike ps n q (spent_paper (paper_at ps n).brand) e (same_spent (paper_at ps n) none e)
+spent_alike : (h : Holder) (ps : List PaymentView) → HasNothing ps h → (q e : ℕ) → in_brand (right_on (payment_view_at (spent_from h ps) q)) e ≡ in_brand (right_on (payment_view_at ps q)) e
+spent_alike (Payment n) ps none q e = read_alike ps n q (spent_payment (payment_view_at ps n).brand) e (same_spent (payment_view_at ps n) none e)
 spent_alike (Purse n) ps none q e = refl
 spent_alike (Slot s k) ps none q e = refl
 spent_alike Hand ps none q e = refl
 spent_alike Outside ps none q e = refl
 
-all_alike : (ms : List Movement) (ps : List Paper) → AllByRecursion (λ (m : Movement). HasNothing ps m.from) ms → (q e : ℕ) → in_brand (right_on (paper_at (all_spent ms ps) q)) e ≡ in_brand (right_on (paper_at ps q)) e
+all_alike : (ms : List Movement) (ps : List PaymentView) → AllByRecursion (λ (m : Movement). HasNothing ps m.from) ms → (q e : ℕ) → in_brand (right_on (payment_view_at (all_spent ms ps) q)) e ≡ in_brand (right_on (payment_view_at ps q)) e
 all_alike [] ps all q e = refl
 all_alike (m ∷ ms) ps all q e = all_alike ms (spent_from m.from ps) (all_still m.from ps ms all.1) q e ∙ spent_alike m.from ps all.0 q e
 

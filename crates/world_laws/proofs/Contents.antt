@@ -10,7 +10,7 @@ use Rattle.std.proofs.lemmas.Bool.{leb-false, leb-true}
 use Rattle.std.proofs.lemmas.List.Elements.{All-from_recursion, recursion_from_All}
 use Rattle.world_state.specs.amount_math.Content.{Contains, Content, count, count_listed, counts, entries, key_cmp, listed}
 use Rattle.world_state.specs.proposals.OfferSafety.{AreCovered, IsCovered, IsOfferSafe}
-use Rattle.world_state.specs.proposals.declared.allocations.Row.{Row}
+use Rattle.world_state.specs.proposals.declared.allocations.Share.{Share}
 use Rattle.world_state.specs.proposals.declared.offers.Proposal.{Proposal}
 use Rattle.world_state.specs.lemmas.Stable.{IsStable}
 use Rattle.world_state.proofs.lemmas.Parts.{stable_either, stable_or_not}
@@ -66,14 +66,14 @@ module _ (a b : Content) where
       by (inl all) = inl (record { each = has_all all })
       by (inr past) = inr (λ has. past (has_each (entries b) has))
 
--- ---- rows
+-- ---- shares
 
-covered_tells : (slots rows : List Row) → AreCovered slots rows ⊎ (AreCovered slots rows → ⊥)
-covered_tells slots rows = by (all_tell (IsCovered slots) (λ r. contains_tells _ _) rows)
+covered_tells : (slots shares : List Share) → AreCovered slots shares ⊎ (AreCovered slots shares → ⊥)
+covered_tells slots shares = by (all_tell (IsCovered slots) (λ r. contains_tells _ _) shares)
   where
-    by : AllByRecursion (IsCovered slots) rows ⊎ (AllByRecursion (IsCovered slots) rows → ⊥) → AreCovered slots rows ⊎ (AreCovered slots rows → ⊥)
-    by (inl all) = inl (All-from_recursion (IsCovered slots) rows all)
-    by (inr past) = inr (λ all. past (recursion_from_All (IsCovered slots) rows all))
+    by : AllByRecursion (IsCovered slots) shares ⊎ (AllByRecursion (IsCovered slots) shares → ⊥) → AreCovered slots shares ⊎ (AreCovered slots shares → ⊥)
+    by (inl all) = inl (All-from_recursion (IsCovered slots) shares all)
+    by (inr past) = inr (λ all. past (recursion_from_All (IsCovered slots) shares all))
 
-pub safe_stable : (p : Proposal) (slots : List Row) → IsStable (IsOfferSafe p slots)
+pub safe_stable : (p : Proposal) (slots : List Share) → IsStable (IsOfferSafe p slots)
 safe_stable p slots = stable_either (covered_tells slots p.want) (stable_or_not (covered_tells slots p.give))

@@ -12,7 +12,7 @@ use Rattle.world_state.specs.turn_stores.Details.{no_details}
 use Rattle.world_state.specs.host_data.Tree.{null}
 use Rattle.world_state.specs.promise_store.States.{SettlementView, ok}
 use Rattle.world_laws.proofs.Cascades.{Has, Paired, cascade_paired, steps_settle}
-use Rattle.world_state.specs.proposals.Rows.{AreRows}
+use Rattle.world_state.specs.proposals.Shares.{AreShares}
 use Rattle.world_state.specs.proposals.declared.offers.Exit.{Exit}
 use Rattle.world_state.specs.proposals.declared.offers.Exit.TheVariants.{AfterDeadline, OnDemand, Waived}
 use Rattle.world_state.specs.turn_stores.Schedules.{Schedule, due_after, due_by}
@@ -201,11 +201,11 @@ known-after w (empty_seat i rule) can good =
     (more_settled v None _ _ _ tt (more_settled v (Some (ok null)) _ _ _ (record { ends = refl; handed = null_handed v }) (grown w (empty_seat i rule) good)))
 known-after w (exit s cause) can good =
     let v = after w (exit s cause) in
-    let rows = slots_at w.rights.slots s in
-    let apart = all_read_or AreRows w.rights.slots s [] good.seats.rows (record { few = omega arith; apart = tt }) in
+    let shares = slots_at w.rights.slots s in
+    let apart = all_read_or AreShares w.rights.slots s [] good.seats.shares (record { few = omega arith; apart = tt }) in
     let named = all_read_or AreNamed w.rights.slots s [] good.seats.named tt in
-    let made : length w.rights.payments + length rows ≤ length v.rights.payments = omega (arith, length_append w.rights.payments (map paid_out rows), length_map paid_out rows) in
-    resolving_known v (pair_at w.pairs s).payouts w.promises w.waiting (w.log ++ leaving_events w s cause) (grown w (exit s cause) good) (ok (payouts_tree w s)) (payouts_handed v (length w.rights.payments) rows apart.apart named made) refl
+    let made : length w.rights.payments + length shares ≤ length v.rights.payments = omega (arith, length_append w.rights.payments (map paid_out shares), length_map paid_out shares) in
+    resolving_known v (pair_at w.pairs s).payouts w.promises w.waiting (w.log ++ leaving_events w s cause) (grown w (exit s cause) good) (ok (payouts_tree w s)) (payouts_handed v (length w.rights.payments) shares apart.apart named made) refl
 known-after w (resolve p v) can good =
     resolving_known (after w (resolve p v)) p w.promises w.waiting w.log (grown w (resolve p v) good) v (settling_grows w (after w (resolve p v)) (grows-after w (resolve p v)) v can.handed) refl
 known-after w (send i target method arguments) can good =

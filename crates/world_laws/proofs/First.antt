@@ -4,7 +4,7 @@ use Rattle.world_state.specs.amount_math.Content.{count, count-nothing}
 use Rattle.world_state.specs.amount_math.declared.Kind.TheVariants.{Set}
 use Rattle.world_state.specs.brands.Brands.{brand_at, started}
 use Rattle.world_state.specs.ertp_mint.BrandSupply.{new_supply, supply_at}
-use Rattle.world_state.specs.proposals.declared.allocations.Row.{Row}
+use Rattle.world_state.specs.proposals.declared.allocations.Share.{Share}
 use Rattle.world_state.specs.Good.{IsGoodWorld}
 use Rattle.world_state.specs.Rights.{IsRoomy, kind_at, most_issued, most_turns}
 use Rattle.world_laws.specs.First.{first_world}
@@ -17,11 +17,11 @@ same_kinds : (b : ℕ) → kind_at (new_supply Set ∷ []) b ≡ (brand_at start
 same_kinds zero = refl
 same_kinds (suc b) = refl
 
-nothing_is : (rows : List Row) → None ≡ Some rows → ⊥
-nothing_is rows e = cc
+nothing_is : (shares : List Share) → None ≡ Some shares → ⊥
+nothing_is shares e = cc
 
-closed : (rows : List Row) → Some rows ≡ None → ⊥
-closed rows e = cc
+closed : (shares : List Share) → Some shares ≡ None → ⊥
+closed shares e = cc
 
 led : {q : ℕ} → None ≡ Some q → ⊥
 led e = cc
@@ -36,18 +36,18 @@ first_is_good = record {
   bounded = (record { each = λ k. omega (arith, count-nothing k) }, tt);
   brands = record { some = omega arith; few = omega arith; supplies = refl; made_by = refl; kinds = same_kinds; first = refl; host = refl };
   invited = record { once = omega arith; made = λ k none. count-nothing k };
-  seats = record { staged = refl; slotted = refl; paired = refl; rows = tt; named = tt };
+  seats = record { staged = refl; slotted = refl; paired = refl; shares = tt; named = tt };
   paired = tt;
   placed = tt;
   at_work = record { each = λ s is. absurd (closed [] is) };
   proposed = record { each = λ s lt. absurd (omega (arith, lt)) };
   covered = record { each = λ s is. absurd (closed [] is) };
   room = record { left = omega arith };
-  staged = record { each = λ s rows e. absurd (nothing_is rows e) };
+  staged = record { each = λ s shares e. absurd (nothing_is shares e) };
   owed = record { made = tt; once = λ p. omega arith; pending = λ p some. absurd (omega (arith, some)) };
   asked = tt;
   following = record { forest = tt; made = tt; unsettled = λ p q e none. absurd (led e) };
-  paid_out = record { each = λ s rows lt e. absurd (omega (arith, lt)) };
+  paid_out = record { each = λ s shares lt e. absurd (omega (arith, lt)) };
   settled = tt;
   requests = tt;
   modules = tt;

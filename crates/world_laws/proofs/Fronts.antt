@@ -8,7 +8,7 @@ use Rattle.world_state.specs.actors.Facets.{no_facet}
 use Rattle.world_state.specs.actors.SeatPromises.{no_pair, pair_at}
 use Rattle.world_state.specs.actors.Tables.{instance_at, no_instance, no_module}
 use Rattle.world_state.specs.turn_stores.Details.{no_details}
-use Rattle.world_state.specs.holders.Papers.{spent_paper}
+use Rattle.world_state.specs.holders.PaymentViews.{spent_payment}
 use Rattle.world_state.specs.promise_store.States.{SettlementView, ok}
 use Rattle.world_state.specs.turn_records.Deliveries.{Delivery, promise_of}
 use Rattle.world_state.specs.turn_records.Events.{Event}
@@ -40,7 +40,7 @@ module _ (w : State) (d : Delivery) where
     promises = omega arith;
     settled = keeps_refl WasSettled no_promise w.promises.settled;
     left = keeps_refl WasLeft no_seat w.seats;
-    spent = keeps_refl WasSpent (spent_paper 0) w.rights.payments;
+    spent = keeps_refl WasSpent (spent_payment 0) w.rights.payments;
   }
 
   pub grows_behind : Grows (in_front d w) w
@@ -58,7 +58,7 @@ module _ (w : State) (d : Delivery) where
     promises = omega arith;
     settled = keeps_refl WasSettled no_promise w.promises.settled;
     left = keeps_refl WasLeft no_seat w.seats;
-    spent = keeps_refl WasSpent (spent_paper 0) w.rights.payments;
+    spent = keeps_refl WasSpent (spent_payment 0) w.rights.payments;
   }
 
   pub begins : (ds : List Delivery) → w.waiting ≡ d ∷ ds → w ≡ in_front d (behind w)
@@ -139,7 +139,7 @@ module _ (w : State) (d : Delivery) where
   good_front (new_purse b) can leaves = record { made = can.made; few = can.few }
   good_front (empty_payment b) can leaves = record { made = can.made; room = can.room }
   good_front (moves ms) can leaves = can
-  good_front (stage s rows) can leaves = can
+  good_front (stage s shares) can leaves = can
   good_front (unstage s) can leaves = can
   good_front end_staging can leaves = can
   good_front (offer o) can leaves = record {

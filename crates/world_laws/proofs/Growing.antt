@@ -8,7 +8,7 @@ use Rattle.world_state.specs.actors.Facets.{no_facet}
 use Rattle.world_state.specs.actors.SeatPromises.{no_pair, pair_at}
 use Rattle.world_state.specs.actors.Tables.{no_instance, no_module}
 use Rattle.world_state.specs.turn_stores.Details.{no_details}
-use Rattle.world_state.specs.holders.Papers.{Paper, live_paper, paper_at, spent_paper}
+use Rattle.world_state.specs.holders.PaymentViews.{PaymentView, live_payment, payment_view_at, spent_payment}
 use Rattle.world_state.specs.ertp_mint.Stocks.{empty_amount}
 use Rattle.world_state.specs.host_data.Tree.{null}
 use Rattle.world_state.specs.promise_store.States.{SettlementView, ok}
@@ -16,23 +16,23 @@ use Rattle.world_state.specs.rights_model.declared.Holder.{Holder}
 use Rattle.world_state.specs.rights_model.declared.Holder.TheVariants.{Purse, Payment}
 use Rattle.world_state.specs.rights_model.declared.Movement.{Movement}
 use Rattle.world_state.specs.amount_math.Content.{Content}
-use Rattle.world_state.specs.amount_math.Worth.{Worth}
+use Rattle.world_state.specs.amount_math.ValueView.{ValueView}
 use Rattle.world_state.specs.amount_math.declared.Amount.{Amount}
 use Rattle.world_state.specs.turn_records.Deliveries.{Delivery, Notice}
 use Rattle.world_state.specs.turn_records.Events.{Event}
 use Rattle.world_state.specs.Known.{Extends, Grows, Keeps, WasLeft, WasSpent, instance_origin, seat_origin, whole}
 use Rattle.world_state.specs.Promises.{CascadeStep, Flow, PromiseBook, all_stepped, asking, cascade, flowing, following, no_promise, notifies, WasSettled, resolving, resolving_to, settlement_at, settles, settling, stepped, target_of, with_promise}
-use Rattle.world_state.specs.Rights.{Rights, all_moved, all_spent, given, moved, moved_together, paid, paper_less, paper_more, slots_at, spent_from, taken, value_less, value_more, with_slots}
+use Rattle.world_state.specs.Rights.{Rights, all_moved, all_spent, given, moved, moved_together, paid, lessened_payment, raised_payment, slots_at, spent_from, taken, value_less, value_more, with_slots}
 use Rattle.world_state.specs.Worlds.{Effect, State, after, burn_and_escrows, empty_slots, invitation_move, leaving_events, left_seat, next_pair, no_seat, of_host, paid_out, payouts_tree, request_of, seat_at, add_issuer, empty_payment, empty_seat, exit, halt, install, invite, keep_state, make_facet, moves, new_brand, new_purse, offer, publish, resolve, send, start, stop, when}
 use Rattle.world_laws.proofs.Lists.{extends_push, extends_refl, extends_set, keeps_append, keeps_push, keeps_refl, keeps_set, keeps_trans, length_append}
 
 -- ---- movements keep how many purses there are, and leave at least as many payments
 
-purses_taken : (r : Rights) (h : Holder) (b : ℕ) (w : Worth) → length (taken r h b w).purses ≡ length r.purses
+purses_taken : (r : Rights) (h : Holder) (b : ℕ) (w : ValueView) → length (taken r h b w).purses ≡ length r.purses
 purses_taken r (Purse n) b w = length_set r.purses n _
 purses_taken r _ b w = refl
 
-purses_given : (r : Rights) (h : Holder) (b : ℕ) (w : Worth) → length (given r h b w).purses ≡ length r.purses
+purses_given : (r : Rights) (h : Holder) (b : ℕ) (w : ValueView) → length (given r h b w).purses ≡ length r.purses
 purses_given r (Purse n) b w = length_set r.purses n _
 purses_given r _ b w = refl
 
@@ -40,20 +40,20 @@ purses_moved : (r : Rights) (ms : List Movement) → length (all_moved r ms).pur
 purses_moved r [] = refl
 purses_moved r (m ∷ ms) = purses_moved (moved r m) ms ∙ (purses_given (taken r m.from m.brand m.value) m.to m.brand m.value ∙ purses_taken r m.from m.brand m.value)
 
-payments_set : (ps : List Paper) (n : ℕ) (p : Paper) → length ps ≤ length (slice_set ps n p)
+payments_set : (ps : List PaymentView) (n : ℕ) (p : PaymentView) → length ps ≤ length (slice_set ps n p)
 payments_set ps n p = omega (arith, length_set ps n p)
 
-payments_paid : (ps : List Paper) (n : ℕ) (a : Amount) → length ps ≤ length (paid ps n a)
-payments_paid ps n a = elim (n == length ps) as (λ t. length ps ≤ length (cond t (ps ++ live_paper a ∷ []) (slice_set ps n (paper_more (paper_at ps n) a.value.content)))) [
-  | true ↦ omega (arith, length_push ps (live_paper a))
+payments_paid : (ps : List PaymentView) (n : ℕ) (a : Amount) → length ps ≤ length (paid ps n a)
+payments_paid ps n a = elim (n == length ps) as (λ t. length ps ≤ length (cond t (ps ++ live_payment a ∷ []) (slice_set ps n (raised_payment (payment_view_at ps n) a.value.content)))) [
+  | true ↦ omega (arith, length_push ps (live_payment a))
   | false ↦ payments_set ps n _
 ]
 
-payments_taken : (r : Rights) (h : Holder) (b : ℕ) (w : Worth) → length r.payments ≤ length (taken r h b w).payments
+payments_taken : (r : Rights) (h : Holder) (b : ℕ) (w : ValueView) → length r.payments ≤ length (taken r h b w).payments
 payments_taken r (Payment n) b w = payments_set r.payments n _
 payments_taken r _ b w = omega arith
 
-payments_given : (r : Rights) (h : Holder) (b : ℕ) (w : Worth) → length r.payments ≤ length (given r h b w).payments
+payments_given : (r : Rights) (h : Holder) (b : ℕ) (w : ValueView) → length r.payments ≤ length (given r h b w).payments
 payments_given r (Payment n) b w = payments_paid r.payments n _
 payments_given r _ b w = omega arith
 
@@ -61,11 +61,11 @@ payments_moved : (r : Rights) (ms : List Movement) → length r.payments ≤ len
 payments_moved r [] = omega arith
 payments_moved r (m ∷ ms) = omega (arith, payments_taken r m.from m.brand m.value, payments_given (taken r m.from m.brand m.value) m.to m.brand m.value, payments_moved (moved r m) ms)
 
-payments_spent_from : (h : Holder) (ps : List Paper) → length ps ≤ length (spent_from h ps)
+payments_spent_from : (h : Holder) (ps : List PaymentView) → length ps ≤ length (spent_from h ps)
 payments_spent_from (Payment n) ps = payments_set ps n _
 payments_spent_from _ ps = omega arith
 
-payments_spent : (ms : List Movement) (ps : List Paper) → length ps ≤ length (all_spent ms ps)
+payments_spent : (ms : List Movement) (ps : List PaymentView) → length ps ≤ length (all_spent ms ps)
 payments_spent [] ps = omega arith
 payments_spent (m ∷ ms) ps = omega (arith, payments_spent_from m.from ps, payments_spent ms (spent_from m.from ps))
 
@@ -77,47 +77,47 @@ purses_together r ms = omega (arith, purses_moved r ms)
 
 -- ---- what was spent stays spent
 
-abbrev StillSpent : List Paper → List Paper → Type 0
-StillSpent ps qs = Keeps WasSpent (spent_paper 0) ps qs
+abbrev StillSpent : List PaymentView → List PaymentView → Type 0
+StillSpent ps qs = Keeps WasSpent (spent_payment 0) ps qs
 
-spent_less : (p : Paper) (c : Content) → WasSpent p → WasSpent (paper_less p c)
+spent_less : (p : PaymentView) (c : Content) → WasSpent p → WasSpent (lessened_payment p c)
 spent_less p c is = ap (λ h. option_map (value_less c) h) is
 
-spent_more : (p : Paper) (c : Content) → WasSpent p → WasSpent (paper_more p c)
+spent_more : (p : PaymentView) (c : Content) → WasSpent p → WasSpent (raised_payment p c)
 spent_more p c is = ap (λ h. option_map (value_more c) h) is
 
-spent_paid : (ps : List Paper) (n : ℕ) (a : Amount) → StillSpent ps (paid ps n a)
-spent_paid ps n a = elim (n == length ps) as (λ t. StillSpent ps (cond t (ps ++ live_paper a ∷ []) (slice_set ps n (paper_more (paper_at ps n) a.value.content)))) [
-  | true ↦ keeps_push WasSpent (spent_paper 0) ps (live_paper a)
-  | false ↦ keeps_set WasSpent (spent_paper 0) ps n _ (spent_more (paper_at ps n) a.value.content)
+spent_paid : (ps : List PaymentView) (n : ℕ) (a : Amount) → StillSpent ps (paid ps n a)
+spent_paid ps n a = elim (n == length ps) as (λ t. StillSpent ps (cond t (ps ++ live_payment a ∷ []) (slice_set ps n (raised_payment (payment_view_at ps n) a.value.content)))) [
+  | true ↦ keeps_push WasSpent (spent_payment 0) ps (live_payment a)
+  | false ↦ keeps_set WasSpent (spent_payment 0) ps n _ (spent_more (payment_view_at ps n) a.value.content)
 ]
 
-spent_taken : (r : Rights) (h : Holder) (b : ℕ) (w : Worth) → StillSpent r.payments (taken r h b w).payments
-spent_taken r (Payment n) b w = keeps_set WasSpent (spent_paper 0) r.payments n _ (spent_less (paper_at r.payments n) w.content)
-spent_taken r _ b w = keeps_refl WasSpent (spent_paper 0) r.payments
+spent_taken : (r : Rights) (h : Holder) (b : ℕ) (w : ValueView) → StillSpent r.payments (taken r h b w).payments
+spent_taken r (Payment n) b w = keeps_set WasSpent (spent_payment 0) r.payments n _ (spent_less (payment_view_at r.payments n) w.content)
+spent_taken r _ b w = keeps_refl WasSpent (spent_payment 0) r.payments
 
-spent_given : (r : Rights) (h : Holder) (b : ℕ) (w : Worth) → StillSpent r.payments (given r h b w).payments
+spent_given : (r : Rights) (h : Holder) (b : ℕ) (w : ValueView) → StillSpent r.payments (given r h b w).payments
 spent_given r (Payment n) b w = spent_paid r.payments n _
-spent_given r _ b w = keeps_refl WasSpent (spent_paper 0) r.payments
+spent_given r _ b w = keeps_refl WasSpent (spent_payment 0) r.payments
 
 spent_moved : (r : Rights) (ms : List Movement) → StillSpent r.payments (all_moved r ms).payments
-spent_moved r [] = keeps_refl WasSpent (spent_paper 0) r.payments
+spent_moved r [] = keeps_refl WasSpent (spent_payment 0) r.payments
 spent_moved r (m ∷ ms) =
     let t = taken r m.from m.brand m.value in
-    let first = keeps_trans WasSpent (spent_paper 0) r.payments t.payments (moved r m).payments (payments_taken r m.from m.brand m.value) (spent_taken r m.from m.brand m.value) (spent_given t m.to m.brand m.value) in
-    keeps_trans WasSpent (spent_paper 0) r.payments (moved r m).payments (all_moved r (m ∷ ms)).payments
+    let first = keeps_trans WasSpent (spent_payment 0) r.payments t.payments (moved r m).payments (payments_taken r m.from m.brand m.value) (spent_taken r m.from m.brand m.value) (spent_given t m.to m.brand m.value) in
+    keeps_trans WasSpent (spent_payment 0) r.payments (moved r m).payments (all_moved r (m ∷ ms)).payments
     (omega (arith, payments_taken r m.from m.brand m.value, payments_given t m.to m.brand m.value)) first (spent_moved (moved r m) ms)
 
-spent_still : (h : Holder) (ps : List Paper) → StillSpent ps (spent_from h ps)
-spent_still (Payment n) ps = keeps_set WasSpent (spent_paper 0) ps n _ (λ is. refl)
-spent_still _ ps = keeps_refl WasSpent (spent_paper 0) ps
+spent_still : (h : Holder) (ps : List PaymentView) → StillSpent ps (spent_from h ps)
+spent_still (Payment n) ps = keeps_set WasSpent (spent_payment 0) ps n _ (λ is. refl)
+spent_still _ ps = keeps_refl WasSpent (spent_payment 0) ps
 
-spent_all : (ms : List Movement) (ps : List Paper) → StillSpent ps (all_spent ms ps)
-spent_all [] ps = keeps_refl WasSpent (spent_paper 0) ps
-spent_all (m ∷ ms) ps = keeps_trans WasSpent (spent_paper 0) ps (spent_from m.from ps) (all_spent (m ∷ ms) ps) (payments_spent_from m.from ps) (spent_still m.from ps) (spent_all ms (spent_from m.from ps))
+spent_all : (ms : List Movement) (ps : List PaymentView) → StillSpent ps (all_spent ms ps)
+spent_all [] ps = keeps_refl WasSpent (spent_payment 0) ps
+spent_all (m ∷ ms) ps = keeps_trans WasSpent (spent_payment 0) ps (spent_from m.from ps) (all_spent (m ∷ ms) ps) (payments_spent_from m.from ps) (spent_still m.from ps) (spent_all ms (spent_from m.from ps))
 
 spent_together : (r : Rights) (ms : List Movement) → StillSpent r.payments (moved_together r ms).payments
-spent_together r ms = keeps_trans WasSpent (spent_paper 0) r.payments (all_moved r ms).payments _ (payments_moved r ms) (spent_moved r ms) (spent_all ms (all_moved r ms).payments)
+spent_together r ms = keeps_trans WasSpent (spent_payment 0) r.payments (all_moved r ms).payments _ (payments_moved r ms) (spent_moved r ms) (spent_all ms (all_moved r ms).payments)
 
 -- ---- settling keeps how many promises there are
 
@@ -194,7 +194,7 @@ purses_grow w (invite d) = purses_together w.rights (invitation_move w ∷ [])
 purses_grow w _ = omega arith
 
 payments_grow : (w : State) (e : Effect) → length w.rights.payments ≤ length (after w e).rights.payments
-payments_grow w (empty_payment b) = omega (arith, length_push w.rights.payments (live_paper (empty_amount b (brand_at w.brands b).kind)))
+payments_grow w (empty_payment b) = omega (arith, length_push w.rights.payments (live_payment (empty_amount b (brand_at w.brands b).kind)))
 payments_grow w (moves ms) = payments_together w.rights ms
 payments_grow w (offer o) = payments_together (with_slots w.rights (empty_slots o.proposal)) (burn_and_escrows o)
 payments_grow w (invite d) = payments_together w.rights (invitation_move w ∷ [])
@@ -273,12 +273,12 @@ left_still w (exit s cause) = keeps_set WasLeft no_seat w.seats s (left_seat (se
 left_still w _ = keeps_refl WasLeft no_seat w.seats
 
 spent_after : (w : State) (e : Effect) → StillSpent w.rights.payments (after w e).rights.payments
-spent_after w (empty_payment b) = keeps_push WasSpent (spent_paper 0) w.rights.payments _
+spent_after w (empty_payment b) = keeps_push WasSpent (spent_payment 0) w.rights.payments _
 spent_after w (moves ms) = spent_together w.rights ms
 spent_after w (offer o) = spent_together (with_slots w.rights (empty_slots o.proposal)) (burn_and_escrows o)
 spent_after w (invite d) = spent_together w.rights (invitation_move w ∷ [])
-spent_after w (exit s cause) = keeps_append WasSpent (spent_paper 0) w.rights.payments (map paid_out (slots_at w.rights.slots s))
-spent_after w _ = keeps_refl WasSpent (spent_paper 0) w.rights.payments
+spent_after w (exit s cause) = keeps_append WasSpent (spent_payment 0) w.rights.payments (map paid_out (slots_at w.rights.slots s))
+spent_after w _ = keeps_refl WasSpent (spent_payment 0) w.rights.payments
 
 pub grows-after : (w : State) (e : Effect) → Grows w (after w e)
 grows-after w e = record {

@@ -7,11 +7,11 @@ use Rattle.world_state.proofs.lemmas.ListEdits.{length_push, length_set, read_be
 use Rattle.std.specs.Str.{bytes_eq}
 use Rattle.world_state.specs.brands.IssuerRecords.{AreApart, AreIssuers, brand_under, most_issuers}
 use Rattle.world_state.specs.brands.declared.issuer_record.Issuer.{Issuer}
-use Rattle.world_laws.proofs.SlotRows.{other_way}
+use Rattle.world_laws.proofs.SlotShares.{other_way}
 use Rattle.world_state.specs.actors.Tables.{InstanceView, initial_state, instance_at, module_at, new_instance, no_instance, no_module, stopped}
 use Rattle.world_state.specs.actors.declared.instance_store.instance.Standing.{Standing}
 use Rattle.world_state.specs.actors.declared.instance_store.instance.Standing.TheVariants.{Accepting, Halted, Stopped}
-use Rattle.world_state.specs.proposals.declared.allocations.Row.{Row}
+use Rattle.world_state.specs.proposals.declared.allocations.Share.{Share}
 use Rattle.world_state.specs.turn_stores.Details.{no_details}
 use Rattle.world_state.specs.Good.{AreAtWork, AreInstances, IsGoodEffect, IsGoodWorld, IsInstance, IsIssuer, IsInvitation, IsModule, IsPlaced, standing_of}
 use Rattle.world_state.specs.Known.{IsKnownTo, IsPlain}
@@ -184,10 +184,10 @@ at_work_open seats new xs works are = record { each = by seats are.each }
     by (q ∷ qs) all zero is = all zero is
     by (q ∷ qs) all (suc s) is = by qs (λ t. all (suc t)) s is
 
-at_work_left : (seats : List Seat) (n : ℕ) (rows : List Row) (xs : List InstanceView) → AreAtWork seats xs → AreAtWork (slice_set seats n (left_seat (seat_at seats n) rows)) xs
-at_work_left seats n rows xs are = record { each = by seats n are.each }
+at_work_left : (seats : List Seat) (n : ℕ) (shares : List Share) (xs : List InstanceView) → AreAtWork seats xs → AreAtWork (slice_set seats n (left_seat (seat_at seats n) shares)) xs
+at_work_left seats n shares xs are = record { each = by seats n are.each }
   where
-    by : (ss : List Seat) (n : ℕ) → ((s : ℕ) → IsOpen (seat_at ss s) → standing_of xs (seat_at ss s).instance ≢ Halted) → (s : ℕ) → IsOpen (seat_at (slice_set ss n (left_seat (seat_at ss n) rows)) s) → standing_of xs (seat_at (slice_set ss n (left_seat (seat_at ss n) rows)) s).instance ≢ Halted
+    by : (ss : List Seat) (n : ℕ) → ((s : ℕ) → IsOpen (seat_at ss s) → standing_of xs (seat_at ss s).instance ≢ Halted) → (s : ℕ) → IsOpen (seat_at (slice_set ss n (left_seat (seat_at ss n) shares)) s) → standing_of xs (seat_at (slice_set ss n (left_seat (seat_at ss n) shares)) s).instance ≢ Halted
     by [] n all s is = all s is
     by (q ∷ qs) zero all zero is = absurd (cc)
     by (q ∷ qs) zero all (suc s) is = all (suc s) is

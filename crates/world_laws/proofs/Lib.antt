@@ -2,7 +2,7 @@ pub mod Lists
 pub mod Growing
 pub mod Forms
 pub mod Cascades
-pub mod SlotRows
+pub mod SlotShares
 pub mod Payouts
 pub mod Data
 pub mod Instances
@@ -47,5 +47,5 @@ pub use Rattle.world_state.proofs.host_data
 pub use Rattle.world_state.proofs.lemmas
 pub use Rattle.world_state.proofs.promise_store
 pub use Rattle.world_state.proofs.refusals
-pub use Rattle.world_state.proofs.right_steps
+pub use Rattle.world_state.proofs.vault_model
 pub use Rattle.world_state.proofs.turn_records

@@ -9,14 +9,14 @@ use Rattle.world_state.specs.amount_math.declared.Amount.{Amount}
 use Rattle.world_state.specs.ertp_mint.BrandSupply.{BrandSupply}
 use Rattle.world_state.specs.ertp_mint.Stocks.{no_amount}
 use Rattle.world_state.proofs.lemmas.ListEdits.{read_before, read_past, read_pushed}
-use Rattle.world_state.specs.holders.Papers.{Paper, live_paper, paper_at, spent_paper}
-use Rattle.world_state.specs.proposals.Rows.{amount_under}
+use Rattle.world_state.specs.holders.PaymentViews.{PaymentView, live_payment, payment_view_at, spent_payment}
+use Rattle.world_state.specs.proposals.Shares.{amount_under}
 use Rattle.world_state.specs.proposals.Slots.{emptied}
-use Rattle.world_state.specs.proposals.declared.allocations.Row.{Row}
+use Rattle.world_state.specs.proposals.declared.allocations.Share.{Share}
 use Rattle.world_state.specs.rights_model.declared.Holder.{Holder}
 use Rattle.world_state.specs.rights_model.declared.Holder.TheVariants.{Purse, Payment, Slot, Hand, Outside}
-use Rattle.world_state.specs.right_steps.Lists.{purse_at}
-use Rattle.world_state.specs.right_steps.Tables.{in_brand, no_hand, right_in, right_on}
+use Rattle.world_state.specs.vault_model.Lists.{purse_at}
+use Rattle.world_state.specs.vault_model.Tables.{in_brand, no_hand, right_in, right_on}
 use Rattle.world_state.specs.Rights.{Rights, slots_at, with_payment, with_purse, with_slots, with_supply}
 use Rattle.world_laws.specs.Tables.{Agrees, content_at, in_slot, table_of}
 use Rattle.world_laws.proofs.Changes.{none_either}
@@ -48,9 +48,9 @@ payment_made r a none = same_tables r (with_payment r a) same
   where
     same : (h : Holder) (e : ℕ) → content_at (with_payment r a) no_hand h e ≡ content_at r no_hand h e
     same (Payment q) e = elim (cases_eq (length r.payments) q) [
-      | inl at ↦ ap (λ (x : Paper). in_brand (right_on x) e) (read_pushed r.payments (live_paper a) (spent_paper 0) q (sym at)) ∙ nothing_in a e none
-          ∙ sym (ap (λ (x : Paper). in_brand (right_on x) e) (read_past r.payments (spent_paper 0) q (omega (arith, at))) ∙ none_either (0 == e))
-      | inr apart ↦ ap (λ (x : Paper). in_brand (right_on x) e) (read_before r.payments (live_paper a) (spent_paper 0) q apart)
+      | inl at ↦ ap (λ (x : PaymentView). in_brand (right_on x) e) (read_pushed r.payments (live_payment a) (spent_payment 0) q (sym at)) ∙ nothing_in a e none
+          ∙ sym (ap (λ (x : PaymentView). in_brand (right_on x) e) (read_past r.payments (spent_payment 0) q (omega (arith, at))) ∙ none_either (0 == e))
+      | inr apart ↦ ap (λ (x : PaymentView). in_brand (right_on x) e) (read_before r.payments (live_payment a) (spent_payment 0) q apart)
     ]
     same (Purse q) e = refl
     same (Slot s k) e = refl
@@ -67,7 +67,7 @@ brand_made r s = same_tables r (with_supply r s) same
     same Hand e = refl
     same Outside e = refl
 
-none_of_emptied : (k : List ℕ) (rs : List Row) (e : ℕ) → in_slot (amount_under k (map emptied rs)) e ≡ nothing
+none_of_emptied : (k : List ℕ) (rs : List Share) (e : ℕ) → in_slot (amount_under k (map emptied rs)) e ≡ nothing
 none_of_emptied k [] e = refl
 none_of_emptied k (r ∷ rs) e = by (bytes_eq k r.keyword) (none_of_emptied k rs e)
   where
@@ -75,7 +75,7 @@ none_of_emptied k (r ∷ rs) e = by (bytes_eq k r.keyword) (none_of_emptied k rs
     by true later = none_either (r.amount.brand == e)
     by false later = later
 
-pub seat_opened : (r : Rights) (rs : List Row) → table_of (with_slots r (map emptied rs)) ≡ table_of r
+pub seat_opened : (r : Rights) (rs : List Share) → table_of (with_slots r (map emptied rs)) ≡ table_of r
 seat_opened r rs = same_tables r (with_slots r (map emptied rs)) same
   where
     same : (h : Holder) (e : ℕ) → content_at (with_slots r (map emptied rs)) no_hand h e ≡ content_at r no_hand h e

@@ -10,7 +10,7 @@ use Rattle.world_state.specs.host_data.Tree.{null}
 use Rattle.world_state.specs.promise_store.Linked.{leader}
 use Rattle.world_state.specs.promise_store.States.{SettlementView, broken, ok}
 use Rattle.world_state.specs.promise_store.declared.links.Following.{Following}
-use Rattle.world_state.specs.proposals.declared.allocations.Row.{Row}
+use Rattle.world_state.specs.proposals.declared.allocations.Share.{Share}
 use Rattle.world_state.specs.proposals.declared.offers.Exit.{Exit}
 use Rattle.world_state.specs.proposals.declared.offers.Exit.TheVariants.{AfterDeadline, OnDemand, Waived}
 use Rattle.world_state.specs.turn_stores.Schedules.{Schedule, due_by}
@@ -33,11 +33,11 @@ payouts-push [] (x ∷ xs) s q p e = absurd (omega (arith, e))
 payouts-push (t ∷ ts) [] s q p e = absurd (omega (arith, e))
 payouts-push (t ∷ ts) (x ∷ xs) s q p e = omega (arith, payouts-push ts xs s q p (omega (arith, e)))
 
-pub payouts-left : (seats : List Seat) (pairs : List SeatPair) (n : ℕ) (rows : List Row) (p : ℕ) → length pairs ≡ length seats → (seat_at seats n).last ≡ None → owed_payouts (slice_set seats n (left_seat (seat_at seats n) rows)) pairs p + one_if ((pair_at pairs n).payouts == p) ≡ owed_payouts seats pairs p
-payouts-left [] pairs n rows p e is = cc
-payouts-left (t ∷ ts) [] n rows p e is = absurd (omega (arith, e))
-payouts-left (t ∷ ts) (x ∷ xs) zero rows p e is = omega (arith, ap (λ (o : Option (List Row)). one_if (is_none o && (x.payouts == p))) is)
-payouts-left (t ∷ ts) (x ∷ xs) (suc n) rows p e is = omega (arith, payouts-left ts xs n rows p (omega (arith, e)) is)
+pub payouts-left : (seats : List Seat) (pairs : List SeatPair) (n : ℕ) (shares : List Share) (p : ℕ) → length pairs ≡ length seats → (seat_at seats n).last ≡ None → owed_payouts (slice_set seats n (left_seat (seat_at seats n) shares)) pairs p + one_if ((pair_at pairs n).payouts == p) ≡ owed_payouts seats pairs p
+payouts-left [] pairs n shares p e is = cc
+payouts-left (t ∷ ts) [] n shares p e is = absurd (omega (arith, e))
+payouts-left (t ∷ ts) (x ∷ xs) zero shares p e is = omega (arith, ap (λ (o : Option (List Share)). one_if (is_none o && (x.payouts == p))) is)
+payouts-left (t ∷ ts) (x ∷ xs) (suc n) shares p e is = omega (arith, payouts-left ts xs n shares p (omega (arith, e)) is)
 
 at_most_one : (b : Bool) → one_if b ≤ 1
 at_most_one true = omega arith
@@ -155,10 +155,10 @@ owed-after w (empty_seat i rule) can good =
     more_owed w.seats w.pairs (w.waiting ++ late) (with_promise (Some (ok null)) w.promises) first (w.seats ++ new ∷ []) (w.pairs ++ next_pair w ∷ []) (w.waiting ++ late) w.promises.requests
     (λ p. omega (arith, payouts-push w.seats w.pairs new (next_pair w) p good.seats.paired, ap (λ k. one_if (k == p)) more))
 owed-after w (exit s cause) can good =
-    let rows = slots_at w.rights.slots s in
-    let seats = seats_left w.seats s rows in
+    let shares = slots_at w.rights.slots s in
+    let seats = seats_left w.seats s shares in
     let q = (pair_at w.pairs s).payouts in
-    let less : (p : ℕ) → owes seats w.pairs w.waiting w.promises p + one_if (q == p) ≡ owes w.seats w.pairs w.waiting w.promises p = λ p. omega (arith, payouts-left w.seats w.pairs s rows p good.seats.paired can) in
+    let less : (p : ℕ) → owes seats w.pairs w.waiting w.promises p + one_if (q == p) ≡ owes w.seats w.pairs w.waiting w.promises p = λ p. omega (arith, payouts-left w.seats w.pairs s shares p good.seats.paired can) in
     let one : one_if (q == q) ≡ 1 = ap one_if (eq-eqb q q refl) in
     let was : AreOwed seats w.pairs w.waiting w.promises = record { made = good.owed.made; once = λ p. omega (arith, less p, good.owed.once p); pending = λ p some. good.owed.pending p (omega (arith, some, less p)) } in
     resolving_owed seats w.pairs q w.promises w.waiting _ was (omega (arith, less q, one, good.owed.once q)) (good.owed.pending q (omega (arith, less q, one))) (ok (payouts_tree w s))

@@ -6,7 +6,7 @@ use denote.Struct.Props.{props}
 use Rattle.world_state.specs.host_data.Tree.{Fields, Tree, field, fields, no_fields, object}
 use Rattle.world_state.specs.promise_store.States.{SettlementView, broken, ok}
 use Rattle.world_state.specs.proposals.Slots.{is_upto}
-use Rattle.world_state.specs.proposals.declared.allocations.Row.{Row}
+use Rattle.world_state.specs.proposals.declared.allocations.Share.{Share}
 use Rattle.world_state.specs.lemmas.Stable.{IsStable}
 use Rattle.world_laws.proofs.TreeSets.{Tree-set}
 use Rattle.world_state.specs.Worlds.{payments_tree, payout_fields, payouts_from, placed_field}
@@ -38,7 +38,7 @@ least_placed x t (field y u fs) = by (is_upto x y) (least_placed x t fs)
     by true before = refl
     by false before = ap (λ o. Some (lower (number_in u) o)) before ∙ ap Some (lower_turned (number_in u) (number_in t) (least_in fs))
 
-least_paid : (n : ℕ) (r : Row) (rs : List Row) → least_in (payout_fields (payouts_from n (r ∷ rs))) ≡ Some n
+least_paid : (n : ℕ) (r : Share) (rs : List Share) → least_in (payout_fields (payouts_from n (r ∷ rs))) ≡ Some n
 least_paid n r [] = refl
 least_paid n r (s ∷ ss) =
     least_placed r.keyword _ (payout_fields (payouts_from (suc n) (s ∷ ss)))
@@ -56,18 +56,18 @@ first_of (Some (ok t)) = first_in t
 first_of (Some (broken t)) = 0
 first_of None = 0
 
-same_payments : (n : ℕ) (rows : List Row) → payments_tree (first_in (payments_tree n rows)) rows ≡ payments_tree n rows
+same_payments : (n : ℕ) (shares : List Share) → payments_tree (first_in (payments_tree n shares)) shares ≡ payments_tree n shares
 same_payments n [] = refl
 same_payments n (r ∷ rs) = ap (λ o. payments_tree (unwrap_or o 0) (r ∷ rs)) (least_paid n r rs)
 
 Settled-set : IsSet (Option SettlementView)
 Settled-set = hlevel (props, Tree-set)
 
-pub paid_stable : (s : Option SettlementView) (rows : List Row) → IsStable ((first : ℕ) × (s ≡ Some (ok (payments_tree first rows))))
-paid_stable s rows = record {
+pub paid_stable : (s : Option SettlementView) (shares : List Share) → IsStable ((first : ℕ) × (s ≡ Some (ok (payments_tree first shares))))
+paid_stable s shares = record {
   told = λ t. (
     first_of s,
     ∥∥₁_elim t (Settled-set s _) (λ p.
-        p.1 ∙ sym (ap (λ u. Some (ok u)) (same_payments p.0 rows)) ∙ ap (λ z. Some (ok (payments_tree (first_of z) rows))) (sym p.1)),
+        p.1 ∙ sym (ap (λ u. Some (ok u)) (same_payments p.0 shares)) ∙ ap (λ z. Some (ok (payments_tree (first_of z) shares))) (sym p.1)),
   );
 }

@@ -11,9 +11,9 @@ use Rattle.std.proofs.lemmas.Slice.Eq.{bytes_eq-Decides}
 use Rattle.world_state.specs.host_data.Nodes.{AreInOrder, EachField, EachNode, FunctionIs, HasFieldsInOrder, IsShallow, NodeFact, ObjectIs}
 use Rattle.world_state.specs.host_data.Tree.{Before, Tree, fields, Fields, no_fields, field}
 use Rattle.world_state.specs.host_data.declared.data.ObjKind.TheVariants as kinds
-use Rattle.world_state.specs.proposals.Rows.{AreApart, amount_under}
+use Rattle.world_state.specs.proposals.Shares.{AreApart, amount_under}
 use Rattle.world_state.specs.proposals.Slots.{is_upto}
-use Rattle.world_state.specs.proposals.declared.allocations.Row.{Row}
+use Rattle.world_state.specs.proposals.declared.allocations.Share.{Share}
 use Rattle.world_state.specs.turn_records.Printable.{HaveFieldNames}
 use Rattle.world_state.specs.host_text.Words.{is_field_name, is_keyword}
 use Rattle.world_state.specs.Good.{AreNamed}
@@ -28,7 +28,7 @@ placed_each F n name t (field next u fs) one all = by (is_upto name next) (place
     by true rest = (one, all)
     by false rest = (all.0, rest)
 
-paid_each : (F : NodeFact) (n p : ℕ) (rs : List Row) → ((k : ℕ) → k < p + length rs → F n (object_tree kinds.Payment k)) → EachField F n (payout_fields (payouts_from p rs))
+paid_each : (F : NodeFact) (n p : ℕ) (rs : List Share) → ((k : ℕ) → k < p + length rs → F n (object_tree kinds.Payment k)) → EachField F n (payout_fields (payouts_from p rs))
 paid_each F n p [] h = tt
 paid_each F n p (r ∷ rs) h = placed_each F n r.keyword (object_tree kinds.Payment p) (payout_fields (payouts_from (suc p) rs)) (h p (omega arith)) (paid_each F n (suc p) rs (λ k lt. h k (omega (arith, lt))))
 
@@ -71,13 +71,13 @@ skipped false x o h = (refl, h)
 other_name : (k q : List ℕ) → bytes_eq k q ≡ false → q ≢ k
 other_name k q e is = let clash : true ≡ false = sym ((bytes_eq-Decides k q).1 (sym is)) ∙ e in cc
 
-paid_none : (k : List ℕ) (p : ℕ) (rs : List Row) → amount_under k rs ≡ None → HasNoField k (payout_fields (payouts_from p rs))
+paid_none : (k : List ℕ) (p : ℕ) (rs : List Share) → amount_under k rs ≡ None → HasNoField k (payout_fields (payouts_from p rs))
 paid_none k p [] none = tt
 paid_none k p (r ∷ rs) none =
     let both = skipped (bytes_eq k r.keyword) r.amount (amount_under k rs) none in
     no_field_placed k r.keyword (object_tree kinds.Payment p) (payout_fields (payouts_from (suc p) rs)) (other_name k r.keyword both.0) (paid_none k (suc p) rs both.1)
 
-paid_in_order : (p : ℕ) (rs : List Row) → AreApart rs → AreInOrder (payout_fields (payouts_from p rs))
+paid_in_order : (p : ℕ) (rs : List Share) → AreApart rs → AreInOrder (payout_fields (payouts_from p rs))
 paid_in_order p [] apart = tt
 paid_in_order p (r ∷ rs) apart = placed_in_order r.keyword (object_tree kinds.Payment p) (payout_fields (payouts_from (suc p) rs)) (paid_none r.keyword (suc p) rs apart.0) (paid_in_order (suc p) rs apart.1)
 
@@ -93,11 +93,11 @@ placed_named name t (field next u fs) one all = by (is_upto name next) (placed_n
     by true rest = (one, all)
     by false rest = (all.0, rest)
 
-paid_named : (p : ℕ) (rs : List Row) → AreNamed rs → HaveFieldNames (payout_fields (payouts_from p rs))
+paid_named : (p : ℕ) (rs : List Share) → AreNamed rs → HaveFieldNames (payout_fields (payouts_from p rs))
 paid_named p [] named = tt
 paid_named p (r ∷ rs) named = placed_named r.keyword (object_tree kinds.Payment p) (payout_fields (payouts_from (suc p) rs)) (keyword_named r.keyword named.0) (paid_named (suc p) rs named.1)
 
-pub payouts_handed : (w : State) (p : ℕ) (rs : List Row) → AreApart rs → AreNamed rs → p + length rs ≤ length w.rights.payments → IsHanded w (fields (payout_fields (payouts_from p rs)))
+pub payouts_handed : (w : State) (p : ℕ) (rs : List Share) → AreApart rs → AreNamed rs → p + length rs ≤ length w.rights.payments → IsHanded w (fields (payout_fields (payouts_from p rs)))
 payouts_handed w p rs apart named made = record {
   objects = (tt, paid_each (ObjectIs (ObjectKnown None w)) (0 + 1) p rs (λ k lt. omega (arith, lt, made)));
   functions = (tt, paid_each (FunctionIs (FunctionKnown None w)) (0 + 1) p rs (λ k lt. tt));

@@ -2,7 +2,7 @@
 use Rattle.std.specs.Prelude.{slice_set}
 use Rattle.std.proofs.Common.{ℕ, zero, suc, ◌+◌, ◌≤◌, List, [], ◌∷◌, ◌++◌, arith}
 use Rattle.world_state.specs.amount_math.Counted.{counted}
-use Rattle.world_state.specs.amount_math.Worth.{Worth}
+use Rattle.world_state.specs.amount_math.ValueView.{ValueView}
 use Rattle.world_state.specs.amount_math.declared.Kind.{Kind}
 use Rattle.world_state.specs.ertp_mint.BrandSupply.{BrandSupply, issued, new_supply, retired, supply_at}
 use Rattle.world_state.specs.rights_model.declared.Holder.{Holder}
@@ -30,14 +30,14 @@ minted_push (s ∷ ss) kind (suc e) = minted_push ss kind e
 roomy_less : (out : List BrandSupply) (n m : ℕ) → m ≤ n → IsRoomy out n → IsRoomy out m
 roomy_less out n m le is = record { each = λ e. omega (arith, is.each e, le) }
 
-roomy_taken : (r : Rights) (h : Holder) (b : ℕ) (w : Worth) (m : ℕ) → IsRoomy r.out (issued_from h w.content + m) → IsRoomy (taken r h b w).out m
+roomy_taken : (r : Rights) (h : Holder) (b : ℕ) (w : ValueView) (m : ℕ) → IsRoomy r.out (issued_from h w.content + m) → IsRoomy (taken r h b w).out m
 roomy_taken r Outside b w m is = record { each = λ e. omega (arith, is.each e, minted_set r.out b (issued (supply_at r.out b) w.content) (counted w.content) (omega arith) e) }
 roomy_taken r (Purse n) b w m is = roomy_less r.out (0 + m) m (omega arith) is
 roomy_taken r (Payment n) b w m is = roomy_less r.out (0 + m) m (omega arith) is
 roomy_taken r (Slot s k) b w m is = roomy_less r.out (0 + m) m (omega arith) is
 roomy_taken r Hand b w m is = roomy_less r.out (0 + m) m (omega arith) is
 
-roomy_given : (r : Rights) (h : Holder) (b : ℕ) (w : Worth) (m : ℕ) → IsRoomy r.out m → IsRoomy (given r h b w).out m
+roomy_given : (r : Rights) (h : Holder) (b : ℕ) (w : ValueView) (m : ℕ) → IsRoomy r.out m → IsRoomy (given r h b w).out m
 roomy_given r Outside b w m is = record { each = λ e. omega (arith, is.each e, minted_set r.out b (retired (supply_at r.out b) w.content) 0 (omega arith) e) }
 roomy_given r _ b w m is = is
 

@@ -6,7 +6,7 @@ use Rattle.std.proofs.Common.{◌≡◌, ◌≢◌, inl, inr, ℕ, ◌+◌, ◌<
 use Rattle.std.proofs.lemmas.Bool.{cases_eq, eq-eqb}
 use Rattle.world_state.proofs.lemmas.ListEdits.{length_push, length_set, read_before, read_other, read_pushed, read_set}
 use Rattle.world_state.specs.amount_math.Content.{Content, count, count-difference, count-nothing, count-one_of, count-sum, key_cmp, one_of, sum}
-use Rattle.world_state.specs.amount_math.Worth.{Fits, Worth}
+use Rattle.world_state.specs.amount_math.ValueView.{Fits, ValueView}
 use Rattle.world_state.specs.amount_math.declared.Kind.TheVariants.{Nat, Set}
 use Rattle.world_state.proofs.amount_math.Listed.{same_key}
 use Rattle.world_state.proofs.amount_math.Together.{one_is_set}
@@ -19,7 +19,7 @@ use Rattle.world_state.specs.turn_stores.Elements.{element}
 use Rattle.world_state.specs.rights_model.declared.Holder.{Holder}
 use Rattle.world_state.specs.rights_model.declared.Holder.TheVariants.{Purse, Payment, Slot, Hand, Outside}
 use Rattle.world_state.specs.rights_model.declared.Movement.{Movement}
-use Rattle.world_state.specs.right_steps.Tables.{no_hand}
+use Rattle.world_state.specs.vault_model.Tables.{no_hand}
 use Rattle.world_state.specs.Good.{AreBrands, AreInvitations, IsGoodEffect, IsGoodMove, IsGoodWorld, IsInBounds}
 use Rattle.world_state.specs.Rights.{CanMoveAll, CanTake, Rights, all_moved, given, hand_after, kind_at, moved, taken, with_slots, IsNextOr}
 use Rattle.world_state.specs.Worlds.{Effect, Maker, Seat, State, after, burn_and_escrows, empty_slots, invitation_move, invitation_value, of_host, invite, moves, new_brand, offer}
@@ -32,11 +32,11 @@ use Rattle.world_laws.proofs.OfKinds.{SameKinds, same_together}
 no_supply : IsInBounds (new_supply Nat)
 no_supply = record { each = λ k. omega (arith, count-nothing k) }
 
-bounded_taken : (r : Rights) (hand : ℕ → Content) (h : Holder) (b : ℕ) (w : Worth) → kind_at r.out b ≡ w.kind → CanTake r hand h b w → AllByRecursion IsInBounds r.out → AllByRecursion IsInBounds (taken r h b w).out
+bounded_taken : (r : Rights) (hand : ℕ → Content) (h : Holder) (b : ℕ) (w : ValueView) → kind_at r.out b ≡ w.kind → CanTake r hand h b w → AllByRecursion IsInBounds r.out → AllByRecursion IsInBounds (taken r h b w).out
 bounded_taken r hand Outside b w kind can all = all_set IsInBounds r.out b (issued (supply_at r.out b) w.content) all (subst (λ z. Fits z (sum (supply_at r.out b).outstanding.content w.content)) (sym kind) can.fits)
 bounded_taken r hand _ b w kind can all = all
 
-bounded_given : (r : Rights) (h : Holder) (b : ℕ) (w : Worth) → AllByRecursion IsInBounds r.out → AllByRecursion IsInBounds (given r h b w).out
+bounded_given : (r : Rights) (h : Holder) (b : ℕ) (w : ValueView) → AllByRecursion IsInBounds r.out → AllByRecursion IsInBounds (given r h b w).out
 bounded_given r Outside b w all =
     let was = all_read_or IsInBounds r.out b (new_supply Nat) all no_supply in
     all_set IsInBounds r.out b (retired (supply_at r.out b) w.content) all (record { each = λ k. omega (arith, was.each k, count-difference (supply_at r.out b).outstanding.content w.content k) })
@@ -128,14 +128,14 @@ invited_same out new ds same is = record {
   made = λ k none. ap (λ (s : BrandSupply). count s.outstanding.content k) same ∙ is.made k none;
 }
 
-invited_taken : (r : Rights) (h : Holder) (b : ℕ) (w : Worth) (ds : List DetailsView) → (h ≡ Outside → b ≢ 0) → AreInvitations r.out ds → AreInvitations (taken r h b w).out ds
+invited_taken : (r : Rights) (h : Holder) (b : ℕ) (w : ValueView) (ds : List DetailsView) → (h ≡ Outside → b ≢ 0) → AreInvitations r.out ds → AreInvitations (taken r h b w).out ds
 invited_taken r Outside b w ds other is = invited_same r.out (taken r Outside b w).out ds (read_other r.out b 0 (issued (supply_at r.out b) w.content) (new_supply Nat) (other refl)) is
 invited_taken r (Purse n) b w ds other is = is
 invited_taken r (Payment n) b w ds other is = is
 invited_taken r (Slot s k) b w ds other is = is
 invited_taken r Hand b w ds other is = is
 
-invited_given : (r : Rights) (h : Holder) (b : ℕ) (w : Worth) (ds : List DetailsView) → b < length r.out → AreInvitations r.out ds → AreInvitations (given r h b w).out ds
+invited_given : (r : Rights) (h : Holder) (b : ℕ) (w : ValueView) (ds : List DetailsView) → b < length r.out → AreInvitations r.out ds → AreInvitations (given r h b w).out ds
 invited_given r Outside b w ds made is = elim (cases_eq b 0) [
   | inl same ↦
       let new = retired (supply_at r.out b) w.content in
@@ -148,7 +148,7 @@ invited_given r Outside b w ds made is = elim (cases_eq b 0) [
 ]
 invited_given r _ b w ds made is = is
 
-taken_out : (r : Rights) (h : Holder) (b : ℕ) (w : Worth) → length (taken r h b w).out ≡ length r.out
+taken_out : (r : Rights) (h : Holder) (b : ℕ) (w : ValueView) → length (taken r h b w).out ≡ length r.out
 taken_out r Outside b w = length_set r.out b _
 taken_out r _ b w = refl
 

@@ -4,21 +4,21 @@ use Rattle.std.proofs.Common.{◌≡◌, ◌≢◌, ℕ, zero, suc, ◌<◌, ◌
 use Rattle.std.proofs.lemmas.Bool.{eq-eqb}
 use Rattle.world_state.specs.amount_math.Amount.{holding}
 use Rattle.world_state.specs.amount_math.Content.{nothing, nothing-difference, nothing-sum}
-use Rattle.world_state.specs.amount_math.Worth.{Worth, with_content}
+use Rattle.world_state.specs.amount_math.ValueView.{ValueView, with_content}
 use Rattle.world_state.specs.amount_math.declared.Amount.{Amount}
 use Rattle.world_state.specs.ertp_mint.Stocks.{empty_amount}
 use Rattle.world_state.proofs.lemmas.ListEdits.{length_push, length_set, read_before, read_other, read_set, set_set}
-use Rattle.world_state.specs.holders.Papers.{Paper, live_paper, paper_at, spent_paper}
-use Rattle.world_state.specs.proposals.Rows.{amount_under, row_of}
+use Rattle.world_state.specs.holders.PaymentViews.{PaymentView, live_payment, payment_view_at, spent_payment}
+use Rattle.world_state.specs.proposals.Shares.{amount_under, keyed_share}
 use Rattle.world_state.specs.rights_model.declared.Holder.{Holder}
 use Rattle.world_state.specs.rights_model.declared.Holder.TheVariants.{Purse, Payment, Slot, Hand, Outside}
 use Rattle.world_state.specs.rights_model.declared.Movement.{Movement}
-use Rattle.world_state.specs.right_steps.Lists.{CanTake, Lists, amount_of, less, more, slot_of}
-use Rattle.world_state.specs.right_steps.Lists as lists
-use Rattle.world_state.specs.right_steps.Seats.{kept_seat_at, with_slots}
+use Rattle.world_state.specs.vault_model.Lists.{CanTake, Lists, amount_of, less, more, slot_of}
+use Rattle.world_state.specs.vault_model.Lists as lists
+use Rattle.world_state.specs.vault_model.Seats.{kept_seat_at, with_slots}
 use Rattle.world_laws.specs.Views.{CanAllByHand, CanByHand, MayPut, all_by_hand, by_hand, put_to, rights_of, source_of, taken_by_hand, with_slot_for}
 use Rattle.world_laws.proofs.Views.{slot_changed, slot_opened}
-use Rattle.world_state.specs.Rights.{Rights, all_moved, all_spent, given, moved, moved_together, paid, paper_less, paper_more, paper_paid, spent_from, taken}
+use Rattle.world_state.specs.Rights.{Rights, all_moved, all_spent, given, moved, moved_together, paid, lessened_payment, raised_payment, paid_payment, spent_from, taken}
 
 -- ---- lists of which two elements are written
 
@@ -48,65 +48,65 @@ abbrev AllApart : ℕ → List Movement → Type 0
 AllApart n [] = Unit {0}
 AllApart n (m ∷ ms) = (Apart n m.from × Apart n m.to) × AllApart n ms
 
-abbrev pub spent_at : List Paper → ℕ → List Paper
-spent_at ps n = slice_set ps n (spent_paper (paper_at ps n).brand)
+abbrev pub spent_at : List PaymentView → ℕ → List PaymentView
+spent_at ps n = slice_set ps n (spent_payment (payment_view_at ps n).brand)
 
-abbrev pub with_papers : Rights → List Paper → Rights
-with_papers r l = record r { payments = l }
+abbrev pub with_payment_views : Rights → List PaymentView → Rights
+with_payment_views r l = record r { payments = l }
 
 abbrev pub marked : Holder → Rights → Rights
-marked h r = with_papers r (spent_from h r.payments)
+marked h r = with_payment_views r (spent_from h r.payments)
 
-written_apart : (ps : List Paper) (n k : ℕ) (f : Paper → Paper) → k ≢ n → slice_set (spent_at ps n) k (f (paper_at (spent_at ps n) k)) ≡ spent_at (slice_set ps k (f (paper_at ps k))) n
+written_apart : (ps : List PaymentView) (n k : ℕ) (f : PaymentView → PaymentView) → k ≢ n → slice_set (spent_at ps n) k (f (payment_view_at (spent_at ps n) k)) ≡ spent_at (slice_set ps k (f (payment_view_at ps k))) n
 written_apart ps n k f apart =
-    ap (λ p. slice_set (spent_at ps n) k (f p)) (read_other ps n k (spent_paper (paper_at ps n).brand) (spent_paper 0) (λ e. apart (sym e)))
-    ∙ set_apart ps n k (spent_paper (paper_at ps n).brand) (f (paper_at ps k)) (λ e. apart (sym e))
-    ∙ ap (λ (p : Paper). slice_set (slice_set ps k (f (paper_at ps k))) n (spent_paper p.brand)) (sym (read_other ps k n (f (paper_at ps k)) (spent_paper 0) apart))
+    ap (λ p. slice_set (spent_at ps n) k (f p)) (read_other ps n k (spent_payment (payment_view_at ps n).brand) (spent_payment 0) (λ e. apart (sym e)))
+    ∙ set_apart ps n k (spent_payment (payment_view_at ps n).brand) (f (payment_view_at ps k)) (λ e. apart (sym e))
+    ∙ ap (λ (p : PaymentView). slice_set (slice_set ps k (f (payment_view_at ps k))) n (spent_payment p.brand)) (sym (read_other ps k n (f (payment_view_at ps k)) (spent_payment 0) apart))
 
-pub pushed_apart : (ps : List Paper) (n : ℕ) (p : Paper) → n < length ps → spent_at ps n ++ p ∷ [] ≡ spent_at (ps ++ p ∷ []) n
+pub pushed_apart : (ps : List PaymentView) (n : ℕ) (p : PaymentView) → n < length ps → spent_at ps n ++ p ∷ [] ≡ spent_at (ps ++ p ∷ []) n
 pushed_apart ps n p lt =
-    sym (set_before ps p (spent_paper (paper_at ps n).brand) n lt)
-    ∙ ap (λ (x : Paper). slice_set (ps ++ p ∷ []) n (spent_paper x.brand)) (sym (read_before ps p (spent_paper 0) n (λ (e : length ps ≡ n). absurd (omega (arith, lt, e)))))
+    sym (set_before ps p (spent_payment (payment_view_at ps n).brand) n lt)
+    ∙ ap (λ (x : PaymentView). slice_set (ps ++ p ∷ []) n (spent_payment x.brand)) (sym (read_before ps p (spent_payment 0) n (λ (e : length ps ≡ n). absurd (omega (arith, lt, e)))))
 
-paid_apart : (ps : List Paper) (n k : ℕ) (a : Amount) → n < length ps → k ≢ n → paid (spent_at ps n) k a ≡ spent_at (paid ps k a) n
+paid_apart : (ps : List PaymentView) (n k : ℕ) (a : Amount) → n < length ps → k ≢ n → paid (spent_at ps n) k a ≡ spent_at (paid ps k a) n
 paid_apart ps n k a lt apart =
-    ap (λ l. cond (k == l) (spent_at ps n ++ live_paper a ∷ []) (slice_set (spent_at ps n) k (paper_paid (spent_at ps n) k a))) (length_set ps n (spent_paper (paper_at ps n).brand))
+    ap (λ l. cond (k == l) (spent_at ps n ++ live_payment a ∷ []) (slice_set (spent_at ps n) k (paid_payment (spent_at ps n) k a))) (length_set ps n (spent_payment (payment_view_at ps n).brand))
     ∙ by (k == length ps)
   where
-    by : (t : Bool) → cond t (spent_at ps n ++ live_paper a ∷ []) (slice_set (spent_at ps n) k (paper_paid (spent_at ps n) k a)) ≡ spent_at (cond t (ps ++ live_paper a ∷ []) (slice_set ps k (paper_paid ps k a))) n
-    by true = pushed_apart ps n (live_paper a) lt
-    by false = written_apart ps n k (λ p. paper_more p a.value.content) apart
+    by : (t : Bool) → cond t (spent_at ps n ++ live_payment a ∷ []) (slice_set (spent_at ps n) k (paid_payment (spent_at ps n) k a)) ≡ spent_at (cond t (ps ++ live_payment a ∷ []) (slice_set ps k (paid_payment ps k a))) n
+    by true = pushed_apart ps n (live_payment a) lt
+    by false = written_apart ps n k (λ p. raised_payment p a.value.content) apart
 
 -- ---- what a movement makes of the other rights it makes of them where a payment is spent
 
-pub taken_marked : (n : ℕ) (r : Rights) (h : Holder) (b : ℕ) (w : Worth) → Apart n h → taken (marked (Payment n) r) h b w ≡ marked (Payment n) (taken r h b w)
+pub taken_marked : (n : ℕ) (r : Rights) (h : Holder) (b : ℕ) (w : ValueView) → Apart n h → taken (marked (Payment n) r) h b w ≡ marked (Payment n) (taken r h b w)
 taken_marked n r (Purse k) b w apart = refl
-taken_marked n r (Payment k) b w apart = ap (with_papers r) (written_apart r.payments n k (λ p. paper_less p w.content) apart)
+taken_marked n r (Payment k) b w apart = ap (with_payment_views r) (written_apart r.payments n k (λ p. lessened_payment p w.content) apart)
 taken_marked n r (Slot k keyword) b w apart = refl
 taken_marked n r Hand b w apart = refl
 taken_marked n r Outside b w apart = refl
 
-given_marked : (n : ℕ) (r : Rights) (h : Holder) (b : ℕ) (w : Worth) → n < length r.payments → Apart n h → given (marked (Payment n) r) h b w ≡ marked (Payment n) (given r h b w)
+given_marked : (n : ℕ) (r : Rights) (h : Holder) (b : ℕ) (w : ValueView) → n < length r.payments → Apart n h → given (marked (Payment n) r) h b w ≡ marked (Payment n) (given r h b w)
 given_marked n r (Purse k) b w lt apart = refl
-given_marked n r (Payment k) b w lt apart = ap (with_papers r) (paid_apart r.payments n k (amount_of b w) lt apart)
+given_marked n r (Payment k) b w lt apart = ap (with_payment_views r) (paid_apart r.payments n k (amount_of b w) lt apart)
 given_marked n r (Slot k keyword) b w lt apart = refl
 given_marked n r Hand b w lt apart = refl
 given_marked n r Outside b w lt apart = refl
 
-pub taken_made : (n : ℕ) (r : Rights) (h : Holder) (b : ℕ) (w : Worth) → n < length r.payments → n < length (taken r h b w).payments
+pub taken_made : (n : ℕ) (r : Rights) (h : Holder) (b : ℕ) (w : ValueView) → n < length r.payments → n < length (taken r h b w).payments
 taken_made n r (Purse k) b w lt = lt
-taken_made n r (Payment k) b w lt = omega (arith, lt, length_set r.payments k (paper_less (paper_at r.payments k) w.content))
+taken_made n r (Payment k) b w lt = omega (arith, lt, length_set r.payments k (lessened_payment (payment_view_at r.payments k) w.content))
 taken_made n r (Slot k keyword) b w lt = lt
 taken_made n r Hand b w lt = lt
 taken_made n r Outside b w lt = lt
 
-given_made : (n : ℕ) (r : Rights) (h : Holder) (b : ℕ) (w : Worth) → n < length r.payments → n < length (given r h b w).payments
+given_made : (n : ℕ) (r : Rights) (h : Holder) (b : ℕ) (w : ValueView) → n < length r.payments → n < length (given r h b w).payments
 given_made n r (Purse k) b w lt = lt
 given_made n r (Payment k) b w lt = by (k == length r.payments)
   where
-    by : (t : Bool) → n < length (cond t (r.payments ++ live_paper (amount_of b w) ∷ []) (slice_set r.payments k (paper_paid r.payments k (amount_of b w))))
-    by true = omega (arith, lt, length_push r.payments (live_paper (amount_of b w)))
-    by false = omega (arith, lt, length_set r.payments k (paper_paid r.payments k (amount_of b w)))
+    by : (t : Bool) → n < length (cond t (r.payments ++ live_payment (amount_of b w) ∷ []) (slice_set r.payments k (paid_payment r.payments k (amount_of b w))))
+    by true = omega (arith, lt, length_push r.payments (live_payment (amount_of b w)))
+    by false = omega (arith, lt, length_set r.payments k (paid_payment r.payments k (amount_of b w)))
 given_made n r (Slot k keyword) b w lt = lt
 given_made n r Hand b w lt = lt
 given_made n r Outside b w lt = lt
@@ -127,23 +127,23 @@ all_marked n r (m ∷ ms) lt apart =
 
 -- ---- the halves of a movement, as the lists have them
 
-pub taken_views : (s : Lists) (h : Holder) (b : ℕ) (w : Worth) → CanTake s h b w → rights_of (lists.taken s h b w) ≡ marked h (taken (rights_of s) h b w)
+pub taken_views : (s : Lists) (h : Holder) (b : ℕ) (w : ValueView) → CanTake s h b w → rights_of (lists.taken s h b w) ≡ marked h (taken (rights_of s) h b w)
 taken_views s (Purse n) b w can = refl
-taken_views s (Payment n) b w can = ap (with_papers (rights_of s)) (sym (
-    ap (λ (p : Paper). slice_set (slice_set s.payments n less_now) n (spent_paper p.brand)) (read_set s.payments n less_now (spent_paper 0) can.made)
-    ∙ set_set s.payments n less_now (spent_paper (paper_at s.payments n).brand)
-    ∙ ap (λ (p : Paper). slice_set s.payments n (spent_paper p.brand)) can.is
+taken_views s (Payment n) b w can = ap (with_payment_views (rights_of s)) (sym (
+    ap (λ (p : PaymentView). slice_set (slice_set s.payments n less_now) n (spent_payment p.brand)) (read_set s.payments n less_now (spent_payment 0) can.made)
+    ∙ set_set s.payments n less_now (spent_payment (payment_view_at s.payments n).brand)
+    ∙ ap (λ (p : PaymentView). slice_set s.payments n (spent_payment p.brand)) can.is
     ))
   where
-    less_now : Paper
-    less_now = paper_less (paper_at s.payments n) w.content
+    less_now : PaymentView
+    less_now = lessened_payment (payment_view_at s.payments n) w.content
 taken_views s (Slot n keyword) b w can = slot_changed s n keyword (λ had. less had w.content) (holding (amount_of b w) nothing) can.slot.there
 taken_views s Hand b w can = absurd can
 taken_views s Outside b w can = refl
 
-pub given_views : (s : Lists) (h : Holder) (b : ℕ) (w : Worth) → MayPut s h → rights_of (put_to s h (amount_of b w)) ≡ given (rights_of s) h b w
+pub given_views : (s : Lists) (h : Holder) (b : ℕ) (w : ValueView) → MayPut s h → rights_of (put_to s h (amount_of b w)) ≡ given (rights_of s) h b w
 given_views s (Purse n) b w may = refl
-given_views s (Payment n) b w may = ap (λ t. with_papers (rights_of s) (cond t (s.payments ++ live_paper (amount_of b w) ∷ []) (slice_set s.payments n (paper_paid s.payments n (amount_of b w))))) (sym (eq-eqb n (length s.payments) may))
+given_views s (Payment n) b w may = ap (λ t. with_payment_views (rights_of s) (cond t (s.payments ++ live_payment (amount_of b w) ∷ []) (slice_set s.payments n (paid_payment s.payments n (amount_of b w))))) (sym (eq-eqb n (length s.payments) may))
 given_views s (Slot n keyword) b w may = by (is_some (amount_under keyword (kept_seat_at s.seats n).slots)) refl
   where
     add : Amount → Amount
@@ -161,12 +161,12 @@ given_views s Outside b w may = refl
 -- ---- what is spent stays so, and is left alone
 
 abbrev pub IsSpent : Lists → ℕ → Type 0
-IsSpent s n = (n < length s.payments) × ((paper_at s.payments n).held ≡ None)
+IsSpent s n = (n < length s.payments) × ((payment_view_at s.payments n).held ≡ None)
 
-live_apart : (ps : List Paper) (n k : ℕ) (a : Amount) → (paper_at ps n).held ≡ None → paper_at ps k ≡ live_paper a → k ≢ n
-live_apart ps n k a none live = λ e. (let clash : None ≡ Some a.value = sym none ∙ ap (λ q. (paper_at ps q).held) (sym e) ∙ ap (λ (p : Paper). p.held) live in absurd cc)
+live_apart : (ps : List PaymentView) (n k : ℕ) (a : Amount) → (payment_view_at ps n).held ≡ None → payment_view_at ps k ≡ live_payment a → k ≢ n
+live_apart ps n k a none live = λ e. (let clash : None ≡ Some a.value = sym none ∙ ap (λ q. (payment_view_at ps q).held) (sym e) ∙ ap (λ (p : PaymentView). p.held) live in absurd cc)
 
-pub take_apart : (s : Lists) (n : ℕ) (h : Holder) (b : ℕ) (w : Worth) → IsSpent s n → CanTake s h b w → Apart n h
+pub take_apart : (s : Lists) (n : ℕ) (h : Holder) (b : ℕ) (w : ValueView) → IsSpent s n → CanTake s h b w → Apart n h
 take_apart s n (Purse k) b w spent can = tt
 take_apart s n (Payment k) b w spent can = live_apart s.payments n k (amount_of b w) spent.1 can.is
 take_apart s n (Slot k keyword) b w spent can = tt
@@ -180,21 +180,21 @@ put_apart s n (Slot k keyword) lt may = tt
 put_apart s n Hand lt may = tt
 put_apart s n Outside lt may = tt
 
-pub take_spends : (s : Lists) (n : ℕ) (h : Holder) (b : ℕ) (w : Worth) → IsSpent s n → CanTake s h b w → IsSpent (lists.taken s h b w) n
+pub take_spends : (s : Lists) (n : ℕ) (h : Holder) (b : ℕ) (w : ValueView) → IsSpent s n → CanTake s h b w → IsSpent (lists.taken s h b w) n
 take_spends s n (Purse k) b w spent can = spent
 take_spends s n (Payment k) b w spent can = (
-  omega (arith, spent.0, length_set s.payments k (spent_paper b)),
-  ap (λ (p : Paper). p.held) (read_other s.payments k n (spent_paper b) (spent_paper 0) (live_apart s.payments n k (amount_of b w) spent.1 can.is)) ∙ spent.1,
+  omega (arith, spent.0, length_set s.payments k (spent_payment b)),
+  ap (λ (p : PaymentView). p.held) (read_other s.payments k n (spent_payment b) (spent_payment 0) (live_apart s.payments n k (amount_of b w) spent.1 can.is)) ∙ spent.1,
 )
 take_spends s n (Slot k keyword) b w spent can = spent
 take_spends s n Hand b w spent can = spent
 take_spends s n Outside b w spent can = spent
 
-put_spends : (s : Lists) (n : ℕ) (h : Holder) (b : ℕ) (w : Worth) → IsSpent s n → IsSpent (put_to s h (amount_of b w)) n
+put_spends : (s : Lists) (n : ℕ) (h : Holder) (b : ℕ) (w : ValueView) → IsSpent s n → IsSpent (put_to s h (amount_of b w)) n
 put_spends s n (Purse k) b w spent = spent
 put_spends s n (Payment k) b w spent = (
-  omega (arith, spent.0, length_push s.payments (live_paper (amount_of b w))),
-  ap (λ (p : Paper). p.held) (read_before s.payments (live_paper (amount_of b w)) (spent_paper 0) n (λ (e : length s.payments ≡ n). absurd (omega (arith, spent.0, e)))) ∙ spent.1,
+  omega (arith, spent.0, length_push s.payments (live_payment (amount_of b w))),
+  ap (λ (p : PaymentView). p.held) (read_before s.payments (live_payment (amount_of b w)) (spent_payment 0) n (λ (e : length s.payments ≡ n). absurd (omega (arith, spent.0, e)))) ∙ spent.1,
 )
 put_spends s n (Slot k keyword) b w spent = by (is_some (amount_under keyword (kept_seat_at s.seats k).slots))
   where
@@ -226,16 +226,16 @@ left_alone s n (m ∷ ms) spent can =
     )
 
 -- what was taken from is spent
-pub spent_now : (s : Lists) (n b : ℕ) (w : Worth) → CanTake s (Payment n) b w → IsSpent (lists.taken s (Payment n) b w) n
+pub spent_now : (s : Lists) (n b : ℕ) (w : ValueView) → CanTake s (Payment n) b w → IsSpent (lists.taken s (Payment n) b w) n
 spent_now s n b w can = (
-  omega (arith, can.made, length_set s.payments n (spent_paper b)),
-  ap (λ (p : Paper). p.held) (read_set s.payments n (spent_paper b) (spent_paper 0) can.made),
+  omega (arith, can.made, length_set s.payments n (spent_payment b)),
+  ap (λ (p : PaymentView). p.held) (read_set s.payments n (spent_payment b) (spent_payment 0) can.made),
 )
 
 -- ---- a movement, and movements
 
 -- what is taken of a slot that wasn't there is taken of one that was opened with nothing
-pub source_views : (s : Lists) (h : Holder) (b : ℕ) (w : Worth) → CanTake (with_slot_for s h (amount_of b w)) h b w → rights_of (lists.taken (with_slot_for s h (amount_of b w)) h b w) ≡ marked h (taken (rights_of s) h b w)
+pub source_views : (s : Lists) (h : Holder) (b : ℕ) (w : ValueView) → CanTake (with_slot_for s h (amount_of b w)) h b w → rights_of (lists.taken (with_slot_for s h (amount_of b w)) h b w) ≡ marked h (taken (rights_of s) h b w)
 source_views s (Purse n) b w can = taken_views s (Purse n) b w can
 source_views s (Payment n) b w can = taken_views s (Payment n) b w can
 source_views s (Slot n keyword) b w can = by (is_some (amount_under keyword (kept_seat_at s.seats n).slots)) refl can
@@ -245,11 +245,11 @@ source_views s (Slot n keyword) b w can = by (is_some (amount_under keyword (kep
 
     by : (t : Bool) → is_some (amount_under keyword (kept_seat_at s.seats n).slots) ≡ t → CanTake (cond t s (lists.with_new_slot s n keyword b w.kind)) (Slot n keyword) b w → rights_of (lists.taken (cond t s (lists.with_new_slot s n keyword b w.kind)) (Slot n keyword) b w) ≡ taken (rights_of s) (Slot n keyword) b w
     by true is may = taken_views s (Slot n keyword) b w may
-    by false is may = slot_opened s n keyword (λ had. less had w.content) (holding (amount_of b w) nothing) b w.kind (omega (arith, may.slot.made, length_set s.seats n (with_slots (kept_seat_at s.seats n) ((kept_seat_at s.seats n).slots ++ row_of keyword (empty_amount b w.kind) ∷ [])))) is first
+    by false is may = slot_opened s n keyword (λ had. less had w.content) (holding (amount_of b w) nothing) b w.kind (omega (arith, may.slot.made, length_set s.seats n (with_slots (kept_seat_at s.seats n) ((kept_seat_at s.seats n).slots ++ keyed_share keyword (empty_amount b w.kind) ∷ [])))) is first
 source_views s Hand b w can = absurd can
 source_views s Outside b w can = taken_views s Outside b w can
 
-put_marked : (s : Lists) (from to : Holder) (b : ℕ) (w : Worth) → CanTake (with_slot_for s from (amount_of b w)) from b w → MayPut (lists.taken (with_slot_for s from (amount_of b w)) from b w) to → given (marked from (taken (rights_of s) from b w)) to b w ≡ marked from (given (taken (rights_of s) from b w) to b w)
+put_marked : (s : Lists) (from to : Holder) (b : ℕ) (w : ValueView) → CanTake (with_slot_for s from (amount_of b w)) from b w → MayPut (lists.taken (with_slot_for s from (amount_of b w)) from b w) to → given (marked from (taken (rights_of s) from b w)) to b w ≡ marked from (given (taken (rights_of s) from b w) to b w)
 put_marked s (Purse n) to b w can may = refl
 put_marked s (Payment n) to b w can may =
     given_marked n (taken (rights_of s) (Payment n) b w) to b w
@@ -266,7 +266,7 @@ one_together s m can =
     ∙ put_marked s m.from m.to m.brand m.value can.take can.put
 
 -- those that come after leave alone what is spent
-after_marked : (s : Lists) (r : Rights) (from to : Holder) (b : ℕ) (w : Worth) (ms : List Movement) → let next = put_to (lists.taken (with_slot_for s from (amount_of b w)) from b w) to (amount_of b w) in length r.payments ≡ length next.payments → CanTake (with_slot_for s from (amount_of b w)) from b w → CanAllByHand next ms → all_moved (marked from r) ms ≡ marked from (all_moved r ms)
+after_marked : (s : Lists) (r : Rights) (from to : Holder) (b : ℕ) (w : ValueView) (ms : List Movement) → let next = put_to (lists.taken (with_slot_for s from (amount_of b w)) from b w) to (amount_of b w) in length r.payments ≡ length next.payments → CanTake (with_slot_for s from (amount_of b w)) from b w → CanAllByHand next ms → all_moved (marked from r) ms ≡ marked from (all_moved r ms)
 after_marked s r (Purse n) to b w ms same take can = refl
 after_marked s r (Payment n) to b w ms same take can =
     let spent = put_spends (lists.taken s (Payment n) b w) n to b w (spent_now s n b w take) in
@@ -275,8 +275,8 @@ after_marked s r (Slot n keyword) to b w ms same take can = refl
 after_marked s r Hand to b w ms same take can = absurd take
 after_marked s r Outside to b w ms same take can = refl
 
-length_spent : (h : Holder) (ps : List Paper) → length (spent_from h ps) ≡ length ps
-length_spent (Payment n) ps = length_set ps n (spent_paper (paper_at ps n).brand)
+length_spent : (h : Holder) (ps : List PaymentView) → length (spent_from h ps) ≡ length ps
+length_spent (Payment n) ps = length_set ps n (spent_payment (payment_view_at ps n).brand)
 length_spent (Purse n) ps = refl
 length_spent (Slot n keyword) ps = refl
 length_spent Hand ps = refl
@@ -290,4 +290,4 @@ all_together s (m ∷ ms) can =
     let same : length r.payments ≡ length (by_hand s m).payments = sym (length_spent m.from r.payments) ∙ sym (ap (λ (x : Rights). length x.payments) one) in
     all_together (by_hand s m) ms can.1
     ∙ ap (λ x. moved_together x ms) one
-    ∙ ap (λ (x : Rights). with_papers x (all_spent ms x.payments)) (after_marked s r m.from m.to m.brand m.value ms same can.0.take can.1)
+    ∙ ap (λ (x : Rights). with_payment_views x (all_spent ms x.payments)) (after_marked s r m.from m.to m.brand m.value ms same can.0.take can.1)

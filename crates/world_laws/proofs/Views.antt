@@ -4,44 +4,44 @@ use Rattle.std.specs.Str.{bytes_eq}
 use Rattle.std.proofs.Common.{◌≡◌, ℕ, ◌+◌, ◌<◌, Bool, true, false, List, [], ◌∷◌, ◌++◌, Some, length, map, refl, sym, ◌∙◌, ap, arith}
 use Rattle.world_state.specs.amount_math.Content.{nothing, sum-nothing}
 use Rattle.world_state.specs.amount_math.Counted.{counted, counted-nothing}
-use Rattle.world_state.proofs.right_steps.SlotRows.{pushed_there}
+use Rattle.world_state.proofs.vault_model.SlotShares.{pushed_there}
 use Rattle.std.proofs.lemmas.Slice.Eq.{bytes_eq-Decides}
-use Rattle.world_state.specs.amount_math.Worth.{with_content}
+use Rattle.world_state.specs.amount_math.ValueView.{with_content}
 use Rattle.world_state.specs.amount_math.declared.Amount.{Amount}
 use Rattle.world_state.specs.amount_math.declared.Kind.{Kind}
 use Rattle.world_state.specs.amount_math.declared.Kind.TheVariants.{Nat}
 use Rattle.world_state.specs.ertp_mint.BrandSupply.{BrandSupply, issued, new_supply, supply_at}
 use Rattle.world_state.specs.ertp_mint.Stocks.{empty_amount, no_amount}
 use Rattle.world_state.proofs.lemmas.ListEdits.{length_map, read_default, map_push, map_set, read_map, read_set, set_same, set_set}
-use Rattle.world_state.specs.proposals.Rows.{amount_under, row_of}
-use Rattle.world_state.specs.proposals.declared.allocations.Row.{Row}
+use Rattle.world_state.specs.proposals.Shares.{amount_under, keyed_share}
+use Rattle.world_state.specs.proposals.declared.allocations.Share.{Share}
 use Rattle.world_state.specs.proposals.declared.offers.Proposal.{Proposal}
-use Rattle.world_state.specs.right_steps.Lists.{Lists, slot_of, with_closed_seat, with_new_seat, with_new_slot, with_slot_of}
-use Rattle.world_state.specs.right_steps.Seats.{HasRow, KeptSeat, amount_at, kept_seat_at, new_kept_seat, no_kept_seat, with_amount, with_slots}
+use Rattle.world_state.specs.vault_model.Lists.{Lists, slot_of, with_closed_seat, with_new_seat, with_new_slot, with_slot_of}
+use Rattle.world_state.specs.vault_model.Seats.{HasShare, KeptSeat, amount_at, kept_seat_at, new_kept_seat, no_kept_seat, with_amount, with_slots}
 use Rattle.world_state.specs.rights_model.Table.{movement}
 use Rattle.world_state.specs.rights_model.declared.Holder.TheVariants.{Outside, Payment}
 use Rattle.world_laws.specs.Views.{by_hand, rights_of, seat_of, seats_of, slots_held}
-use Rattle.world_state.specs.Rights.{Rights, changed_row, rows_less, rows_more, rows_with, slots_at}
+use Rattle.world_state.specs.Rights.{Rights, changed_share, shares_less, shares_more, shares_with, slots_at}
 use Rattle.world_state.specs.Rights as world
 use Rattle.world_state.specs.Worlds.{empty_slots, left_seat, no_seat, seats_left, seat_at}
 
--- ---- rows
+-- ---- shares
 
--- a row that is there is changed alike
-pub changed_there : (k : List ℕ) (f : Amount → Amount) (new : Amount) (rows : List Row) → HasRow k rows → with_amount k (f (amount_at k rows)) rows ≡ rows_with k f new rows
+-- a share that is there is changed alike
+pub changed_there : (k : List ℕ) (f : Amount → Amount) (new : Amount) (shares : List Share) → HasShare k shares → with_amount k (f (amount_at k shares)) shares ≡ shares_with k f new shares
 changed_there k f new [] h = absurd cc
 changed_there k f new (r ∷ rs) h = by (bytes_eq k r.keyword) (changed_there k f new rs) h
   where
-    by : (t : Bool) → (HasRow k rs → with_amount k (f (amount_at k rs)) rs ≡ rows_with k f new rs) → IsSome (cond t (Some r.amount) (amount_under k rs)) → cond t (row_of r.keyword (f (unwrap_or (cond t (Some r.amount) (amount_under k rs)) no_amount)) ∷ rs) (r ∷ with_amount k (f (unwrap_or (cond t (Some r.amount) (amount_under k rs)) no_amount)) rs) ≡ cond t (changed_row f r ∷ rs) (r ∷ rows_with k f new rs)
+    by : (t : Bool) → (HasShare k rs → with_amount k (f (amount_at k rs)) rs ≡ shares_with k f new rs) → IsSome (cond t (Some r.amount) (amount_under k rs)) → cond t (keyed_share r.keyword (f (unwrap_or (cond t (Some r.amount) (amount_under k rs)) no_amount)) ∷ rs) (r ∷ with_amount k (f (unwrap_or (cond t (Some r.amount) (amount_under k rs)) no_amount)) rs) ≡ cond t (changed_share f r ∷ rs) (r ∷ shares_with k f new rs)
     by true later here = refl
     by false later here = ap (λ l. r ∷ l) (later here)
 
--- a row that isn't there is opened last
-pub opened_last : (k : List ℕ) (f : Amount → Amount) (new : Amount) (rows : List Row) → IsNone (amount_under k rows) → rows_with k f new rows ≡ rows ++ row_of k new ∷ []
+-- a share that isn't there is opened last
+pub opened_last : (k : List ℕ) (f : Amount → Amount) (new : Amount) (shares : List Share) → IsNone (amount_under k shares) → shares_with k f new shares ≡ shares ++ keyed_share k new ∷ []
 opened_last k f new [] none = refl
 opened_last k f new (r ∷ rs) none = by (bytes_eq k r.keyword) (opened_last k f new rs) none
   where
-    by : (t : Bool) → (IsNone (amount_under k rs) → rows_with k f new rs ≡ rs ++ row_of k new ∷ []) → IsNone (cond t (Some r.amount) (amount_under k rs)) → cond t (changed_row f r ∷ rs) (r ∷ rows_with k f new rs) ≡ r ∷ (rs ++ row_of k new ∷ [])
+    by : (t : Bool) → (IsNone (amount_under k rs) → shares_with k f new rs ≡ rs ++ keyed_share k new ∷ []) → IsNone (cond t (Some r.amount) (amount_under k rs)) → cond t (changed_share f r ∷ rs) (r ∷ shares_with k f new rs) ≡ r ∷ (rs ++ keyed_share k new ∷ [])
     by true later here = absurd cc
     by false later here = ap (λ l. r ∷ l) (later here)
 
@@ -54,45 +54,45 @@ module _ (seats : List KeptSeat) (n : ℕ) where
   pub slots_set : (x : KeptSeat) → map slots_held (slice_set seats n x) ≡ slice_set (map slots_held seats) n x.slots
   slots_set x = map_set slots_held seats n x
 
-abbrev with_world_slots : Rights → List (List Row) → Rights
+abbrev with_world_slots : Rights → List (List Share) → Rights
 with_world_slots r l = record r { slots = l }
 
-pub slot_changed : (s : Lists) (n : ℕ) (k : List ℕ) (f : Amount → Amount) (new : Amount) → HasRow k (kept_seat_at s.seats n).slots → rights_of (with_slot_of s n k (f (slot_of s n k))) ≡ record (rights_of s) { slots = slice_set (rights_of s).slots n (rows_with k f new (slots_at (rights_of s).slots n)) }
+pub slot_changed : (s : Lists) (n : ℕ) (k : List ℕ) (f : Amount → Amount) (new : Amount) → HasShare k (kept_seat_at s.seats n).slots → rights_of (with_slot_of s n k (f (slot_of s n k))) ≡ record (rights_of s) { slots = slice_set (rights_of s).slots n (shares_with k f new (slots_at (rights_of s).slots n)) }
 slot_changed s n k f new has = ap (with_world_slots (rights_of s)) (
     slots_set s.seats n (with_slots (kept_seat_at s.seats n) (with_amount k (f (slot_of s n k)) (kept_seat_at s.seats n).slots))
     ∙ ap (slice_set (map slots_held s.seats) n) (
     changed_there k f new (kept_seat_at s.seats n).slots has
-    ∙ ap (rows_with k f new) (sym (slots_read s.seats n))
+    ∙ ap (shares_with k f new) (sym (slots_read s.seats n))
     )
     )
 
 -- a slot that is opened and written
-pub slot_opened : (s : Lists) (n : ℕ) (k : List ℕ) (f : Amount → Amount) (new : Amount) (b : ℕ) (kind : Kind) → n < length s.seats → IsNone (amount_under k (kept_seat_at s.seats n).slots) → f (empty_amount b kind) ≡ new → rights_of (with_slot_of (with_new_slot s n k b kind) n k (f (slot_of (with_new_slot s n k b kind) n k))) ≡ record (rights_of s) { slots = slice_set (rights_of s).slots n (rows_with k f new (slots_at (rights_of s).slots n)) }
+pub slot_opened : (s : Lists) (n : ℕ) (k : List ℕ) (f : Amount → Amount) (new : Amount) (b : ℕ) (kind : Kind) → n < length s.seats → IsNone (amount_under k (kept_seat_at s.seats n).slots) → f (empty_amount b kind) ≡ new → rights_of (with_slot_of (with_new_slot s n k b kind) n k (f (slot_of (with_new_slot s n k b kind) n k))) ≡ record (rights_of s) { slots = slice_set (rights_of s).slots n (shares_with k f new (slots_at (rights_of s).slots n)) }
 slot_opened s n k f new b kind made none is = ap (with_world_slots (rights_of s)) (
     ap (λ (x : KeptSeat). map slots_held (slice_set (slice_set s.seats n opened) n (with_slots x (with_amount k (f (amount_at k x.slots)) x.slots)))) (read_set s.seats n opened no_kept_seat made)
     ∙ ap (map slots_held) (set_set s.seats n opened _)
-    ∙ slots_set s.seats n (with_slots opened (with_amount k (f (amount_at k rows)) rows))
+    ∙ slots_set s.seats n (with_slots opened (with_amount k (f (amount_at k shares)) shares))
     ∙ ap (slice_set (map slots_held s.seats) n) (
     written (kept_seat_at s.seats n).slots none
     ∙ sym (opened_last k f new (kept_seat_at s.seats n).slots none)
-    ∙ ap (rows_with k f new) (sym (slots_read s.seats n))
+    ∙ ap (shares_with k f new) (sym (slots_read s.seats n))
     )
     )
   where
-    rows : List Row
-    rows = (kept_seat_at s.seats n).slots ++ row_of k (empty_amount b kind) ∷ []
+    shares : List Share
+    shares = (kept_seat_at s.seats n).slots ++ keyed_share k (empty_amount b kind) ∷ []
 
     opened : KeptSeat
-    opened = with_slots (kept_seat_at s.seats n) rows
+    opened = with_slots (kept_seat_at s.seats n) shares
 
-    written : (rs : List Row) → IsNone (amount_under k rs) → with_amount k (f (amount_at k (rs ++ row_of k (empty_amount b kind) ∷ []))) (rs ++ row_of k (empty_amount b kind) ∷ []) ≡ rs ++ row_of k new ∷ []
-    written rs = λ free. last rs (f (amount_at k (rs ++ row_of k (empty_amount b kind) ∷ []))) free ∙ ap (λ a. rs ++ row_of k a ∷ []) (ap (λ o. f (unwrap_or o no_amount)) (pushed_there k rs (empty_amount b kind) free) ∙ is)
+    written : (rs : List Share) → IsNone (amount_under k rs) → with_amount k (f (amount_at k (rs ++ keyed_share k (empty_amount b kind) ∷ []))) (rs ++ keyed_share k (empty_amount b kind) ∷ []) ≡ rs ++ keyed_share k new ∷ []
+    written rs = λ free. last rs (f (amount_at k (rs ++ keyed_share k (empty_amount b kind) ∷ []))) free ∙ ap (λ a. rs ++ keyed_share k a ∷ []) (ap (λ o. f (unwrap_or o no_amount)) (pushed_there k rs (empty_amount b kind) free) ∙ is)
       where
-        last : (rs : List Row) (a : Amount) → IsNone (amount_under k rs) → with_amount k a (rs ++ row_of k (empty_amount b kind) ∷ []) ≡ rs ++ row_of k a ∷ []
-        last [] a free = ap (λ t. cond t (row_of k a ∷ []) (row_of k (empty_amount b kind) ∷ [])) ((bytes_eq-Decides k k).1 refl)
+        last : (rs : List Share) (a : Amount) → IsNone (amount_under k rs) → with_amount k a (rs ++ keyed_share k (empty_amount b kind) ∷ []) ≡ rs ++ keyed_share k a ∷ []
+        last [] a free = ap (λ t. cond t (keyed_share k a ∷ []) (keyed_share k (empty_amount b kind) ∷ [])) ((bytes_eq-Decides k k).1 refl)
         last (r ∷ rs) a free = by (bytes_eq k r.keyword) (last rs a) free
           where
-            by : (t : Bool) → (IsNone (amount_under k rs) → with_amount k a (rs ++ row_of k (empty_amount b kind) ∷ []) ≡ rs ++ row_of k a ∷ []) → IsNone (cond t (Some r.amount) (amount_under k rs)) → cond t (row_of r.keyword a ∷ (rs ++ row_of k (empty_amount b kind) ∷ [])) (r ∷ with_amount k a (rs ++ row_of k (empty_amount b kind) ∷ [])) ≡ r ∷ (rs ++ row_of k a ∷ [])
+            by : (t : Bool) → (IsNone (amount_under k rs) → with_amount k a (rs ++ keyed_share k (empty_amount b kind) ∷ []) ≡ rs ++ keyed_share k a ∷ []) → IsNone (cond t (Some r.amount) (amount_under k rs)) → cond t (keyed_share r.keyword a ∷ (rs ++ keyed_share k (empty_amount b kind) ∷ [])) (r ∷ with_amount k a (rs ++ keyed_share k (empty_amount b kind) ∷ [])) ≡ r ∷ (rs ++ keyed_share k a ∷ [])
             by true later here = absurd cc
             by false later here = ap (λ l. r ∷ l) (later here)
 
@@ -112,7 +112,7 @@ pub seat_closed : (s : Lists) (n : ℕ) → n < length s.seats → seats_of (wit
 seat_closed s n made =
     map_set seat_of s.seats n (record (kept_seat_at s.seats n) { last = Some (kept_seat_at s.seats n).slots })
     ∙ ap (slice_set (map seat_of s.seats) n) (
-    ap (λ rows. left_seat (seat_of (kept_seat_at s.seats n)) rows) (sym (slots_read s.seats n))
+    ap (λ shares. left_seat (seat_of (kept_seat_at s.seats n)) shares) (sym (slots_read s.seats n))
     ∙ ap (λ seat. left_seat seat (slots_at (map slots_held s.seats) n)) (sym (seat_read s.seats n made))
     )
   where

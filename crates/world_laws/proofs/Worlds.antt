@@ -6,7 +6,7 @@ use Rattle.std.proofs.Math.Logic.{∥∥₁_map}
 use mathlib.Core.HLevel.{prop→set, Unit-prop}
 use denote.Struct.Props.{props}
 use Rattle.world_state.specs.amount_math.Content.{Content, coded_content}
-use Rattle.world_state.specs.amount_math.Worth.{IsValue}
+use Rattle.world_state.specs.amount_math.ValueView.{IsValue}
 use Rattle.world_state.specs.amount_math.declared.Amount.{Amount}
 use Rattle.world_state.specs.amount_math.declared.Kind.{Kind}
 use Rattle.world_state.specs.amount_math.declared.Kind.TheVariants.{Bag, Nat, Set}
@@ -19,9 +19,9 @@ use Rattle.world_state.specs.host_data.Tree.{Before, Fields, Items, Tree, array,
 use Rattle.world_state.specs.host_data.declared.data.Obj.{Obj}
 use Rattle.world_state.specs.host_data.declared.data.ObjKind.{ObjKind}
 use Rattle.world_state.specs.host_data.declared.data.ObjKind.TheVariants as kinds
-use Rattle.world_state.specs.proposals.Rows as rows_of
-use Rattle.world_state.specs.proposals.Rows.{amount_under}
-use Rattle.world_state.specs.proposals.declared.allocations.Row.{Row}
+use Rattle.world_state.specs.proposals.Shares as shares_of
+use Rattle.world_state.specs.proposals.Shares.{amount_under}
+use Rattle.world_state.specs.proposals.declared.allocations.Share.{Share}
 use Rattle.world_laws.proofs.Contents.{safe_stable}
 use Rattle.world_laws.proofs.Names.{named_stable, writes_prop}
 use Rattle.world_state.specs.Good.{AreTerms, HasSlot, IsDue, IsGoodWorld, IsRule, IsSettling, IsTimed, IsTimedEntry}
@@ -61,9 +61,9 @@ value_prop Nat c = hlevel (props, coded_content)
 value_prop Set c = hlevel (props, coded_content)
 value_prop Bag c = hlevel (props, coded_content)
 
--- ---- rows and issuers of keywords of their own
+-- ---- shares and issuers of keywords of their own
 
-apart_prop : (rows : List Row) → IsProp (rows_of.AreApart rows)
+apart_prop : (shares : List Share) → IsProp (shares_of.AreApart shares)
 apart_prop [] = Unit-prop
 apart_prop (r ∷ rs) = hlevel (world_facts, apart_prop rs)
 
@@ -71,7 +71,7 @@ issuers_prop : (xs : List Issuer) → IsProp (issuers_of.AreApart xs)
 issuers_prop [] = Unit-prop
 issuers_prop (i ∷ xs) = hlevel (world_facts, issuers_prop xs)
 
-slot_prop : (slots : List Row) (r : Row) → IsProp (HasSlot slots r)
+slot_prop : (slots : List Share) (r : Share) → IsProp (HasSlot slots r)
 slot_prop slots r = by (amount_under r.keyword slots)
   where
     by : (o : Option Amount) → IsProp (IsSomeAnd o (λ slot. Meet slot r.amount))

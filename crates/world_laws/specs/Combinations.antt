@@ -1,8 +1,8 @@
 -- Several parts that are taken to the hand and put from there as one payment.
 use Rattle.std.specs.Prelude.{ℕ, List, [], ◌∷◌, length}
 use Rattle.world_state.specs.rights_model.declared.Holder.TheVariants.{Payment}
-use Rattle.world_state.specs.right_steps.Flows.{Part, whole_of}
-use Rattle.world_state.specs.right_steps.Lists.{CanTake, Lists, amount_of, taken}
+use Rattle.world_state.specs.vault_model.Flows.{Part, whole_of}
+use Rattle.world_state.specs.vault_model.Lists.{CanTake, Lists, amount_of, taken}
 use Rattle.world_laws.specs.Views.{put_to}
 
 -- each part is taken to the hand

@@ -15,7 +15,7 @@ pub use Rattle.world_state.specs.lemmas
 pub use Rattle.world_state.specs.promise_store
 pub use Rattle.world_state.specs.proposals
 pub use Rattle.world_state.specs.refusals
-pub use Rattle.world_state.specs.right_steps
+pub use Rattle.world_state.specs.vault_model
 pub use Rattle.world_state.specs.rights_model
 pub use Rattle.world_state.specs.turn_records
 pub use Rattle.world_state.specs.turn_rows

@@ -3,9 +3,9 @@ use Rattle.std.specs.Prelude.{◌≡◌, ℕ, suc, List, [], ◌∷◌, ◌++◌
 use Rattle.world_state.specs.amount_math.Content.{Content, nothing}
 use Rattle.world_state.specs.amount_math.declared.Amount.{Amount}
 use Rattle.world_state.specs.ertp_mint.BrandSupply.{supply_at}
-use Rattle.world_state.specs.holders.Papers.{paper_at}
-use Rattle.world_state.specs.proposals.Rows.{amount_under}
-use Rattle.world_state.specs.proposals.declared.allocations.Row.{Row}
+use Rattle.world_state.specs.holders.PaymentViews.{payment_view_at}
+use Rattle.world_state.specs.proposals.Shares.{amount_under}
+use Rattle.world_state.specs.proposals.declared.allocations.Share.{Share}
 use Rattle.world_state.specs.rights_model.declared.Holder.{Holder}
 use Rattle.world_state.specs.rights_model.declared.Holder.TheVariants.{Purse, Payment, Slot, Hand, Outside}
 use Rattle.world_state.specs.rights_model.Place.{Place}
@@ -13,8 +13,8 @@ use Rattle.world_state.specs.rights_model.Table.{Table, holds}
 use Rattle.world_state.specs.rights_model.Tabulated.{tabulated}
 use Rattle.world_state.specs.rights_model.Totals.{held_over, is_payment, is_purse, is_slot}
 use Rattle.world_state.specs.rights_model.declared.Sum.{Sum}
-use Rattle.world_state.specs.right_steps.Lists.{purse_at}
-use Rattle.world_state.specs.right_steps.Tables.{in_brand, no_hand, numbered, right_in, right_on, slots_from}
+use Rattle.world_state.specs.vault_model.Lists.{purse_at}
+use Rattle.world_state.specs.vault_model.Tables.{in_brand, no_hand, numbered, right_in, right_on, slots_from}
 use Rattle.world_state.specs.Rights.{Rights, slots_at}
 
 -- what a slot has of a brand: nothing where there is no slot
@@ -25,15 +25,15 @@ in_slot (Some a) b = in_brand (right_in a) b
 -- what each holder has of a brand, where the hand has this
 abbrev pub content_at : Rights → (ℕ → Content) → Holder → ℕ → Content
 content_at r hand (Purse n) b = in_brand (right_in (purse_at r.purses n)) b
-content_at r hand (Payment n) b = in_brand (right_on (paper_at r.payments n)) b
+content_at r hand (Payment n) b = in_brand (right_on (payment_view_at r.payments n)) b
 content_at r hand (Slot s k) b = in_slot (amount_under k (slots_at r.slots s)) b
 content_at r hand Hand b = hand b
 content_at r hand Outside b = nothing
 
 -- the places of the slots of all seats, numbered from n
-abbrev pub seats_from : ℕ → List (List Row) → List Place
+abbrev pub seats_from : ℕ → List (List Share) → List Place
 seats_from n [] = []
-seats_from n (rows ∷ rest) = slots_from n rows ++ seats_from (suc n) rest
+seats_from n (shares ∷ rest) = slots_from n shares ++ seats_from (suc n) rest
 
 -- the places where something may be held
 abbrev pub purse_places : Rights → List Place

@@ -2,19 +2,19 @@
 -- way of the hand.
 use Rattle.std.specs.Prelude.{◌≡◌, ◌<◌, List, [], ◌∷◌, if◌then◌else◌, is_some, length, map}
 use Rattle.world_state.specs.amount_math.declared.Amount.{Amount}
-use Rattle.world_state.specs.proposals.Rows.{amount_under}
-use Rattle.world_state.specs.proposals.declared.allocations.Row.{Row}
+use Rattle.world_state.specs.proposals.Shares.{amount_under}
+use Rattle.world_state.specs.proposals.declared.allocations.Share.{Share}
 use Rattle.world_state.specs.rights_model.declared.Holder.{Holder}
 use Rattle.world_state.specs.rights_model.declared.Holder.TheVariants.{Purse, Payment, Slot, Hand, Outside}
 use Rattle.world_state.specs.rights_model.declared.Movement.{Movement}
-use Rattle.world_state.specs.right_steps.Lists.{CanTake, Lists, amount_of, given, taken, with_new_slot}
-use Rattle.world_state.specs.right_steps.Seats.{KeptSeat, kept_seat_at}
+use Rattle.world_state.specs.vault_model.Lists.{CanTake, Lists, amount_of, given, taken, with_new_slot}
+use Rattle.world_state.specs.vault_model.Seats.{KeptSeat, kept_seat_at}
 use Rattle.world_state.specs.Rights.{Rights}
 use Rattle.world_state.specs.Worlds.{Seat}
 
 -- ---- what the lists are in the world
 
-abbrev pub slots_held : KeptSeat → List Row
+abbrev pub slots_held : KeptSeat → List Share
 slots_held seat = seat.slots
 
 -- purses, payments and what is out as they are, and of each seat its slots

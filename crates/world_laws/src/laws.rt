@@ -1,4 +1,5 @@
-//! The laws. The bodies are empty: what they state is proved of the definitions.
+//! The laws of the world: good effects keep rights in balance, open seats covered, promises told and owed once. The
+//! bodies are empty: what they state is proved of the definitions.
 
 ghost use Rattle.std.specs.Prelude.{◌≡◌, ◌<◌, ◌≤◌, ◌+◌, ◌*◌, ℕ, true, Option, Some};
 ghost use Rattle.std.specs.Prelude.{List, ◌∷◌, length};
@@ -9,7 +10,7 @@ ghost use Rattle.world_state.specs.host_text.Words.{is_field_name};
 ghost use Rattle.world_state.specs.host_data.Tree.{Tree};
 ghost use Rattle.world_state.specs.promise_store.States.{SettlementView};
 ghost use Rattle.world_state.specs.proposals.OfferSafety.{MeetSlots};
-ghost use Rattle.world_state.specs.proposals.declared.allocations.Row.{Row};
+ghost use Rattle.world_state.specs.proposals.declared.allocations.Share.{Share};
 ghost use Rattle.world_state.specs.rights_model.declared.Movement.{Movement};
 ghost use Rattle.world_state.specs.turn_records.Deliveries.{Delivery, promise_of};
 ghost use Rattle.world_laws.specs.First.{first_world};
@@ -49,9 +50,9 @@ pub fn a_new_world_is_good()
 /// Through good effects what a seat had when it was left stays what it is, and what a promise was
 /// settled with.
 pub fn what_was_left_or_settled_stays()
-    ensures left { (w : State) (e : Effect) (s : ℕ) (rows : List Row)
+    ensures left { (w : State) (e : Effect) (s : ℕ) (shares : List Share)
         → IsGoodEffect w e → s < length w.seats
-        → (seat_at w.seats s).last ≡ Some rows → (seat_at (after w e).seats s).last ≡ Some rows }
+        → (seat_at w.seats s).last ≡ Some shares → (seat_at (after w e).seats s).last ≡ Some shares }
     ensures settled { (w : State) (e : Effect) (p : ℕ) (v : SettlementView)
         → IsGoodEffect w e → IsGoodWorld w → p < promises_made w
         → settlement_at w.promises.settled p ≡ Some v

@@ -5,15 +5,15 @@ ghost use Rattle.std.specs.List.{AllByRecursion};
 ghost use Rattle.world_state.specs.amount_math.Content.{nothing};
 ghost use Rattle.world_state.specs.amount_math.declared.Amount.{Amount};
 ghost use Rattle.world_state.specs.ertp_mint.BrandSupply.{BrandSupply};
-ghost use Rattle.world_state.specs.proposals.Rows.{AreApart};
+ghost use Rattle.world_state.specs.proposals.Shares.{AreApart};
 ghost use Rattle.world_state.specs.proposals.Slots.{emptied};
-ghost use Rattle.world_state.specs.proposals.declared.allocations.Row.{Row};
-ghost use Rattle.world_state.specs.right_steps.Tables.{no_hand};
+ghost use Rattle.world_state.specs.proposals.declared.allocations.Share.{Share};
+ghost use Rattle.world_state.specs.vault_model.Tables.{no_hand};
 ghost use Rattle.world_state.specs.rights_model.Table as table;
 ghost use Rattle.world_state.specs.rights_model.Table.{Table, table_after};
 ghost use Rattle.world_state.specs.rights_model.declared.Movement.{Movement};
 ghost use Rattle.world_laws.specs.Tables.{Agrees, table_of};
-ghost use Rattle.world_state.specs.Good.{AreRowsOf, AreRowsValued, HasNothing};
+ghost use Rattle.world_state.specs.Good.{AreSharesOf, AreSharesValued, HasNothing};
 ghost use Rattle.world_state.specs.Rights.{CanMoveAll, Rights, all_moved, moved_together, slots_at};
 ghost use Rattle.world_state.specs.Rights.{with_payment, with_purse, with_slots, with_supply};
 ghost use Rattle.world_state.specs.Worlds.{payout_moves, rights_left};
@@ -31,8 +31,8 @@ pub fn openings_move_nothing()
     ensures payment { (r : Rights) (a : Amount) → a.value.content ≡ nothing
         → table_of (with_payment r a) ≡ table_of r }
     ensures brand { (r : Rights) (s : BrandSupply) → table_of (with_supply r s) ≡ table_of r }
-    ensures seat { (r : Rights) (rows : List Row)
-        → table_of (with_slots r (map emptied rows)) ≡ table_of r }
+    ensures seat { (r : Rights) (shares : List Share)
+        → table_of (with_slots r (map emptied shares)) ≡ table_of r }
 {}
 
 /// A seat that is left is its slots paid out, each whole to a payment of its own, one after another.
@@ -40,10 +40,10 @@ pub fn a_left_seat_is_paid_out()
     ensures rights { (r : Rights) (n : ℕ) → n < length r.slots → AreApart (slots_at r.slots n)
         → all_moved r (payout_moves n (length r.payments) (slots_at r.slots n)) ≡ rights_left r n }
     ensures can { (r : Rights) (n : ℕ) → n < length r.slots → AreApart (slots_at r.slots n)
-        → AreRowsOf r.out (slots_at r.slots n) → AreRowsValued (slots_at r.slots n)
+        → AreSharesOf r.out (slots_at r.slots n) → AreSharesValued (slots_at r.slots n)
         → CanMoveAll r no_hand (payout_moves n (length r.payments) (slots_at r.slots n)) }
     ensures table { (r : Rights) (n : ℕ) → n < length r.slots → AreApart (slots_at r.slots n)
-        → AreRowsOf r.out (slots_at r.slots n) → AreRowsValued (slots_at r.slots n)
+        → AreSharesOf r.out (slots_at r.slots n) → AreSharesValued (slots_at r.slots n)
         → table_of (rights_left r n)
         ≡ table_after (table_of r) (payout_moves n (length r.payments) (slots_at r.slots n)) }
 {}

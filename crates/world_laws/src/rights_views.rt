@@ -1,16 +1,16 @@
 //! The laws. The bodies are empty: what they state is proved of the definitions.
 
 ghost use Rattle.std.specs.Prelude.{◌≡◌, ◌<◌, ◌++◌, ℕ, List, [], ◌∷◌, length};
-ghost use Rattle.world_state.specs.amount_math.Worth.{Worth};
+ghost use Rattle.world_state.specs.amount_math.ValueView.{ValueView};
 ghost use Rattle.world_state.specs.amount_math.declared.Kind.{Kind as AmountKind};
 ghost use Rattle.world_state.specs.ertp_mint.BrandSupply.{new_supply};
 ghost use Rattle.world_state.specs.ertp_mint.Stocks.{empty_amount};
-ghost use Rattle.world_state.specs.proposals.Rows.{AreApart};
+ghost use Rattle.world_state.specs.proposals.Shares.{AreApart};
 ghost use Rattle.world_state.specs.proposals.declared.offers.Proposal.{Proposal};
-ghost use Rattle.world_state.specs.right_steps.Flows.{Part, gathered};
-ghost use Rattle.world_state.specs.right_steps.Lists.{CanTake, amount_of, taken};
-ghost use Rattle.world_state.specs.right_steps.Lists.{Lists, with_closed_seat, with_new_brand};
-ghost use Rattle.world_state.specs.right_steps.Lists.{with_new_purse, with_new_seat};
+ghost use Rattle.world_state.specs.vault_model.Flows.{Part, gathered};
+ghost use Rattle.world_state.specs.vault_model.Lists.{CanTake, amount_of, taken};
+ghost use Rattle.world_state.specs.vault_model.Lists.{Lists, with_closed_seat, with_new_brand};
+ghost use Rattle.world_state.specs.vault_model.Lists.{with_new_purse, with_new_seat};
 ghost use Rattle.world_state.specs.rights_model.declared.Holder.{Holder};
 ghost use Rattle.world_state.specs.rights_model.declared.Holder.TheVariants.{Outside, Payment};
 ghost use Rattle.world_state.specs.rights_model.declared.Movement.{Movement};
@@ -56,10 +56,10 @@ pub fn what_is_closed_is_left()
 /// What a draft takes of a holder is taken in the world, and a payment is then spent; what it puts
 /// to a holder is given, and a slot that wasn't there stands last, as in `rows_more`.
 pub fn what_is_taken_and_put_is_so_in_the_world()
-    ensures take { (s : Lists) (from : Holder) (b : ℕ) (w : Worth) → CanTake s from b w
+    ensures take { (s : Lists) (from : Holder) (b : ℕ) (w : ValueView) → CanTake s from b w
         → let r = world.taken (rights_of s) from b w in
         rights_of (taken s from b w) ≡ record r { payments = spent_from from r.payments } }
-    ensures put { (s : Lists) (to : Holder) (b : ℕ) (w : Worth) → MayPut s to
+    ensures put { (s : Lists) (to : Holder) (b : ℕ) (w : ValueView) → MayPut s to
         → rights_of (put_to s to (amount_of b w)) ≡ world.given (rights_of s) to b w }
 {}
 

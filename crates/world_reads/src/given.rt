@@ -34,7 +34,7 @@ pub fn issuer_number(world: &World, place: u32, args: &[Data]) -> Result<u32, St
     ensures gives { Gives (λ n. n) result (object_at kinds.Issuer place (trees args.now)) }
     ensures made { IfOk result (λ n. n < length (world_of world.now).brands) }
 {
-    object_at(ObjKind::Issuer, world.plain.brands.made(), place, args)
+    object_at(ObjKind::Issuer, world.registers.brands.made(), place, args)
 }
 
 /// The number of the installation at a place: else `WrongObject` with the place.
@@ -46,7 +46,7 @@ pub fn installation_number(world: &World, place: u32, args: &[Data]) -> Result<u
 {
     object_at(
         ObjKind::Installation,
-        world.plain.instances.installations(),
+        world.registers.instances.installations(),
         place,
         args,
     )
@@ -59,7 +59,12 @@ pub fn instance_number(world: &World, place: u32, args: &[Data]) -> Result<u32, 
     ensures gives { Gives (λ n. n) result (object_at kinds.Instance place (trees args.now)) }
     ensures made { IfOk result (λ n. n < length (world_of world.now).tables.instances) }
 {
-    object_at(ObjKind::Instance, world.plain.instances.made(), place, args)
+    object_at(
+        ObjKind::Instance,
+        world.registers.instances.made(),
+        place,
+        args,
+    )
 }
 
 /// The numbers of the payments in an array that stands at a place: else `WrongObject` with the place.

@@ -30,7 +30,7 @@ pub fn names_function(world: &World, instance: u32, name: &Text) -> bool
     requires made { instance < length (world_of world.now).tables.instances }
     ensures { result ≡ names_function (world_of world.now) instance name.now }
 {
-    let instances = &world.plain.instances;
+    let instances = &world.registers.instances;
     let module = instances.module(instances.installation(instance));
     module.function(name.as_str()).is_some()
 }

@@ -8,8 +8,32 @@ pub mod moves;
 pub mod record_data;
 pub mod words;
 
-pub use call_plans as call_plans_lib;
-pub use call_plans::plain_stores_lib;
-pub use host_world as host_world_lib;
+/// What `call_outcomes` gives to those above.
+pub mod call_outcomes_lib {
+    pub mod effects {
+        pub use call_outcomes::effects::{
+            Asking, Effect, InstancesEffect, LabelsEffect, Offering, PromisesEffect, RightsEffect,
+            SeatsEffect, Sending, Starting,
+        };
+    }
+
+    pub mod lists {
+        pub use call_outcomes::lists::Effects;
+    }
+
+    pub mod moves {
+        pub use call_outcomes::moves::Moves;
+    }
+
+    pub mod outcomes {
+        pub use call_outcomes::outcomes::{CallOutcome, outcome_of_reading};
+    }
+}
+
+/// What `host_world` gives to those above.
+pub mod host_world_lib {
+    pub use host_world::{Ledger, World};
+}
+
+pub use call_outcomes::registers_lib;
 pub use host_world::{draft_reads_lib, escrow_lib, vault_lib};
-pub use refusals as refusals_lib;

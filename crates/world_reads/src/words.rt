@@ -1,7 +1,7 @@
 //! Numbers of what is made next, and tests of instances and keywords.
 
 ghost use Rattle.std.specs.Prelude.{◌≡◌, ◌≤◌, ◌<◌, ◌+◌, true, IfOk, OnOk, length};
-ghost use Rattle.call_plans.specs.Plans.{Plans};
+ghost use Rattle.call_outcomes.specs.CallOutcomes.{GivesOutcome};
 ghost use Rattle.rules.specs.Words.{is_offered_to, keyword_at, next_of, next_payment, runs, standing_of, without_method};
 ghost use Rattle.rules.specs.ertp_mint.Stocks.{most_made};
 ghost use Rattle.refusals.specs.host_text.Words.{is_keyword};
@@ -10,7 +10,7 @@ ghost use Rattle.refusals.specs.host_data.View.{trees};
 ghost use Rattle.refusals.specs.Outcomes.{Gives};
 ghost use Rattle.rules.specs.world_state.Good.{open_slots};
 
-use call_plans::plans::Plan;
+use call_outcomes::outcomes::CallOutcome;
 use host_world::World;
 use host_world::draft_reads_lib::payment_reads::{payments_left, payments_made};
 use refusals::codes::{NumberCode, TextCode};
@@ -53,7 +53,7 @@ pub fn runs(world: &World, instance: u32) -> Result<(), Stop>
     requires { instance < length (world_of world.now).tables.instances }
     ensures { Gives (λ _. tt) result (runs (world_of world.now) instance) }
 {
-    match world.plain.instances.standing(instance) {
+    match world.registers.instances.standing(instance) {
         Standing::Halted => Err(Stop::numbered(NumberCode::Closed, instance)),
         Standing::Accepting => Ok(()),
         Standing::Stopped => Ok(()),
@@ -66,7 +66,7 @@ pub fn is_offered_to(world: &World, instance: u32) -> Result<(), Stop>
     requires { instance < length (world_of world.now).tables.instances }
     ensures { Gives (λ _. tt) result (is_offered_to (world_of world.now) instance) }
 {
-    match world.plain.instances.standing(instance) {
+    match world.registers.instances.standing(instance) {
         Standing::Accepting => Ok(()),
         Standing::Halted => Err(Stop::numbered(NumberCode::Closed, instance)),
         Standing::Stopped => Err(Stop::numbered(NumberCode::Closed, instance)),
@@ -84,8 +84,8 @@ pub fn keyword_at(alloc: Global, place: u32, args: &[Data]) -> Result<&Text, Sto
 }
 
 /// The target has no such method: `NoMethod`.
-pub fn without_method(alloc: Global, method: &str) -> Result<Plan, Stop>
-    ensures { Plans (without_method method.now) result }
+pub fn without_method(alloc: Global, method: &str) -> Result<CallOutcome, Stop>
+    ensures { GivesOutcome (without_method method.now) result }
 {
     Err(Stop::worded(alloc, TextCode::NoMethod, method))
 }

@@ -1,22 +1,22 @@
--- What holds of the world between effects, part by part, each over the stores that it reads; and
--- what each effect needs.
+-- What holds of the world between effects, part by part, each over the stores that it reads: rights add up, open seats are
+-- covered, who waits for a promise is told, promises are owed once, all that is held was made. And what each effect needs.
 use Rattle.std.specs.Prelude.{◌≡◌, ◌≢◌, ◌⊎◌, ℕ, ◌+◌, ◌<◌, ◌≤◌, ◌==◌, ◌&&◌, if◌then◌else◌}
 use Rattle.std.specs.Prelude.{Bool, true, false, codes, List, [], ◌∷◌, ◌++◌, length}
 use Rattle.std.specs.Prelude.{Option, Some, None, IfSome, IsSome, IsSomeAnd, is_none}
 use Rattle.std.specs.List.{AllByRecursion}
-use Rattle.right_steps.specs.amount_math.Amount.{Meet}
-use Rattle.right_steps.specs.amount_math.Content.{count}
-use Rattle.right_steps.specs.amount_math.Worth.{Fits, IsValue, Worth}
-use Rattle.right_steps.specs.amount_math.declared.Amount.{Amount}
-use Rattle.right_steps.specs.amount_math.declared.Kind.TheVariants.{Set}
+use Rattle.vault_model.specs.amount_math.Amount.{Meet}
+use Rattle.vault_model.specs.amount_math.Content.{count}
+use Rattle.vault_model.specs.amount_math.ValueView.{Fits, IsValue, ValueView}
+use Rattle.vault_model.specs.amount_math.declared.Amount.{Amount}
+use Rattle.vault_model.specs.amount_math.declared.Kind.TheVariants.{Set}
 use Rattle.actors.specs.Labels.{Bound, bound_to}
 use Rattle.actors.specs.brands.Brands.{brand_at, most_brands}
 use Rattle.actors.specs.brands.IssuerRecords.{AreIssuers, brand_under, most_issuers}
 use Rattle.actors.specs.brands.declared.Brand.{Brand}
 use Rattle.actors.specs.brands.declared.issuer_record.Issuer.{Issuer}
-use Rattle.right_steps.specs.ertp_mint.BrandSupply.{BrandSupply, supply_at}
-use Rattle.right_steps.specs.ertp_mint.Stocks.{most_made}
-use Rattle.right_steps.specs.host_text.Words.{is_field_name, is_keyword}
+use Rattle.vault_model.specs.ertp_mint.BrandSupply.{BrandSupply, supply_at}
+use Rattle.vault_model.specs.ertp_mint.Stocks.{most_made}
+use Rattle.vault_model.specs.host_text.Words.{is_field_name, is_keyword}
 use Rattle.actors.specs.Facets.{FacetView}
 use Rattle.actors.specs.SeatPromises.{pair_at}
 use Rattle.actors.specs.Tables.{InstanceView, initial_state, instance_at, module_at}
@@ -27,24 +27,24 @@ use Rattle.actors.specs.turn_stores.Details.{DetailsView}
 use Rattle.actors.specs.turn_stores.Elements.{element}
 use Rattle.actors.specs.jessie_semantics.Naming.{IsFieldName, RoutinesWrite}
 use Rattle.actors.specs.jessie_grammar.Syntax.{Routine, routines}
-use Rattle.right_steps.specs.host_data.Tree.{Tree, fields, get, object}
-use Rattle.right_steps.specs.host_data.declared.data.Obj.{Obj}
+use Rattle.vault_model.specs.host_data.Tree.{Tree, fields, get, object}
+use Rattle.vault_model.specs.host_data.declared.data.Obj.{Obj}
 use Rattle.actors.specs.jessie_grammar.declared.syntax.Module.{Module}
-use Rattle.right_steps.specs.holders.Papers.{Paper, paper_at}
+use Rattle.vault_model.specs.holders.PaymentViews.{PaymentView, payment_view_at}
 use Rattle.turn_records.specs.promise_store.Linked.{IsForest, LeadsTo, leader}
 use Rattle.turn_records.specs.promise_store.States.{SettlementView, broken, ok}
 use Rattle.turn_records.specs.promise_store.declared.links.Following.{Following}
-use Rattle.right_steps.specs.proposals.OfferSafety.{IsOfferSafe}
-use Rattle.right_steps.specs.proposals.Rows.{AreRows, amount_under}
-use Rattle.right_steps.specs.proposals.Slots.{FitsSeat, in_byte_order}
-use Rattle.right_steps.specs.proposals.declared.allocations.Row.{Row}
-use Rattle.right_steps.specs.proposals.declared.offers.Exit.{Exit}
-use Rattle.right_steps.specs.proposals.declared.offers.Exit.TheVariants.{AfterDeadline, OnDemand, Waived}
-use Rattle.right_steps.specs.proposals.declared.offers.Proposal.{Proposal}
-use Rattle.right_steps.specs.rights_model.declared.Holder.{Holder}
-use Rattle.right_steps.specs.rights_model.declared.Holder.TheVariants.{Purse, Payment, Slot, Hand, Outside}
-use Rattle.right_steps.specs.rights_model.declared.Movement.{Movement}
-use Rattle.right_steps.specs.Tables.{no_hand}
+use Rattle.vault_model.specs.proposals.OfferSafety.{IsOfferSafe}
+use Rattle.vault_model.specs.proposals.Shares.{AreShares, amount_under}
+use Rattle.vault_model.specs.proposals.Slots.{FitsSeat, in_byte_order}
+use Rattle.vault_model.specs.proposals.declared.allocations.Share.{Share}
+use Rattle.vault_model.specs.proposals.declared.offers.Exit.{Exit}
+use Rattle.vault_model.specs.proposals.declared.offers.Exit.TheVariants.{AfterDeadline, OnDemand, Waived}
+use Rattle.vault_model.specs.proposals.declared.offers.Proposal.{Proposal}
+use Rattle.vault_model.specs.rights_model.declared.Holder.{Holder}
+use Rattle.vault_model.specs.rights_model.declared.Holder.TheVariants.{Purse, Payment, Slot, Hand, Outside}
+use Rattle.vault_model.specs.rights_model.declared.Movement.{Movement}
+use Rattle.vault_model.specs.Tables.{no_hand}
 use Rattle.actors.specs.turn_stores.Schedules.{Schedule}
 use Rattle.turn_records.specs.Deliveries.{Delivery, Notice, Offer, Send, Start, Wakeup, promise_of}
 use Rattle.turn_records.specs.Deliveries.{bad, call, deadline, give, notify, tick}
@@ -79,31 +79,31 @@ pub record IsOfKind (out : List BrandSupply) (a : Amount) : Type 0 where
   pub kind : kind_at out a.brand ≡ a.value.kind
 
 -- a payment of a brand that was made; what it has is of its kind
-pub record IsPaper (out : List BrandSupply) (p : Paper) : Type 0 where
+pub record IsPayment (out : List BrandSupply) (p : PaymentView) : Type 0 where
   pub made : p.brand < length out
   pub kind : IfSome p.held (λ w. kind_at out p.brand ≡ w.kind)
 
-abbrev pub AreRowsOf : List BrandSupply → List Row → Type 0
-AreRowsOf out rows = AllByRecursion (λ (r : Row). IsOfKind out r.amount) rows
+abbrev pub AreSharesOf : List BrandSupply → List Share → Type 0
+AreSharesOf out shares = AllByRecursion (λ (r : Share). IsOfKind out r.amount) shares
 
 -- amounts are values of their kind
-abbrev pub IsValued : Worth → Type 0
+abbrev pub IsValued : ValueView → Type 0
 IsValued w = IsValue w.kind w.content
 
 abbrev pub IsAmountValued : Amount → Type 0
 IsAmountValued a = IsValued a.value
 
-abbrev pub IsPaperValued : Paper → Type 0
-IsPaperValued p = IfSome p.held IsValued
+abbrev pub IsPaymentValued : PaymentView → Type 0
+IsPaymentValued p = IfSome p.held IsValued
 
-abbrev pub AreRowsValued : List Row → Type 0
-AreRowsValued rows = AllByRecursion (λ (r : Row). IsAmountValued r.amount) rows
+abbrev pub AreSharesValued : List Share → Type 0
+AreSharesValued shares = AllByRecursion (λ (r : Share). IsAmountValued r.amount) shares
 
 -- and so is what purses, payments and slots have
 pub record AreValues (r : Rights) : Type 0 where
   pub purses : AllByRecursion IsAmountValued r.purses
-  pub payments : AllByRecursion IsPaperValued r.payments
-  pub slots : AllByRecursion AreRowsValued r.slots
+  pub payments : AllByRecursion IsPaymentValued r.payments
+  pub slots : AllByRecursion AreSharesValued r.slots
 
 -- there is no more out of a brand than its kind lets there be
 abbrev pub IsInBounds : BrandSupply → Type 0
@@ -132,36 +132,36 @@ pub record AreInvitations (out : List BrandSupply) (ds : List DetailsView) : Typ
 -- ---- seats
 
 -- how many slots there are in open seats, each of which will be a payment
-abbrev pub slots_in : Seat → List Row → ℕ
-slots_in seat rows = if is_none seat.last then length rows else 0
+abbrev pub slots_in : Seat → List Share → ℕ
+slots_in seat shares = if is_none seat.last then length shares else 0
 
-abbrev pub open_slots : List Seat → List (List Row) → ℕ
+abbrev pub open_slots : List Seat → List (List Share) → ℕ
 open_slots [] slots = 0
 open_slots (s ∷ ss) [] = 0
-open_slots (s ∷ ss) (rows ∷ rest) = slots_in s rows + open_slots ss rest
+open_slots (s ∷ ss) (shares ∷ rest) = slots_in s shares + open_slots ss rest
 
-pub record HasRoom (ps : List Paper) (slots : List (List Row)) (seats : List Seat) : Type 0 where
+pub record HasRoom (ps : List PaymentView) (slots : List (List Share)) (seats : List Seat) : Type 0 where
   pub left : length ps + open_slots seats slots ≤ most_made
 
 -- what an open seat has covers what it wants, or what it gave
-pub record AreCovered (slots : List (List Row)) (seats : List Seat) : Type 0 where
+pub record AreCovered (slots : List (List Share)) (seats : List Seat) : Type 0 where
   pub each : (s : ℕ) → IsOpen (seat_at seats s)
       → IsOfferSafe (seat_at seats s).proposal (slots_at slots s)
 
--- rows stand under keywords
+-- shares stand under keywords
 abbrev pub IsKeyword : List ℕ → Type 0
 IsKeyword k = is_keyword k ≡ true
 
-abbrev pub AreNamed : List Row → Type 0
-AreNamed rows = AllByRecursion (λ (r : Row). IsKeyword r.keyword) rows
+abbrev pub AreNamed : List Share → Type 0
+AreNamed shares = AllByRecursion (λ (r : Share). IsKeyword r.keyword) shares
 
 -- each seat has its slots, under keywords of their own, two promises, and a place for its staging
-pub record AreSeats (seats : List Seat) (slots : List (List Row)) (pairs : List SeatPair)
-    (staging : List (Option (List Row))) : Type 0 where
+pub record AreSeats (seats : List Seat) (slots : List (List Share)) (pairs : List SeatPair)
+    (staging : List (Option (List Share))) : Type 0 where
   pub staged : length staging ≡ length seats
   pub slotted : length slots ≡ length seats
   pub paired : length pairs ≡ length seats
-  pub rows : AllByRecursion AreRows slots
+  pub shares : AllByRecursion AreShares slots
   pub named : AllByRecursion AreNamed slots
 
 -- both of its promises were made
@@ -188,61 +188,61 @@ IsRule Waived = Unit {0}
 
 -- what is proposed: keywords of their own, amounts of brands that were made
 pub record IsProposal (out : List BrandSupply) (p : Proposal) : Type 0 where
-  pub give : AreRows p.give
-  pub want : AreRows p.want
+  pub give : AreShares p.give
+  pub want : AreShares p.want
   pub give_named : AreNamed p.give
   pub want_named : AreNamed p.want
-  pub give_valued : AreRowsValued p.give
-  pub want_valued : AreRowsValued p.want
+  pub give_valued : AreSharesValued p.give
+  pub want_valued : AreSharesValued p.want
   pub fits : FitsSeat p
-  pub gives : AreRowsOf out p.give
-  pub wants : AreRowsOf out p.want
+  pub gives : AreSharesOf out p.give
+  pub wants : AreSharesOf out p.want
   pub rule : IsRule p.exit
 
--- a row has a slot under its keyword, of its brand and kind
-abbrev pub HasSlot : List Row → Row → Type 0
-HasSlot slots row = IsSomeAnd (amount_under row.keyword slots) (λ slot. Meet slot row.amount)
+-- a share has a slot under its keyword, of its brand and kind
+abbrev pub HasSlot : List Share → Share → Type 0
+HasSlot slots share = IsSomeAnd (amount_under share.keyword slots) (λ slot. Meet slot share.amount)
 
--- and so has each row of a proposal
-pub record HaveSlots (slots : List Row) (p : Proposal) : Type 0 where
+-- and so has each share of a proposal
+pub record HaveSlots (slots : List Share) (p : Proposal) : Type 0 where
   pub give : AllByRecursion (HasSlot slots) p.give
   pub want : AllByRecursion (HasSlot slots) p.want
 
 -- what a seat had when it was left
-pub record IsLast (out : List BrandSupply) (p : Proposal) (rows : List Row) : Type 0 where
-  pub apart : AreRows rows
-  pub named : AreNamed rows
-  pub valued : AreRowsValued rows
-  pub of_kinds : AreRowsOf out rows
-  pub slots : HaveSlots rows p
+pub record IsLast (out : List BrandSupply) (p : Proposal) (shares : List Share) : Type 0 where
+  pub apart : AreShares shares
+  pub named : AreNamed shares
+  pub valued : AreSharesValued shares
+  pub of_kinds : AreSharesOf out shares
+  pub slots : HaveSlots shares p
 
 -- what a seat was opened for, and what it has or had
-pub record IsSeat (out : List BrandSupply) (seat : Seat) (rows : List Row) : Type 0 where
+pub record IsSeat (out : List BrandSupply) (seat : Seat) (shares : List Share) : Type 0 where
   pub proposal : IsProposal out seat.proposal
-  pub slots : HaveSlots rows seat.proposal
+  pub slots : HaveSlots shares seat.proposal
   pub last : IfSome seat.last (IsLast out seat.proposal)
 
 pub record AreProposed (out : List BrandSupply) (seats : List Seat)
-    (slots : List (List Row)) : Type 0 where
+    (slots : List (List Share)) : Type 0 where
   pub each : (s : ℕ) → s < length seats → IsSeat out (seat_at seats s) (slots_at slots s)
 
 -- what is staged of an open seat: keywords of their own, amounts of brands that were made, where
 -- there is a slot of its brand
-abbrev pub IsOfSlot : List Row → Row → Type 0
-IsOfSlot slots row = IfSome (amount_under row.keyword slots) (λ a. a.brand ≡ row.amount.brand)
+abbrev pub IsOfSlot : List Share → Share → Type 0
+IsOfSlot slots share = IfSome (amount_under share.keyword slots) (λ a. a.brand ≡ share.amount.brand)
 
-pub record IsStaged (out : List BrandSupply) (seat : Seat) (slots rows : List Row) : Type 0 where
+pub record IsStaged (out : List BrandSupply) (seat : Seat) (slots shares : List Share) : Type 0 where
   pub is_open : IsOpen seat
-  pub apart : AreRows rows
-  pub named : AreNamed rows
-  pub valued : AreRowsValued rows
-  pub of_kinds : AreRowsOf out rows
-  pub of_slots : AllByRecursion (IsOfSlot slots) rows
+  pub apart : AreShares shares
+  pub named : AreNamed shares
+  pub valued : AreSharesValued shares
+  pub of_kinds : AreSharesOf out shares
+  pub of_slots : AllByRecursion (IsOfSlot slots) shares
 
-pub record AreStaged (out : List BrandSupply) (seats : List Seat) (slots : List (List Row))
-    (staging : List (Option (List Row))) : Type 0 where
-  pub each : (s : ℕ) (rows : List Row) → staged_at staging s ≡ Some rows
-      → IsStaged out (seat_at seats s) (slots_at slots s) rows
+pub record AreStaged (out : List BrandSupply) (seats : List Seat) (slots : List (List Share))
+    (staging : List (Option (List Share))) : Type 0 where
+  pub each : (s : ℕ) (shares : List Share) → staged_at staging s ≡ Some shares
+      → IsStaged out (seat_at seats s) (slots_at slots s) shares
 
 -- ---- promises that are owed
 
@@ -301,15 +301,15 @@ pub record AreFollowing (book : PromiseBook) : Type 0 where
 -- the promise of a seat's payouts is settled with the record of its payments, one under each
 -- keyword of what it had
 pub record IsPaidOut (settled : List (Option SettlementView)) (pair : SeatPair)
-    (rows : List Row) : Type 0 where
+    (shares : List Share) : Type 0 where
   pub first : ℕ
-  pub given : settlement_at settled pair.payouts ≡ Some (ok (payments_tree first rows))
+  pub given : settlement_at settled pair.payouts ≡ Some (ok (payments_tree first shares))
 
 -- a seat that was left was paid out
 pub record ArePaidOut (seats : List Seat) (pairs : List SeatPair)
     (settled : List (Option SettlementView)) : Type 0 where
-  pub each : (s : ℕ) (rows : List Row) → s < length seats → (seat_at seats s).last ≡ Some rows
-      → IsPaidOut settled (pair_at pairs s) rows
+  pub each : (s : ℕ) (shares : List Share) → s < length seats → (seat_at seats s).last ≡ Some shares
+      → IsPaidOut settled (pair_at pairs s) shares
 
 -- ---- data and functions that the world holds
 
@@ -439,8 +439,8 @@ pub record IsTimely (s : Schedule Delivery) : Type 0 where
 pub record IsGoodWorld (w : State) : Type 0 where
   pub balanced : IsBalanced w.rights
   pub purse_kinds : AllByRecursion (IsOfKind w.rights.out) w.rights.purses
-  pub payment_kinds : AllByRecursion (IsPaper w.rights.out) w.rights.payments
-  pub slot_kinds : AllByRecursion (AreRowsOf w.rights.out) w.rights.slots
+  pub payment_kinds : AllByRecursion (IsPayment w.rights.out) w.rights.payments
+  pub slot_kinds : AllByRecursion (AreSharesOf w.rights.out) w.rights.slots
   pub valued : AreValues w.rights
   pub bounded : AllByRecursion IsInBounds w.rights.out
   pub brands : AreBrands w.brands w.makers w.rights.out
@@ -514,11 +514,11 @@ pub record IsGoodMove (seats : List Seat) (m : Movement) : Type 0 where
   pub to : IsAtOpen seats m.to
 
 -- a payment that was taken from has nothing left
-abbrev pub HoldsNothing : Paper → Type 0
-HoldsNothing p = IfSome p.held (λ (w : Worth). (k : List ℕ) → count w.content k ≡ 0)
+abbrev pub HoldsNothing : PaymentView → Type 0
+HoldsNothing p = IfSome p.held (λ (w : ValueView). (k : List ℕ) → count w.content k ≡ 0)
 
-abbrev pub HasNothing : List Paper → Holder → Type 0
-HasNothing ps (Payment n) = HoldsNothing (paper_at ps n)
+abbrev pub HasNothing : List PaymentView → Holder → Type 0
+HasNothing ps (Payment n) = HoldsNothing (payment_view_at ps n)
 HasNothing ps (Purse n) = Unit {0}
 HasNothing ps (Slot s k) = Unit {0}
 HasNothing ps Hand = Unit {0}
@@ -544,7 +544,7 @@ LeavesSafe r seats ms s =
 -- movements can be made together: each in order; nothing is left in the hand, or in a payment
 -- that was taken from; what is given to a payment makes it; the slots of a seat of which
 -- something is staged stay as they are; each open seat is covered, and can be paid out
-pub record CanMoveTogether (r : Rights) (seats : List Seat) (staging : List (Option (List Row)))
+pub record CanMoveTogether (r : Rights) (seats : List Seat) (staging : List (Option (List Share)))
     (ms : List Movement) : Type 0 where
   pub can : CanMoveAll r no_hand ms
   pub good : AllByRecursion (IsGoodMove seats) ms
@@ -562,15 +562,15 @@ pub record IsBurn (invitation : ℕ) (m : Movement) : Type 0 where
   pub to : m.to ≡ Outside
   pub value : m.value ≡ invitation_value invitation
 
-pub record IsEscrow (seat : ℕ) (row : Row) (m : Movement) : Type 0 where
+pub record IsEscrow (seat : ℕ) (share : Share) (m : Movement) : Type 0 where
   pub payment : ℕ
-  pub brand : m.brand ≡ row.amount.brand
+  pub brand : m.brand ≡ share.amount.brand
   pub from : m.from ≡ Payment payment
-  pub to : m.to ≡ Slot seat row.keyword
-  pub value : m.value ≡ row.amount.value
+  pub to : m.to ≡ Slot seat share.keyword
+  pub value : m.value ≡ share.amount.value
 
 -- each slot of give gets its amount, in order
-abbrev pub AreEscrows : ℕ → List Row → List Movement → Type 0
+abbrev pub AreEscrows : ℕ → List Share → List Movement → Type 0
 AreEscrows seat [] [] = Unit {0}
 AreEscrows seat (r ∷ rs) (m ∷ ms) = IsEscrow seat r m × AreEscrows seat rs ms
 AreEscrows seat _ _ = ⊥
@@ -702,8 +702,8 @@ IsGoodEffect w (new_brand b maker) = CanMakeBrand w maker
 IsGoodEffect w (new_purse b) = CanOpenPurse w b
 IsGoodEffect w (empty_payment b) = CanMakeEmpty w b
 IsGoodEffect w (moves ms) = CanMoveTogether w.rights w.seats w.staging ms
-IsGoodEffect w (stage s rows) =
-    IsStaged w.rights.out (seat_at w.seats s) (slots_at w.rights.slots s) rows
+IsGoodEffect w (stage s shares) =
+    IsStaged w.rights.out (seat_at w.seats s) (slots_at w.rights.slots s) shares
 IsGoodEffect w (unstage s) = Unit {0}
 IsGoodEffect w end_staging = Unit {0}
 IsGoodEffect w (offer o) = CanOffer w o

@@ -3,26 +3,26 @@
 use Rattle.std.specs.Prelude.{◌≡◌, ℕ, ◌<◌, ◌≤◌, ◌⊎◌, true, Option, Some, None, IsSome}
 use Rattle.std.specs.Prelude.{List, [], ◌∷◌, length, slice_index_or}
 use Rattle.std.specs.Str.{IsUtf8}
-use Rattle.right_steps.specs.amount_math.declared.Kind.{Kind}
+use Rattle.vault_model.specs.amount_math.declared.Kind.{Kind}
 use Rattle.actors.specs.brands.Brands.{brand_at, no_brand}
 use Rattle.actors.specs.brands.declared.Brand.{Brand}
-use Rattle.right_steps.specs.host_data.Nodes.{NodeFact}
-use Rattle.right_steps.specs.host_data.Nodes.{EachNode, FunctionIs, HasFieldsInOrder, IsShallow, ObjectIs}
+use Rattle.vault_model.specs.host_data.Nodes.{NodeFact}
+use Rattle.vault_model.specs.host_data.Nodes.{EachNode, FunctionIs, HasFieldsInOrder, IsShallow, ObjectIs}
 use Rattle.turn_records.specs.Printable.{HaveFieldNames, IsNumber}
-use Rattle.right_steps.specs.host_text.Words.{is_field_name}
+use Rattle.vault_model.specs.host_text.Words.{is_field_name}
 use Rattle.actors.specs.Facets.{no_facet}
 use Rattle.actors.specs.SeatPromises.{no_pair}
 use Rattle.actors.specs.Tables.{InstanceView, Tables, instance_at, module_at}
 use Rattle.actors.specs.Tables.{no_instance, no_module}
 use Rattle.actors.specs.turn_stores.Details.{no_details}
 use Rattle.actors.specs.jessie_grammar.Syntax.{Routine, routines}
-use Rattle.right_steps.specs.host_data.Tree.{Tree, fields, function, number, object, text}
-use Rattle.right_steps.specs.host_data.declared.data.Obj.{Obj}
-use Rattle.right_steps.specs.host_data.declared.data.ObjKind.{ObjKind}
-use Rattle.right_steps.specs.host_data.declared.data.ObjKind.TheVariants as kinds
+use Rattle.vault_model.specs.host_data.Tree.{Tree, fields, function, number, object, text}
+use Rattle.vault_model.specs.host_data.declared.data.Obj.{Obj}
+use Rattle.vault_model.specs.host_data.declared.data.ObjKind.{ObjKind}
+use Rattle.vault_model.specs.host_data.declared.data.ObjKind.TheVariants as kinds
 use Rattle.actors.specs.jessie_grammar.declared.syntax.Module.{Module}
-use Rattle.right_steps.specs.holders.Papers.{Paper, spent_paper}
-use Rattle.right_steps.specs.proposals.declared.offers.Proposal.{Proposal}
+use Rattle.vault_model.specs.holders.PaymentViews.{PaymentView, spent_payment}
+use Rattle.vault_model.specs.proposals.declared.offers.Proposal.{Proposal}
 use Rattle.turn_records.specs.turn_rows.Form.{objects_end}
 use Rattle.world_state.specs.Promises.{WasSettled, no_promise}
 use Rattle.world_state.specs.Worlds.{Maker, Seat, State, maker_at, no_seat, seat_at}
@@ -163,7 +163,7 @@ instance_origin x = (x.installation, x.terms)
 abbrev pub WasLeft : Seat → Type 0
 WasLeft seat = IsSome seat.last
 
-abbrev pub WasSpent : Paper → Type 0
+abbrev pub WasSpent : PaymentView → Type 0
 WasSpent p = p.held ≡ None
 
 pub record Grows (old new : State) : Type 0 where
@@ -180,4 +180,4 @@ pub record Grows (old new : State) : Type 0 where
   pub promises : length old.promises.settled ≤ length new.promises.settled
   pub settled : Keeps WasSettled no_promise old.promises.settled new.promises.settled
   pub left : Keeps WasLeft no_seat old.seats new.seats
-  pub spent : Keeps WasSpent (spent_paper 0) old.rights.payments new.rights.payments
+  pub spent : Keeps WasSpent (spent_payment 0) old.rights.payments new.rights.payments

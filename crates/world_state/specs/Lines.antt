@@ -4,7 +4,7 @@ use Rattle.std.specs.Cmp.Lexicographic.{slice_cmp}
 use Rattle.std.specs.List.{starts_with}
 use Rattle.std.specs.Ordering.{nat_cmp}
 use Rattle.std.specs.declared.cmp.Ordering.TheVariants.{Less}
-use Rattle.right_steps.specs.host_text.Words.{is_field_name}
+use Rattle.vault_model.specs.host_text.Words.{is_field_name}
 use Rattle.turn_records.specs.Messages.{FieldParts, LineCall, LineGift, Part, Parts}
 use Rattle.turn_records.specs.Messages.{array, field, fields, no_fields, no_parts}
 use Rattle.turn_records.specs.Messages.{part}

@@ -3,8 +3,8 @@ use Rattle.std.specs.Prelude.{◌≡◌, ℕ, zero, suc, ◌==◌, if◌then◌e
 use Rattle.std.specs.Prelude.{List, [], ◌∷◌, ◌++◌, length, map, slice_index_or, slice_set}
 use Rattle.std.specs.Prelude.{Option, Some, None, IsSome}
 use Rattle.std.specs.List.{filter, flat_map}
-use Rattle.right_steps.specs.host_data.Tree.{null, object}
-use Rattle.right_steps.specs.host_data.declared.data.Obj.{Obj}
+use Rattle.vault_model.specs.host_data.Tree.{null, object}
+use Rattle.vault_model.specs.host_data.declared.data.Obj.{Obj}
 use Rattle.turn_records.specs.promise_store.Linked.{followers, leader}
 use Rattle.turn_records.specs.promise_store.States.{SettlementView, StateView, ok, broken, pending, follows}
 use Rattle.turn_records.specs.promise_store.States.{settled as has_settled, is_promise_kind}

@@ -6,32 +6,32 @@ use Rattle.std.specs.Prelude.{Option, Some, None, IsSomeAnd}
 use Rattle.std.specs.List.{flat_map}
 use Rattle.std.specs.Option.{option_map}
 use Rattle.std.specs.Str.{bytes_eq}
-use Rattle.right_steps.specs.amount_math.Amount.{holding}
-use Rattle.right_steps.specs.amount_math.Content.{Content, Contains, sum, difference, count, nothing}
-use Rattle.right_steps.specs.amount_math.Counted.{counted}
-use Rattle.right_steps.specs.amount_math.Worth.{Worth, Fits, IsValue, with_content}
-use Rattle.right_steps.specs.amount_math.declared.Amount.{Amount}
-use Rattle.right_steps.specs.amount_math.declared.Kind.{Kind}
-use Rattle.right_steps.specs.ertp_mint.BrandSupply.{BrandSupply, issued, retired, supply_at}
-use Rattle.right_steps.specs.holders.Papers.{Paper, live_paper, paper_at, spent_paper}
-use Rattle.right_steps.specs.proposals.Rows.{amount_under, most_rows, row_of}
-use Rattle.right_steps.specs.proposals.declared.allocations.Row.{Row}
-use Rattle.right_steps.specs.rights_model.declared.Holder.{Holder}
-use Rattle.right_steps.specs.rights_model.declared.Holder.TheVariants.{Purse, Payment, Slot, Hand, Outside}
-use Rattle.right_steps.specs.rights_model.declared.Movement.{Movement}
-use Rattle.right_steps.specs.Lists.{amount_of, less, more, purse_at}
-use Rattle.right_steps.specs.Tables.{Right, all_in, hand_minus, hand_plus, right_in, right_on}
+use Rattle.vault_model.specs.amount_math.Amount.{holding}
+use Rattle.vault_model.specs.amount_math.Content.{Content, Contains, sum, difference, count, nothing}
+use Rattle.vault_model.specs.amount_math.Counted.{counted}
+use Rattle.vault_model.specs.amount_math.ValueView.{ValueView, Fits, IsValue, with_content}
+use Rattle.vault_model.specs.amount_math.declared.Amount.{Amount}
+use Rattle.vault_model.specs.amount_math.declared.Kind.{Kind}
+use Rattle.vault_model.specs.ertp_mint.BrandSupply.{BrandSupply, issued, retired, supply_at}
+use Rattle.vault_model.specs.holders.PaymentViews.{PaymentView, live_payment, payment_view_at, spent_payment}
+use Rattle.vault_model.specs.proposals.Shares.{amount_under, most_shares, keyed_share}
+use Rattle.vault_model.specs.proposals.declared.allocations.Share.{Share}
+use Rattle.vault_model.specs.rights_model.declared.Holder.{Holder}
+use Rattle.vault_model.specs.rights_model.declared.Holder.TheVariants.{Purse, Payment, Slot, Hand, Outside}
+use Rattle.vault_model.specs.rights_model.declared.Movement.{Movement}
+use Rattle.vault_model.specs.Lists.{amount_of, less, more, purse_at}
+use Rattle.vault_model.specs.Tables.{Right, all_in, hand_minus, hand_plus, right_in, right_on}
 
 -- purses and payments by number, the slots of each seat by the seat's number, and what is out of
 -- each brand
 pub record Rights : Type 0 where
   pub purses : List Amount
-  pub payments : List Paper
-  pub slots : List (List Row)
+  pub payments : List PaymentView
+  pub slots : List (List Share)
   pub out : List BrandSupply
 
 -- the slots of a seat
-abbrev pub slots_at : List (List Row) → ℕ → List Row
+abbrev pub slots_at : List (List Share) → ℕ → List Share
 slots_at slots n = slice_index_or slots n []
 
 abbrev pub kind_at : List BrandSupply → ℕ → Kind
@@ -40,65 +40,65 @@ kind_at out b = (supply_at out b).outstanding.kind
 -- ---- what the halves of a written movement make of them
 
 -- a payment with a content less, and with a content more
-abbrev pub value_less : Content → Worth → Worth
+abbrev pub value_less : Content → ValueView → ValueView
 value_less c w = with_content w (difference w.content c)
 
-abbrev pub value_more : Content → Worth → Worth
+abbrev pub value_more : Content → ValueView → ValueView
 value_more c w = with_content w (sum w.content c)
 
-abbrev pub paper_less : Paper → Content → Paper
-paper_less p c = record { brand = p.brand; held = option_map (value_less c) p.held }
+abbrev pub lessened_payment : PaymentView → Content → PaymentView
+lessened_payment p c = record { brand = p.brand; held = option_map (value_less c) p.held }
 
-abbrev pub paper_more : Paper → Content → Paper
-paper_more p c = record { brand = p.brand; held = option_map (value_more c) p.held }
+abbrev pub raised_payment : PaymentView → Content → PaymentView
+raised_payment p c = record { brand = p.brand; held = option_map (value_more c) p.held }
 
--- rows with another amount under a keyword, which gets a row, last, where it has none
-abbrev pub changed_row : (Amount → Amount) → Row → Row
-changed_row change r = row_of r.keyword (change r.amount)
+-- shares with another amount under a keyword, which gets a share, last, where it has none
+abbrev pub changed_share : (Amount → Amount) → Share → Share
+changed_share change r = keyed_share r.keyword (change r.amount)
 
-abbrev pub rows_with : List ℕ → (Amount → Amount) → Amount → List Row → List Row
-rows_with keyword change new [] = row_of keyword new ∷ []
-rows_with keyword change new (r ∷ rs) =
-    if bytes_eq keyword r.keyword then changed_row change r ∷ rs
-    else r ∷ rows_with keyword change new rs
+abbrev pub shares_with : List ℕ → (Amount → Amount) → Amount → List Share → List Share
+shares_with keyword change new [] = keyed_share keyword new ∷ []
+shares_with keyword change new (r ∷ rs) =
+    if bytes_eq keyword r.keyword then changed_share change r ∷ rs
+    else r ∷ shares_with keyword change new rs
 
--- rows with an amount less under a keyword: nothing where it had no row
-abbrev pub rows_less : List ℕ → Amount → List Row → List Row
-rows_less keyword a rows =
-    rows_with keyword (λ had. less had a.value.content) (holding a nothing) rows
+-- shares with an amount less under a keyword: nothing where it had no share
+abbrev pub shares_less : List ℕ → Amount → List Share → List Share
+shares_less keyword a shares =
+    shares_with keyword (λ had. less had a.value.content) (holding a nothing) shares
 
--- rows with an amount more under a keyword
-abbrev pub rows_more : List ℕ → Amount → List Row → List Row
-rows_more keyword a rows = rows_with keyword (λ had. more had a.value.content) a rows
+-- shares with an amount more under a keyword
+abbrev pub shares_more : List ℕ → Amount → List Share → List Share
+shares_more keyword a shares = shares_with keyword (λ had. more had a.value.content) a shares
 
 -- the next payment is made by what comes to it; one that a movement before made has that more
-abbrev pub paper_paid : List Paper → ℕ → Amount → Paper
-paper_paid ps n a = paper_more (paper_at ps n) a.value.content
+abbrev pub paid_payment : List PaymentView → ℕ → Amount → PaymentView
+paid_payment ps n a = raised_payment (payment_view_at ps n) a.value.content
 
-abbrev pub paid : List Paper → ℕ → Amount → List Paper
+abbrev pub paid : List PaymentView → ℕ → Amount → List PaymentView
 paid ps n a =
-    if n == length ps then ps ++ live_paper a ∷ [] else slice_set ps n (paper_paid ps n a)
+    if n == length ps then ps ++ live_payment a ∷ [] else slice_set ps n (paid_payment ps n a)
 
-abbrev pub taken : Rights → Holder → ℕ → Worth → Rights
+abbrev pub taken : Rights → Holder → ℕ → ValueView → Rights
 taken r (Purse n) b w = record r {
   purses = slice_set r.purses n (less (purse_at r.purses n) w.content);
 }
 taken r (Payment n) b w = record r {
-  payments = slice_set r.payments n (paper_less (paper_at r.payments n) w.content);
+  payments = slice_set r.payments n (lessened_payment (payment_view_at r.payments n) w.content);
 }
 taken r (Slot s k) b w = record r {
-  slots = slice_set r.slots s (rows_less k (amount_of b w) (slots_at r.slots s));
+  slots = slice_set r.slots s (shares_less k (amount_of b w) (slots_at r.slots s));
 }
 taken r Hand b w = r
 taken r Outside b w = record r { out = slice_set r.out b (issued (supply_at r.out b) w.content) }
 
-abbrev pub given : Rights → Holder → ℕ → Worth → Rights
+abbrev pub given : Rights → Holder → ℕ → ValueView → Rights
 given r (Purse n) b w = record r {
   purses = slice_set r.purses n (more (purse_at r.purses n) w.content);
 }
 given r (Payment n) b w = record r { payments = paid r.payments n (amount_of b w) }
 given r (Slot s k) b w = record r {
-  slots = slice_set r.slots s (rows_more k (amount_of b w) (slots_at r.slots s));
+  slots = slice_set r.slots s (shares_more k (amount_of b w) (slots_at r.slots s));
 }
 given r Hand b w = r
 given r Outside b w = record r { out = slice_set r.out b (retired (supply_at r.out b) w.content) }
@@ -111,14 +111,14 @@ all_moved r [] = r
 all_moved r (m ∷ ms) = all_moved (moved r m) ms
 
 -- the payments that movements took from are spent
-abbrev pub spent_from : Holder → List Paper → List Paper
-spent_from (Payment n) ps = slice_set ps n (spent_paper (paper_at ps n).brand)
+abbrev pub spent_from : Holder → List PaymentView → List PaymentView
+spent_from (Payment n) ps = slice_set ps n (spent_payment (payment_view_at ps n).brand)
 spent_from (Purse n) ps = ps
 spent_from (Slot s k) ps = ps
 spent_from Hand ps = ps
 spent_from Outside ps = ps
 
-abbrev pub all_spent : List Movement → List Paper → List Paper
+abbrev pub all_spent : List Movement → List PaymentView → List PaymentView
 all_spent [] ps = ps
 all_spent (m ∷ ms) ps = all_spent ms (spent_from m.from ps)
 
@@ -133,99 +133,99 @@ abbrev pub with_purse : Rights → Amount → Rights
 with_purse r a = record r { purses = r.purses ++ a ∷ [] }
 
 abbrev pub with_payment : Rights → Amount → Rights
-with_payment r a = record r { payments = r.payments ++ live_paper a ∷ [] }
+with_payment r a = record r { payments = r.payments ++ live_payment a ∷ [] }
 
 -- a brand of which nothing was issued
 abbrev pub with_supply : Rights → BrandSupply → Rights
 with_supply r s = record r { out = r.out ++ s ∷ [] }
 
 -- a seat more, with these slots
-abbrev pub with_slots : Rights → List Row → Rights
-with_slots r rows = record r { slots = r.slots ++ rows ∷ [] }
+abbrev pub with_slots : Rights → List Share → Rights
+with_slots r shares = record r { slots = r.slots ++ shares ∷ [] }
 
 -- ---- when a movement's halves can be made
 
 -- an amount of a brand has a content, and with a content more it is a value
-pub record Has (a : Amount) (b : ℕ) (w : Worth) : Type 0 where
+pub record Has (a : Amount) (b : ℕ) (w : ValueView) : Type 0 where
   pub brand : a.brand ≡ b
   pub kind : a.value.kind ≡ w.kind
   pub has : Contains a.value.content w.content
 
-pub record Takes (a : Amount) (b : ℕ) (w : Worth) : Type 0 where
+pub record Takes (a : Amount) (b : ℕ) (w : ValueView) : Type 0 where
   pub brand : a.brand ≡ b
   pub kind : a.value.kind ≡ w.kind
   pub value : IsValue w.kind (sum a.value.content w.content)
 
-pub record PurseHas (r : Rights) (n b : ℕ) (w : Worth) : Type 0 where
+pub record PurseHas (r : Rights) (n b : ℕ) (w : ValueView) : Type 0 where
   pub made : n < length r.purses
   pub has : Has (purse_at r.purses n) b w
 
 -- a payment is live, and what it has meets a test
-abbrev pub IsPaperWith : Paper → (Amount → Type 0) → Type 0
-IsPaperWith p P = IsSomeAnd p.held (λ held. P (amount_of p.brand held))
+abbrev pub IsPaymentWith : PaymentView → (Amount → Type 0) → Type 0
+IsPaymentWith p P = IsSomeAnd p.held (λ held. P (amount_of p.brand held))
 
-pub record PaymentHas (r : Rights) (n b : ℕ) (w : Worth) : Type 0 where
+pub record PaymentHas (r : Rights) (n b : ℕ) (w : ValueView) : Type 0 where
   pub made : n < length r.payments
-  pub has : IsPaperWith (paper_at r.payments n) (λ a. Has a b w)
+  pub has : IsPaymentWith (payment_view_at r.payments n) (λ a. Has a b w)
 
 -- nothing of any element
 pub record IsNothing (c : Content) : Type 0 where
   pub each : (k : List ℕ) → count c k ≡ 0
 
 -- the slot has it; where there is none, nothing is taken, and the slot can be opened
-abbrev pub HasOrOpens : Option Amount → List Row → ℕ → Worth → Type 0
-HasOrOpens (Some a) rows b w = Has a b w
-HasOrOpens None rows b w = IsNothing w.content × (length rows < most_rows)
+abbrev pub HasOrOpens : Option Amount → List Share → ℕ → ValueView → Type 0
+HasOrOpens (Some a) shares b w = Has a b w
+HasOrOpens None shares b w = IsNothing w.content × (length shares < most_shares)
 
-pub record SlotHas (r : Rights) (s : ℕ) (k : List ℕ) (b : ℕ) (w : Worth) : Type 0 where
+pub record SlotHas (r : Rights) (s : ℕ) (k : List ℕ) (b : ℕ) (w : ValueView) : Type 0 where
   pub made : s < length r.slots
   pub has : HasOrOpens (amount_under k (slots_at r.slots s)) (slots_at r.slots s) b w
 
-pub record HandHas (hand : ℕ → Content) (b : ℕ) (w : Worth) : Type 0 where
+pub record HandHas (hand : ℕ → Content) (b : ℕ) (w : ValueView) : Type 0 where
   pub has : Contains (hand b) w.content
 
 -- it may come out of its brand
-pub record MayCome (r : Rights) (b : ℕ) (w : Worth) : Type 0 where
+pub record MayCome (r : Rights) (b : ℕ) (w : ValueView) : Type 0 where
   pub fits : Fits w.kind (sum (supply_at r.out b).outstanding.content w.content)
   pub room : (supply_at r.out b).minted + counted w.content < 2 ^ 128
 
-abbrev pub CanTake : Rights → (ℕ → Content) → Holder → ℕ → Worth → Type 0
+abbrev pub CanTake : Rights → (ℕ → Content) → Holder → ℕ → ValueView → Type 0
 CanTake r hand (Purse n) b w = PurseHas r n b w
 CanTake r hand (Payment n) b w = PaymentHas r n b w
 CanTake r hand (Slot s k) b w = SlotHas r s k b w
 CanTake r hand Hand b w = HandHas hand b w
 CanTake r hand Outside b w = MayCome r b w
 
-pub record PurseTakes (r : Rights) (n b : ℕ) (w : Worth) : Type 0 where
+pub record PurseTakes (r : Rights) (n b : ℕ) (w : ValueView) : Type 0 where
   pub made : n < length r.purses
   pub takes : Takes (purse_at r.purses n) b w
 
 -- a payment that is live takes more
-pub record PaymentMore (r : Rights) (n b : ℕ) (w : Worth) : Type 0 where
+pub record PaymentMore (r : Rights) (n b : ℕ) (w : ValueView) : Type 0 where
   pub made : n < length r.payments
-  pub takes : IsPaperWith (paper_at r.payments n) (λ a. Takes a b w)
+  pub takes : IsPaymentWith (payment_view_at r.payments n) (λ a. Takes a b w)
 
-abbrev pub IsNextOr : Bool → Rights → ℕ → ℕ → Worth → Type 0
+abbrev pub IsNextOr : Bool → Rights → ℕ → ℕ → ValueView → Type 0
 IsNextOr true r n b w = IsValue w.kind w.content
 IsNextOr false r n b w = PaymentMore r n b w
 
 -- the payment is the next, or one that is live
-abbrev pub PaymentTakes : Rights → ℕ → ℕ → Worth → Type 0
+abbrev pub PaymentTakes : Rights → ℕ → ℕ → ValueView → Type 0
 PaymentTakes r n b w = IsNextOr (n == length r.payments) r n b w
 
 -- the slot is there, or can be opened
-abbrev pub TakesOrOpens : Option Amount → List Row → ℕ → Worth → Type 0
-TakesOrOpens (Some a) rows b w = Takes a b w
-TakesOrOpens None rows b w = IsValue w.kind w.content × (length rows < most_rows)
+abbrev pub TakesOrOpens : Option Amount → List Share → ℕ → ValueView → Type 0
+TakesOrOpens (Some a) shares b w = Takes a b w
+TakesOrOpens None shares b w = IsValue w.kind w.content × (length shares < most_shares)
 
-pub record SlotTakes (r : Rights) (s : ℕ) (k : List ℕ) (b : ℕ) (w : Worth) : Type 0 where
+pub record SlotTakes (r : Rights) (s : ℕ) (k : List ℕ) (b : ℕ) (w : ValueView) : Type 0 where
   pub made : s < length r.slots
   pub takes : TakesOrOpens (amount_under k (slots_at r.slots s)) (slots_at r.slots s) b w
 
-pub record IsOut (r : Rights) (b : ℕ) (w : Worth) : Type 0 where
+pub record IsOut (r : Rights) (b : ℕ) (w : ValueView) : Type 0 where
   pub has : Contains (supply_at r.out b).outstanding.content w.content
 
-abbrev pub CanGive : Rights → Holder → ℕ → Worth → Type 0
+abbrev pub CanGive : Rights → Holder → ℕ → ValueView → Type 0
 CanGive r (Purse n) b w = PurseTakes r n b w
 CanGive r (Payment n) b w = PaymentTakes r n b w
 CanGive r (Slot s k) b w = SlotTakes r s k b w
@@ -294,11 +294,11 @@ pub record IsRoomy (out : List BrandSupply) (n : ℕ) : Type 0 where
 
 -- ---- all that is held
 
-abbrev pub right_of_row : Row → Right
-right_of_row r = right_in r.amount
+abbrev pub right_of_share : Share → Right
+right_of_share r = right_in r.amount
 
-abbrev pub slot_rights : List (List Row) → List Right
-slot_rights slots = flat_map (λ rows. map right_of_row rows) slots
+abbrev pub slot_rights : List (List Share) → List Right
+slot_rights slots = flat_map (λ shares. map right_of_share shares) slots
 
 -- how many of an element all purses, payments and slots have of a brand
 abbrev pub held_of : Rights → ℕ → List ℕ → ℕ

@@ -1,11 +1,11 @@
 -- What written movements are like that are made in each way.
 use Rattle.std.specs.Prelude.{◌≡◌, ◌≢◌, ℕ, suc, List, [], ◌∷◌, map}
 use Rattle.std.specs.List.{AllByRecursion}
-use Rattle.right_steps.specs.amount_math.Worth.{Worth}
-use Rattle.right_steps.specs.Flows.{Part, gathered, spread}
-use Rattle.right_steps.specs.rights_model.declared.Holder.{Holder}
-use Rattle.right_steps.specs.rights_model.declared.Holder.TheVariants.{Purse, Payment, Slot, Hand, Outside}
-use Rattle.right_steps.specs.rights_model.declared.Movement.{Movement}
+use Rattle.vault_model.specs.amount_math.ValueView.{ValueView}
+use Rattle.vault_model.specs.Flows.{Part, gathered, spread}
+use Rattle.vault_model.specs.rights_model.declared.Holder.{Holder}
+use Rattle.vault_model.specs.rights_model.declared.Holder.TheVariants.{Purse, Payment, Slot, Hand, Outside}
+use Rattle.vault_model.specs.rights_model.declared.Movement.{Movement}
 use Rattle.world_state.specs.Rights.{IsNothing}
 
 -- ---- each by itself
@@ -40,21 +40,21 @@ pub record IsApart (m : Movement) (ms : List Movement) : Type 0 where
   pub given : AllByRecursion (IsGivenOnce m.to) ms
 
 -- none goes by the hand; each payment is taken from once, and given to once
-abbrev pub AreTransfers : List Movement → Type 0
-AreTransfers [] = Unit {0}
-AreTransfers (m ∷ ms) = IsApart m ms × AreTransfers ms
+abbrev pub AreMovements : List Movement → Type 0
+AreMovements [] = Unit {0}
+AreMovements (m ∷ ms) = IsApart m ms × AreMovements ms
 
 -- ---- payments that are combined, and one that is split
 
 -- a payment, by its number, with all that it has
-abbrev pub payment_part : ℕ × Worth → Part
+abbrev pub payment_part : ℕ × ValueView → Part
 payment_part p = (Payment p.0, p.1)
 
-abbrev pub IsNotAmong : ℕ → List (ℕ × Worth) → Type 0
+abbrev pub IsNotAmong : ℕ → List (ℕ × ValueView) → Type 0
 IsNotAmong n [] = Unit {0}
 IsNotAmong n (p ∷ ps) = (p.0 ≢ n) × IsNotAmong n ps
 
-abbrev pub AreOnce : List (ℕ × Worth) → Type 0
+abbrev pub AreOnce : List (ℕ × ValueView) → Type 0
 AreOnce [] = Unit {0}
 AreOnce (p ∷ ps) = IsNotAmong p.0 ps × AreOnce ps
 
@@ -62,14 +62,14 @@ AreOnce (p ∷ ps) = IsNotAmong p.0 ps × AreOnce ps
 pub record IsCombination (ms : List Movement) : Type 0 where
   pub brand : ℕ
   pub to : ℕ
-  pub first : ℕ × Worth
-  pub others : List (ℕ × Worth)
+  pub first : ℕ × ValueView
+  pub others : List (ℕ × ValueView)
   pub once : AreOnce (first ∷ others)
   pub apart : IsNotAmong to (first ∷ others)
   pub is : ms ≡ gathered brand (Payment to) (map payment_part (first ∷ others))
 
 -- payments, numbered from n, each with what it gets
-abbrev pub parts_from : ℕ → List Worth → List Part
+abbrev pub parts_from : ℕ → List ValueView → List Part
 parts_from n [] = []
 parts_from n (v ∷ vs) = (Payment n, v) ∷ parts_from (suc n) vs
 
@@ -78,8 +78,8 @@ pub record IsSplit (ms : List Movement) : Type 0 where
   pub brand : ℕ
   pub from : ℕ
   pub to : ℕ
-  pub first : Worth
-  pub others : List Worth
+  pub first : ValueView
+  pub others : List ValueView
   pub is : ms ≡ spread brand (Payment from) (parts_from to (first ∷ others))
 
 -- ---- slots that are rearranged

@@ -1,16 +1,16 @@
 -- The state of the world in a turn, the effects that a call may have on it, what each makes of it.
 use Rattle.std.specs.Prelude.{◌≡◌, ℕ, suc, ◌+◌, if◌then◌else◌, nat_lt, Option, Some, None}
 use Rattle.std.specs.Prelude.{List, [], ◌∷◌, ◌++◌, drop, length, map, slice_index_or, slice_set}
-use Rattle.right_steps.specs.amount_math.declared.Kind.TheVariants.{Set}
-use Rattle.right_steps.specs.amount_math.Content.{one_of}
-use Rattle.right_steps.specs.amount_math.Worth.{Worth}
-use Rattle.right_steps.specs.amount_math.declared.Amount.{Amount}
+use Rattle.vault_model.specs.amount_math.declared.Kind.TheVariants.{Set}
+use Rattle.vault_model.specs.amount_math.Content.{one_of}
+use Rattle.vault_model.specs.amount_math.ValueView.{ValueView}
+use Rattle.vault_model.specs.amount_math.declared.Amount.{Amount}
 use Rattle.actors.specs.Labels.{Bound, bound}
 use Rattle.actors.specs.brands.Brands as brands
 use Rattle.actors.specs.brands.declared.Brand.{Brand}
 use Rattle.actors.specs.brands.declared.issuer_record.Issuer.{Issuer}
-use Rattle.right_steps.specs.ertp_mint.BrandSupply.{new_supply}
-use Rattle.right_steps.specs.ertp_mint.Stocks.{empty_amount}
+use Rattle.vault_model.specs.ertp_mint.BrandSupply.{new_supply}
+use Rattle.vault_model.specs.ertp_mint.Stocks.{empty_amount}
 use Rattle.actors.specs.Facets.{FacetView}
 use Rattle.actors.specs.SeatPromises.{pair_at}
 use Rattle.actors.specs.Tables.{Tables, installed, started, with_halted, with_issuer}
@@ -18,21 +18,21 @@ use Rattle.actors.specs.Tables.{with_public_facet, with_state, with_stopped}
 use Rattle.actors.specs.declared.instance_store.seat_promises.SeatPair.{SeatPair}
 use Rattle.actors.specs.turn_stores.Details.{DetailsView, details_at}
 use Rattle.actors.specs.turn_stores.Elements.{element}
-use Rattle.right_steps.specs.host_data.Tree.{Tree, fields, null, object, Fields, no_fields, field}
-use Rattle.right_steps.specs.host_data.declared.data.Obj.{Obj}
-use Rattle.right_steps.specs.host_data.declared.data.ObjKind.{ObjKind}
-use Rattle.right_steps.specs.host_data.declared.data.ObjKind.TheVariants as kinds
+use Rattle.vault_model.specs.host_data.Tree.{Tree, fields, null, object, Fields, no_fields, field}
+use Rattle.vault_model.specs.host_data.declared.data.Obj.{Obj}
+use Rattle.vault_model.specs.host_data.declared.data.ObjKind.{ObjKind}
+use Rattle.vault_model.specs.host_data.declared.data.ObjKind.TheVariants as kinds
 use Rattle.actors.specs.jessie_grammar.declared.syntax.Module.{Module}
-use Rattle.right_steps.specs.holders.Papers.{Paper, live_paper}
+use Rattle.vault_model.specs.holders.PaymentViews.{PaymentView, live_payment}
 use Rattle.turn_records.specs.promise_store.States.{SettlementView, ok}
-use Rattle.right_steps.specs.proposals.Slots.{emptied, is_upto, slots_of}
-use Rattle.right_steps.specs.proposals.declared.allocations.Row.{Row}
-use Rattle.right_steps.specs.proposals.declared.offers.Exit.{Exit}
-use Rattle.right_steps.specs.proposals.declared.offers.Exit.TheVariants.{AfterDeadline, OnDemand, Waived}
-use Rattle.right_steps.specs.proposals.declared.offers.Proposal.{Proposal}
-use Rattle.right_steps.specs.rights_model.Table.{movement}
-use Rattle.right_steps.specs.rights_model.declared.Holder.TheVariants.{Outside, Payment, Slot}
-use Rattle.right_steps.specs.rights_model.declared.Movement.{Movement}
+use Rattle.vault_model.specs.proposals.Slots.{emptied, is_upto, slots_of}
+use Rattle.vault_model.specs.proposals.declared.allocations.Share.{Share}
+use Rattle.vault_model.specs.proposals.declared.offers.Exit.{Exit}
+use Rattle.vault_model.specs.proposals.declared.offers.Exit.TheVariants.{AfterDeadline, OnDemand, Waived}
+use Rattle.vault_model.specs.proposals.declared.offers.Proposal.{Proposal}
+use Rattle.vault_model.specs.rights_model.Table.{movement}
+use Rattle.vault_model.specs.rights_model.declared.Holder.TheVariants.{Outside, Payment, Slot}
+use Rattle.vault_model.specs.rights_model.declared.Movement.{Movement}
 use Rattle.actors.specs.turn_stores.Schedules.{Schedule, due_after, due_by, woken_at}
 use Rattle.turn_records.specs.Deliveries as deliveries
 use Rattle.turn_records.specs.Deliveries.{Delivery, Notice, Offer, Send, Start, Wakeup}
@@ -57,7 +57,7 @@ pub data Maker : Type 0 where
 pub record Seat : Type 0 where
   pub instance : ℕ
   pub proposal : Proposal
-  pub last : Option (List Row)
+  pub last : Option (List Share)
 
 -- The stores, by number where it isn't said otherwise. `waiting` are the deliveries behind the
 -- one that the turn is about; `schedule` is the timer; `log` is what happened in the turn.
@@ -65,7 +65,7 @@ pub record State : Type 0 where
   pub rights : Rights
   pub seats : List Seat
   -- what is staged, by seat
-  pub staging : List (Option (List Row))
+  pub staging : List (Option (List Share))
   pub brands : List Brand
   -- by brand
   pub makers : List Maker
@@ -104,8 +104,8 @@ pub data Effect : Type 0 where
   empty_payment : ℕ → Effect
   -- movements are made together, in the order in which they are written
   moves : List Movement → Effect
-  -- rows are staged of a seat; what is staged of it is dropped; all staging ends
-  stage : ℕ → List Row → Effect
+  -- shares are staged of a seat; what is staged of it is dropped; all staging ends
+  stage : ℕ → List Share → Effect
   unstage : ℕ → Effect
   end_staging : Effect
   -- an offer opens a seat: its invitation is burned, its payments are escrowed, its handler is to
@@ -162,11 +162,11 @@ abbrev pub IsOpen : Seat → Type 0
 IsOpen seat = seat.last ≡ None
 
 -- what is staged of a seat
-abbrev pub staged_at : List (Option (List Row)) → ℕ → Option (List Row)
+abbrev pub staged_at : List (Option (List Share)) → ℕ → Option (List Share)
 staged_at staging n = slice_index_or staging n None
 
-abbrev pub no_rows : Option (List Row) → Option (List Row)
-no_rows rows = None
+abbrev pub no_shares : Option (List Share) → Option (List Share)
+no_shares shares = None
 
 abbrev pub maker_at : List Maker → ℕ → Maker
 maker_at makers n = slice_index_or makers n of_host
@@ -217,7 +217,7 @@ abbrev pub next_pair : State → SeatPair
 next_pair w = record { «result» = promises_made w; payouts = promises_made w + 1 }
 
 -- a seat and its slots, with nothing in them
-abbrev pub empty_slots : Proposal → List Row
+abbrev pub empty_slots : Proposal → List Share
 empty_slots p = map emptied (slots_of p)
 
 abbrev pub burn_and_escrows : Offering → List Movement
@@ -251,18 +251,18 @@ of_own rule = record { give = []; want = []; exit = rule }
 -- ---- a seat is left
 
 -- each slot goes to a payment of its own, the first of which has the number
-abbrev pub payouts_from : ℕ → List Row → List Payout
+abbrev pub payouts_from : ℕ → List Share → List Payout
 payouts_from n [] = []
 payouts_from n (r ∷ rs) = record { keyword = r.keyword; payment = n } ∷ payouts_from (suc n) rs
 
-abbrev pub payout_moves : ℕ → ℕ → List Row → List Movement
+abbrev pub payout_moves : ℕ → ℕ → List Share → List Movement
 payout_moves seat n [] = []
 payout_moves seat n (r ∷ rs) =
     movement r.amount.brand (Slot seat r.keyword) (Payment n) r.amount.value
     ∷ payout_moves seat (suc n) rs
 
-abbrev pub paid_out : Row → Paper
-paid_out r = live_paper r.amount
+abbrev pub paid_out : Share → PaymentView
+paid_out r = live_payment r.amount
 
 abbrev pub rights_left : Rights → ℕ → Rights
 rights_left r seat = record r {
@@ -270,11 +270,11 @@ rights_left r seat = record r {
   slots = slice_set r.slots seat (map emptied (slots_at r.slots seat));
 }
 
-abbrev pub left_seat : Seat → List Row → Seat
-left_seat seat rows = record seat { last = Some rows }
+abbrev pub left_seat : Seat → List Share → Seat
+left_seat seat shares = record seat { last = Some shares }
 
-abbrev pub seats_left : List Seat → ℕ → List Row → List Seat
-seats_left seats n rows = slice_set seats n (left_seat (seat_at seats n) rows)
+abbrev pub seats_left : List Seat → ℕ → List Share → List Seat
+seats_left seats n shares = slice_set seats n (left_seat (seat_at seats n) shares)
 
 -- the record from keyword to payment, in byte order of keywords
 abbrev pub placed_field : List ℕ → Tree → Fields → Fields
@@ -291,8 +291,8 @@ payout_fields (p ∷ ps) =
 abbrev pub payouts_at : State → ℕ → List Payout
 payouts_at w seat = payouts_from (length w.rights.payments) (slots_at w.rights.slots seat)
 
-abbrev pub payments_tree : ℕ → List Row → Tree
-payments_tree first rows = fields (payout_fields (payouts_from first rows))
+abbrev pub payments_tree : ℕ → List Share → Tree
+payments_tree first shares = fields (payout_fields (payouts_from first shares))
 
 abbrev pub payouts_tree : State → ℕ → Tree
 payouts_tree w seat = payments_tree (length w.rights.payments) (slots_at w.rights.slots seat)
@@ -314,7 +314,7 @@ leaving w seat cause =
 
 -- ---- an invitation is made
 
-abbrev pub invitation_value : ℕ → Worth
+abbrev pub invitation_value : ℕ → ValueView
 invitation_value n = record { kind = Set; content = one_of (element n) }
 
 abbrev pub invitation_move : State → Movement
@@ -375,9 +375,9 @@ after w (moves ms) = record w {
   rights = moved_together w.rights ms;
   log = w.log ++ map movement_made ms;
 }
-after w (stage seat rows) = record w { staging = slice_set w.staging seat (Some rows) }
+after w (stage seat shares) = record w { staging = slice_set w.staging seat (Some shares) }
 after w (unstage seat) = record w { staging = slice_set w.staging seat None }
-after w end_staging = record w { staging = map no_rows w.staging }
+after w end_staging = record w { staging = map no_shares w.staging }
 after w (offer o) = record w {
   rights = moved_together (with_slots w.rights (empty_slots o.proposal)) (burn_and_escrows o);
   seats = w.seats ++ new_seat (offered_by w o).instance o.proposal ∷ [];

@@ -1,2 +1,1 @@
-pub mod OpenSeats
 pub mod Strangers

@@ -1,3 +1,4 @@
 pub mod Exits
-pub mod Own
-pub mod Left
+pub mod IssuerParts
+pub mod Requests
+pub mod TableParts

@@ -1,8 +1,20 @@
-//! The code of the methods of zcf, and of the issuers that an instance keeps: each reads, or plans,
-//! what its rule says.
+//! The code of the methods of zcf (invitations, seats of its own, wakeups, the issuers that an
+//! instance keeps, its end), and the table of all methods of zcf: each reads, or plans, what its
+//! rule says.
 #![tactic(auto)]
 
-pub mod ends;
-pub mod kept;
-pub mod made;
-pub mod own;
+mod instances;
+mod invitations;
+mod issuers;
+mod new_issuers;
+mod seat_kits;
+mod shutdowns;
+mod wakeups;
+pub mod zcf;
+
+/// What `escrow_calls` gives to those above.
+pub mod escrow_calls_lib {
+    pub mod zmint {
+        pub use escrow_calls::zmint::of_zmint;
+    }
+}

@@ -5,8 +5,8 @@ use Rattle.brands.specs.declared.issuer_record.Issuer.{Issuer}
 use Rattle.ertp_calls.specs.world_reads.Handed.{AreHanded}
 use Rattle.host_data.specs.Tree.{Tree}
 use Rattle.refusals.proofs.Steps.{ok_has}
-use Rattle.ertp_calls.proofs.row_laws.StartIssuers.{AreGiven, issuers_are}
-use Rattle.rules.specs.ZoeRows.{issuers_at}
+use Rattle.ertp_calls.proofs.rule_laws.StartIssuers.{AreGiven, issuers_are}
+use Rattle.rules.specs.Zoe.{issuers_at}
 use Rattle.rules.specs.world_state.Worlds.{State}
 
 pub given_apart : (w : State) (place : ℕ) (args : List Tree) (is : List Issuer) → AreHanded w args → issuers_at place args ≡ Ok is → AreApart is

@@ -1,3 +1,2 @@
-pub mod InstanceIssuers
-pub mod Placed
 pub mod GivenIssuers
+pub mod Targets

@@ -11,13 +11,13 @@ ghost use Rattle.host_data.specs.View.{named_trees, tree, trees};
 ghost use Rattle.host_data.specs.declared.data.ObjKind.TheVariants as kinds;
 ghost use Rattle.refusals.specs.Codes.{wrong_object};
 ghost use Rattle.refusals.specs.Outcomes.{Gives, wanted};
-ghost use Rattle.rules.specs.ZoeRows.{issuer_in, issuers_at};
+ghost use Rattle.rules.specs.Zoe.{issuer_in, issuers_at};
 ghost use Rattle.host_data.specs.Amounts.{read_all};
 
 use brands::host_text_lib::text::Text;
 use brands::issuer_record::{Issuer, IssuerFault, IssuerRecord};
 use ertp_calls::host_world_lib::World;
-use ertp_calls::service_reads::fields::{keyword_of, record_at};
+use ertp_calls::records::{keyword_of, record_at};
 use host_data::data::{Data, ObjKind};
 use refusals::codes::NumberCode;
 use refusals::stops::Stop;
@@ -66,7 +66,7 @@ fn issuers_of(
 
 /// The issuers under keywords in the record at a place (Zoe): `BadArgs` with the place, `BadKeyword` with the first
 /// name that is none, `WrongObject` with the place.
-#[tactic(auto, using(ertp_calls::proofs::HandedFields::issuers_known, ertp_calls::proofs::HandedFields::names_known), unfolding(rules::specs::ZoeRows::issuers_at, refusals::specs::Outcomes::bind))]
+#[tactic(auto, using(ertp_calls::proofs::HandedFields::issuers_known, ertp_calls::proofs::HandedFields::names_known), unfolding(rules::specs::Zoe::issuers_at, refusals::specs::Outcomes::bind))]
 pub fn issuers_at(
     alloc: Global,
     world: &World,
@@ -79,7 +79,7 @@ pub fn issuers_at(
 {
     let fields = record_at(place, args)?;
     check_names(alloc, fields)?;
-    issuers_of(alloc, world.plain.brands.made(), place, fields)
+    issuers_of(alloc, world.registers.brands.made(), place, fields)
 }
 
 /// Adds a copy of an issuer, last, whose keyword is free and for which there is room.

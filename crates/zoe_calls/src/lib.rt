@@ -1,9 +1,9 @@
-//! The code of the methods of Zoe's service, but for offers: installing, starting, and what is read
-//! of invitations and instances; each reads, or plans, what its rule says.
+//! The code of the methods of Zoe's service, each of which reads, or plans, what its rule says; and which
+//! code serves a call of any of the host's own objects.
 #![tactic(auto)]
 
-pub mod install_plans;
+pub mod installation;
 pub mod issuers;
-pub mod reads_of_zoe;
-pub mod starting;
-pub mod terms;
+pub mod services;
+pub mod start;
+pub mod zoe;

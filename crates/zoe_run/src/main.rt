@@ -1,12 +1,14 @@
-//! The program: the top call over standard input and output.
+//! The program: the top call over standard input and output, and over all methods.
 #![tactic(auto)]
 
-use escrow_host::EscrowHost;
-use escrow_host::command_words_lib::words::usage;
-use escrow_host::host_io_lib::std_ends::{StdSink, StdSource};
-use escrow_host::top_call_lib::top::{Status, zoe_top};
+mod methods;
+
+use methods::Methods;
 use std::process::ExitCode;
 use std::{env, io};
+use top_call::command_words_lib::words::{usage, word_faults};
+use top_call::host_io_lib::std_ends::{StdSink, StdSource};
+use top_call::top::{Status, zoe_top};
 
 /// The words of the command line.
 fn words_of(rt: &(impl env::Env + AllocGlobal)) -> io::Result<Vec<String>> {
@@ -17,12 +19,29 @@ fn words_of(rt: &(impl env::Env + AllocGlobal)) -> io::Result<Vec<String>> {
     Ok(words)
 }
 
+/// Tells on standard error which word isn't taken and why, and what words are.
+fn tell_usage(rt: &(impl Eprint + AllocGlobal), words: &io::Result<Vec<String>>) {
+    match words {
+        Ok(words) => {
+            if let Ok(faults) = word_faults(rt.alloc(), words) {
+                let _ = eprintln!(rt; "{faults}");
+            }
+        }
+        Err(_) => {
+            let _ = eprintln!(rt; "error: the words aren't UTF-8, or memory ran out");
+        }
+    }
+    let usage = usage();
+    let _ = eprintln!(rt; "{usage}");
+}
+
 fn main(rt: HostRuntime) -> ExitCode {
-    let status = match words_of(&rt) {
+    let words = words_of(&rt);
+    let status = match &words {
         Ok(words) => {
             let mut source = StdSource::new(rt.reader());
             let mut sink = StdSink::new(io::writer(&rt));
-            zoe_top::<EscrowHost, _, _>(rt.alloc(), &words, &mut source, &mut sink)
+            zoe_top::<Methods, _, _>(rt.alloc(), words, &mut source, &mut sink)
         }
         Err(_) => Status::Usage,
     };
@@ -32,8 +51,7 @@ fn main(rt: HostRuntime) -> ExitCode {
         let _ = eprintln!(rt; "{name}: {meaning}");
     }
     if status == Status::Usage {
-        let usage = usage();
-        let _ = eprintln!(rt; "{usage}");
+        tell_usage(&rt, &words);
     }
     ExitCode::from(status.code())
 }

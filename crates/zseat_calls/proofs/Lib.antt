@@ -2,4 +2,4 @@ pub mod Exited
 pub mod SlotAmounts
 pub mod Calls
 pub mod Few
-pub mod Left
+pub mod StagingParts

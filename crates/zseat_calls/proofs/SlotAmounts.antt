@@ -2,20 +2,20 @@
 use Rattle.std.proofs.Common.{◌≡◌, ℕ, ◌<◌, List, Option, Some, None, length, map, refl, sym, ap, ◌∙◌, subst}
 use Rattle.std.specs.Prelude.{IsSome, unwrap_or}
 use Rattle.refusals.specs.amount_math.Held.{Held}
-use Rattle.refusals.specs.amount_math.Worth.{Worth}
+use Rattle.refusals.specs.amount_math.ValueView.{ValueView}
 use Rattle.refusals.specs.amount_math.declared.Amount.{Amount}
 use Rattle.rules.specs.ertp_mint.Balances.{held_in}
 use Rattle.rules.specs.ertp_mint.Stocks.{no_amount}
 use Rattle.rules.proofs.lemmas.ListEdits.{read_map}
-use Rattle.rules.specs.proposals.Rows.{amount_under}
-use Rattle.rules.specs.proposals.declared.allocations.Row.{Row}
-use Rattle.rules.specs.right_steps.Seats.{KeptSeat, no_kept_seat}
-use Rattle.row_laws.specs.world_laws.Views.{slots_held}
-use Rattle.world_reads.specs.seats.Seats.{SeatView, stored_in}
-use Rattle.world_reads.specs.seats.Slots.{HasSlot, SlotView, rows_in}
-use Rattle.world_reads.specs.seats.Store as store
-use Rattle.world_reads.proofs.vault.SeatReads.{has_row, has_slot, row_read}
-use Rattle.world_reads.specs.vault.Memory.{kept_seat}
+use Rattle.rules.specs.proposals.Shares.{amount_under}
+use Rattle.rules.specs.proposals.declared.allocations.Share.{Share}
+use Rattle.rules.specs.vault_model.Seats.{KeptSeat, no_kept_seat}
+use Rattle.contract_reads.specs.world_laws.Views.{slots_held}
+use Rattle.user_seat_calls.specs.seats.Seats.{SeatView, stored_in}
+use Rattle.user_seat_calls.specs.seats.Slots.{HasSlot, SlotView, shares_in}
+use Rattle.user_seat_calls.specs.seats.Store as store
+use Rattle.user_seat_calls.proofs.vault.SeatReads.{has_share, has_slot, share_read}
+use Rattle.user_seat_calls.specs.vault.Memory.{kept_seat}
 use Rattle.rules.specs.world_state.Rights.{slots_at}
 
 some_there : (o : Option Amount) (a : Amount) → IsSome o → unwrap_or o no_amount ≡ a → Some a ≡ o
@@ -26,7 +26,7 @@ none_there : (o : Option Amount) → (IsSome o → ⊥) → None ≡ o
 none_there None not = refl
 none_there (Some x) not = absurd (not refl)
 
-slots_read : (ss : List SeatView) (seats : List KeptSeat) (n : ℕ) → map kept_seat ss ≡ seats → rows_in (store.seat_at ss n).slots ≡ slots_at (map slots_held seats) n
+slots_read : (ss : List SeatView) (seats : List KeptSeat) (n : ℕ) → map kept_seat ss ≡ seats → shares_in (store.seat_at ss n).slots ≡ slots_at (map slots_held seats) n
 slots_read ss seats n is =
     sym (read_map slots_held (map kept_seat ss) n no_kept_seat ∙ ap slots_held (read_map kept_seat ss n store.no_seat))
     ∙ ap (λ (ks : List KeptSeat). slots_at (map slots_held ks) n) is
@@ -35,7 +35,7 @@ pub slot_there : (k : List ℕ) (ss : List SeatView) (seats : List KeptSeat) (n 
     → HasSlot k (store.seat_at ss n).slots
     → Some (stored_in k (store.seat_at ss n)).amount ≡ amount_under k (slots_at (map slots_held seats) n)
 slot_there k ss seats n is has =
-    some_there (amount_under k (rows_in here)) (stored_in k (store.seat_at ss n)).amount (has_row k here has) (row_read k here)
+    some_there (amount_under k (shares_in here)) (stored_in k (store.seat_at ss n)).amount (has_share k here has) (share_read k here)
     ∙ ap (amount_under k) (slots_read ss seats n is)
   where
     here : List SlotView
@@ -45,7 +45,7 @@ pub slot_missing : (k : List ℕ) (ss : List SeatView) (seats : List KeptSeat) (
     → (HasSlot k (store.seat_at ss n).slots → ⊥)
     → None ≡ amount_under k (slots_at (map slots_held seats) n)
 slot_missing k ss seats n is not =
-    none_there (amount_under k (rows_in here)) (λ some. not (has_slot k here some))
+    none_there (amount_under k (shares_in here)) (λ some. not (has_slot k here some))
     ∙ ap (amount_under k) (slots_read ss seats n is)
   where
     here : List SlotView
@@ -54,14 +54,14 @@ slot_missing k ss seats n is not =
 -- its brand and a copy of what it holds
 pub slot_read : (k : List ℕ) (ss : List SeatView) (seats : List KeptSeat) (n : ℕ) → map kept_seat ss ≡ seats
     → HasSlot k (store.seat_at ss n).slots
-    → (brand : ℕ) (value : Worth) (held : Held)
+    → (brand : ℕ) (value : ValueView) (held : Held)
     → brand ≡ (stored_in k (store.seat_at ss n)).amount.brand
     → held ≡ held_in (stored_in k (store.seat_at ss n))
     → value ≡ held.value
     → Some (record { brand = brand; value = value }) ≡ amount_under k (slots_at (map slots_held seats) n)
 slot_read k ss seats n is has brand value held brand_is held_is value_is =
     subst (λ (b : ℕ). Some (record { brand = b; value = value }) ≡ found) (sym brand_is)
-    (subst (λ (v : Worth). Some (record { brand = here.brand; value = v }) ≡ found) (sym (value_is ∙ ap (λ (h : Held). h.value) held_is))
+    (subst (λ (v : ValueView). Some (record { brand = here.brand; value = v }) ≡ found) (sym (value_is ∙ ap (λ (h : Held). h.value) held_is))
     (slot_there k ss seats n is has))
   where
     here : Amount

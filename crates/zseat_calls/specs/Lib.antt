@@ -1,2 +1,4 @@
 pub mod Shown
-pub mod Left
+pub mod StagingParts
+pub mod TableParts
+pub use Rattle.contract_reads.specs as contract_reads

@@ -2,7 +2,7 @@
 use Rattle.std.specs.Prelude.{ℕ, ◌==◌, Option, Result, Ok}
 use Rattle.refusals.specs.amount_math.declared.Amount.{Amount}
 use Rattle.host_data.specs.Values.{amount_tree}
-use Rattle.rules.specs.ZseatRows.{amount_or_none}
+use Rattle.rules.specs.Zseat.{amount_or_none}
 use Rattle.host_data.specs.Tree.{Tree}
 use Rattle.refusals.specs.Codes.{wrong_brand}
 use Rattle.refusals.specs.Outcomes.{◌>>◌, need}

@@ -2,21 +2,20 @@
 
 ghost use Rattle.std.specs.Prelude.{◌≡◌, ◌<◌, IfOk, length};
 ghost use Rattle.std.specs.Option.{option_copied};
-ghost use Rattle.world_reads.specs.call_plans.Plans.{Reads};
-ghost use Rattle.rules.specs.ZseatRows.{allocation_of, get_amount_allocated, get_current_allocation};
-ghost use Rattle.rules.specs.ZseatRows.{get_staged_allocation, seat_of};
+ghost use Rattle.user_seat_calls.specs.call_outcomes.CallOutcomes.{Reads};
+ghost use Rattle.rules.specs.States.{allocation_of, seat_of};
+ghost use Rattle.rules.specs.Zseat.{get_amount_allocated, get_current_allocation, get_proposal, get_staged_allocation};
 ghost use Rattle.contract_reads.specs.Known.{AreKnown};
-ghost use Rattle.world_reads.specs.host_world.Worlds.{world_of};
+ghost use Rattle.user_seat_calls.specs.host_world.Worlds.{world_of};
 ghost use Rattle.host_data.specs.View.{trees};
-ghost use Rattle.rules.specs.proposals.Rows.{amount_under};
-ghost use Rattle.rules.specs.Own.{get_proposal};
+ghost use Rattle.rules.specs.proposals.Shares.{amount_under};
 ghost use Rattle.rules.specs.world_state.Worlds.{IsOpen};
 ghost use Rattle.zseat_calls.specs.Shown.{amount_shown};
 
 use contract_reads::contract_words::allocations::{current_allocation, staged_allocation};
-use contract_reads::contract_words::given::brand_number;
+use contract_reads::contract_words::objects::brand_number;
 use contract_reads::contract_words::own_seats::check_open;
-use contract_reads::texts::keyword_of;
+use contract_reads::keywords::keyword_of;
 use host_data::data::Data;
 use host_data::values::amount_data;
 use refusals::amount_math_lib::{Amount, Value};
@@ -24,14 +23,14 @@ use refusals::codes::NumberCode;
 use refusals::host_text_lib::keyword::Keyword;
 use refusals::stops::Stop;
 use std::alloc::{AllocError, Global};
-use user_seat_calls::proposal_reads::proposal_data;
-use world_reads::draft_reads_lib::seat_reads::seat_proposal;
-use world_reads::host_world_lib::World;
-use world_reads::record_data::allocation_data;
-use world_reads::words::keyword_at;
+use user_seat_calls::draft_reads_lib::seat_reads::seat_proposal;
+use user_seat_calls::host_world_lib::World;
+use user_seat_calls::proposal::proposal_data;
+use user_seat_calls::world_reads_lib::record_data::allocation_data;
+use user_seat_calls::world_reads_lib::words::keyword_at;
 
 /// zseat.getProposal() (Zoe).
-#[tactic(auto, unfolding(rules::specs::Own::get_proposal))]
+#[tactic(auto, unfolding(rules::specs::Zseat::get_proposal))]
 pub fn get_proposal(alloc: Global, world: &World, seat: u32) -> Result<Data, Stop>
     requires { seat < length (world_of world.now).seats }
     ensures { Reads (get_proposal (world_of world.now) seat) result }
@@ -40,32 +39,32 @@ pub fn get_proposal(alloc: Global, world: &World, seat: u32) -> Result<Data, Sto
 }
 
 /// zseat.getCurrentAllocation() (Zoe).
-#[tactic(auto, unfolding(rules::specs::ZseatRows::get_current_allocation, refusals::specs::Outcomes::bind))]
+#[tactic(auto, unfolding(rules::specs::Zseat::get_current_allocation, refusals::specs::Outcomes::bind))]
 pub fn get_current_allocation(alloc: Global, world: &World, seat: u32) -> Result<Data, Stop>
     requires { seat < length (world_of world.now).seats }
     ensures { Reads (get_current_allocation (world_of world.now) seat) result }
 {
     check_open(world, seat)?;
     let allocation = current_allocation(world, seat)?;
-    Ok(allocation_data(alloc, allocation.rows())?)
+    Ok(allocation_data(alloc, allocation.shares())?)
 }
 
 /// zseat.getStagedAllocation(): what is staged, else what the seat has (Zoe).
-#[tactic(auto, unfolding(rules::specs::ZseatRows::get_staged_allocation, refusals::specs::Outcomes::bind))]
+#[tactic(auto, unfolding(rules::specs::Zseat::get_staged_allocation, refusals::specs::Outcomes::bind))]
 pub fn get_staged_allocation(alloc: Global, world: &World, seat: u32) -> Result<Data, Stop>
     requires { seat < length (world_of world.now).seats }
     ensures { Reads (get_staged_allocation (world_of world.now) seat) result }
 {
     check_open(world, seat)?;
     if let Some(staged) = staged_allocation(world, seat) {
-        return Ok(allocation_data(alloc, staged.rows())?);
+        return Ok(allocation_data(alloc, staged.shares())?);
     }
     let allocation = current_allocation(world, seat)?;
-    Ok(allocation_data(alloc, allocation.rows())?)
+    Ok(allocation_data(alloc, allocation.shares())?)
 }
 
 /// zseat.getAmountAllocated(keyword, brand): nothing of the brand where the keyword has no slot (Zoe).
-#[tactic(auto, unfolding(rules::specs::ZseatRows::get_amount_allocated, crate::specs::Shown::amount_shown, refusals::specs::Outcomes::bind))]
+#[tactic(auto, unfolding(rules::specs::Zseat::get_amount_allocated, crate::specs::Shown::amount_shown, refusals::specs::Outcomes::bind))]
 pub fn get_amount_allocated(
     alloc: Global,
     world: &World,
@@ -111,7 +110,7 @@ fn amount_shown(
     ensures { Reads (amount_shown (world_of world.now) brand (option_copied held.entry)) result }
 {
     let Some(held) = held else {
-        let nothing = Value::empty(world.plain.brands.kind(brand));
+        let nothing = Value::empty(world.registers.brands.kind(brand));
         return Ok(amount_data(alloc, brand, &nothing)?);
     };
     if held.brand != brand {

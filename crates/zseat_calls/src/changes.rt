@@ -1,66 +1,70 @@
-//! What is staged once rows are added or taken.
+//! What is staged once shares are added or taken.
 
 ghost use Rattle.std.specs.Prelude.{◌≡◌, ◌≤◌, [], ◌∷◌, IfOk, Ok, OnOk, List, length};
 ghost use Rattle.rules.specs.proposals.Gains.{with_gains};
 ghost use Rattle.rules.specs.proposals.Losses.{with_losses};
-ghost use Rattle.world_reads.specs.call_plans.Lists.{IsEachShaped};
-ghost use Rattle.world_reads.specs.call_plans.Plans.{Plans, plan_view};
-ghost use Rattle.rules.specs.ZseatRows.{allocation_tree};
+ghost use Rattle.user_seat_calls.specs.call_outcomes.Lists.{IsEachShaped};
+ghost use Rattle.user_seat_calls.specs.call_outcomes.CallOutcomes.{GivesOutcome, outcome_view};
+ghost use Rattle.rules.specs.Records.{allocation_tree};
 ghost use Rattle.host_data.specs.View.{tree};
 ghost use Rattle.rules.specs.rearrange.Slots.{can_give, can_take};
-ghost use Rattle.rules.specs.proposals.Rows.{AreApart, AreRows, most_rows};
-ghost use Rattle.rules.specs.proposals.declared.allocations.Row.{Row as RowView};
+ghost use Rattle.rules.specs.proposals.Shares.{AreApart, AreShares, most_shares};
+ghost use Rattle.rules.specs.proposals.declared.allocations.Share.{Share as ShareView};
 ghost use Rattle.refusals.specs.Outcomes.{Gives};
 ghost use Rattle.contract_reads.specs.Calls.{FitSlots};
-ghost use Rattle.zseat_calls.specs.Left.{can_add, staged_less, staged_more};
-ghost use Rattle.rules.specs.Staging.{are_few};
+ghost use Rattle.zseat_calls.specs.StagingParts.{can_add, staged_less, staged_more};
+ghost use Rattle.rules.specs.Zseat.{are_few};
 ghost use Rattle.rules.specs.world_state.Worlds.{stage};
 
 use contract_reads::seat_changes::counts::slots_after;
-use contract_reads::seat_changes::losses::lessened;
+use contract_reads::seat_changes::losses::slots_less;
 use host_data::data::Data;
 use refusals::amount_math_lib::PutFault;
 use refusals::codes::NumberCode;
 use refusals::stops::Stop;
-use rules::proposals_lib::allocations::{Allocation, Row};
+use rules::proposals_lib::allocations::{Allocation, Share};
 use rules::proposals_lib::gains::with_gains;
 use rules::rearrange_lib::slot_checks::{check_gains, check_losses};
 use std::alloc::{AllocError, Global};
-use world_reads::call_plans_lib::effects::{Effect, RightsEffect};
-use world_reads::call_plans_lib::plans::Plan;
-use world_reads::record_data::allocation_data;
+use user_seat_calls::call_outcomes_lib::effects::{Effect, RightsEffect};
+use user_seat_calls::call_outcomes_lib::outcomes::CallOutcome;
+use user_seat_calls::world_reads_lib::record_data::allocation_data;
 
-/// The most rows that may be staged (own).
-const MOST_ROWS: usize = 64;
+/// The most shares that may be staged (own).
+const MOST_SHARES: usize = 64;
 
-/// That so many rows may be staged: else `Limit` (own).
-#[tactic(auto, unfolding(rules::specs::Staging::are_few, refusals::specs::Outcomes::need))]
+/// That so many shares may be staged: else `Limit` (own).
+#[tactic(auto, unfolding(rules::specs::Zseat::are_few, refusals::specs::Outcomes::need))]
 fn check_few(many: usize) -> Result<(), Stop>
-    ensures gives { (rows : List RowView) → length rows ≡ many → Gives (λ _. tt) result (are_few rows) }
-    ensures few { OnOk result (many ≤ most_rows) }
+    ensures gives { (shares : List ShareView) → length shares ≡ many → Gives (λ _. tt) result (are_few shares) }
+    ensures few { OnOk result (many ≤ most_shares) }
 {
-    if many > MOST_ROWS {
-        Err(Stop::numbered(NumberCode::Limit, MOST_ROWS as u32))
+    if many > MOST_SHARES {
+        Err(Stop::numbered(NumberCode::Limit, MOST_SHARES as u32))
     } else {
         Ok(())
     }
 }
 
-/// That rows can be added to what is staged: else `Overlap`, `TooMuch`, then `Limit` (Zoe).
-#[tactic(auto, unfolding(crate::specs::Left::can_add, refusals::specs::Outcomes::bind))]
-fn check_more(now: &[Row], rows: &[Row]) -> Result<(), Stop>
-    requires { FitSlots now.now rows.now }
-    ensures gives { Gives (λ _. tt) result (can_add now.now rows.now) }
-    ensures can { OnOk result (can_give now.now rows.now ≡ Ok tt) }
-    ensures few { OnOk result (length (with_gains now.now rows.now) ≤ most_rows) }
+/// That shares can be added to what is staged: else `Overlap`, `TooMuch`, then `Limit` (Zoe).
+#[tactic(auto, unfolding(crate::specs::StagingParts::can_add, refusals::specs::Outcomes::bind))]
+fn check_more(now: &[Share], shares: &[Share]) -> Result<(), Stop>
+    requires { FitSlots now.now shares.now }
+    ensures gives { Gives (λ _. tt) result (can_add now.now shares.now) }
+    ensures can { OnOk result (can_give now.now shares.now ≡ Ok tt) }
+    ensures few { OnOk result (length (with_gains now.now shares.now) ≤ most_shares) }
 {
-    check_gains(now, rows)?;
-    check_few(slots_after(now, rows))
+    check_gains(now, shares)?;
+    check_few(slots_after(now, shares))
 }
 
-/// Rows with others more, which can be added.
-fn raised(alloc: Global, now: &[Row], gains: &Allocation) -> Result<Vec<Row>, AllocError>
-    requires now { AreRows now.now }
+/// Shares with others more, which can be added.
+fn shares_with_gains(
+    alloc: Global,
+    now: &[Share],
+    gains: &Allocation,
+) -> Result<Vec<Share>, AllocError>
+    requires now { AreShares now.now }
     requires fit { FitSlots now.now gains.now }
     requires gives { can_give now.now gains.now ≡ Ok tt }
     ensures after { IfOk result (λ after. after.items ≡ with_gains now.now gains.now) }
@@ -74,101 +78,134 @@ fn raised(alloc: Global, now: &[Row], gains: &Allocation) -> Result<Vec<Row>, Al
     }
 }
 
-/// What is staged with rows more that can be added.
-fn with_more(alloc: Global, now: &[Row], gains: &Allocation) -> Result<Allocation, AllocError>
-    requires now { AreRows now.now }
+/// What is staged with shares more that can be added.
+fn with_more(alloc: Global, now: &[Share], gains: &Allocation) -> Result<Allocation, AllocError>
+    requires now { AreShares now.now }
     requires fit { FitSlots now.now gains.now }
     requires gives { can_give now.now gains.now ≡ Ok tt }
-    requires few { length (with_gains now.now gains.now) ≤ most_rows }
+    requires few { length (with_gains now.now gains.now) ≤ most_shares }
     ensures { IfOk result (λ after. after ≡ with_gains now.now gains.now) }
 {
-    let after = raised(alloc, now, gains)?;
-    Allocation::from_rows(alloc, after)
+    let after = shares_with_gains(alloc, now, gains)?;
+    Allocation::from_shares(alloc, after)
 }
 
-/// What is staged with rows more that can be added.
-#[tactic(auto, using(crate::proofs::Few::rows_few))]
-fn gained(alloc: Global, now: &[Row], rows: Vec<Row>) -> Result<Allocation, AllocError>
-    requires now { AreRows now.now }
-    requires fit { FitSlots now.now rows.items }
-    requires gives { can_give now.now rows.items ≡ Ok tt }
-    requires few { length (with_gains now.now rows.items) ≤ most_rows }
-    ensures { IfOk result (λ after. after ≡ with_gains now.now rows.items) }
+/// What is staged with shares more that can be added.
+#[tactic(auto, using(crate::proofs::Few::shares_few))]
+fn allocation_with_gains(
+    alloc: Global,
+    now: &[Share],
+    shares: Vec<Share>,
+) -> Result<Allocation, AllocError>
+    requires now { AreShares now.now }
+    requires fit { FitSlots now.now shares.items }
+    requires gives { can_give now.now shares.items ≡ Ok tt }
+    requires few { length (with_gains now.now shares.items) ≤ most_shares }
+    ensures { IfOk result (λ after. after ≡ with_gains now.now shares.items) }
 {
-    let gains = Allocation::from_rows(alloc, rows)?;
+    let gains = Allocation::from_shares(alloc, shares)?;
     with_more(alloc, now, &gains)
 }
 
-/// What is staged less rows that it has.
-fn lost(alloc: Global, now: &[Row], rows: &[Row]) -> Result<Allocation, AllocError>
-    requires now { AreRows now.now }
-    requires fit { FitSlots now.now rows.now }
-    requires taken { can_take now.now rows.now ≡ Ok tt }
-    requires few { length (with_losses now.now rows.now) ≤ most_rows }
-    ensures { IfOk result (λ after. after ≡ with_losses now.now rows.now) }
+/// What is staged less shares that it has.
+fn allocation_without(
+    alloc: Global,
+    now: &[Share],
+    shares: &[Share],
+) -> Result<Allocation, AllocError>
+    requires now { AreShares now.now }
+    requires fit { FitSlots now.now shares.now }
+    requires taken { can_take now.now shares.now ≡ Ok tt }
+    requires few { length (with_losses now.now shares.now) ≤ most_shares }
+    ensures { IfOk result (λ after. after ≡ with_losses now.now shares.now) }
 {
-    let after = lessened(alloc, now, rows)?;
-    Allocation::from_rows(alloc, after)
+    let after = slots_less(alloc, now, shares)?;
+    Allocation::from_shares(alloc, after)
 }
 
-/// Rows are staged of a seat.
-fn staging(alloc: Global, answer: Data, seat: u32, rows: Allocation) -> Result<Plan, AllocError>
-    ensures plan { IfOk result (λ plan. plan_view plan ≡ (tree answer, stage seat rows ∷ [])) }
+/// Shares are staged of a seat.
+fn stage_plan(
+    alloc: Global,
+    answer: Data,
+    seat: u32,
+    shares: Allocation,
+) -> Result<CallOutcome, AllocError>
+    ensures plan { IfOk result (λ plan. outcome_view plan ≡ (tree answer, stage seat shares ∷ [])) }
     ensures shaped { IfOk result (λ plan. IsEachShaped plan.effects) }
 {
-    let stage = Effect::Rights(RightsEffect::Stage(seat, rows));
-    Plan::with_effect(alloc, answer, stage)
+    let stage = Effect::Rights(RightsEffect::Stage(seat, shares));
+    CallOutcome::with_effect(alloc, answer, stage)
 }
 
-/// What is staged with rows more, which the call answers.
-fn more(alloc: Global, seat: u32, now: &[Row], rows: Vec<Row>) -> Result<Plan, AllocError>
-    requires now { AreRows now.now }
-    requires fit { FitSlots now.now rows.items }
-    requires gives { can_give now.now rows.items ≡ Ok tt }
-    requires few { length (with_gains now.now rows.items) ≤ most_rows }
-    ensures plan { IfOk result (λ plan. plan_view plan
-        ≡ (allocation_tree rows.items, stage seat (with_gains now.now rows.items) ∷ [])) }
+/// What is staged with shares more, which the call answers.
+fn plan_more(
+    alloc: Global,
+    seat: u32,
+    now: &[Share],
+    shares: Vec<Share>,
+) -> Result<CallOutcome, AllocError>
+    requires now { AreShares now.now }
+    requires fit { FitSlots now.now shares.items }
+    requires gives { can_give now.now shares.items ≡ Ok tt }
+    requires few { length (with_gains now.now shares.items) ≤ most_shares }
+    ensures plan { IfOk result (λ plan. outcome_view plan
+        ≡ (allocation_tree shares.items, stage seat (with_gains now.now shares.items) ∷ [])) }
     ensures shaped { IfOk result (λ plan. IsEachShaped plan.effects) }
 {
-    let answer = allocation_data(alloc, rows.as_slice())?;
-    let after = gained(alloc, now, rows)?;
-    staging(alloc, answer, seat, after)
+    let answer = allocation_data(alloc, shares.as_slice())?;
+    let after = allocation_with_gains(alloc, now, shares)?;
+    stage_plan(alloc, answer, seat, after)
 }
 
-/// What is staged less rows, which the call answers.
-fn less(alloc: Global, seat: u32, now: &[Row], rows: &[Row]) -> Result<Plan, AllocError>
-    requires now { AreRows now.now }
-    requires fit { FitSlots now.now rows.now }
-    requires taken { can_take now.now rows.now ≡ Ok tt }
-    requires few { length (with_losses now.now rows.now) ≤ most_rows }
-    ensures plan { IfOk result (λ plan. plan_view plan
-        ≡ (allocation_tree rows.now, stage seat (with_losses now.now rows.now) ∷ [])) }
+/// What is staged less shares, which the call answers.
+fn plan_less(
+    alloc: Global,
+    seat: u32,
+    now: &[Share],
+    shares: &[Share],
+) -> Result<CallOutcome, AllocError>
+    requires now { AreShares now.now }
+    requires fit { FitSlots now.now shares.now }
+    requires taken { can_take now.now shares.now ≡ Ok tt }
+    requires few { length (with_losses now.now shares.now) ≤ most_shares }
+    ensures plan { IfOk result (λ plan. outcome_view plan
+        ≡ (allocation_tree shares.now, stage seat (with_losses now.now shares.now) ∷ [])) }
     ensures shaped { IfOk result (λ plan. IsEachShaped plan.effects) }
 {
-    let answer = allocation_data(alloc, rows)?;
-    let after = lost(alloc, now, rows)?;
-    staging(alloc, answer, seat, after)
+    let answer = allocation_data(alloc, shares)?;
+    let after = allocation_without(alloc, now, shares)?;
+    stage_plan(alloc, answer, seat, after)
 }
 
-/// Rows are added to what is staged: else `Overlap`, `TooMuch`, then `Limit` (Zoe).
-#[tactic(auto, unfolding(crate::specs::Left::staged_more, refusals::specs::Outcomes::bind))]
-pub fn stage_more(alloc: Global, seat: u32, now: &[Row], rows: Vec<Row>) -> Result<Plan, Stop>
-    requires now { AreRows now.now }
-    requires fit { FitSlots now.now rows.items }
-    ensures { Plans (staged_more seat now.now rows.items) result }
+/// Shares are added to what is staged: else `Overlap`, `TooMuch`, then `Limit` (Zoe).
+#[tactic(auto, unfolding(crate::specs::StagingParts::staged_more, refusals::specs::Outcomes::bind))]
+pub fn stage_more(
+    alloc: Global,
+    seat: u32,
+    now: &[Share],
+    shares: Vec<Share>,
+) -> Result<CallOutcome, Stop>
+    requires now { AreShares now.now }
+    requires fit { FitSlots now.now shares.items }
+    ensures { GivesOutcome (staged_more seat now.now shares.items) result }
 {
-    check_more(now, rows.as_slice())?;
-    Ok(more(alloc, seat, now, rows)?)
+    check_more(now, shares.as_slice())?;
+    Ok(plan_more(alloc, seat, now, shares)?)
 }
 
-/// Rows are taken from what is staged: else `NotEnough`, then `Limit` (Zoe).
-#[tactic(auto, unfolding(crate::specs::Left::staged_less, refusals::specs::Outcomes::bind))]
-pub fn stage_less(alloc: Global, seat: u32, now: &[Row], rows: &[Row]) -> Result<Plan, Stop>
-    requires now { AreRows now.now }
-    requires fit { FitSlots now.now rows.now }
-    ensures { Plans (staged_less seat now.now rows.now) result }
+/// Shares are taken from what is staged: else `NotEnough`, then `Limit` (Zoe).
+#[tactic(auto, unfolding(crate::specs::StagingParts::staged_less, refusals::specs::Outcomes::bind))]
+pub fn stage_less(
+    alloc: Global,
+    seat: u32,
+    now: &[Share],
+    shares: &[Share],
+) -> Result<CallOutcome, Stop>
+    requires now { AreShares now.now }
+    requires fit { FitSlots now.now shares.now }
+    ensures { GivesOutcome (staged_less seat now.now shares.now) result }
 {
-    check_losses(now, rows)?;
-    check_few(slots_after(now, rows))?;
-    Ok(less(alloc, seat, now, rows)?)
+    check_losses(now, shares)?;
+    check_few(slots_after(now, shares))?;
+    Ok(plan_less(alloc, seat, now, shares)?)
 }

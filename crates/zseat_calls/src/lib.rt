@@ -1,10 +1,22 @@
-//! The code of the methods of ZCF seats (leaving, what a seat has, staging): each reads, or plans,
-//! what its rule says.
+//! The code of the methods of a ZCF seat (its exit, what it has, what is staged of it), and the
+//! table of them: each reads, or plans, what its rule says.
 #![tactic(auto)]
 
-pub mod amounts;
-pub mod asking;
-pub mod changes;
-pub mod leaving;
+mod amounts;
+mod changes;
+mod exits;
+mod offer_safety;
 mod slots;
-pub mod staging;
+mod staging;
+pub mod zseat;
+
+/// What `refusals` gives to those above.
+pub mod refusals_lib {
+    pub mod codes {
+        pub use refusals::codes::NumberCode;
+    }
+
+    pub mod stops {
+        pub use refusals::stops::Stop;
+    }
+}

@@ -1,8 +1,8 @@
 //! The slots of an open seat.
 
 ghost use Rattle.std.specs.Prelude.{◌≡◌, ◌<◌, IfOk, OnOk, length};
-ghost use Rattle.rules.specs.ZseatRows.{allocation_of, is_open, seat_of};
-ghost use Rattle.world_reads.specs.host_world.Worlds.{world_of};
+ghost use Rattle.rules.specs.States.{allocation_of, is_open, seat_of};
+ghost use Rattle.user_seat_calls.specs.host_world.Worlds.{world_of};
 ghost use Rattle.refusals.specs.Outcomes.{Gives};
 ghost use Rattle.rules.specs.world_state.Worlds.{IsOpen};
 
@@ -10,7 +10,7 @@ use contract_reads::contract_words::allocations::current_allocation;
 use contract_reads::contract_words::own_seats::check_open;
 use refusals::stops::Stop;
 use rules::proposals_lib::allocations::Allocation;
-use world_reads::host_world_lib::World;
+use user_seat_calls::host_world_lib::World;
 
 /// What the slots of a seat have, which is open: else `SeatExited` (Zoe).
 pub(crate) fn open_slots(world: &World, seat: u32) -> Result<Allocation, Stop>

@@ -1,4 +1,4 @@
-// What has changed of instances since each was started.
+//! What has changed of instances since each was started.
 ghost use Rattle.std.specs.Prelude.{◌≡◌};
 ghost use Rattle.actors.specs.Changes.{changes_at_start, changes_now, no_changes};
 

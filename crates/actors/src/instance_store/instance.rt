@@ -1,4 +1,4 @@
-// An instance as it was started, and how it stands to offers.
+//! An instance as it was started, and how it stands to offers.
 ghost use Rattle.std.specs.Prelude.{◌≡◌, IfOk};
 ghost use Rattle.promise_store.specs.host_data.View.{trees};
 ghost use Rattle.actors.specs.Tables.{initial_state, stopped};

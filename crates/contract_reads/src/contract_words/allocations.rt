@@ -2,7 +2,7 @@
 
 ghost use Rattle.std.specs.Prelude.{◌≡◌, ◌<◌, IfOk, length};
 ghost use Rattle.std.specs.Option.{option_copied};
-ghost use Rattle.rules.specs.ZseatRows.{allocation_of, seat_of};
+ghost use Rattle.rules.specs.States.{allocation_of, seat_of};
 ghost use Rattle.host_world.specs.Worlds.{world_of};
 ghost use Rattle.rules.specs.world_state.Worlds.{IsOpen, staged_at};
 

@@ -1,7 +1,7 @@
 //! Seats of an instance.
 
 ghost use Rattle.std.specs.Prelude.{◌≡◌, ◌<◌, ◌≤◌, IfOk, OnOk, length};
-ghost use Rattle.rules.specs.ZseatRows.{is_open, seat_of};
+ghost use Rattle.rules.specs.States.{is_open, seat_of};
 ghost use Rattle.contract_reads.specs.Known.{AreKnown};
 ghost use Rattle.host_world.specs.Worlds.{world_of};
 ghost use Rattle.host_data.specs.View.{trees};
@@ -9,7 +9,7 @@ ghost use Rattle.refusals.specs.Outcomes.{Gives};
 ghost use Rattle.rules.specs.Given.{own_seat};
 ghost use Rattle.rules.specs.world_state.Worlds.{IsOpen};
 
-use crate::contract_words::given::seat_number;
+use crate::contract_words::objects::seat_number;
 use host_data::data::Data;
 use host_world::World;
 use host_world::draft_reads_lib::seat_reads::{is_open, seat_instance};
@@ -17,7 +17,7 @@ use refusals::codes::NumberCode;
 use refusals::stops::Stop;
 
 /// That a seat wasn't left: else `SeatExited` (Zoe).
-#[tactic(auto, using(crate::proofs::Opened::open_is), unfolding(rules::specs::ZseatRows::is_open, refusals::specs::Outcomes::need))]
+#[tactic(auto, using(crate::proofs::Opened::open_is), unfolding(rules::specs::States::is_open, refusals::specs::Outcomes::need))]
 pub fn check_open(world: &World, seat: u32) -> Result<(), Stop>
     requires { seat < length (world_of world.now).seats }
     ensures gives { Gives (λ _. tt) result (is_open (world_of world.now) seat) }

@@ -1,9 +1,9 @@
-//! How many slots there are once rows are added or taken, and the room that this needs.
+//! How many slots there are once shares are added or taken, and the room that this needs.
 
 ghost use Rattle.std.specs.Prelude.{◌≡◌, ◌≤◌, ◌+◌, [], ◌∷◌, OnOk, length};
 ghost use Rattle.rules.specs.proposals.Gains.{with_gains};
 ghost use Rattle.rules.specs.proposals.Losses.{with_losses};
-ghost use Rattle.rules.specs.proposals.ChangedRows.{further};
+ghost use Rattle.rules.specs.proposals.ChangedShares.{further};
 ghost use Rattle.rules.specs.ertp_mint.Stocks.{most_made};
 ghost use Rattle.host_world.specs.Worlds.{world_of};
 ghost use Rattle.rules.specs.proposals.declared.plans.Touched.{Touched};
@@ -14,33 +14,33 @@ use host_world::World;
 use host_world::draft_reads_lib::payment_reads::payments_left;
 use refusals::codes::NumberCode;
 use refusals::stops::Stop;
-use rules::proposals_lib::allocations::Row;
+use rules::proposals_lib::allocations::Share;
 use rules::proposals_lib::slots::amount_of;
 
 /// The most slots of a seat (own).
 const MOST_SLOTS: usize = 64;
 
-/// How many keywords of rows have no slot.
-fn fresh(slots: &[Row], rows: &[Row]) -> usize
-    ensures many { result ≡ length (further slots.now rows.now) }
-    ensures few { result ≤ length rows.now }
+/// How many keywords of shares have no slot.
+fn fresh_slots(slots: &[Share], shares: &[Share]) -> usize
+    ensures many { result ≡ length (further slots.now shares.now) }
+    ensures few { result ≤ length shares.now }
 {
     let mut fresh = 0;
-    for row in rows {
-        if amount_of(slots, &row.keyword).is_none() {
+    for share in shares {
+        if amount_of(slots, &share.keyword).is_none() {
             fresh += 1;
         }
     }
     fresh
 }
 
-/// How many slots there are once rows are added to them, or taken from them: a keyword without slot gets one.
+/// How many slots there are once shares are added to them, or taken from them: a keyword without slot gets one.
 #[tactic(auto, using(crate::proofs::Fresh::gains_are, crate::proofs::Fresh::losses_are))]
-pub fn slots_after(slots: &[Row], rows: &[Row]) -> usize
-    ensures gained { result ≡ length (with_gains slots.now rows.now) }
-    ensures lost { result ≡ length (with_losses slots.now rows.now) }
+pub fn slots_after(slots: &[Share], shares: &[Share]) -> usize
+    ensures gained { result ≡ length (with_gains slots.now shares.now) }
+    ensures lost { result ≡ length (with_losses slots.now shares.now) }
 {
-    slots.len() + fresh(slots, rows)
+    slots.len() + fresh_slots(slots, shares)
 }
 
 /// That so many slots may be opened, and so many payments be made, one payment being left for each slot of an open

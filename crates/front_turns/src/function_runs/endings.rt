@@ -1,30 +1,30 @@
 //! How a run ends: what its delivery is answered, and the new state of its instance.
 
 ghost use Rattle.std.specs.Prelude.{◌≡◌, ◌∷◌, [], IfOk, OnOk};
-ghost use Rattle.world_effects.specs.Carried.{AreCarried, IsInTurn};
+ghost use Rattle.contract_powers.specs.world_effects.CarriedEffects.{AreCarried, IsInTurn};
 ghost use Rattle.delivery_tasks.specs.delivery_turns.Tasks.{answer_of_ending};
 ghost use Rattle.front_turns.specs.FunctionRuns.{CanEnd, HasEnded};
-ghost use Rattle.world_reads.specs.host_world.Worlds.{IsUndoable, world_of};
+ghost use Rattle.contract_powers.specs.host_world.Worlds.{IsUndoable, world_of};
 ghost use Rattle.jessie_interpreter.specs.Outcomes.{outcome};
 ghost use Rattle.jessie_interpreter.specs.jessie_semantics.Play as plays;
 ghost use Rattle.jessie_interpreter.specs.jessie_semantics.Play.{Ending};
 ghost use Rattle.delivery_tasks.specs.host_data.View.{tree, trees};
-ghost use Rattle.world_reads.specs.refusals.Codes.{local_only, refusal_tree};
-ghost use Rattle.plain_stores.specs.turn_records.Views.{answer_view};
-ghost use Rattle.plain_stores.specs.turn_records.Events as told;
-ghost use Rattle.plain_stores.specs.world_state.Good.{CanKeep};
-ghost use Rattle.plain_stores.specs.world_state.Worlds as worlds;
+ghost use Rattle.contract_powers.specs.refusals.Codes.{local_only, refusal_tree};
+ghost use Rattle.contract_powers.specs.turn_records.Views.{answer_view};
+ghost use Rattle.contract_powers.specs.turn_records.Events as told;
+ghost use Rattle.contract_powers.specs.world_state.Good.{CanKeep};
+ghost use Rattle.contract_powers.specs.world_state.Worlds as worlds;
 
 use crate::function_runs::Ran;
+use contract_powers::call_outcomes_lib::effects::{Effect, InstancesEffect};
+use contract_powers::call_outcomes_lib::lists::Effects;
+use contract_powers::host_world_lib::World;
+use contract_powers::refusals_lib::codes::{BareCode, Refusal};
+use contract_powers::turn_records_lib::events::Answer;
+use contract_powers::world_effects_lib::carry_out;
 use delivery_tasks::host_data_lib::data::Data;
 use jessie_interpreter::evaluation::Outcome;
-use plain_stores::turn_records_lib::events::Answer;
 use std::alloc::{AllocError, Global};
-use world_effects::carry_out;
-use world_reads::call_plans_lib::effects::{Effect, InstancesEffect};
-use world_reads::call_plans_lib::lists::Effects;
-use world_reads::host_world_lib::World;
-use world_reads::refusals_lib::codes::{BareCode, Refusal};
 
 /// What stays with its instance doesn't come out of it: this is thrown in its place (our own).
 fn local_only(alloc: Global) -> Result<Answer, AllocError>
@@ -40,7 +40,7 @@ fn local_only(alloc: Global) -> Result<Answer, AllocError>
 }
 
 /// What is answered for a value that a function gave.
-fn given_by(alloc: Global, value: Data) -> Result<Answer, AllocError>
+fn answer_return(alloc: Global, value: Data) -> Result<Answer, AllocError>
     ensures { IfOk result (λ a. answer_view a ≡ answer_of_ending (plays.returned (tree value))) }
 {
     if value.is_local() {
@@ -50,7 +50,7 @@ fn given_by(alloc: Global, value: Data) -> Result<Answer, AllocError>
 }
 
 /// What is answered for a value that a function threw.
-fn thrown_by(alloc: Global, value: Data) -> Result<Answer, AllocError>
+fn answer_throw(alloc: Global, value: Data) -> Result<Answer, AllocError>
     ensures { IfOk result (λ a. answer_view a ≡ answer_of_ending (plays.threw (tree value))) }
 {
     if value.is_local() {
@@ -60,7 +60,7 @@ fn thrown_by(alloc: Global, value: Data) -> Result<Answer, AllocError>
 }
 
 /// The instance keeps the values of its state.
-#[tactic(auto, using(world_effects::proofs::Carrying::not_moved))]
+#[tactic(auto, using(crate::proofs::TurnEffects::not_moved))]
 fn keep_state(
     alloc: Global,
     world: &mut World,
@@ -79,7 +79,7 @@ fn keep_state(
 }
 
 /// The instance keeps the values of its state, and its delivery is answered so.
-fn keep_with(
+fn keep_and_end(
     alloc: Global,
     world: &mut World,
     instance: u32,
@@ -97,8 +97,8 @@ fn keep_with(
 }
 
 /// The same, where the answer could be made.
-#[tactic(auto, using(world_effects::proofs::Carrying::not_moved))]
-fn keep_answered(
+#[tactic(auto, using(crate::proofs::TurnEffects::not_moved))]
+fn keep_and_answer(
     alloc: Global,
     world: &mut World,
     instance: u32,
@@ -112,11 +112,11 @@ fn keep_answered(
         → HasEnded world.old world.new instance (plays.Ends e (trees state.items)) ran) }
     ensures back { IsUndoable world.old world.new }
 {
-    keep_with(alloc, world, instance, answered?, state)
+    keep_and_end(alloc, world, instance, answered?, state)
 }
 
 /// What a function came to, its state kept where its meter was not spent.
-#[tactic(auto, using(world_effects::proofs::Carrying::not_moved))]
+#[tactic(auto, using(crate::proofs::TurnEffects::not_moved))]
 pub(crate) fn end_run(
     alloc: Global,
     world: &mut World,
@@ -132,12 +132,12 @@ pub(crate) fn end_run(
 {
     match came {
         Outcome::Returned(value) => {
-            let answered = given_by(alloc, value);
-            keep_answered(alloc, world, instance, answered, state)
+            let answered = answer_return(alloc, value);
+            keep_and_answer(alloc, world, instance, answered, state)
         }
         Outcome::Threw(value) => {
-            let answered = thrown_by(alloc, value);
-            keep_answered(alloc, world, instance, answered, state)
+            let answered = answer_throw(alloc, value);
+            keep_and_answer(alloc, world, instance, answered, state)
         }
         Outcome::Spent => {
             drop(state);

@@ -1,21 +1,22 @@
 //! A function of a module that is evaluated over the world.
 
 ghost use Rattle.std.specs.Prelude.{◌≡◌, ◌<◌, ◌*◌, ◌^◌, IfOk, length};
-ghost use Rattle.world_effects.specs.Carried.{IsInTurn};
-ghost use Rattle.contract_powers.specs.Starts.{start_of};
+ghost use Rattle.contract_powers.specs.world_effects.CarriedEffects.{IsInTurn};
+ghost use Rattle.contract_powers.specs.TurnStarts.{start_of};
 ghost use Rattle.delivery_tasks.specs.delivery_turns.Functions.{module_play};
 ghost use Rattle.front_turns.specs.FunctionRuns.{WentOn};
-ghost use Rattle.world_reads.specs.host_world.Worlds.{IsUndoable, world_of};
-ghost use Rattle.plain_stores.specs.actors.Tables.{instance_at};
+ghost use Rattle.contract_powers.specs.host_world.Worlds.{IsUndoable, world_of};
+ghost use Rattle.contract_powers.specs.actors.Tables.{instance_at};
 ghost use Rattle.jessie_interpreter.specs.Outcomes.{outcome};
 ghost use Rattle.jessie_interpreter.specs.jessie_semantics.Keeping.{AllHave};
 ghost use Rattle.delivery_tasks.specs.host_data.View.{trees};
-ghost use Rattle.plain_stores.specs.world_state.Good.{IsGoodWorld};
-ghost use Rattle.plain_stores.specs.world_state.Known.{IsKnownTo, module_of};
-ghost use Rattle.plain_stores.specs.world_state.Rights.{IsRoomy};
+ghost use Rattle.contract_powers.specs.world_state.Good.{IsGoodWorld};
+ghost use Rattle.contract_powers.specs.world_state.Known.{IsKnownTo, module_of};
+ghost use Rattle.contract_powers.specs.world_state.Rights.{IsRoomy};
 
+use contract_powers::host_world_lib::World;
+use contract_powers::planner::Planner;
 use contract_powers::powers::{ContractPowers, Turn};
-use contract_powers::rows::ContractRows;
 use delivery_tasks::host_data_lib::data::{Data, copy_items};
 use jessie_interpreter::evaluation::{Outcome, evaluate};
 use jessie_interpreter::host_text_lib::text::Text;
@@ -23,11 +24,10 @@ use jessie_interpreter::jessie_index_lib::jessie_module_index::IndexedModule;
 use std::alloc::{AllocError, Global};
 use std::marker::PhantomData;
 use std::rc::Rc;
-use world_reads::host_world_lib::World;
 
 /// The module of an instance, shared, and a copy of the values of its state.
-#[tactic(auto, using(world_reads::proofs::Installed::installed_in))]
-pub(crate) fn prepared(
+#[tactic(auto, using(crate::proofs::TurnEffects::is_installed))]
+pub(crate) fn prepare_run(
     alloc: Global,
     world: &World,
     instance: u32,
@@ -38,7 +38,7 @@ pub(crate) fn prepared(
     ensures state { IfOk result (λ p. trees p.1.items
         ≡ (instance_at (world_of world.now).tables.instances instance).state) }
 {
-    let instances = &world.plain.instances;
+    let instances = &world.registers.instances;
     let state = copy_items(alloc, instances.kept(instance))?;
     let module = instances.shared_module(instances.installation(instance))?;
     Ok((module, state))
@@ -46,7 +46,7 @@ pub(crate) fn prepared(
 
 /// Evaluates a function of the instance's module in a turn that goes back to `T.base`. `state` holds the values of the
 /// instance's state variables: afterwards those that were assigned, where the function returned or threw.
-pub(crate) fn run_in<T: Turn, R: ContractRows>(
+pub(crate) fn run_in<T: Turn, P: Planner>(
     alloc: Global,
     world: World,
     instance: u32,
@@ -70,14 +70,14 @@ pub(crate) fn run_in<T: Turn, R: ContractRows>(
         world result.0 (outcome came (trees state.new.items))) }
     ensures back { IsUndoable world result.0 }
 {
-    let mut powers = ContractPowers::<T, R> {
+    let mut powers = ContractPowers::<T, P> {
         alloc,
         world,
         instance,
         room: meter,
         failed: false,
         turn: PhantomData,
-        rows: PhantomData,
+        planner: PhantomData,
     };
     let came = evaluate(
         alloc,
@@ -95,7 +95,7 @@ pub(crate) fn run_in<T: Turn, R: ContractRows>(
         room: _,
         failed: _,
         turn: _,
-        rows: _,
+        planner: _,
     } = powers;
     (world, came)
 }

@@ -1,13 +1,13 @@
 //! What is told of a turn's good effects. The bodies are empty: what they state is proved of the definitions.
 
 ghost use Rattle.std.specs.Prelude.{◌≡◌, ◌++◌, [], List};
-ghost use Rattle.world_effects.specs.escrow.Told.{EscrowState, nothing_told};
-ghost use Rattle.top_call.specs.fair_laws.Accounts.{AreStoredEffects};
-ghost use Rattle.host_turns.specs.Telling.{IsTurn, TellsWorld, instances_in, instances_of};
-ghost use Rattle.world_effects.specs.world_laws.First.{first_world};
-ghost use Rattle.world_effects.specs.world_state.Good.{AreGood, IsGoodWorld};
-ghost use Rattle.world_effects.specs.world_state.Rights.{IsRoomy};
-ghost use Rattle.world_effects.specs.world_state.Worlds.{Effect, State, after_all};
+ghost use Rattle.front_turns.specs.escrow.Told.{EscrowState, nothing_told};
+ghost use Rattle.run_laws.specs.fair_laws.Accounts.{AreStoredEffects};
+ghost use Rattle.host_turns.specs.Totals.{IsTurn, TellsWorld, instances_in, instances_of};
+ghost use Rattle.front_turns.specs.world_laws.First.{first_world};
+ghost use Rattle.front_turns.specs.world_state.Good.{AreGood, IsGoodWorld};
+ghost use Rattle.front_turns.specs.world_state.Rights.{IsRoomy};
+ghost use Rattle.front_turns.specs.world_state.Worlds.{Effect, State, after_all};
 
 /// Where nothing has happened yet, the log of good effects can be told to the totals of the world before them; and
 /// the seats that it opens are those that the world after them has more.

@@ -1,4 +1,4 @@
-// Why tokens are not read.
+//! Why tokens are not read.
 ghost use Rattle.std.specs.Prelude.{◌≡◌};
 ghost use Rattle.jessie_grammar.specs.declared.jessie_language.fault.ParseError.TheVariants.{NoMemory};
 

@@ -1,4 +1,4 @@
-// What holds of reading the tokens of a contract text.
+//! The laws of reading the tokens of a contract text.
 ghost use Rattle.jessie_grammar.specs.Laws.{ReadsTexts, ReadsEach, OneTree, RefusesFirst, RefusesEach, OneFirstRefusal};
 
 /// What is read is a text of the grammar, within the limits, with that tree.

@@ -1,4 +1,4 @@
-// What holds of cutting a text.
+//! That the tokens of a text, with the space between them, make it up.
 ghost use Rattle.jessie_grammar.specs.Pieces.{TokensMakeUpTexts};
 
 /// The tokens of a text, with the space between them, make up the text, each with its place; what is no

@@ -1,4 +1,4 @@
-// Cutting a text into tokens.
+//! Cutting a text into tokens.
 ghost use Rattle.std.specs.Prelude.{if◌then◌else◌, codes, ◌≡◌, ◌≤◌, [], ◌∷◌, ◌==◌, length, take_while, IfOk, IfSome, drop, false, None, Some, Option};
 ghost use Rattle.std.specs.Str.{is_utf8, IsUtf8, bytes_eq};
 ghost use Rattle.jessie_grammar.specs.Lex as lex;
@@ -77,7 +77,7 @@ fn escape(c: u8) -> Option<u8>
 }
 
 /// The byte that a byte of a text stands for, where it may stand there: after a backslash, or not.
-fn meant(escaped: bool, b: u8) -> Option<u8>
+fn byte_meaning(escaped: bool, b: u8) -> Option<u8>
     ensures { result ≡ (if escaped then lex.escape b else if b == 10 then None else Some b) }
 {
     if escaped {
@@ -91,7 +91,11 @@ fn meant(escaped: bool, b: u8) -> Option<u8>
 
 /// The text up to its closing quote, and what follows.
 #[tactic(auto, unfolding(crate::specs::Lex::quoted))]
-fn quoted(alloc: Global, quote: u8, bytes: &[u8]) -> Result<Option<(Vec<u8>, &[u8])>, AllocError>
+fn quoted_bytes(
+    alloc: Global,
+    quote: u8,
+    bytes: &[u8],
+) -> Result<Option<(Vec<u8>, &[u8])>, AllocError>
     ensures { IfOk result (λ r. lex.seen r ≡ lex.quoted quote false [] bytes.now) }
 {
     let mut found = Vec::new(alloc);
@@ -106,7 +110,7 @@ fn quoted(alloc: Global, quote: u8, bytes: &[u8]) -> Result<Option<(Vec<u8>, &[u
         if !escaped && b == b'\\' {
             escaped = true;
         } else {
-            let Some(d) = meant(escaped, b) else {
+            let Some(d) = byte_meaning(escaped, b) else {
                 return Ok(None);
             };
             found.push(d)?;
@@ -270,7 +274,7 @@ fn number(digits: &[u8]) -> u128
 }
 
 /// A token with a text of its own.
-fn worded(alloc: Global, kind: Kind, at: usize, text: &str) -> Result<Token, AllocError>
+fn word_token(alloc: Global, kind: Kind, at: usize, text: &str) -> Result<Token, AllocError>
     ensures { IfOk result (λ t. t ≡ lex.simple kind at text.now) }
 {
     Ok(Token {
@@ -282,20 +286,20 @@ fn worded(alloc: Global, kind: Kind, at: usize, text: &str) -> Result<Token, All
 }
 
 /// A token that is known by its kind.
-fn plain(alloc: Global, kind: Kind, at: usize) -> Result<Token, AllocError>
+fn kind_token(alloc: Global, kind: Kind, at: usize) -> Result<Token, AllocError>
     ensures { IfOk result (λ t. t ≡ lex.simple kind at []) }
 {
-    worded(alloc, kind, at, "")
+    word_token(alloc, kind, at, "")
 }
 
 /// No token, and nothing after it.
-fn bad<'a>(alloc: Global, at: usize) -> Result<(Token, &'a [u8]), AllocError>
+fn bad_token<'a>(alloc: Global, at: usize) -> Result<(Token, &'a [u8]), AllocError>
     ensures { IfOk result (λ x. lex.bad at ≡ (x.0, x.1.now)) }
 {
-    Ok((plain(alloc, Kind::Bad, at)?, &[]))
+    Ok((kind_token(alloc, Kind::Bad, at)?, &[]))
 }
 
-fn of_number(alloc: Global, at: usize, number: u128) -> Result<Token, AllocError>
+fn number_token(alloc: Global, at: usize, number: u128) -> Result<Token, AllocError>
     ensures { IfOk result (λ t. t ≡ lex.of_number at number) }
 {
     Ok(Token {
@@ -312,7 +316,7 @@ fn piece(alloc: Global, at: usize, bytes: &[u8]) -> Result<(Token, &[u8]), Alloc
     ensures { IfOk result (λ x. lex.piece at bytes.now ≡ (x.0, x.1.now)) }
 {
     let [first, after @ ..] = bytes else {
-        return bad(alloc, at);
+        return bad_token(alloc, at);
     };
     let b = *first;
     if is_word_start(b) {
@@ -325,11 +329,11 @@ fn piece(alloc: Global, at: usize, bytes: &[u8]) -> Result<(Token, &[u8]), Alloc
     if b == b'\'' || b == b'"' {
         return quoted_at(alloc, at, b, after);
     }
-    let found = mark(b, head(after), second(after));
+    let found = mark(b, head(after), second_byte(after));
     mark_at(alloc, at, found, bytes)
 }
 
-fn second(bytes: &[u8]) -> Option<u8>
+fn second_byte(bytes: &[u8]) -> Option<u8>
     ensures { result ≡ lex.head (drop 1 bytes.now) }
 {
     match bytes {
@@ -346,7 +350,7 @@ fn word_at(alloc: Global, at: usize, word: &[u8]) -> Result<Token, AllocError>
     let Ok(text) = str::from_utf8(word) else {
         unreachable!()
     };
-    worded(alloc, keyword(word), at, text)
+    word_token(alloc, keyword(word), at, text)
 }
 
 /// The word at the front, and what follows it.
@@ -368,7 +372,7 @@ fn mark_at(
 ) -> Result<(Token, &[u8]), AllocError>
     ensures { IfOk result (λ x. lex.of_mark at found bytes.now ≡ (x.0, x.1.now)) }
 {
-    Ok((plain(alloc, found.0, at)?, drop_front(bytes, found.1)))
+    Ok((kind_token(alloc, found.0, at)?, drop_front(bytes, found.1)))
 }
 
 fn drop_front(bytes: &[u8], len: usize) -> &[u8]
@@ -390,8 +394,8 @@ fn digits_at<'a>(
     ensures { IfOk result (λ x. lex.of_digits at digits.now rest.now ≡ (x.0, x.1.now)) }
 {
     match rest {
-        [b'n', after @ ..] => Ok((of_number(alloc, at, number(digits))?, after)),
-        _ => bad(alloc, at),
+        [b'n', after @ ..] => Ok((number_token(alloc, at, number(digits))?, after)),
+        _ => bad_token(alloc, at),
     }
 }
 
@@ -403,8 +407,8 @@ fn quoted_at(
 ) -> Result<(Token, &[u8]), AllocError>
     ensures { IfOk result (λ x. lex.of_quoted at (lex.quoted quote false [] bytes.now) ≡ (x.0, x.1.now)) }
 {
-    let Some((found, rest)) = quoted(alloc, quote, bytes)? else {
-        return bad(alloc, at);
+    let Some((found, rest)) = quoted_bytes(alloc, quote, bytes)? else {
+        return bad_token(alloc, at);
     };
     text_at(alloc, at, found.as_slice(), rest)
 }
@@ -418,8 +422,8 @@ fn text_at<'a>(
     ensures { IfOk result (λ x. lex.of_quoted at (Some (found.now, rest.now)) ≡ (x.0, x.1.now)) }
 {
     match str::from_utf8(found) {
-        Ok(text) => Ok((worded(alloc, Kind::Quoted, at, text)?, rest)),
-        Err(_) => bad(alloc, at),
+        Ok(text) => Ok((word_token(alloc, Kind::Quoted, at, text)?, rest)),
+        Err(_) => bad_token(alloc, at),
     }
 }
 

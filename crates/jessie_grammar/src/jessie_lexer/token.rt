@@ -1,4 +1,4 @@
-// What a text is cut into.
+//! Tokens and their kinds.
 ghost use Rattle.std.specs.Prelude.{◌≡◌};
 ghost use Rattle.jessie_grammar.specs.Tokens.{number_of, kind};
 

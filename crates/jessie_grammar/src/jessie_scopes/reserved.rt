@@ -1,4 +1,4 @@
-// Reserved words.
+//! Reserved words.
 ghost use Rattle.std.specs.Prelude.{◌≡◌};
 ghost use Rattle.std.specs.Str.{bytes_eq};
 ghost use Rattle.jessie_grammar.specs.Reserved as reserved;

@@ -1,8 +1,8 @@
-// The first fault of what a text does with names.
+//! The first fault of what a text does with names.
 ghost use Rattle.std.specs.Prelude.{◌≡◌, [], ◌∷◌, ◌++◌, IfOk, OnOk};
 ghost use Rattle.jessie_grammar.specs.Scopes as spec;
 
-use crate::jessie_scopes::event::{Binding, Event, NameFault};
+use crate::jessie_scopes::name_use::{Binding, NameFault, NameUse};
 use crate::jessie_scopes::reserved::{is_built_in, is_reserved};
 use host_text::text::Text;
 use sqlite_items::Items;
@@ -20,13 +20,13 @@ pub enum Entry {
 }
 
 /// The names of the module, in the text's order.
-fn globals(alloc: Global, events: &[Event]) -> Result<Items<(Text, Binding)>, AllocError>
-    ensures { IfOk result (λ found. found ≡ spec.globals events.now) }
+fn globals(alloc: Global, name_uses: &[NameUse]) -> Result<Items<(Text, Binding)>, AllocError>
+    ensures { IfOk result (λ found. found ≡ spec.globals name_uses.now) }
 {
     let mut found = Items::new(alloc);
-    let mut rest = events;
-    'events: while let [event, later @ ..] = rest {
-        if let Event::Defines(_, name, binding) = event {
+    let mut rest = name_uses;
+    'name_uses: while let [name_use, later @ ..] = rest {
+        if let NameUse::Defines(_, name, binding) = name_use {
             found.push((name.copy(alloc)?, *binding))?;
         }
         rest = later;
@@ -127,7 +127,7 @@ fn last_of(name: &str, first: Option<Binding>, entries: &[Entry]) -> Option<Bind
     found
 }
 
-fn known(globals: &[(Text, Binding)], entries: &[Entry], name: &str) -> Option<Binding>
+fn known_binding(globals: &[(Text, Binding)], entries: &[Entry], name: &str) -> Option<Binding>
     ensures { result ≡ spec.known globals.now entries.now name.now }
 {
     last_of(name, first_of(name, globals), entries)
@@ -171,7 +171,7 @@ fn uses(
     if is_reserved(name.as_str()) {
         return Some((at, NameFault::Reserved));
     }
-    reads(known(globals, entries, name.as_str()), at)
+    reads(known_binding(globals, entries, name.as_str()), at)
 }
 
 fn calls(globals: &[(Text, Binding)], at: usize, name: &Text) -> Option<(usize, NameFault)>
@@ -211,7 +211,7 @@ fn assigns(
     if is_reserved(name.as_str()) {
         return Some((at, NameFault::Reserved));
     }
-    writes(known(globals, entries, name.as_str()), at)
+    writes(known_binding(globals, entries, name.as_str()), at)
 }
 
 fn shortens(
@@ -228,28 +228,28 @@ fn shortens(
     if stands(name.as_str(), entries) {
         return Some((at, NameFault::Duplicate));
     }
-    reads(known(globals, entries, name.as_str()), at)
+    reads(known_binding(globals, entries, name.as_str()), at)
 }
 
-/// What is wrong with the event.
+/// What is wrong with the name use.
 fn fault(
     globals: &[(Text, Binding)],
     entries: &[Entry],
-    event: &Event,
+    name_use: &NameUse,
 ) -> Option<(usize, NameFault)>
-    ensures { result ≡ spec.fault globals.now entries.now event.now }
+    ensures { result ≡ spec.fault globals.now entries.now name_use.now }
 {
-    match event {
-        Event::Opens => None,
-        Event::Closes => None,
-        Event::Defines(at, name, _) => declares(entries, *at, name),
-        Event::Declares(at, name) => declares(entries, *at, name),
-        Event::Binds(_, _) => None,
-        Event::Uses(at, name) => uses(globals, entries, *at, name),
-        Event::Calls(at, name) => calls(globals, *at, name),
-        Event::Assigns(at, name) => assigns(globals, entries, *at, name),
-        Event::Field(at, name) => fills(entries, *at, name),
-        Event::Shorthand(at, name) => shortens(globals, entries, *at, name),
+    match name_use {
+        NameUse::Opens => None,
+        NameUse::Closes => None,
+        NameUse::Defines(at, name, _) => declares(entries, *at, name),
+        NameUse::Declares(at, name) => declares(entries, *at, name),
+        NameUse::Binds(_, _) => None,
+        NameUse::Uses(at, name) => uses(globals, entries, *at, name),
+        NameUse::Calls(at, name) => calls(globals, *at, name),
+        NameUse::Assigns(at, name) => assigns(globals, entries, *at, name),
+        NameUse::Field(at, name) => fills(entries, *at, name),
+        NameUse::Shorthand(at, name) => shortens(globals, entries, *at, name),
     }
 }
 
@@ -285,21 +285,21 @@ fn fill(alloc: Global, name: &Text, entries: &mut Items<Entry>) -> Result<(), Al
     entries.push(Entry::Field(name))
 }
 
-/// What stands after the event.
-fn follow(alloc: Global, event: &Event, entries: &mut Items<Entry>) -> Result<(), AllocError>
-    ensures { OnOk result (entries.new ≡ spec.after event.now entries.old) }
+/// What stands after the name use.
+fn follow(alloc: Global, name_use: &NameUse, entries: &mut Items<Entry>) -> Result<(), AllocError>
+    ensures { OnOk result (entries.new ≡ spec.after name_use.now entries.old) }
 {
-    match event {
-        Event::Opens => entries.push(Entry::Opening),
-        Event::Closes => Ok(close(entries)),
-        Event::Defines(_, name, binding) => bind(alloc, name, *binding, entries),
-        Event::Declares(_, _) => Ok(()),
-        Event::Binds(name, binding) => bind(alloc, name, *binding, entries),
-        Event::Uses(_, _) => Ok(()),
-        Event::Calls(_, _) => Ok(()),
-        Event::Assigns(_, _) => Ok(()),
-        Event::Field(_, name) => fill(alloc, name, entries),
-        Event::Shorthand(_, name) => fill(alloc, name, entries),
+    match name_use {
+        NameUse::Opens => entries.push(Entry::Opening),
+        NameUse::Closes => Ok(close(entries)),
+        NameUse::Defines(_, name, binding) => bind(alloc, name, *binding, entries),
+        NameUse::Declares(_, _) => Ok(()),
+        NameUse::Binds(name, binding) => bind(alloc, name, *binding, entries),
+        NameUse::Uses(_, _) => Ok(()),
+        NameUse::Calls(_, _) => Ok(()),
+        NameUse::Assigns(_, _) => Ok(()),
+        NameUse::Field(_, name) => fill(alloc, name, entries),
+        NameUse::Shorthand(_, name) => fill(alloc, name, entries),
     }
 }
 
@@ -308,17 +308,17 @@ fn follow(alloc: Global, event: &Event, entries: &mut Items<Entry>) -> Result<()
 fn fault_among(
     alloc: Global,
     globals: &[(Text, Binding)],
-    events: &[Event],
+    name_uses: &[NameUse],
 ) -> Result<Option<(usize, NameFault)>, AllocError>
-    ensures { IfOk result (λ found. found ≡ spec.first globals.now [] events.now) }
+    ensures { IfOk result (λ found. found ≡ spec.first globals.now [] name_uses.now) }
 {
     let mut entries = Items::new(alloc);
-    let mut rest = events;
-    'events: while let [event, later @ ..] = rest {
-        if let Some(found) = fault(globals, entries.as_slice(), event) {
+    let mut rest = name_uses;
+    'name_uses: while let [name_use, later @ ..] = rest {
+        if let Some(found) = fault(globals, entries.as_slice(), name_use) {
             return Ok(Some(found));
         }
-        follow(alloc, event, &mut entries)?;
+        follow(alloc, name_use, &mut entries)?;
         rest = later;
     }
     Ok(None)
@@ -329,10 +329,10 @@ fn fault_among(
 /// the built-in ones alone.
 pub fn first_fault(
     alloc: Global,
-    events: &[Event],
+    name_uses: &[NameUse],
 ) -> Result<Option<(usize, NameFault)>, AllocError>
-    ensures { IfOk result (λ found. found ≡ spec.first_fault events.now) }
+    ensures { IfOk result (λ found. found ≡ spec.first_fault name_uses.now) }
 {
-    let defined = globals(alloc, events)?;
-    Ok(fault_among(alloc, defined.as_slice(), events)?)
+    let defined = globals(alloc, name_uses)?;
+    Ok(fault_among(alloc, defined.as_slice(), name_uses)?)
 }

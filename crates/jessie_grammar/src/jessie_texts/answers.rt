@@ -1,4 +1,4 @@
-// The steps from the tokens of a text to its answer.
+//! The steps from the tokens of a text to its answer.
 ghost use Rattle.std.specs.Prelude.{◌≡◌, length};
 ghost use Rattle.jessie_grammar.specs.Scopes.{first_fault as first_wrong};
 ghost use Rattle.jessie_grammar.specs.Texts as texts;
@@ -6,9 +6,9 @@ ghost use Rattle.jessie_grammar.specs.Answers as spec;
 
 use crate::jessie_language::fault::Limit;
 use crate::jessie_lexer::token::Token;
-use crate::jessie_scopes::event::{Event, NameFault};
+use crate::jessie_scopes::name_use::{NameFault, NameUse};
 use crate::jessie_scopes::scopes::first_fault;
-use crate::jessie_texts::refused::{ReadError, Refusal, TextRefusal};
+use crate::jessie_texts::refusal::{ReadError, Refusal, TextRefusal};
 use crate::syntax::{Function, Module};
 use std::alloc::Global;
 
@@ -49,18 +49,18 @@ fn place_of(total: usize, tokens: &[Token], left: usize) -> usize
 }
 
 /// The refusal of a text at a place.
-pub fn refused(place: usize, kind: Refusal) -> ReadError
+pub fn text_refusal(place: usize, kind: Refusal) -> ReadError
     ensures { result ≡ ReadError.Refused (texts.refusal place kind) }
 {
     ReadError::Refused(TextRefusal { place, kind })
 }
 
 /// The refusal of a text of `total` bytes at a token, where `left` tokens are left with it.
-pub fn refused_token(total: usize, tokens: &[Token], limit: Option<Limit>, left: usize) -> ReadError
+pub fn token_refusal(total: usize, tokens: &[Token], limit: Option<Limit>, left: usize) -> ReadError
     ensures { result ≡ ReadError.Refused
         (texts.refusal (spec.place_of total tokens.now left) (texts.kind_of limit)) }
 {
-    refused(place_of(total, tokens, left), kind_of(limit))
+    text_refusal(place_of(total, tokens, left), kind_of(limit))
 }
 
 /// Whether one of the functions has the name.
@@ -79,14 +79,19 @@ fn has_function(name: &str, functions: &[Function]) -> bool
 
 /// Nothing, if the names of a text of `total` bytes with this tree are as they may be, and it has a
 /// function `start`. The rules are this project's own.
-pub fn check(alloc: Global, total: usize, tree: &Module, deeds: &[Event]) -> Result<(), ReadError>
-    ensures { spec.Passes tree.now result (spec.by_names total tree.now (first_wrong deeds.now)) }
+pub fn check(
+    alloc: Global,
+    total: usize,
+    tree: &Module,
+    name_uses: &[NameUse],
+) -> Result<(), ReadError>
+    ensures { spec.Passes tree.now result (spec.by_names total tree.now (first_wrong name_uses.now)) }
 {
-    if let Some((place, fault)) = first_fault(alloc, deeds)? {
-        return Err(refused(place, name_kind(fault)));
+    if let Some((place, fault)) = first_fault(alloc, name_uses)? {
+        return Err(text_refusal(place, name_kind(fault)));
     }
     if !has_function("start", tree.functions.as_slice()) {
-        return Err(refused(total, Refusal::NoStart));
+        return Err(text_refusal(total, Refusal::NoStart));
     }
     Ok(())
 }

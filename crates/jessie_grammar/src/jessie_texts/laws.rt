@@ -1,4 +1,4 @@
-// What holds of what texts come to.
+//! That each text comes to one answer, and to no other.
 ghost use Rattle.jessie_grammar.specs.Answers.{EachComesToIt, ComesToNoOther};
 
 /// Each text comes to what a reader answers: it is that module, or that is its first refusal.

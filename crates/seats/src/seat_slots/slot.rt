@@ -1,10 +1,10 @@
-// The slots of one seat: what is stored under each keyword, in the order of opening.
+//! The slots of one seat: what is stored under each keyword, in the order of opening.
 ghost use Rattle.std.specs.Prelude.{◌≡◌, IfOk, OnOk, map};
-ghost use Rattle.seats.specs.Slots.{empty_slot, place_of, row_in, rows_in};
+ghost use Rattle.seats.specs.Slots.{empty_slot, place_of, share_in, shares_in};
 
 use ertp_mint::Balance;
 use ertp_mint::amount_math_lib::Amount;
-use proposals::allocations::Row;
+use proposals::allocations::Share;
 use proposals::host_text_lib::keyword::Keyword;
 use std::alloc::{AllocError, Global};
 use std::marker::Model;
@@ -34,23 +34,23 @@ impl Model for Slot {
 }
 
 impl Slot {
-    /// A slot of a row's keyword and brand, with nothing.
-    fn empty(alloc: Global, row: &Row) -> Result<Slot, AllocError>
-        ensures { IfOk result (λ slot. slot ≡ empty_slot row.now) }
+    /// A slot of a share's keyword and brand, with nothing.
+    fn empty(alloc: Global, share: &Share) -> Result<Slot, AllocError>
+        ensures { IfOk result (λ slot. slot ≡ empty_slot share.now) }
     {
-        let keyword = row.keyword.copy(alloc)?;
-        let amount = &row.amount;
+        let keyword = share.keyword.copy(alloc)?;
+        let amount = &share.amount;
         Ok(Slot {
             keyword,
             balance: Balance::empty(alloc, amount.brand, amount.value.kind()),
         })
     }
 
-    /// What it has, as a row. Keys and the keyword take memory.
-    fn row(&self, alloc: Global) -> Result<Row, AllocError>
-        ensures { IfOk result (λ row. row ≡ row_in self.now) }
+    /// What it has, as a share. Keys and the keyword take memory.
+    fn share(&self, alloc: Global) -> Result<Share, AllocError>
+        ensures { IfOk result (λ share. share ≡ share_in self.now) }
     {
-        Ok(Row {
+        Ok(Share {
             keyword: self.keyword.copy(alloc)?,
             amount: Amount {
                 brand: self.balance.brand(),
@@ -72,24 +72,24 @@ pub(crate) fn place_of(slots: &[Slot], keyword: &Keyword) -> usize
     slots.len()
 }
 
-/// A slot for each row, with nothing of its brand.
-pub(crate) fn empty_slots(alloc: Global, rows: &[Row]) -> Result<Vec<Slot>, AllocError>
-    ensures { IfOk result (λ slots. slots.items ≡ map empty_slot rows.now) }
+/// A slot for each share, with nothing of its brand.
+pub(crate) fn empty_slots(alloc: Global, shares: &[Share]) -> Result<Vec<Slot>, AllocError>
+    ensures { IfOk result (λ slots. slots.items ≡ map empty_slot shares.now) }
 {
     let mut slots = Vec::new(alloc);
-    for row in rows {
-        slots.push(Slot::empty(alloc, row)?)?;
+    for share in shares {
+        slots.push(Slot::empty(alloc, share)?)?;
     }
     Ok(slots)
 }
 
 /// What the slots have.
-pub(crate) fn rows_of(alloc: Global, slots: &[Slot]) -> Result<Vec<Row>, AllocError>
-    ensures { IfOk result (λ rows. rows.items ≡ rows_in slots.now) }
+pub(crate) fn shares_of(alloc: Global, slots: &[Slot]) -> Result<Vec<Share>, AllocError>
+    ensures { IfOk result (λ shares. shares.items ≡ shares_in slots.now) }
 {
-    let mut rows = Vec::new(alloc);
+    let mut shares = Vec::new(alloc);
     for slot in slots {
-        rows.push(slot.row(alloc)?)?;
+        shares.push(slot.share(alloc)?)?;
     }
-    Ok(rows)
+    Ok(shares)
 }

@@ -3,7 +3,7 @@
 ghost use Rattle.std.specs.Prelude.{◌≡◌, ◌≤◌, suc};
 ghost use Rattle.serde_json.specs.Data.{depth};
 ghost use Rattle.refusals.specs.host_data.Tree.{Tree};
-ghost use Rattle.turn_rows.specs.amount_math.Worth.{IsValue, Worth};
+ghost use Rattle.turn_rows.specs.amount_math.ValueView.{IsValue, ValueView};
 ghost use Rattle.refusals.specs.host_data.Values.{value_tree};
 ghost use Rattle.turn_rows.specs.Form.{HasValueForm, IsData};
 ghost use Rattle.turn_rows.specs.Rows.{value_json};
@@ -19,10 +19,10 @@ pub fn data_is_in_form()
 
 /// A value whose keys are texts is printed as rows may have it.
 pub fn values_are_in_form()
-    ensures { (w : Worth) → IsValue w.kind w.content → HasTexts w.content → HasValueForm (printed_value w) }
+    ensures { (w : ValueView) → IsValue w.kind w.content → HasTexts w.content → HasValueForm (printed_value w) }
 {}
 
 /// A value is printed alike in a row of its own and as data.
 pub fn values_print_alike()
-    ensures { (w : Worth) → value_json (printed_value w) ≡ printed (value_tree w) }
+    ensures { (w : ValueView) → value_json (printed_value w) ≡ printed (value_tree w) }
 {}

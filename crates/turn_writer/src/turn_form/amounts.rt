@@ -1,4 +1,4 @@
-//! What the types of holders, values, rows and sums give.
+//! What the types of holders, values, shares and sums give.
 
 ghost use Rattle.std.specs.Prelude.{◌≡◌, ◌<◌, true};
 ghost use Rattle.std.specs.List.{All, AllByRecursion};
@@ -6,9 +6,9 @@ ghost use Rattle.std.specs.Str.{IsUtf8};
 ghost use Rattle.turn_rows.specs.host_text.Words.{is_keyword};
 ghost use Rattle.turn_records.specs.Values.{HasTexts};
 ghost use Rattle.turn_rows.specs.Form.{HasHolderForm, HasSumForm};
-ghost use Rattle.turn_records.specs.Tellable.{IsTellableMovement, IsTellableRow, IsTellableValue};
+ghost use Rattle.turn_records.specs.Tellable.{IsTellableMovement, IsTellableShare, IsTellableValue};
 
-use turn_records::proposals_lib::allocations::Row;
+use turn_records::proposals_lib::allocations::Share;
 use turn_rows::amount_math_lib::{Entry, Value};
 use turn_rows::host_text_lib::keyword::Keyword;
 use turn_rows::rights_model_lib::{Holder, Movement, Sum};
@@ -78,19 +78,19 @@ pub fn movement_has_types(movement: &Movement)
     value_has_types(&movement.value);
 }
 
-fn row_has_types(row: &Row)
-    ensures { IsTellableRow row.now }
+fn share_has_types(share: &Share)
+    ensures { IsTellableShare share.now }
 {
-    keyword_has_form(&row.keyword);
-    let _brand = row.amount.brand;
-    value_has_types(&row.amount.value);
+    keyword_has_form(&share.keyword);
+    let _brand = share.amount.brand;
+    value_has_types(&share.amount.value);
 }
 
-pub fn rows_have_types(rows: &[Row])
-    ensures { AllByRecursion IsTellableRow rows.now }
+pub fn shares_have_types(shares: &[Share])
+    ensures { AllByRecursion IsTellableShare shares.now }
 {
-    for row in rows {
-        row_has_types(row);
+    for share in shares {
+        share_has_types(share);
     }
 }
 

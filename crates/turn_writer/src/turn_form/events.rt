@@ -5,7 +5,7 @@ ghost use Rattle.turn_records.specs.Tellable.{IsTellableExit, IsTellablePayout};
 ghost use Rattle.turn_records.specs.Views.{call_view, event_view, event_views, leaving_view, opening_view, payout_view, payout_views};
 ghost use Rattle.turn_writer.specs.Typed.{HasCallTypes, HasEventTypes, HasOpeningTypes, HasTargetType};
 
-use crate::turn_form::amounts::{keyword_has_form, movement_has_types, rows_have_types};
+use crate::turn_form::amounts::{keyword_has_form, movement_has_types, shares_have_types};
 use crate::turn_form::data::{is_text, items_have_types, number_has_range, settlement_has_types};
 use crate::turn_form::deliveries::answer_has_types;
 use turn_records::events::{Call, Event, Leaving, Opening, Payout};
@@ -32,8 +32,8 @@ fn opening_has_types(opening: &Opening)
     ensures { HasOpeningTypes (opening_view opening.now) }
 {
     let (_seat, _instance) = (opening.seat, opening.instance);
-    rows_have_types(opening.proposal.give.rows());
-    rows_have_types(opening.proposal.want.rows());
+    shares_have_types(opening.proposal.give.shares());
+    shares_have_types(opening.proposal.want.shares());
 }
 
 fn payout_has_types(payout: &Payout)

@@ -1,9 +1,9 @@
 use Rattle.std.proofs.Common.{◌≡◌, ◌∷◌, [], ◌∙◌, List, ap, length, subst, sym, arith, rules}
 use Rattle.std.specs.Vec.Iter.{into_iter_items}
-use Rattle.world_reads.specs.call_plans.Views.{effect_view}
-use Rattle.world_reads.specs.call_plans.declared.effects.Effect.{Effect}
-use Rattle.world_effects.proofs.Carrying.{IsCarrying, begins, carries_on, ends}
-use Rattle.world_effects.proofs.Joined.{back_on}
+use Rattle.register_effects.specs.call_outcomes.Views.{effect_view}
+use Rattle.register_effects.specs.call_outcomes.declared.effects.Effect.{Effect}
+use Rattle.world_effects.proofs.EffectSequences.{IsCarrying, begins, carries_on, ends}
+use Rattle.world_effects.proofs.JoinedStores.{back_on}
 use Rattle.world_effects.proofs.carry_all.Goals as goal
 
 pub loop-effect-preserved : goal.loop-effect-preserved

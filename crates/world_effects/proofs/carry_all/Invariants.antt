@@ -1,6 +1,6 @@
 use Rattle.std.proofs.Common.{◌≡◌, length}
 use Rattle.std.specs.Vec.Iter.{into_iter_items, into_iter_len}
-use Rattle.world_effects.proofs.Carrying.{IsCarrying}
+use Rattle.world_effects.proofs.EffectSequences.{IsCarrying}
 use Rattle.world_effects.proofs.carry_all.Given as goal
 
 abbrev pub invariant-loop-effect : goal.invariant-loop-effect

@@ -6,7 +6,7 @@ ghost use Rattle.world_reads.specs.Tests.{is_brand, is_made_by, is_made_by_kit, 
 ghost use Rattle.world_reads.specs.Tests.{knows_object, same_kind};
 ghost use Rattle.rules.specs.world_state.Good.{IsGoodWorld};
 
-use call_plans::plain_stores_lib::brand_makers::Maker;
+use call_outcomes::registers_lib::brand_makers::Maker;
 use host_world::World;
 use host_world::draft_reads_lib::payment_reads::payments_made;
 use host_world::draft_reads_lib::purse_reads::purses_made;
@@ -29,7 +29,7 @@ fn same_kind(one: Kind, other: Kind) -> bool
 fn is_brand(world: &World, kind: Kind, brand: u32) -> bool
     ensures { result ≡ is_brand (world_of world.now).brands kind brand }
 {
-    let brands = &world.plain.brands;
+    let brands = &world.registers.brands;
     brand < brands.made() && same_kind(brands.kind(brand as u16), kind)
 }
 
@@ -38,10 +38,10 @@ fn is_made_by_kit(world: &World, brand: u32) -> bool
     requires { IsGoodWorld (world_of world.now) }
     ensures { result ≡ is_made_by_kit (world_of world.now).makers brand }
 {
-    if world.plain.brands.made() <= brand {
+    if world.registers.brands.made() <= brand {
         return false;
     }
-    match world.plain.makers.maker(brand as u16) {
+    match world.registers.makers.maker(brand as u16) {
         Maker::Kit => true,
         _ => false,
     }
@@ -52,10 +52,10 @@ fn is_made_by(world: &World, instance: u32, brand: u32) -> bool
     requires { IsGoodWorld (world_of world.now) }
     ensures { result ≡ is_made_by (world_of world.now).makers instance brand }
 {
-    if world.plain.brands.made() <= brand {
+    if world.registers.brands.made() <= brand {
         return false;
     }
-    match world.plain.makers.maker(brand as u16) {
+    match world.registers.makers.maker(brand as u16) {
         Maker::Instance(maker) => maker == instance,
         _ => false,
     }
@@ -77,17 +77,17 @@ pub fn knows_object(world: &World, instance: u32, object: Obj) -> bool
     match object.kind {
         ObjKind::Ertp | ObjKind::Zoe | ObjKind::Timer => number == 0,
         ObjKind::Brand(kind) => is_brand(world, kind, number),
-        ObjKind::Issuer => number < world.plain.brands.made(),
+        ObjKind::Issuer => number < world.registers.brands.made(),
         ObjKind::Mint => is_made_by_kit(world, number),
         ObjKind::Purse | ObjKind::Deposit => number < purses_made(&world.draft),
         ObjKind::Payment => number < payments_made(&world.draft),
-        ObjKind::Installation => number < world.plain.instances.installations(),
-        ObjKind::Instance => number < world.plain.instances.made(),
+        ObjKind::Installation => number < world.registers.instances.installations(),
+        ObjKind::Instance => number < world.registers.instances.made(),
         ObjKind::Zcf => number == instance,
         ObjKind::Seat => number < seats_made(&world.draft),
         ObjKind::Zseat => is_seat_of(world, instance, number),
         ObjKind::Zmint => is_made_by(world, instance, number),
-        ObjKind::Facet => number < world.plain.facets.made(),
-        ObjKind::Promise => number < world.plain.promises.made(),
+        ObjKind::Facet => number < world.registers.facets.made(),
+        ObjKind::Promise => number < world.registers.promises.made(),
     }
 }

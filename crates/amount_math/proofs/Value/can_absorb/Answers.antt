@@ -1,5 +1,5 @@
 use Rattle.amount_math.specs.KindLaws.{has_few}
-use Rattle.amount_math.specs.Worth.{fits_from_value}
+use Rattle.amount_math.specs.ValueView.{fits_from_value}
 use Rattle.amount_math.proofs.Shapes.{sum_is_value}
 use Rattle.amount_math.proofs.Value.can_absorb.Goals as goal
 

@@ -1,7 +1,7 @@
 use Rattle.std.proofs.Common.{◌≡◌, [], ◌++◌, ◌∙◌, ap, sym, arith, vec_capacity}
 use Rattle.amount_math.specs.Content.{of_entries, of_entries-nil, sum, sum-nothing}
 use Rattle.amount_math.specs.Entries.{Entries, most_of_key}
-use Rattle.amount_math.specs.Worth.{keys_of}
+use Rattle.amount_math.specs.ValueView.{keys_of}
 use Rattle.amount_math.proofs.Poured.{emptied}
 use Rattle.amount_math.proofs.Places.{last_within, rest_are, room_for_last, sum_stays}
 use Rattle.amount_math.proofs.in_place.put_all.Goals as goal

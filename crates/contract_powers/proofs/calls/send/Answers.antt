@@ -1,7 +1,7 @@
 use Rattle.world_effects.specs.host_world.Worlds.{world_of}
 use Rattle.jessie_machine.specs.jessie_semantics.Play as plays
 use Rattle.refusals.specs.host_data.View.{trees}
-use Rattle.contract_powers.proofs.Carried.{answered_so, can_carry}
+use Rattle.contract_powers.proofs.AdmittedCalls.{answered_so, can_carry}
 use Rattle.contract_powers.proofs.calls.send.Goals as goal
 
 pub carry-requires-clause-can : goal.carry-requires-clause-can

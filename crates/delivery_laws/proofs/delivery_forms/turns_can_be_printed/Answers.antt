@@ -1,5 +1,4 @@
-use Rattle.row_laws.proofs.Calls.{calls_are}
-use Rattle.row_laws.proofs.Services.{services_are}
+use Rattle.rule_laws.proofs.Methods.{calls_are, services_are}
 use Rattle.delivery_laws.proofs.Steps.{steps_print}
 use Rattle.delivery_laws.proofs.delivery_forms.turns_can_be_printed.Goals as goal
 

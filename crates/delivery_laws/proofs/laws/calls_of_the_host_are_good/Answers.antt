@@ -1,4 +1,4 @@
-use Rattle.row_laws.proofs.Calls.{calls_are}
+use Rattle.rule_laws.proofs.Methods.{calls_are}
 use Rattle.delivery_laws.proofs.Replies.{call_is}
 use Rattle.delivery_laws.proofs.laws.calls_of_the_host_are_good.Goals as goal
 

@@ -1,5 +1,4 @@
-use Rattle.row_laws.proofs.Calls.{calls_are}
-use Rattle.row_laws.proofs.Services.{services_are}
+use Rattle.rule_laws.proofs.Methods.{calls_are, services_are}
 use Rattle.delivery_laws.proofs.Works.{turn_good}
 use Rattle.delivery_laws.proofs.laws.deliveries_have_good_effects.Goals as goal
 

@@ -1,5 +1,5 @@
 use Rattle.std.proofs.Common.{[], refl}
-use Rattle.row_laws.proofs.Calls.{calls_are}
+use Rattle.rule_laws.proofs.Methods.{calls_are}
 use Rattle.delivery_laws.proofs.Runs.{grows_itself, run_is}
 use Rattle.delivery_laws.proofs.laws.runs_are_good.Goals as goal
 

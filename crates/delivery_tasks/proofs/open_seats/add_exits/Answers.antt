@@ -1,11 +1,11 @@
 use Rattle.std.specs.Prelude.{filter}
 use Rattle.std.proofs.Common.{◌≡◌, ◌++◌, append-nil, ap, sym, ◌∙◌}
 use Rattle.std.proofs.lemmas.List.{drop_all}
-use Rattle.world_reads.specs.call_plans.Lists.{effects_view}
+use Rattle.world_reads.specs.call_outcomes.Lists.{effects_view}
 use Rattle.delivery_turns.specs.Tasks.{exits_with}
 use Rattle.world_reads.specs.host_world.Worlds.{world_of}
 use Rattle.delivery_turns.specs.turn_records.Views.{cause_view}
-use Rattle.delivery_tasks.proofs.OpenSeats.{is_open_at, number_made, one_more, open_seats}
+use Rattle.world_reads.proofs.OpenSeats.{is_open_at, number_made, one_more, open_seats}
 use Rattle.delivery_tasks.proofs.open_seats.add_exits.Goals as goal
 
 pub add_exit-requires : goal.add_exit-requires

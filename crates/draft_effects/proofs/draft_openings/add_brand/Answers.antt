@@ -2,7 +2,7 @@ use Rattle.std.proofs.Common.{refl, subst, sym}
 use Rattle.draft_reads.specs.Views.{CanGoBack}
 use Rattle.draft_reads.proofs.Undoing.{clean_back}
 use Rattle.draft_reads.proofs.vault.Seated.{on_either}
-use Rattle.draft_effects.proofs.Opened.{brand_back}
+use Rattle.draft_effects.proofs.Openings.{brand_back}
 use Rattle.draft_effects.proofs.draft_openings.add_brand.Goals as goal
 
 pub returns-clause-back : goal.returns-clause-back

@@ -2,11 +2,11 @@ use Rattle.std.proofs.Common.{◌++◌, ◌∷◌, [], None, ap, length, arith}
 use Rattle.std.proofs.lemmas.Result.{on_ok_weaker}
 use Rattle.draft_reads.specs.world_state.Worlds.{new_seat, of_own}
 use Rattle.draft_reads.specs.Views.{rights_in, seats_in, staging_in}
-use Rattle.draft_effects.proofs.Opened.{own_now, own_room}
+use Rattle.draft_effects.proofs.Openings.{own_now, own_room}
 use Rattle.draft_effects.proofs.draft_openings.empty_seat.Goals as goal
 
 pub open_seat-requires-clause-room : goal.open_seat-requires-clause-room
-open_seat-requires-clause-room c = rw (c.new.ensures, c.new-2.ensures) (own_room c.args.draft.now c.args.rule c.valid.ensures (omega (arith, c.made-made.ensures.few, ap length c.payments.ensures.papers, c.payments.ensures.owed)))
+open_seat-requires-clause-room c = rw (c.new.ensures, c.new-2.ensures) (own_room c.args.draft.now c.args.rule c.valid.ensures (omega (arith, c.made-made.ensures.few, ap length c.payments.ensures.views, c.payments.ensures.owed)))
 
 pub returns-clause-ok : goal.returns-clause-ok
 returns-clause-ok c =

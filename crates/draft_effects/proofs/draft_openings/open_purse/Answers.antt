@@ -1,7 +1,7 @@
 use Rattle.std.proofs.Common.{refl}
-use Rattle.draft_reads.specs.right_steps.Lists.{with_new_purse}
+use Rattle.draft_reads.specs.vault_model.Lists.{with_new_purse}
 use Rattle.draft_reads.proofs.Undoing.{clean_back}
-use Rattle.draft_effects.proofs.Opened.{opened_back, purse_now}
+use Rattle.draft_effects.proofs.Openings.{opened_back, purse_now}
 use Rattle.draft_effects.proofs.draft_openings.open_purse.Goals as goal
 
 pub returns-in-Ok-clause-ok : goal.returns-in-Ok-clause-ok

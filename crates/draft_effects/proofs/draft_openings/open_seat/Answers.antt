@@ -1,8 +1,8 @@
 use Rattle.std.proofs.Common.{refl, subst}
-use Rattle.draft_reads.specs.right_steps.Lists.{with_new_seat}
+use Rattle.draft_reads.specs.vault_model.Lists.{with_new_seat}
 use Rattle.draft_reads.specs.seats.Store.{AreOpen}
 use Rattle.draft_reads.proofs.Undoing.{clean_back}
-use Rattle.draft_effects.proofs.Opened.{not_too_many, opened_back, seat_memory, seat_now}
+use Rattle.draft_effects.proofs.Openings.{not_too_many, opened_back, seat_memory, seat_now}
 use Rattle.draft_effects.proofs.draft_openings.open_seat.Goals as goal
 
 pub want_of_memory-requires : goal.want_of_memory-requires

@@ -1,5 +1,5 @@
 use Rattle.std.proofs.Common.{refl}
-use Rattle.draft_reads.specs.right_steps.Seats.{kept_seat_at}
+use Rattle.draft_reads.specs.vault_model.Seats.{kept_seat_at}
 use Rattle.draft_reads.specs.seats.Staging.{with_staged}
 use Rattle.draft_reads.proofs.Undoing.{clean_back}
 use Rattle.draft_effects.proofs.Stagings.{made_here, open_here, stage_memory, staged_back, staged_now}
@@ -9,10 +9,10 @@ pub stage-requires : goal.stage-requires
 stage-requires c = made_here c.args.draft.now c.args.seat c.requires.is_open
 
 pub returns-in-Ok-clause-ok : goal.returns-in-Ok-clause-ok
-returns-in-Ok-clause-ok c = rw (c.in-Ok.ensures.ok) (staged_now c.args.draft.now c.requires.clean c.args.seat c.args.rows)
+returns-in-Ok-clause-ok c = rw (c.in-Ok.ensures.ok) (staged_now c.args.draft.now c.requires.clean c.args.seat c.args.shares)
 
 pub returns-in-Ok-clause-back : goal.returns-in-Ok-clause-back
-returns-in-Ok-clause-back c = rw (c.in-Ok.ensures.ok) (staged_back c.args.draft.now c.requires.clean c.valid.ensures (with_staged c.args.seat c.args.rows c.args.draft.now.staging))
+returns-in-Ok-clause-back c = rw (c.in-Ok.ensures.ok) (staged_back c.args.draft.now c.requires.clean c.valid.ensures (with_staged c.args.seat c.args.shares c.args.draft.now.staging))
 
 pub want_of_memory-requires : goal.want_of_memory-requires
 want_of_memory-requires c = stage_memory c.in-Err.fault (kept_seat_at c.args.draft.now.now.seats c.args.seat).last c.in-Err.ensures.exited (open_here c.args.draft.now c.args.seat c.requires.is_open)

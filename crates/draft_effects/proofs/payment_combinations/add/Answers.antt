@@ -1,4 +1,4 @@
-use Rattle.draft_effects.proofs.CarriedTransfers.{put_memory}
+use Rattle.draft_effects.proofs.CarriedMovements.{put_memory}
 use Rattle.draft_effects.proofs.payment_combinations.add.Goals as goal
 
 pub unreachable-requires : goal.unreachable-requires

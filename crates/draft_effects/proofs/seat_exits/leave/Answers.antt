@@ -1,13 +1,13 @@
 use Rattle.std.proofs.Common.{◌≡◌, ap, arith, length, refl, subst, sym, ◌∙◌}
 use Rattle.std.proofs.lemmas.Result.{on_ok_weaker}
-use Rattle.draft_reads.specs.proposals.Rows.{AreApart, AreRows}
+use Rattle.draft_reads.specs.proposals.Shares.{AreApart, AreShares}
 use Rattle.draft_reads.specs.seats.Store.{AreOpen}
 use Rattle.draft_reads.specs.vault.Drafts.{DraftState}
 use Rattle.draft_reads.specs.world_state.Rights.{slots_at}
-use Rattle.draft_effects.proofs.Each.{open_here}
+use Rattle.draft_effects.proofs.TransferSequences.{open_here}
 use Rattle.draft_reads.specs.Views.{rights_in}
 use Rattle.draft_reads.proofs.Undoing.{clean_back}
-use Rattle.draft_effects.proofs.Leaving.{closed_can, closed_clean, left_now, made_here, rows_are, slots_few}
+use Rattle.draft_effects.proofs.Exits.{closed_can, closed_clean, left_now, made_here, shares_are, slots_few}
 use Rattle.draft_effects.proofs.seat_exits.leave.Goals as goal
 
 pub close-requires-clause-made : goal.close-requires-clause-made
@@ -27,48 +27,48 @@ pay_out-requires-clause-few c =
     let d = c.args.draft.now in
     let n = c.args.seat in
     let made = made_here d n c.requires.is_open in
-    let rows : c.rows.result.now ≡ slots_at (rights_in d).slots n = c.rows.ensures.value ∙ c.in_ok-last.ensures.last ∙ sym (rows_are d n made) in
-    let first : c.made-first.result ≡ length d.now.payments = c.made-first.ensures.made ∙ ap length c.payments.ensures.papers in
-    rw (first, rows) (slots_few d n made c.requires.is_open c.valid.ensures (omega (arith, c.made-first.ensures.few, ap length c.payments.ensures.papers, c.payments.ensures.owed)))
+    let shares : c.shares.result.now ≡ slots_at (rights_in d).slots n = c.shares.ensures.value ∙ c.in_ok-last.ensures.last ∙ sym (shares_are d n made) in
+    let first : c.made-first.result ≡ length d.now.payments = c.made-first.ensures.made ∙ ap length c.payments.ensures.views in
+    rw (first, shares) (slots_few d n made c.requires.is_open c.valid.ensures (omega (arith, c.made-first.ensures.few, ap length c.payments.ensures.views, c.payments.ensures.owed)))
 
 pub pay_out-requires-clause-can : goal.pay_out-requires-clause-can
 pay_out-requires-clause-can c =
     let d = c.args.draft.now in
     let n = c.args.seat in
     let made = made_here d n c.requires.is_open in
-    let rows : c.rows.result.now ≡ slots_at (rights_in d).slots n = c.rows.ensures.value ∙ c.in_ok-last.ensures.last ∙ sym (rows_are d n made) in
-    let first : c.made-first.result ≡ length d.now.payments = c.made-first.ensures.made ∙ ap length c.payments.ensures.papers in
-    let apart : AreRows (slots_at (rights_in d).slots n) = subst AreRows (c.in_ok-last.ensures.last ∙ sym (rows_are d n made)) c.rows.ensures.rows in
-    rw (c.in_ok-last.ensures.ok, first, rows) (closed_can d n made c.requires.is_open c.valid.ensures apart.apart c.requires.kinds (omega (arith, c.made-first.ensures.few, ap length c.payments.ensures.papers, c.payments.ensures.owed)))
+    let shares : c.shares.result.now ≡ slots_at (rights_in d).slots n = c.shares.ensures.value ∙ c.in_ok-last.ensures.last ∙ sym (shares_are d n made) in
+    let first : c.made-first.result ≡ length d.now.payments = c.made-first.ensures.made ∙ ap length c.payments.ensures.views in
+    let apart : AreShares (slots_at (rights_in d).slots n) = subst AreShares (c.in_ok-last.ensures.last ∙ sym (shares_are d n made)) c.shares.ensures.shares in
+    rw (c.in_ok-last.ensures.ok, first, shares) (closed_can d n made c.requires.is_open c.valid.ensures apart.apart c.requires.kinds (omega (arith, c.made-first.ensures.few, ap length c.payments.ensures.views, c.payments.ensures.owed)))
 
 pub returns-clause-ok : goal.returns-clause-ok
 returns-clause-ok c =
     let d = c.args.draft.now in
     let n = c.args.seat in
     let made = made_here d n c.requires.is_open in
-    let rows : c.rows.result.now ≡ slots_at (rights_in d).slots n = c.rows.ensures.value ∙ c.in_ok-last.ensures.last ∙ sym (rows_are d n made) in
-    let first : c.made-first.result ≡ length d.now.payments = c.made-first.ensures.made ∙ ap length c.payments.ensures.papers in
-    let apart : AreRows (slots_at (rights_in d).slots n) = subst AreRows (c.in_ok-last.ensures.last ∙ sym (rows_are d n made)) c.rows.ensures.rows in
+    let shares : c.shares.result.now ≡ slots_at (rights_in d).slots n = c.shares.ensures.value ∙ c.in_ok-last.ensures.last ∙ sym (shares_are d n made) in
+    let first : c.made-first.result ≡ length d.now.payments = c.made-first.ensures.made ∙ ap length c.payments.ensures.views in
+    let apart : AreShares (slots_at (rights_in d).slots n) = subst AreShares (c.in_ok-last.ensures.last ∙ sym (shares_are d n made)) c.shares.ensures.shares in
     on_ok_weaker c.pay_out.result (λ paid. left_now d n made c.seats.result.now.seats
     (c.seats.ensures.seats ∙ ap (λ (x : DraftState). x.now.seats) c.in_ok-last.ensures.ok)
     (subst (AreOpen c.seats.result.now.seats) (c.seats.ensures.staging ∙ ap (λ (x : DraftState). x.staging) c.in_ok-last.ensures.ok) c.staged_are_open.ensures)
-    c.pay_out.new.draft apart.apart (rw (c.in_ok-last.ensures.ok, first, rows) at paid)) c.pay_out.ensures.ok
+    c.pay_out.new.draft apart.apart (rw (c.in_ok-last.ensures.ok, first, shares) at paid)) c.pay_out.ensures.ok
 
 pub returns-clause-payouts : goal.returns-clause-payouts
 returns-clause-payouts c =
     let d = c.args.draft.now in
     let n = c.args.seat in
-    let rows : c.rows.result.now ≡ slots_at (rights_in d).slots n = c.rows.ensures.value ∙ c.in_ok-last.ensures.last ∙ sym (rows_are d n (made_here d n c.requires.is_open)) in
-    let first : c.made-first.result ≡ length d.now.payments = c.made-first.ensures.made ∙ ap length c.payments.ensures.papers in
-    rw (first, rows) at c.pay_out.ensures.payouts
+    let shares : c.shares.result.now ≡ slots_at (rights_in d).slots n = c.shares.ensures.value ∙ c.in_ok-last.ensures.last ∙ sym (shares_are d n (made_here d n c.requires.is_open)) in
+    let first : c.made-first.result ≡ length d.now.payments = c.made-first.ensures.made ∙ ap length c.payments.ensures.views in
+    rw (first, shares) at c.pay_out.ensures.payouts
 
 pub returns-clause-moves : goal.returns-clause-moves
 returns-clause-moves c =
     let d = c.args.draft.now in
     let n = c.args.seat in
-    let rows : c.rows.result.now ≡ slots_at (rights_in d).slots n = c.rows.ensures.value ∙ c.in_ok-last.ensures.last ∙ sym (rows_are d n (made_here d n c.requires.is_open)) in
-    let first : c.made-first.result ≡ length d.now.payments = c.made-first.ensures.made ∙ ap length c.payments.ensures.papers in
-    rw (first, rows) at c.pay_out.ensures.moves
+    let shares : c.shares.result.now ≡ slots_at (rights_in d).slots n = c.shares.ensures.value ∙ c.in_ok-last.ensures.last ∙ sym (shares_are d n (made_here d n c.requires.is_open)) in
+    let first : c.made-first.result ≡ length d.now.payments = c.made-first.ensures.made ∙ ap length c.payments.ensures.views in
+    rw (first, shares) at c.pay_out.ensures.moves
 
 pub returns-clause-back : goal.returns-clause-back
 returns-clause-back c = record {

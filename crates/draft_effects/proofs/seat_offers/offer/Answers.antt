@@ -1,5 +1,5 @@
 use Rattle.std.proofs.Common.{◌∷◌, ◌∙◌}
-use Rattle.draft_effects.proofs.Escrowed.{escrow_can, escrow_room, escrowed_now}
+use Rattle.draft_effects.proofs.EscrowedOffers.{escrow_can, escrow_room, escrowed_now}
 use Rattle.draft_effects.proofs.seat_offers.offer.Goals as goal
 
 pub open_seat-requires-clause-room : goal.open_seat-requires-clause-room

@@ -1,4 +1,4 @@
-use Rattle.draft_effects.proofs.Stored.{keeps_it, stored}
+use Rattle.draft_effects.proofs.HandParcels.{keeps_it, stored}
 use Rattle.draft_effects.proofs.stored_parts.store_part.Goals as goal
 
 pub hold-requires : goal.hold-requires

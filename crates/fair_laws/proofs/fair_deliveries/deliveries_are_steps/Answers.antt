@@ -1,7 +1,6 @@
-use Rattle.delivery_laws.proofs.row_laws.Calls.{calls_are}
+use Rattle.delivery_laws.proofs.rule_laws.Methods.{calls_are, services_are}
 use Rattle.fair_laws.proofs.Whole.{steps_are}
 use Rattle.fair_laws.proofs.fair_deliveries.deliveries_are_steps.Goals as goal
-use Rattle.delivery_laws.proofs.row_laws.Services.{services_are}
 use Rattle.fair_laws.proofs.HeldReads.{calls_read, services_read}
 
 pub returns : goal.returns

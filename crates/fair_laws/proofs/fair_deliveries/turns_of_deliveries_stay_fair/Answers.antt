@@ -1,8 +1,7 @@
-use Rattle.delivery_laws.proofs.row_laws.Calls.{calls_are}
+use Rattle.delivery_laws.proofs.rule_laws.Methods.{calls_are, services_are}
 use Rattle.fair_laws.proofs.Fair.{stay_fair}
 use Rattle.fair_laws.proofs.Whole.{steps_are}
 use Rattle.fair_laws.proofs.fair_deliveries.turns_of_deliveries_stay_fair.Goals as goal
-use Rattle.delivery_laws.proofs.row_laws.Services.{services_are}
 use Rattle.fair_laws.proofs.HeldReads.{calls_read, services_read}
 
 pub returns : goal.returns

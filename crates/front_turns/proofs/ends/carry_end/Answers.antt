@@ -1,12 +1,12 @@
 use Rattle.std.proofs.Common.{◌∙◌, List, ap, subst, sym}
 use Rattle.fair_laws.proofs.delivery_laws.Ends.{ending_good}
 use Rattle.delivery_tasks.specs.delivery_turns.Endings.{ending}
-use Rattle.world_reads.specs.host_world.Worlds.{world_of}
-use Rattle.plain_stores.specs.turn_records.Views.{answer_view}
-use Rattle.plain_stores.specs.turn_records.Deliveries.{Delivery}
-use Rattle.plain_stores.specs.world_state.Good.{AreGood}
-use Rattle.plain_stores.specs.world_state.Worlds.{Effect}
-use Rattle.front_turns.specs.Turning.{front}
+use Rattle.contract_powers.specs.host_world.Worlds.{world_of}
+use Rattle.contract_powers.specs.turn_records.Views.{answer_view}
+use Rattle.contract_powers.specs.turn_records.Deliveries.{Delivery}
+use Rattle.contract_powers.specs.world_state.Good.{AreGood}
+use Rattle.contract_powers.specs.world_state.Worlds.{Effect}
+use Rattle.front_turns.specs.FrontTurns.{front}
 use Rattle.front_turns.proofs.ends.carry_end.Goals as goal
 
 pub carry_out-requires-clause-good : goal.carry_out-requires-clause-good

@@ -1,15 +1,15 @@
 use Rattle.std.specs.Prelude.{IfOk}
 use Rattle.std.specs.declared.alloc.AllocError.{AllocError}
 use Rattle.std.proofs.Common.{Result, subst, sym}
-use Rattle.world_effects.proofs.Joined.{back_on}
+use Rattle.contract_powers.proofs.world_effects.JoinedStores.{back_on}
 use Rattle.delivery_tasks.specs.delivery_turns.Functions.{FunctionCall}
-use Rattle.front_turns.proofs.Ending.{came_so, can_end, play_of, was_ok}
+use Rattle.front_turns.proofs.RunEnds.{came_so, can_end, play_of, was_ok}
 use Rattle.front_turns.proofs.function_runs.run_function.Goals as goal
 use Rattle.front_turns.proofs.function_runs.run_function.Goals.{in-Err-outcome, in-Ok-outcome}
 use Rattle.front_turns.specs.FunctionRuns.{CameTo, WentOn}
 use Rattle.front_turns.specs.declared.function_runs.Ran.{Ran}
-use Rattle.world_reads.specs.host_world.Worlds.{IsUndoable, world_of}
-use Rattle.world_reads.specs.host_world.declared.World.{World}
+use Rattle.contract_powers.specs.host_world.Worlds.{IsUndoable, world_of}
+use Rattle.contract_powers.specs.host_world.declared.World.{World}
 use Rattle.jessie_interpreter.specs.Outcomes.{outcome}
 use Rattle.jessie_interpreter.specs.declared.evaluation.Outcome.{Outcome}
 use Rattle.delivery_tasks.specs.host_data.View.{trees}

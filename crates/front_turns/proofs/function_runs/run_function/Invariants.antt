@@ -1,4 +1,4 @@
-use Rattle.contract_powers.specs.Starts.{start_of}
+use Rattle.contract_powers.specs.TurnStarts.{start_of}
 use Rattle.front_turns.proofs.function_runs.run_function.Given as goal
 
 abbrev pub ghosts-run_in : goal.ghosts-run_in

@@ -1,7 +1,7 @@
 use Rattle.std.proofs.Common.{◌≡◌, ◌++◌, ◌∷◌, [], ap, arith, length, sym, ◌∙◌, subst, Some, None}
 use Rattle.ertp_mint.specs.amount_math.declared.Amount.{Amount}
 use Rattle.slab.specs.Slab.{Slab, get}
-use Rattle.holders.specs.Papers.{IsMade}
+use Rattle.holders.specs.PaymentViews.{IsMade}
 use Rattle.holders.specs.Kept.{AreKept, book_of}
 use Rattle.holders.proofs.Books.{listed_of, made_book, made_kept, roomier_book, roomier_kept}
 use Rattle.holders.specs.declared.payments.Entry.{Entry}

@@ -1,6 +1,6 @@
 use Rattle.std.specs.Vec.{vec_capacity, vec_len}
 use Rattle.std.proofs.Common.{◌≡◌, ◌≤◌, ◌+◌, ◌-◌, ◌++◌, length, map, take}
-use Rattle.world_effects.specs.escrow.Told.{sum_of}
+use Rattle.front_turns.specs.escrow.Told.{sum_of}
 use Rattle.host_turns.proofs.turn_sums.add_sums.Given as goal
 
 abbrev pub invariant-loop-brand : goal.invariant-loop-brand

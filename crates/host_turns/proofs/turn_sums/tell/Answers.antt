@@ -1,7 +1,7 @@
 use Rattle.std.proofs.Common.{subst}
-use Rattle.world_effects.specs.turn_records.Views.{event_view}
-use Rattle.world_effects.specs.turn_records.declared.events.Event.{Event}
-use Rattle.host_turns.specs.Telling.{CanTell, CanTellMove}
+use Rattle.front_turns.specs.turn_records.Views.{event_view}
+use Rattle.front_turns.specs.turn_records.declared.events.Event.{Event}
+use Rattle.host_turns.specs.Totals.{CanTell, CanTellMove}
 use Rattle.host_turns.proofs.turn_sums.tell.Goals as goal
 
 pub moved-requires-clause-defined : goal.moved-requires-clause-defined

@@ -1,5 +1,5 @@
 use Rattle.std.proofs.Common.{◌≡◌, ◌+◌, ◌<◌, length, suc, arith}
-use Rattle.host_turns.proofs.Steps.{next_can, one_more, were_told}
+use Rattle.host_turns.proofs.ToldEvents.{next_can, one_more, were_told}
 use Rattle.host_turns.proofs.turn_sums.tell_all.Goals as goal
 
 pub tell-requires : goal.tell-requires

@@ -1,6 +1,6 @@
 use Rattle.std.proofs.Common.{drop, take}
-use Rattle.world_effects.specs.turn_records.Views.{event_views}
-use Rattle.host_turns.specs.Telling.{AreSteps, CanTellAll}
+use Rattle.front_turns.specs.turn_records.Views.{event_views}
+use Rattle.host_turns.specs.Totals.{AreSteps, CanTellAll}
 use Rattle.host_turns.proofs.turn_sums.tell_all.Given as goal
 
 abbrev pub invariant-loop-told : goal.invariant-loop-told

@@ -1,10 +1,10 @@
 use Rattle.std.proofs.Common.{◌++◌, ◌∙◌, map}
-use Rattle.world_effects.specs.escrow.Told.{sum_of}
-use Rattle.world_effects.specs.rights_model.Totals.{brands_of}
-use Rattle.world_effects.specs.turn_records.Views.{event_views}
-use Rattle.world_effects.specs.turn_records.Events.{moves_in}
-use Rattle.host_turns.specs.Telling.{instances_in}
-use Rattle.host_turns.proofs.SummedTurns.{on_err, read_sums, tells_same, turn_can, turn_told}
+use Rattle.front_turns.specs.escrow.Told.{sum_of}
+use Rattle.front_turns.specs.rights_model.Totals.{brands_of}
+use Rattle.front_turns.specs.turn_records.Views.{event_views}
+use Rattle.front_turns.specs.turn_records.Events.{moves_in}
+use Rattle.host_turns.specs.Totals.{instances_in}
+use Rattle.host_turns.proofs.TurnSums.{on_err, read_sums, tells_same, turn_can, turn_told}
 use Rattle.host_turns.proofs.turn_sums.tell_turn.Goals as goal
 
 pub tell_all-requires : goal.tell_all-requires

@@ -1,8 +1,8 @@
 use Rattle.std.proofs.Common.{subst}
-use Rattle.world_effects.specs.turn_records.Views.{event_view}
-use Rattle.world_effects.specs.turn_records.declared.events.Event.{Event}
-use Rattle.host_turns.specs.Telling.{WasTold}
-use Rattle.host_turns.proofs.Steps.{was_moved}
+use Rattle.front_turns.specs.turn_records.Views.{event_view}
+use Rattle.front_turns.specs.turn_records.declared.events.Event.{Event}
+use Rattle.host_turns.specs.Totals.{WasTold}
+use Rattle.host_turns.proofs.ToldEvents.{was_moved}
 use Rattle.host_turns.proofs.turn_sums.untell.Goals as goal
 
 pub undo_moved-requires-clause-told : goal.undo_moved-requires-clause-told

@@ -1,5 +1,5 @@
 use Rattle.std.proofs.Common.{◌≡◌, ◌-◌, ◌<◌, length, suc, arith}
-use Rattle.host_turns.proofs.Steps.{none_told, told_back}
+use Rattle.host_turns.proofs.ToldEvents.{none_told, told_back}
 use Rattle.host_turns.proofs.turn_sums.untell_all.Goals as goal
 
 pub untell-requires : goal.untell-requires

@@ -1,7 +1,7 @@
 use Rattle.std.proofs.Common.{◌≤◌, length, take}
-use Rattle.world_effects.specs.escrow.Told.{EscrowState}
-use Rattle.world_effects.specs.turn_records.Views.{event_views}
-use Rattle.host_turns.specs.Telling.{WereTold}
+use Rattle.front_turns.specs.escrow.Told.{EscrowState}
+use Rattle.front_turns.specs.turn_records.Views.{event_views}
+use Rattle.host_turns.specs.Totals.{WereTold}
 use Rattle.host_turns.proofs.turn_sums.untell_all.Given as goal
 
 abbrev pub invariant-loop-left : goal.invariant-loop-left

@@ -1,6 +1,6 @@
 use Rattle.std.proofs.Common.{sym, subst}
-use Rattle.host_turns.specs.Telling.{Tells, TurnOf}
-use Rattle.host_turns.proofs.Turned.{ending_is}
+use Rattle.host_turns.specs.Totals.{Tells, TurnOf}
+use Rattle.host_turns.proofs.WholeTurns.{ending_is}
 use Rattle.host_turns.proofs.turns.end_turn.Goals as goal
 
 pub tell_turn-requires : goal.tell_turn-requires

@@ -1,14 +1,14 @@
 use Rattle.std.proofs.Common.{refl}
-use Rattle.host_turns.proofs.Ended.{as_before}
-use Rattle.host_turns.proofs.Turned.{turned}
-use Rattle.host_turns.proofs.Underway.{delivered_is, ready, still_tells, turn_is_of}
+use Rattle.host_turns.proofs.TurnEnds.{as_before}
+use Rattle.host_turns.proofs.WholeTurns.{turned}
+use Rattle.host_turns.proofs.TurnStarts.{delivered_is, ready, still_tells, turn_is_of}
 use Rattle.host_turns.proofs.turns.turn_of.Goals as goal
 
 pub deliver-world-requires : goal.deliver-world-requires
 deliver-world-requires g c =
     let w = c.begin-world.result in
     let is = ready c.args.meter c.args.turns c.args.kept c.requires.kept c.requires.early c.requires.waits w c.begin-world.ensures.now c.begin-world.ensures.start c.begin-world.ensures.clean c.valid.ensures c.begin-world.ensures.sums in
-    record { begun = is.begun }
+    is.begun
 
 pub end_turn-requires : goal.end_turn-requires
 end_turn-requires g c =
@@ -34,5 +34,5 @@ returns-in-None g c =
     let m = c.deliver-world.result.0 in
     let begun = ready c.args.meter c.args.turns c.args.kept c.requires.kept c.requires.early c.requires.waits w c.begin-world.ensures.now c.begin-world.ensures.start c.begin-world.ensures.clean c.valid.ensures c.begin-world.ensures.sums in
     let back = c.deliver-world.ensures.back in
-    as_before c.args.meter c.args.turns c.args.kept c.requires.kept w c.begin-world.ensures.now c.begin-world.ensures.start m back.rights.kept back.plain (still_tells c.args.meter w m begun back.sums)
+    as_before c.args.meter c.args.turns c.args.kept c.requires.kept w c.begin-world.ensures.now c.begin-world.ensures.start m back.rights.kept back.registers (still_tells c.args.meter w m begun back.sums)
     c.undo.result c.undo.ensures.world c.undo.ensures.between c.undo.ensures.sums

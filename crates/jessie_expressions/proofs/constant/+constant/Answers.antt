@@ -52,9 +52,9 @@ pub fields-returns-in_err-rest : goal.fields-returns-in_err-rest
 fields-returns-in_err-rest t c =
     let e = err_from_is_err_and c.from_residual-in_err-rest.result c.from_residual-in_err-rest.ensures.1 in
     let h : has (k.RightBrace ∷ []) (kind c.args.tokens.now) ≡ false = cc in
-    rw (e.1, e.2) (fails_along c.in_err-rest.field-0.0 _ _ (listed_goes k.RightBrace (p.constant_field (p.inner_constant c.args.room)) c.args.events.now c.args.tokens.now c.in_ok-key.rest.now _ _ _ c.add_constant_field.new.found h c.in_ok-key.ensures c.in_ok-add_constant_field.ensures cc) c.in_err-rest.ensures)
+    rw (e.1, e.2) (fails_along c.in_err-rest.field-0.0 _ _ (listed_goes k.RightBrace (p.constant_field (p.inner_constant c.args.room)) c.args.name_uses.now c.args.tokens.now c.in_ok-key.rest.now _ _ _ c.add_constant_field.new.found h c.in_ok-key.ensures c.in_ok-add_constant_field.ensures cc) c.in_err-rest.ensures)
 
 pub fields-returns : goal.fields-returns
 fields-returns t c =
     let h : has (k.RightBrace ∷ []) (kind c.args.tokens.now) ≡ false = cc in
-    (listed_goes k.RightBrace (p.constant_field (p.inner_constant c.args.room)) c.args.events.now c.args.tokens.now c.in_ok-key.rest.now _ _ _ c.add_constant_field.new.found h c.in_ok-key.ensures c.in_ok-add_constant_field.ensures cc) ∙ c.in_ok-rest.ensures
+    (listed_goes k.RightBrace (p.constant_field (p.inner_constant c.args.room)) c.args.name_uses.now c.args.tokens.now c.in_ok-key.rest.now _ _ _ c.add_constant_field.new.found h c.in_ok-key.ensures c.in_ok-add_constant_field.ensures cc) ∙ c.in_ok-rest.ensures

@@ -36,13 +36,13 @@ abbrev pub decreases-record_text : goal.decreases-record_text
 decreases-record_text l = 8 * l.room + 4
 
 abbrev pub invariant-more_constants-items : goal.invariant-more_constants-items
-invariant-more_constants-items l = loop ongoing (k.Comma ∷ []) (p.comma_step k.RightBracket (p.inner_constant l.fn.room)) ((l.fn.found, l.fn.events), true) l.fn.tokens ≡ loop ongoing (k.Comma ∷ []) (p.comma_step k.RightBracket (p.inner_constant l.fn.room)) ((l.found, l.events), l.more) l.rest
+invariant-more_constants-items l = loop ongoing (k.Comma ∷ []) (p.comma_step k.RightBracket (p.inner_constant l.fn.room)) ((l.fn.found, l.fn.name_uses), true) l.fn.tokens ≡ loop ongoing (k.Comma ∷ []) (p.comma_step k.RightBracket (p.inner_constant l.fn.room)) ((l.found, l.name_uses), l.more) l.rest
 
 abbrev pub decreases-more_constants-items : goal.decreases-more_constants-items
 decreases-more_constants-items l = length l.rest
 
 abbrev pub invariant-more_fields-fields : goal.invariant-more_fields-fields
-invariant-more_fields-fields l = loop ongoing (k.Comma ∷ []) (p.comma_step k.RightBrace (p.constant_field (p.inner_constant l.fn.room))) ((l.fn.found, l.fn.events), true) l.fn.tokens ≡ loop ongoing (k.Comma ∷ []) (p.comma_step k.RightBrace (p.constant_field (p.inner_constant l.fn.room))) ((l.found, l.events), l.more) l.rest
+invariant-more_fields-fields l = loop ongoing (k.Comma ∷ []) (p.comma_step k.RightBrace (p.constant_field (p.inner_constant l.fn.room))) ((l.fn.found, l.fn.name_uses), true) l.fn.tokens ≡ loop ongoing (k.Comma ∷ []) (p.comma_step k.RightBrace (p.constant_field (p.inner_constant l.fn.room))) ((l.found, l.name_uses), l.more) l.rest
 
 abbrev pub decreases-more_fields-fields : goal.decreases-more_fields-fields
 decreases-more_fields-fields l = length l.rest

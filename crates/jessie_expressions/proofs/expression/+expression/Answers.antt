@@ -3,13 +3,13 @@ use Rattle.std.proofs.lemmas.Result.{err_from_is_err_and}
 use Rattle.jessie_grammar.specs.declared.jessie_lexer.token.Kind.TheVariants as k
 use Rattle.jessie_grammar.specs.Tokens.{kind, has}
 use Rattle.jessie_grammar.specs.declared.syntax.Expr.TheVariants as expr
-use Rattle.jessie_grammar.specs.Words.{always, ongoing, step_begins}
+use Rattle.jessie_grammar.specs.Words.{always, ongoing, access_begins}
 use Rattle.jessie_grammar.specs.Parse.{and_then, pure}
 use Rattle.jessie_grammar.specs.Levels.{level_at, operands}
 use Rattle.jessie_grammar.specs.Rules as p
-use Rattle.jessie_grammar.proofs.Reading.{loop_goes, loop_ends, loop_fails, flag_goes, flag_fails, after_fails, items_fall, fields_fall, steps_fall, op_falls, inner_is}
+use Rattle.jessie_grammar.proofs.Reading.{loop_goes, loop_ends, loop_fails, flag_goes, flag_fails, after_fails, items_fall, fields_fall, accesses_fall, op_falls, inner_is}
 use Rattle.jessie_expressions.proofs.expression.+expression.Goals.{later_items-then-items-test+else-is, later_items-else-items-test, later_fields-then-fields-test+else-is, later_fields-else-fields-test, operators-then-operators-test+else-is_operator, operators-else-operators-test}
-use Rattle.jessie_expressions.proofs.Lists.{bracketed_goes, listed_goes, gives_along, step_reads, step_fails}
+use Rattle.jessie_expressions.proofs.Lists.{bracketed_goes, listed_goes, gives_along, access_reads, access_fails}
 use Rattle.jessie_expressions.proofs.expression.+expression.Goals as goal
 
 pub later_items-returns-in_err-again : goal.later_items-returns-in_err-again
@@ -69,35 +69,35 @@ operators-returns t c =
     let h : c.operators.more ≡ true → has (level_at c.args.level).0 (kind c.operators.rest.now) ≡ false = λ m. elim c.operators-test.branch [ operators-then-operators-test+else-is_operator w ↦ cc | operators-else-operators-test w ↦ absurd (let no : true ≡ false = sym m ∙ w.operators-test.false in cc) ] in
     λ first. ap (λ o. and_then o (λ s. pure s.0)) (loop_ends ongoing (level_at c.args.level).0 (p.op_step (level_at c.args.level) (operands c.args.room (c.args.level + 1))) (op_falls c.args.room c.args.level c.requires) _ _ _ (c.operators.invariant first) h)
 
-pub steps-returns-in_err-after : goal.steps-returns-in_err-after
-steps-returns-in_err-after t c =
+pub accesses-returns-in_err-after : goal.accesses-returns-in_err-after
+accesses-returns-in_err-after t c =
     let e = err_from_is_err_and c.from_residual.result c.from_residual.ensures.1 in
-    let h : has step_begins (kind c.steps.rest.now) ≡ true = cc in
-    rw (e.1, e.2) (λ first. loop_fails always step_begins (p.step_on c.args.room (p.inner c.args.room)) (steps_fall c.args.room) _ _ _ c.in_err-after.field-0.0 (c.steps.invariant first) refl h (step_fails first _ c.steps.events _ _ c.in_err-after.ensures))
+    let h : has access_begins (kind c.accesses.rest.now) ≡ true = cc in
+    rw (e.1, e.2) (λ first. loop_fails always access_begins (p.access_on c.args.room (p.inner c.args.room)) (accesses_fall c.args.room) _ _ _ c.in_err-after.field-0.0 (c.accesses.invariant first) refl h (access_fails first _ c.accesses.name_uses _ _ c.in_err-after.ensures))
 
-pub steps-steps-smaller : goal.steps-steps-smaller
-steps-steps-smaller t c = (steps_fall c.args.room) _ c.steps.rest.now c.in_ok-after.after.now _ refl (step_reads (expr.Name []) _ _ c.steps.events _ _ _ c.in_ok-after.ensures)
+pub accesses-accesses-smaller : goal.accesses-accesses-smaller
+accesses-accesses-smaller t c = (accesses_fall c.args.room) _ c.accesses.rest.now c.in_ok-after.after.now _ refl (access_reads (expr.Name []) _ _ c.accesses.name_uses _ _ _ c.in_ok-after.ensures)
 
-pub steps-steps-preserved : goal.steps-steps-preserved
-steps-steps-preserved t c =
-    let h : has step_begins (kind c.steps.rest.now) ≡ true = cc in
-    λ first. loop_goes always step_begins (p.step_on c.args.room (p.inner c.args.room)) (steps_fall c.args.room) _ _ _ _ _ (c.steps.invariant first) refl h (step_reads first _ _ c.steps.events _ _ _ c.in_ok-after.ensures)
+pub accesses-accesses-preserved : goal.accesses-accesses-preserved
+accesses-accesses-preserved t c =
+    let h : has access_begins (kind c.accesses.rest.now) ≡ true = cc in
+    λ first. loop_goes always access_begins (p.access_on c.args.room (p.inner c.args.room)) (accesses_fall c.args.room) _ _ _ _ _ (c.accesses.invariant first) refl h (access_reads first _ _ c.accesses.name_uses _ _ _ c.in_ok-after.ensures)
 
-pub steps-returns : goal.steps-returns
-steps-returns t c =
-    let h : has step_begins (kind c.steps.rest.now) ≡ false = cc in
-    λ first. loop_ends always step_begins (p.step_on c.args.room (p.inner c.args.room)) (steps_fall c.args.room) _ _ _ (c.steps.invariant first) (λ _. h)
+pub accesses-returns : goal.accesses-returns
+accesses-returns t c =
+    let h : has access_begins (kind c.accesses.rest.now) ≡ false = cc in
+    λ first. loop_ends always access_begins (p.access_on c.args.room (p.inner c.args.room)) (accesses_fall c.args.room) _ _ _ (c.accesses.invariant first) (λ _. h)
 
 pub items-returns : goal.items-returns
 items-returns t c =
     let h : has (c.args.close ∷ []) (kind c.args.tokens.now) ≡ false = cc in
-    gives_along _ _ _ _ (listed_goes c.args.close (p.inner c.args.room) c.args.events.now c.args.tokens.now c.in_ok-first.rest.now _ _ _ c.add_expression.new.found h (inner_is c.args.room c.args.events.now c.args.tokens.now c.requires.room ∙ c.in_ok-first.ensures) c.in_ok-add_expression.ensures c.requires.none) c.later_items.ensures
+    gives_along _ _ _ _ (listed_goes c.args.close (p.inner c.args.room) c.args.name_uses.now c.args.tokens.now c.in_ok-first.rest.now _ _ _ c.add_expression.new.found h (inner_is c.args.room c.args.name_uses.now c.args.tokens.now c.requires.room ∙ c.in_ok-first.ensures) c.in_ok-add_expression.ensures c.requires.none) c.later_items.ensures
 
 pub fields-returns : goal.fields-returns
 fields-returns t c =
     let h : has (k.RightBrace ∷ []) (kind c.args.tokens.now) ≡ false = cc in
-    gives_along _ _ _ _ (listed_goes k.RightBrace (p.field (p.inner c.args.room)) c.args.events.now c.args.tokens.now c.in_ok-key.rest.now _ _ _ c.add_field.new.found h c.in_ok-key.ensures c.in_ok-add_field.ensures c.requires.none) c.later_fields.ensures
+    gives_along _ _ _ _ (listed_goes k.RightBrace (p.field (p.inner c.args.room)) c.args.name_uses.now c.args.tokens.now c.in_ok-key.rest.now _ _ _ c.add_field.new.found h c.in_ok-key.ensures c.in_ok-add_field.ensures c.requires.none) c.later_fields.ensures
 
-pub grouped-returns : goal.grouped-returns
-grouped-returns t c =
-    gives_along _ _ _ _ (bracketed_goes c.args.room c.args.from c.args.to (p.inner c.args.room c.args.events.now) _ _ _ _ c.in_ok-rest.ensures.reads (inner_is c.args.room c.args.events.now c.in_ok-rest.rest.now c.in_ok-rest.ensures.room ∙ c.in_ok-tree.ensures)) (c.closed.ensures _)
+pub group-returns : goal.group-returns
+group-returns t c =
+    gives_along _ _ _ _ (bracketed_goes c.args.room c.args.from c.args.to (p.inner c.args.room c.args.name_uses.now) _ _ _ _ c.in_ok-rest.ensures.reads (inner_is c.args.room c.args.name_uses.now c.in_ok-rest.rest.now c.in_ok-rest.ensures.room ∙ c.in_ok-tree.ensures)) (c.close_group.ensures _)

@@ -2,7 +2,7 @@ use Rattle.std.proofs.Common.{◌≡◌, ◌+◌, ◌-◌, ◌*◌, true, [], �
 use Rattle.jessie_grammar.specs.declared.jessie_lexer.token.Kind.TheVariants as k
 use Rattle.jessie_grammar.specs.declared.syntax.Expr.{Expr}
 use Rattle.jessie_grammar.specs.Parse.{loop}
-use Rattle.jessie_grammar.specs.Words.{always, ongoing, step_begins}
+use Rattle.jessie_grammar.specs.Words.{always, ongoing, access_begins}
 use Rattle.jessie_grammar.specs.Levels.{level_at, operands}
 use Rattle.jessie_grammar.specs.Rules as p
 use Rattle.jessie_expressions.proofs.expression.+expression.Given as goal
@@ -23,14 +23,14 @@ decreases-arguments l = 64 * l.room + 5
 abbrev pub decreases-array : goal.decreases-array
 decreases-array l = 64 * l.room + 5
 
-abbrev pub decreases-bare : goal.decreases-bare
-decreases-bare l = 64 * l.room + 9
+abbrev pub decreases-bare_first : goal.decreases-bare_first
+decreases-bare_first l = 64 * l.room + 9
 
 abbrev pub decreases-below_sign : goal.decreases-below_sign
 decreases-below_sign l = 64 * l.room + 11
 
-abbrev pub decreases-branched : goal.decreases-branched
-decreases-branched l = 64 * l.room + 57
+abbrev pub decreases-choice_of : goal.decreases-choice_of
+decreases-choice_of l = 64 * l.room + 57
 
 abbrev pub decreases-branches : goal.decreases-branches
 decreases-branches l = 64 * l.room + 56
@@ -38,23 +38,23 @@ decreases-branches l = 64 * l.room + 56
 abbrev pub decreases-call_tail : goal.decreases-call_tail
 decreases-call_tail l = 64 * l.room + 7
 
-abbrev pub decreases-called : goal.decreases-called
-decreases-called l = 64 * l.room + 6
+abbrev pub decreases-call : goal.decreases-call
+decreases-call l = 64 * l.room + 6
 
 abbrev pub decreases-choice : goal.decreases-choice
 decreases-choice l = 64 * l.room + 59
 
-abbrev pub decreases-chosen : goal.decreases-chosen
-decreases-chosen l = 64 * l.room + 58
+abbrev pub decreases-choice_behind : goal.decreases-choice_behind
+decreases-choice_behind l = 64 * l.room + 58
 
-abbrev pub decreases-dot_step : goal.decreases-dot_step
-decreases-dot_step l = 64 * l.room + 7
+abbrev pub decreases-dot_access : goal.decreases-dot_access
+decreases-dot_access l = 64 * l.room + 7
 
-abbrev pub decreases-enclosed : goal.decreases-enclosed
-decreases-enclosed l = 64 * l.room + 4
+abbrev pub decreases-bracketed_items : goal.decreases-bracketed_items
+decreases-bracketed_items l = 64 * l.room + 4
 
-abbrev pub decreases-enclosed_fields : goal.decreases-enclosed_fields
-decreases-enclosed_fields l = 64 * l.room + 7
+abbrev pub decreases-braced_fields : goal.decreases-braced_fields
+decreases-braced_fields l = 64 * l.room + 7
 
 abbrev pub decreases-eventually : goal.decreases-eventually
 decreases-eventually l = 64 * l.room + 8
@@ -71,8 +71,8 @@ decreases-field_step l = 64 * l.room + 3
 abbrev pub decreases-fields : goal.decreases-fields
 decreases-fields l = 64 * l.room + 5
 
-abbrev pub decreases-grouped : goal.decreases-grouped
-decreases-grouped l = 64 * l.room + 0
+abbrev pub decreases-group : goal.decreases-group
+decreases-group l = 64 * l.room + 0
 
 abbrev pub decreases-item_step : goal.decreases-item_step
 decreases-item_step l = 64 * l.room + 1
@@ -89,11 +89,11 @@ decreases-later_items l = 64 * l.room + 2
 abbrev pub decreases-method_call : goal.decreases-method_call
 decreases-method_call l = 64 * l.room + 6
 
-abbrev pub decreases-method_step : goal.decreases-method_step
-decreases-method_step l = 64 * l.room + 6
+abbrev pub decreases-method_access : goal.decreases-method_access
+decreases-method_access l = 64 * l.room + 6
 
-abbrev pub decreases-named : goal.decreases-named
-decreases-named l = 64 * l.room + 8
+abbrev pub decreases-name_or_call : goal.decreases-name_or_call
+decreases-name_or_call l = 64 * l.room + 8
 
 abbrev pub decreases-next_field : goal.decreases-next_field
 decreases-next_field l = 64 * l.room + 2
@@ -101,8 +101,8 @@ decreases-next_field l = 64 * l.room + 2
 abbrev pub decreases-next_item : goal.decreases-next_item
 decreases-next_item l = 64 * l.room + 0
 
-abbrev pub decreases-opened_fields : goal.decreases-opened_fields
-decreases-opened_fields l = 64 * l.room + 6
+abbrev pub decreases-fields_and_scope : goal.decreases-fields_and_scope
+decreases-fields_and_scope l = 64 * l.room + 6
 
 abbrev pub decreases-own_value : goal.decreases-own_value
 decreases-own_value l = 64 * l.room + 0
@@ -122,14 +122,14 @@ decreases-second_branch l = 64 * l.room + 55
 abbrev pub decreases-send : goal.decreases-send
 decreases-send l = 64 * l.room + 7
 
-abbrev pub decreases-signed : goal.decreases-signed
-decreases-signed l = 64 * l.room + 12
+abbrev pub decreases-sign_and_operand : goal.decreases-sign_and_operand
+decreases-sign_and_operand l = 64 * l.room + 12
 
-abbrev pub decreases-step : goal.decreases-step
-decreases-step l = 64 * l.room + 8
+abbrev pub decreases-access : goal.decreases-access
+decreases-access l = 64 * l.room + 8
 
-abbrev pub decreases-steps : goal.decreases-steps
-decreases-steps l = 64 * l.room + 9
+abbrev pub decreases-accesses : goal.decreases-accesses
+decreases-accesses l = 64 * l.room + 9
 
 abbrev pub decreases-unary : goal.decreases-unary
 decreases-unary l = 64 * l.room + 13
@@ -150,25 +150,25 @@ abbrev pub decreases-tails : goal.decreases-tails
 decreases-tails l = 64 * l.room + 20 + 5 * (6 - l.level) + 3
 
 abbrev pub invariant-later_items-items : goal.invariant-later_items-items
-invariant-later_items-items l = loop ongoing (k.Comma ∷ []) (p.comma_step l.fn.close (p.inner l.fn.room)) ((l.fn.found, l.fn.events), true) l.fn.tokens ≡ loop ongoing (k.Comma ∷ []) (p.comma_step l.fn.close (p.inner l.fn.room)) ((l.found, l.events), l.more) l.rest
+invariant-later_items-items l = loop ongoing (k.Comma ∷ []) (p.comma_step l.fn.close (p.inner l.fn.room)) ((l.fn.found, l.fn.name_uses), true) l.fn.tokens ≡ loop ongoing (k.Comma ∷ []) (p.comma_step l.fn.close (p.inner l.fn.room)) ((l.found, l.name_uses), l.more) l.rest
 
 abbrev pub decreases-later_items-items : goal.decreases-later_items-items
 decreases-later_items-items l = length l.rest
 
 abbrev pub invariant-later_fields-fields : goal.invariant-later_fields-fields
-invariant-later_fields-fields l = loop ongoing (k.Comma ∷ []) (p.comma_step k.RightBrace (p.field (p.inner l.fn.room))) ((l.fn.found, l.fn.events), true) l.fn.tokens ≡ loop ongoing (k.Comma ∷ []) (p.comma_step k.RightBrace (p.field (p.inner l.fn.room))) ((l.found, l.events), l.more) l.rest
+invariant-later_fields-fields l = loop ongoing (k.Comma ∷ []) (p.comma_step k.RightBrace (p.field (p.inner l.fn.room))) ((l.fn.found, l.fn.name_uses), true) l.fn.tokens ≡ loop ongoing (k.Comma ∷ []) (p.comma_step k.RightBrace (p.field (p.inner l.fn.room))) ((l.found, l.name_uses), l.more) l.rest
 
 abbrev pub decreases-later_fields-fields : goal.decreases-later_fields-fields
 decreases-later_fields-fields l = length l.rest
 
-abbrev pub invariant-steps-steps : goal.invariant-steps-steps
-invariant-steps-steps l = (first : Expr) → loop always step_begins (p.step_on l.fn.room (p.inner l.fn.room)) ((first, l.fn.found), l.fn.events) l.fn.tokens ≡ loop always step_begins (p.step_on l.fn.room (p.inner l.fn.room)) ((first, l.found), l.events) l.rest
+abbrev pub invariant-accesses-accesses : goal.invariant-accesses-accesses
+invariant-accesses-accesses l = (first : Expr) → loop always access_begins (p.access_on l.fn.room (p.inner l.fn.room)) ((first, l.fn.found), l.fn.name_uses) l.fn.tokens ≡ loop always access_begins (p.access_on l.fn.room (p.inner l.fn.room)) ((first, l.found), l.name_uses) l.rest
 
-abbrev pub decreases-steps-steps : goal.decreases-steps-steps
-decreases-steps-steps l = length l.rest
+abbrev pub decreases-accesses-accesses : goal.decreases-accesses-accesses
+decreases-accesses-accesses l = length l.rest
 
 abbrev pub invariant-operators-operators : goal.invariant-operators-operators
-invariant-operators-operators l = (first : Expr) → loop ongoing (level_at l.fn.level).0 (p.op_step (level_at l.fn.level) (operands l.fn.room (l.fn.level + 1))) (((first, l.fn.found), l.fn.events), true) l.fn.tokens ≡ loop ongoing (level_at l.fn.level).0 (p.op_step (level_at l.fn.level) (operands l.fn.room (l.fn.level + 1))) (((first, l.found), l.events), l.more) l.rest
+invariant-operators-operators l = (first : Expr) → loop ongoing (level_at l.fn.level).0 (p.op_step (level_at l.fn.level) (operands l.fn.room (l.fn.level + 1))) (((first, l.fn.found), l.fn.name_uses), true) l.fn.tokens ≡ loop ongoing (level_at l.fn.level).0 (p.op_step (level_at l.fn.level) (operands l.fn.room (l.fn.level + 1))) (((first, l.found), l.name_uses), l.more) l.rest
 
 abbrev pub decreases-operators-operators : goal.decreases-operators-operators
 decreases-operators-operators l = length l.rest

@@ -61,10 +61,10 @@ run_expr-returns-in-Record-clause-runs g t c =
     let m = running c.args.module.now c.args.room in
     runs_as (ap (expr m) (record_at _ _ _ c.in-Record.is c.as_slice-in-Record.ensures)) c.run_record.ensures.runs
 
-pub run_expr-returns-in-Steps-clause-runs : goal.run_expr-returns-in-Steps-clause-runs
-run_expr-returns-in-Steps-clause-runs g t c =
+pub run_expr-returns-in-Accesses-clause-runs : goal.run_expr-returns-in-Accesses-clause-runs
+run_expr-returns-in-Accesses-clause-runs g t c =
     let m = running c.args.module.now c.args.room in
-    runs_as (ap (expr m) (steps_at _ _ _ _ _ c.in-Steps.is c.get-in-Steps.ensures c.as_slice-in-Steps.ensures)) c.run_steps.ensures.runs
+    runs_as (ap (expr m) (steps_at _ _ _ _ _ c.in-Accesses.is c.get-in-Accesses.ensures c.as_slice-in-Accesses.ensures)) c.run_accesses.ensures.runs
 
 pub run_expr-returns-in-Unary-clause-runs : goal.run_expr-returns-in-Unary-clause-runs
 run_expr-returns-in-Unary-clause-runs g t c =
@@ -218,46 +218,46 @@ run_record-returns-clause-runs g t c =
     (then_runs _ c.in_ok-items.ensures.runs
     (computed (c.make_record.ensures _)))
 
-pub run_steps-returns-in_err-data-clause-runs : goal.run_steps-returns-in_err-data-clause-runs
-run_steps-returns-in_err-data-clause-runs g t c =
+pub run_accesses-returns-in_err-data-clause-runs : goal.run_accesses-returns-in_err-data-clause-runs
+run_accesses-returns-in_err-data-clause-runs g t c =
     stops tree _ _ _ c.from_residual.ensures.1 c.in_err-data.ensures.runs
 
-pub run_steps-loop-part-init : goal.run_steps-loop-part-init
-run_steps-loop-part-init g t c =
+pub run_accesses-loop-part-init : goal.run_accesses-loop-part-init
+run_accesses-loop-part-init g t c =
     record { reaches = reaches_more _ reaches_itself c.in_ok-data.ensures.runs; fits = c.in_ok-data.ensures.fits }
 
-pub run_steps-returns-in_err-data-2-clause-runs : goal.run_steps-returns-in_err-data-2-clause-runs
-run_steps-returns-in_err-data-2-clause-runs g t c =
+pub run_accesses-returns-in_err-data-2-clause-runs : goal.run_accesses-returns-in_err-data-2-clause-runs
+run_accesses-returns-in_err-data-2-clause-runs g t c =
     let m = running c.args.module.now c.args.room in
     reaches_runs (reaches_as (links_open m (tree c.loop-part.«data») c.args.rest.now c.loop-part.part-index c.part-item.result c.loop-part-test.true c.part-item.is) c.loop-part.invariant.reaches) (stops tree _ _ _ c.from_residual-in_err-data-2.ensures.1 c.in_err-data-2.ensures.runs)
 
-pub run_steps-loop-part-preserved : goal.run_steps-loop-part-preserved
-run_steps-loop-part-preserved g t c =
+pub run_accesses-loop-part-preserved : goal.run_accesses-loop-part-preserved
+run_accesses-loop-part-preserved g t c =
     let m = running c.args.module.now c.args.room in
     record { reaches = reaches_more _ (reaches_as (links_open m (tree c.loop-part.«data») c.args.rest.now c.loop-part.part-index c.part-item.result c.loop-part-test.true c.part-item.is) c.loop-part.invariant.reaches) c.in_ok-data-2.ensures.runs; fits = c.in_ok-data-2.ensures.fits }
 
-pub run_steps-returns-clause-runs : goal.run_steps-returns-clause-runs
-run_steps-returns-clause-runs g t c =
+pub run_accesses-returns-clause-runs : goal.run_accesses-returns-clause-runs
+run_accesses-returns-clause-runs g t c =
     let m = running c.args.module.now c.args.room in
     reaches_runs (reaches_as (links_end m (tree c.loop-part.«data») c.args.rest.now c.loop-part.part-index c.loop-part-test.false) c.loop-part.invariant.reaches) (computed (pure_computes _ _))
 
-pub run_steps-run_step-requires : goal.run_steps-run_step-requires
-run_steps-run_step-requires g t c =
+pub run_accesses-run_access-requires : goal.run_accesses-run_access-requires
+run_accesses-run_access-requires g t c =
     let falls = link_falls c.args.rest.now c.loop-part.part-index c.part-item.result c.loop-part-test.true c.part-item.is in
     λ κs h. (omega (arith, falls, c.decreases), (search rules, c.loop-part.invariant.fits))
 
-pub run_step-returns-in-Field-clause-runs : goal.run_step-returns-in-Field-clause-runs
-run_step-returns-in-Field-clause-runs g t c =
+pub run_access-returns-in-Field-clause-runs : goal.run_access-returns-in-Field-clause-runs
+run_access-returns-in-Field-clause-runs g t c =
     let m = running c.args.module.now c.args.room in
     runs_as (ap (λ k. one_link m (link_view k) (tree c.args.«data»)) c.in-Field.is ∙ ap (λ k. one_link m k (tree c.args.«data»)) (link-Field _)) (computed (c.run_field.ensures.does _ _))
 
-pub run_step-returns-in-Method-clause-runs : goal.run_step-returns-in-Method-clause-runs
-run_step-returns-in-Method-clause-runs g t c =
+pub run_access-returns-in-Method-clause-runs : goal.run_access-returns-in-Method-clause-runs
+run_access-returns-in-Method-clause-runs g t c =
     let m = running c.args.module.now c.args.room in
     runs_as (ap (λ k. one_link m k (tree c.args.«data»)) (method_at _ _ _ _ c.in-Method.is c.as_slice.ensures)) c.run_method.ensures.runs
 
-pub run_step-returns-in-Index-clause-runs : goal.run_step-returns-in-Index-clause-runs
-run_step-returns-in-Index-clause-runs g t c =
+pub run_access-returns-in-Index-clause-runs : goal.run_access-returns-in-Index-clause-runs
+run_access-returns-in-Index-clause-runs g t c =
     let m = running c.args.module.now c.args.room in
     runs_as (ap (λ k. one_link m (link_view k) (tree c.args.«data»)) c.in-Index.is ∙ ap (λ k. one_link m k (tree c.args.«data»)) (link-Index _)) c.run_index.ensures.runs
 

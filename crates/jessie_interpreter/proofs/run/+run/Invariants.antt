@@ -36,11 +36,11 @@ decreases-run_array g l = l.room * routines_weight (routines l.module.now) + (te
 abbrev pub decreases-run_record : goal.decreases-run_record
 decreases-run_record g l = l.room * routines_weight (routines l.module.now) + (named_weight (named_terms_view l.parts.now) + 1)
 
-abbrev pub decreases-run_steps : goal.decreases-run_steps
-decreases-run_steps g l = l.room * routines_weight (routines l.module.now) + (weight (term_view l.first.now) + links_weight (links_view l.rest.now) + 1)
+abbrev pub decreases-run_accesses : goal.decreases-run_accesses
+decreases-run_accesses g l = l.room * routines_weight (routines l.module.now) + (weight (term_view l.first.now) + links_weight (links_view l.rest.now) + 1)
 
-abbrev pub decreases-run_step : goal.decreases-run_step
-decreases-run_step g l = l.room * routines_weight (routines l.module.now) + (link_weight (link_view l.part.now))
+abbrev pub decreases-run_access : goal.decreases-run_access
+decreases-run_access g l = l.room * routines_weight (routines l.module.now) + (link_weight (link_view l.part.now))
 
 abbrev pub decreases-run_method : goal.decreases-run_method
 decreases-run_method g l = l.room * routines_weight (routines l.module.now) + (terms_weight (terms_view l.args.now) + 1)
@@ -125,8 +125,8 @@ invariant-run_named-loop-name g l = record {
   fits : l.machine.meter ≤ g.P.Powers.room l.powers;
 }
 
-abbrev pub invariant-run_steps-loop-part : goal.invariant-run_steps-loop-part
-invariant-run_steps-loop-part g l = record {
+abbrev pub invariant-run_accesses-loop-part : goal.invariant-run_accesses-loop-part
+invariant-run_accesses-loop-part g l = record {
   reaches : Reaches g.P.Powers.answers l.fn.powers l.powers (behind (expr (running l.module l.room) (term_view l.first)) (links (running l.module l.room) (links_view l.rest))) (here l.module l.values l.fn.machine)
       (links (running l.module l.room) (links_view (drop l.part-index l.rest)) (tree l.«data»)) (here l.module l.values l.machine);
   fits : l.machine.meter ≤ g.P.Powers.room l.powers;

@@ -15,7 +15,7 @@ number_behind-returns-clause-does t c = λ m put.
     let left : FitsSigned w128 c.args.number.now = search rules in
     let right : FitsSigned w128 c.operand_number.new.number = c.if-not-operand_number.ensures.fits refl in
     made_as (c.put_number.ensures.made put) refl
-    (number_operated c.number_made.result c.args.operator _ c.args.number.now c.operand_number.new.number _ _ _ c.args.meter.now (c.args.meter.now - 1) _ (to_z-of_z left) (to_z-of_z right) (omega (arith, c.if-meter-eq0.false)) (c.if-not-operand_number.ensures.does m refl) c.number_made.ensures)
+    (number_operated c.number_of_two.result c.args.operator _ c.args.number.now c.operand_number.new.number _ _ _ c.args.meter.now (c.args.meter.now - 1) _ (to_z-of_z left) (to_z-of_z right) (omega (arith, c.if-meter-eq0.false)) (c.if-not-operand_number.ensures.does m refl) c.number_of_two.ensures)
 
 pub chain_number-loop-operator-init : goal.chain_number-loop-operator-init
 chain_number-loop-operator-init t c = record {

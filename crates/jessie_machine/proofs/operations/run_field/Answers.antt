@@ -1,6 +1,6 @@
 use Rattle.jessie_semantics.specs.host_data.View.{tree}
 use Rattle.std.proofs.Common.{ap, sym}
-use Rattle.jessie_index.specs.jessie_values.Steps.{field_at}
+use Rattle.jessie_index.specs.jessie_values.Accesses.{field_at}
 use Rattle.jessie_semantics.specs.Rules.{worked}
 use Rattle.jessie_semantics.proofs.Runs.{then_computes, computes_as}
 use Rattle.jessie_machine.proofs.Exits.{stops_here}

@@ -22,4 +22,4 @@ pub returns-clause-runs : goal.returns-clause-runs
 returns-clause-runs g c = λ names values.
     then_runs _ (computed (worked_as_ok _ _ (ap of_kind (sym c.object.ensures ∙ c.in-Some.is))))
     (host_runs _ _ (then_runs _ (computed (computes_as (ap (λ l. charge (100 + items_size (items_of (trees l)))) (sym c.as_slice.ensures.value)) (c.in_ok-take_call.ensures.does _ _)))
-    (then_runs _ (runs_as (ap (λ m. ask (call c.in-Some.object m (trees c.args.args.items))) (sym c.as_str.ensures)) (ask_runs (answered_with (call c.in-Some.object c.as_str.result.now (trees c.args.args.items)) c.in_ok-answer.answer) _ c.in_ok-answer.ensures.answered)) (computed (c.settle.ensures.does _ _)))))
+    (then_runs _ (runs_as (ap (λ m. ask (call c.in-Some.object m (trees c.args.args.items))) (sym c.as_str.ensures)) (ask_runs (answered_with (call c.in-Some.object c.as_str.result.now (trees c.args.args.items)) c.in_ok-reply.reply) _ c.in_ok-reply.ensures.answered)) (computed (c.settle.ensures.does _ _)))))

@@ -6,7 +6,7 @@ use Rattle.jessie_grammar.specs.Rules as p
 use Rattle.jessie_reader.proofs.functions.more_params.Given as goal
 
 abbrev pub invariant-params : goal.invariant-params
-invariant-params l = loop always (k.Comma ∷ []) p.next_param (l.fn.found, l.fn.events) l.fn.tokens ≡ loop always (k.Comma ∷ []) p.next_param (l.found, l.events) l.rest
+invariant-params l = loop always (k.Comma ∷ []) p.next_param (l.fn.found, l.fn.name_uses) l.fn.tokens ≡ loop always (k.Comma ∷ []) p.next_param (l.found, l.name_uses) l.rest
 
 abbrev pub decreases-params : goal.decreases-params
 decreases-params l = length l.rest

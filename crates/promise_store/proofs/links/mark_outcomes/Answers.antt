@@ -1,5 +1,5 @@
 use Rattle.std.proofs.Common.{ℕ, List, [], ◌∷◌, get_or, take, sym, ap, ◌∙◌}
-use Rattle.promise_store.specs.declared.links.Event.TheVariants.{Settled}
+use Rattle.promise_store.specs.declared.links.Consequence.TheVariants.{Settled}
 use Rattle.promise_store.specs.Cascade.{settled_in}
 use Rattle.promise_store.specs.Nodes.{with_settlement}
 use Rattle.promise_store.proofs.Changes.{settled_in_more, with_settlement_append}

@@ -1,6 +1,6 @@
 use Rattle.std.proofs.Common.{[], ◌∷◌, ◌++◌, get_or, take, sym, ap, ◌∙◌, map}
 use Rattle.std.proofs.lemmas.List.{append_assoc, map-append}
-use Rattle.promise_store.specs.declared.links.Event.TheVariants.{Settled}
+use Rattle.promise_store.specs.declared.links.Consequence.TheVariants.{Settled}
 use Rattle.promise_store.specs.Cascade.{settled_in}
 use Rattle.promise_store.specs.Linked.{outcome}
 use Rattle.promise_store.proofs.Changes.{settled_in_more}

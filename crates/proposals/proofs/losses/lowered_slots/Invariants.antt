@@ -3,4 +3,4 @@ use Rattle.proposals.specs.Losses.{lowered}
 use Rattle.proposals.proofs.losses.lowered_slots.Given as goal
 
 abbrev pub invariant-loop-slot : goal.invariant-loop-slot
-invariant-loop-slot l = l.after.items ≡ map (lowered l.losses) (take l.slot-index l.slots)
+invariant-loop-slot l = l.after.items ≡ map (lowered l.shares) (take l.slot-index l.slots)

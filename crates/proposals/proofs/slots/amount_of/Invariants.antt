@@ -1,5 +1,5 @@
 use Rattle.std.proofs.Common.{◌≡◌, drop}
-use Rattle.proposals.specs.Rows.{amount_under}
+use Rattle.proposals.specs.Shares.{amount_under}
 use Rattle.proposals.proofs.slots.amount_of.Given as goal
 
 abbrev pub invariant-loop-slot : goal.invariant-loop-slot

@@ -2,10 +2,10 @@ use Rattle.rearrange.proofs.Slots.{all_covered, covered_if, if_all_covered, if_c
 use Rattle.rearrange.proofs.laws.tests_of_slots_are_exact.Goals as goal
 
 pub returns-clause-covered : goal.returns-clause-covered
-returns-clause-covered c = λ slots row. (covered_if slots row, if_covered slots row)
+returns-clause-covered c = λ slots share. (covered_if slots share, if_covered slots share)
 
-pub returns-clause-rows : goal.returns-clause-rows
-returns-clause-rows c = λ slots rows. (all_covered slots rows, if_all_covered slots rows)
+pub returns-clause-shares : goal.returns-clause-shares
+returns-clause-shares c = λ slots shares. (all_covered slots shares, if_all_covered slots shares)
 
 pub returns-clause-safe : goal.returns-clause-safe
 returns-clause-safe c = λ p slots. (safe_if p slots, if_safe p slots)

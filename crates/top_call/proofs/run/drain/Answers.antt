@@ -1,8 +1,8 @@
 use Rattle.std.proofs.Common.{◌≡◌, ◌+◌, ◌-◌, suc, refl, sym, ◌∙◌, arith}
 use Rattle.std.proofs.lemmas.Result.{err_from_is_err_and}
-use Rattle.contract_texts.specs.Reader.{reader}
+use Rattle.host_turns.specs.contract_texts.Reader.{reader}
 use Rattle.run_laws.proofs.RunOrder.{step_count}
-use Rattle.top_call.proofs.Drained.{drain_empty, drain_failed, drain_limit, drain_over, drain_turn, end_turn, text_limit, text_none, text_some}
+use Rattle.top_call.proofs.Drains.{drain_empty, drain_failed, drain_limit, drain_over, drain_turn, end_turn, text_limit, text_none, text_some}
 use Rattle.top_call.proofs.InForm.{form_none, form_over, form_turn}
 use Rattle.top_call.specs.declared.run.RunFault.{RunFault}
 use Rattle.top_call.specs.declared.run.RunFault.TheVariants.{Failed, NoMemory, TurnLimit}

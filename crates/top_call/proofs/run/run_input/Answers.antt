@@ -2,8 +2,8 @@ use Rattle.std.proofs.Common.{Result, Ok, Err, OnOk, ◌<◌, ◌^◌, subst}
 use Rattle.run_laws.specs.Runs.{left_in}
 use Rattle.std.proofs.lemmas.Result.{err_from_is_err_and, on_ok_weaker}
 use Rattle.top_call.proofs.InForm.{fair_journal, form_run}
-use Rattle.top_call.proofs.RunWritten.{run_close_failed, run_close_kept, run_closed, run_ends, run_few, run_lines, run_start, run_turns_failed, run_written}
-use Rattle.top_call.proofs.TurnsWritten.{failed_next, limit_next, memory_next}
+use Rattle.top_call.proofs.RunTexts.{run_close_failed, run_close_kept, run_closed, run_ends, run_few, run_lines, run_start, run_turns_failed, run_written}
+use Rattle.top_call.proofs.TurnTexts.{failed_next, limit_next, memory_next}
 use Rattle.top_call.proofs.run.run_input.Goals as goal
 
 -- ---- a fault in the lines

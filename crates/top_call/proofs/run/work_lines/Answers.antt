@@ -2,8 +2,8 @@ use Rattle.std.proofs.Common.{◌∙◌, ap, map}
 use Rattle.std.proofs.lemmas.Result.{err_from_is_err_and}
 use Rattle.run_laws.specs.message_lines.Meanings.{meaning_of}
 use Rattle.top_call.proofs.InForm.{form_line}
-use Rattle.top_call.proofs.LinesWorked.{line_ends, line_next, line_worked}
-use Rattle.top_call.proofs.TurnsWritten.{failed_next, limit_next, memory_next}
+use Rattle.top_call.proofs.LineRuns.{line_ends, line_next, line_worked}
+use Rattle.top_call.proofs.TurnTexts.{failed_next, limit_next, memory_next}
 use Rattle.top_call.proofs.run.work_lines.Goals as goal
 
 pub loop-line-preserved : goal.loop-line-preserved

@@ -1,5 +1,5 @@
 use Rattle.std.proofs.Common.{refl, ap, Err}
-use Rattle.top_call.proofs.TurnsWritten.{limit_past}
+use Rattle.top_call.proofs.TurnTexts.{limit_past}
 use Rattle.top_call.proofs.top.run_on.Goals as goal
 
 pub returns-in-Ok-clause-says : goal.returns-in-Ok-clause-says

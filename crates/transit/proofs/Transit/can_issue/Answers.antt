@@ -1,7 +1,7 @@
 use Rattle.std.proofs.Common.{subst}
 use Rattle.std.proofs.lemmas.Result.{IfErr-weaker}
 use Rattle.ertp_mint.specs.amount_math.Content.{Content, sum}
-use Rattle.ertp_mint.specs.amount_math.Worth.{Fits}
+use Rattle.ertp_mint.specs.amount_math.ValueView.{Fits}
 use Rattle.transit.proofs.Calls.{fits_so, kind_there, made, out_same, refused_so}
 use Rattle.transit.proofs.Transit.can_issue.Goals as goal
 

@@ -7,5 +7,5 @@ loop-left-preserved c = record {
   within = omega arith;
   put =
       c.in_ok-put.ensures.ok
-      ∙ rw (c.as_str.ensures.text, c.in_ok-amount.ensures, c.loop-left.invariant.put) (sym (amounts_more c.args.rows.now c.loop-left.left c.index-rows-left.result (omega arith) c.loop-left.invariant.within c.index-rows-left.is));
+      ∙ rw (c.as_str.ensures.text, c.in_ok-amount.ensures, c.loop-left.invariant.put) (sym (amounts_more c.args.shares.now c.loop-left.left c.index-shares-left.result (omega arith) c.loop-left.invariant.within c.index-shares-left.is));
 }

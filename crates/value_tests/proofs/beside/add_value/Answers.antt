@@ -1,7 +1,7 @@
 use Rattle.std.specs.Prelude.{All}
 use Rattle.std.proofs.Common.{refl, subst, sym}
 use Rattle.refusals.specs.amount_math.Entries.{Entries}
-use Rattle.refusals.specs.amount_math.Worth.{IsValue}
+use Rattle.refusals.specs.amount_math.ValueView.{IsValue}
 use Rattle.refusals.specs.amount_math.declared.Kind.{Kind}
 use Rattle.value_tests.specs.Beside.{IsElement, IsThere}
 use Rattle.transit.specs.Transit.{kind_in, supply_in}

@@ -1,5 +1,5 @@
 use Rattle.std.proofs.Common.{refl}
-use Rattle.refusals.specs.amount_math.Worth.{fits_from_value}
+use Rattle.refusals.specs.amount_math.ValueView.{fits_from_value}
 use Rattle.value_tests.proofs.Read.{can_show, failed, tested}
 use Rattle.value_tests.proofs.holding_checks.check_out.Goals as goal
 

@@ -1,7 +1,7 @@
 use Rattle.std.proofs.Common.{refl, sym, subst}
 use Rattle.refusals.specs.amount_math.Content.{sum}
 use Rattle.refusals.specs.amount_math.KindLaws.{value_of_sum}
-use Rattle.refusals.specs.amount_math.Worth.{IsValue}
+use Rattle.refusals.specs.amount_math.ValueView.{IsValue}
 use Rattle.refusals.specs.amount_math.declared.Kind.{Kind}
 use Rattle.value_tests.proofs.Sums.{refused, small, value_passes}
 use Rattle.value_tests.proofs.holding_checks.check_sum.Goals as goal

@@ -1,6 +1,6 @@
 use Rattle.std.proofs.Common.{refl, subst}
 use Rattle.refusals.specs.amount_math.Content.{sum}
-use Rattle.refusals.specs.amount_math.Worth.{IsPutRefusal, fits_from_value}
+use Rattle.refusals.specs.amount_math.ValueView.{IsPutRefusal, fits_from_value}
 use Rattle.value_tests.proofs.Sums.{overlap_else, overlap_none, overlap_there}
 use Rattle.value_tests.proofs.pairs.check_overlap.Goals as goal
 

@@ -1,6 +1,6 @@
 use Rattle.std.proofs.Common.{refl, sym, subst}
 use Rattle.refusals.specs.amount_math.Content.{sum}
-use Rattle.refusals.specs.amount_math.Worth.{IsValue}
+use Rattle.refusals.specs.amount_math.ValueView.{IsValue}
 use Rattle.refusals.specs.amount_math.declared.Kind.{Kind}
 use Rattle.value_tests.proofs.Sums.{refused, small, value_passes}
 use Rattle.value_tests.proofs.pairs.check_sum.Goals as goal

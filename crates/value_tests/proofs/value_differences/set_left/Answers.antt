@@ -1,7 +1,7 @@
 use Rattle.std.proofs.Common.{◌≡◌, ℕ, List, map, sym, ap, subst, ◌∙◌}
 use Rattle.refusals.specs.amount_math.Content.{Content, difference, entries}
 use Rattle.refusals.specs.amount_math.Entries.{Entries}
-use Rattle.refusals.specs.amount_math.Worth.{IsValue, Worth}
+use Rattle.refusals.specs.amount_math.ValueView.{IsValue, ValueView}
 use Rattle.refusals.specs.amount_math.declared.Kind.{Kind}
 use Rattle.refusals.specs.amount_math.declared.kinds.MakeFault.{MakeFault}
 use Rattle.refusals.specs.amount_math.declared.kinds.MakeFault.TheVariants.{BadValue, NoMemory}
@@ -12,7 +12,7 @@ use Rattle.value_tests.proofs.value_differences.set_left.Goals as goal
 abbrev keys_of : Entries → List (List ℕ)
 keys_of es = map (λ e. e.0) es
 
-abbrev of_kind : Content → Kind → Worth
+abbrev of_kind : Content → Kind → ValueView
 of_kind content kind = record { kind = kind; content = content }
 
 other_fault : ◌≡◌ {A = MakeFault} BadValue NoMemory → ⊥

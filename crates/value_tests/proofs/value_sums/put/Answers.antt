@@ -1,6 +1,6 @@
 use Rattle.std.proofs.Common.{subst}
 use Rattle.refusals.specs.amount_math.Content.{sum}
-use Rattle.refusals.specs.amount_math.Worth.{IsPutRefusal}
+use Rattle.refusals.specs.amount_math.ValueView.{IsPutRefusal}
 use Rattle.value_tests.proofs.SumParts.{not_too_much}
 use Rattle.value_tests.proofs.value_sums.put.Goals as goal
 

@@ -1,27 +1,27 @@
 use Rattle.std.proofs.Common.{List, OnOk, Option, subst, sym}
-use Rattle.world_reads.specs.call_plans.Moves.{HasShape, moves_view}
-use Rattle.world_reads.specs.call_plans.declared.moves.Moves.{Moves}
-use Rattle.world_reads.specs.draft_reads.Views.{HasNow, rights_in, seats_in, staging_in}
-use Rattle.world_laws.specs.proposals.declared.allocations.Row.{Row}
-use Rattle.world_reads.specs.vault.Drafts.{DraftState}
+use Rattle.register_effects.specs.call_outcomes.Moves.{HasShape, moves_view}
+use Rattle.register_effects.specs.call_outcomes.declared.moves.Moves.{Moves}
+use Rattle.register_effects.specs.draft_reads.Views.{HasNow, rights_in, seats_in, staging_in}
+use Rattle.world_laws.specs.proposals.declared.allocations.Share.{Share}
+use Rattle.register_effects.specs.vault.Drafts.{DraftState}
 use Rattle.world_laws.specs.world_state.Good.{CanMoveTogether}
 use Rattle.world_laws.specs.world_state.Rights.{moved_together}
 use Rattle.world_effects.proofs.rights_effects.move_in_draft.Goals as goal
 
 abbrev CanMove : DraftState → Moves → Type 0
-CanMove d ms = (staging : List (Option (List Row))) × CanMoveTogether (rights_in d) (seats_in d) staging (moves_view ms)
+CanMove d ms = (staging : List (Option (List Share))) × CanMoveTogether (rights_in d) (seats_in d) staging (moves_view ms)
 
 abbrev HasMoved : DraftState → DraftState → Moves → Type 0
 HasMoved old new ms = HasNow new (moved_together (rights_in old) (moves_view ms)) (seats_in old) (staging_in old)
 
-pub transfer_all-requires-clause-shape : goal.transfer_all-requires-clause-shape
-transfer_all-requires-clause-shape c = rw (c.deref.ensures.value) (subst HasShape c.in-Transfers.is c.requires.shape)
+pub move_all-requires-clause-shape : goal.move_all-requires-clause-shape
+move_all-requires-clause-shape c = rw (c.deref.ensures.value) (subst HasShape c.in-Movements.is c.requires.shape)
 
-pub transfer_all-requires-clause-can : goal.transfer_all-requires-clause-can
-transfer_all-requires-clause-can c = rw (c.deref.ensures.value) (subst (CanMove c.args.draft.now) c.in-Transfers.is c.requires.can)
+pub move_all-requires-clause-can : goal.move_all-requires-clause-can
+move_all-requires-clause-can c = rw (c.deref.ensures.value) (subst (CanMove c.args.draft.now) c.in-Movements.is c.requires.can)
 
-pub returns-in-Transfers-clause-ok : goal.returns-in-Transfers-clause-ok
-returns-in-Transfers-clause-ok c = subst (λ (ms : Moves). OnOk c.transfer_all.result (HasMoved c.args.draft.now c.transfer_all.new.draft ms)) (sym c.in-Transfers.is) (rw (c.deref.ensures.value) at c.transfer_all.ensures.ok)
+pub returns-in-Movements-clause-ok : goal.returns-in-Movements-clause-ok
+returns-in-Movements-clause-ok c = subst (λ (ms : Moves). OnOk c.move_all.result (HasMoved c.args.draft.now c.move_all.new.draft ms)) (sym c.in-Movements.is) (rw (c.deref.ensures.value) at c.move_all.ensures.ok)
 
 pub combine-requires-clause-shape : goal.combine-requires-clause-shape
 combine-requires-clause-shape c = rw (c.deref-in-Combination.ensures.value) (subst HasShape c.in-Combination.is c.requires.shape)

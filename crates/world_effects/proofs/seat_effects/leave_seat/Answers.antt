@@ -1,12 +1,12 @@
 use Rattle.std.proofs.lemmas.Result.{on_ok_weaker}
-use Rattle.world_reads.specs.draft_reads.Views.{rights_in, seats_in, staging_in}
-use Rattle.world_reads.specs.host_world.Worlds.{world_now}
-use Rattle.world_reads.specs.plain_stores.Stores.{plain_now}
+use Rattle.register_effects.specs.draft_reads.Views.{rights_in, seats_in, staging_in}
+use Rattle.register_effects.specs.host_world.Worlds.{world_now}
+use Rattle.register_effects.specs.registers.Stores.{registers_now}
 use Rattle.world_laws.specs.world_state.Worlds as worlds
 use Rattle.world_laws.specs.world_state.Worlds.{after}
-use Rattle.world_effects.proofs.Joined.{joined}
+use Rattle.world_effects.proofs.JoinedStores.{joined}
 use Rattle.world_effects.proofs.Facts.{payouts_pend, seat_made, slots_of_brands}
-use Rattle.world_reads.specs.host_world.Worlds.{world_of}
+use Rattle.register_effects.specs.host_world.Worlds.{world_of}
 use Rattle.world_laws.specs.turn_records.Views.{cause_view}
 use Rattle.world_effects.proofs.seat_effects.leave_seat.Goals as goal
 
@@ -24,5 +24,5 @@ returns-clause-ok c =
     let d = c.args.world.now.draft in
     let e = worlds.exit c.args.seat (cause_view c.args.cause) in
     on_ok_weaker c.exit.result
-    (λ beside. record { now = joined c.leave.new.draft (plain_now c.exit.new.stores) (after (world_now c.args.world.now) e) c.in_ok-payouts.ensures.ok (beside (rights_in d) (seats_in d) (staging_in d) (record { payouts_are = c.in_ok-payouts.ensures.payouts; moves_are = c.in_ok-payouts.ensures.moves })); clean = c.in_ok-payouts.ensures.ok.clean })
+    (λ beside. record { now = joined c.leave.new.draft (registers_now c.exit.new.stores) (after (world_now c.args.world.now) e) c.in_ok-payouts.ensures.ok (beside (rights_in d) (seats_in d) (staging_in d) (record { payouts_are = c.in_ok-payouts.ensures.payouts; moves_are = c.in_ok-payouts.ensures.moves })); clean = c.in_ok-payouts.ensures.ok.clean })
     c.exit.ensures.ok

@@ -1,13 +1,13 @@
 use Rattle.std.proofs.Common.{ℕ, ap, refl, subst, sym}
 use Rattle.std.proofs.lemmas.Result.{on_ok_weaker}
-use Rattle.world_reads.specs.call_plans.Views.{offering_view}
-use Rattle.world_reads.specs.draft_reads.Views.{rights_in, seats_in, staging_in}
-use Rattle.world_reads.specs.host_world.Worlds.{world_now, world_of}
-use Rattle.world_reads.specs.plain_stores.Stores.{plain_now}
+use Rattle.register_effects.specs.call_outcomes.Views.{offering_view}
+use Rattle.register_effects.specs.draft_reads.Views.{rights_in, seats_in, staging_in}
+use Rattle.register_effects.specs.host_world.Worlds.{world_now, world_of}
+use Rattle.register_effects.specs.registers.Stores.{registers_now}
 use Rattle.world_laws.specs.world_state.Worlds as worlds
 use Rattle.world_laws.specs.world_state.Worlds.{after, offered_by}
-use Rattle.world_effects.proofs.Joined.{joined}
-use Rattle.world_effects.specs.Offered.{HasOffered}
+use Rattle.world_effects.proofs.JoinedStores.{joined}
+use Rattle.world_effects.specs.DraftOffers.{HasOffered}
 use Rattle.world_effects.proofs.seat_effects.make_offer.Goals as goal
 
 pub offer_in_draft-requires-clause-can : goal.offer_in_draft-requires-clause-can
@@ -22,5 +22,5 @@ returns-clause-ok c =
     let e = worlds.offer (offering_view c.args.offering) in
     let has : HasOffered d c.offer_in_draft.new.draft (offered_by (world_of c.args.world.now) (offering_view c.args.offering)).instance (offering_view c.args.offering) = subst (λ (i : ℕ). HasOffered d c.offer_in_draft.new.draft i (offering_view c.args.offering)) (ap (λ d. d.instance) c.details.ensures) c.in_ok-seat.ensures.ok in
     on_ok_weaker c.offer.result
-    (λ beside. record { now = joined c.offer_in_draft.new.draft (plain_now c.offer.new.stores) (after (world_now c.args.world.now) e) has (beside (rights_in d) (seats_in d) (staging_in d) (sym c.in_ok-seat.ensures.number)); clean = c.in_ok-seat.ensures.ok.clean })
+    (λ beside. record { now = joined c.offer_in_draft.new.draft (registers_now c.offer.new.stores) (after (world_now c.args.world.now) e) has (beside (rights_in d) (seats_in d) (staging_in d) (sym c.in_ok-seat.ensures.number)); clean = c.in_ok-seat.ensures.ok.clean })
     c.offer.ensures.ok

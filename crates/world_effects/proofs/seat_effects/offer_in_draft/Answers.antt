@@ -1,9 +1,9 @@
 use Rattle.std.proofs.Common.{refl, subst, sym}
-use Rattle.world_reads.specs.call_plans.Views.{offering_view}
+use Rattle.register_effects.specs.call_outcomes.Views.{offering_view}
 use Rattle.world_laws.specs.proposals.Slots.{FitsSeat}
 use Rattle.world_laws.specs.proposals.declared.offers.Proposal.{Proposal}
-use Rattle.world_reads.proofs.draft_reads.Undoing.{clean_back}
-use Rattle.draft_effects.proofs.Escrowed.{can_escrow}
+use Rattle.register_effects.proofs.draft_reads.Undoing.{clean_back}
+use Rattle.draft_effects.proofs.EscrowedOffers.{can_escrow}
 use Rattle.world_effects.proofs.seat_effects.offer_in_draft.Goals as goal
 
 pub offer-requires-clause-fits : goal.offer-requires-clause-fits

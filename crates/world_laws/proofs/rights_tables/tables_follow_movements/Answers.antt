@@ -1,4 +1,4 @@
-use Rattle.world_state.specs.right_steps.Tables.{no_hand}
+use Rattle.world_state.specs.vault_model.Tables.{no_hand}
 use Rattle.world_state.specs.rights_model.Table.{table_after}
 use Rattle.world_state.specs.Rights.{moved_together}
 use Rattle.world_laws.specs.Tables.{table_of}

@@ -1,6 +1,6 @@
 use Rattle.std.proofs.Common.{refl}
 use Rattle.world_state.proofs.lemmas.ListEdits.{map_push}
-use Rattle.world_state.specs.right_steps.Seats.{new_kept_seat}
+use Rattle.world_state.specs.vault_model.Seats.{new_kept_seat}
 use Rattle.world_laws.specs.Views.{seat_of}
 use Rattle.world_laws.proofs.Views.{payment_issued, seat_opened}
 use Rattle.world_laws.proofs.rights_views.what_is_opened_is_in_the_world.Goals as goal

@@ -1,6 +1,6 @@
 use Rattle.host_data.specs.View.{named}
 use Rattle.host_data.proofs.ReadLists.{IsRead}
-use Rattle.rules.specs.ZoeRows.{issuer_in}
+use Rattle.rules.specs.Zoe.{issuer_in}
 use Rattle.zoe_calls.proofs.issuers.issuers_of.Given as goal
 
 abbrev pub invariant-loop-name : goal.invariant-loop-name

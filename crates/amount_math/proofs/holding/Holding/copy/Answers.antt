@@ -1,8 +1,8 @@
-use Rattle.amount_math.specs.Shapes.{worth}
+use Rattle.amount_math.specs.Shapes.{value_view}
 use Rattle.amount_math.proofs.Shapes.{is_shape, shape_of_few, value_of_shape}
 use Rattle.amount_math.proofs.holding.Holding.copy.Goals as goal
 
 pub invariant_of-result : goal.invariant_of-result
 invariant_of-result c =
     let few = rw (← c.self.view_is) at c.requires in
-    is_shape (worth c.self.inside.shape) c.in_ok-shape.shape c.in_ok-shape.ensures (value_of_shape c.self.inside.shape (shape_of_few c.self.inside.shape c.self.invariant few))
+    is_shape (value_view c.self.inside.shape) c.in_ok-shape.shape c.in_ok-shape.ensures (value_of_shape c.self.inside.shape (shape_of_few c.self.inside.shape c.self.invariant few))

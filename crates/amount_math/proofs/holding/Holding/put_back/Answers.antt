@@ -1,6 +1,6 @@
 use Rattle.std.proofs.Common.{ap}
 use Rattle.amount_math.specs.Held.{Held, comes_back}
-use Rattle.amount_math.specs.Shapes.{held_by, worth}
+use Rattle.amount_math.specs.Shapes.{held_by, value_view}
 use Rattle.amount_math.proofs.Shapes.{counted_shape, counted_sum}
 use Rattle.amount_math.proofs.holding.Holding.put_back.Goals as goal
 
@@ -13,4 +13,4 @@ invariant_of-self c =
 pub returns-clause-out : goal.returns-clause-out
 returns-clause-out c =
     let goes = rw (← c.self.view_is, ← c.value.view_is) at c.requires in
-    rw (← c.value.view_is) (rw c.put_back.ensures (comes_back (held_by c.self.inside.shape) (worth c.value.inside.shape) goes))
+    rw (← c.value.view_is) (rw c.put_back.ensures (comes_back (held_by c.self.inside.shape) (value_view c.value.inside.shape) goes))

@@ -1,6 +1,6 @@
-use Rattle.amount_math.specs.Shapes.{worth}
+use Rattle.amount_math.specs.Shapes.{value_view}
 use Rattle.amount_math.proofs.Shapes.{counted_is, outstanding_of_shape}
 use Rattle.amount_math.proofs.holding.Holding.reserve.Goals as goal
 
 pub invariant_of-self : goal.invariant_of-self
-invariant_of-self c = counted_is (worth c.self.inside.shape) c.reserve.new.self c.reserve.ensures.same (outstanding_of_shape c.self.inside.shape c.self.invariant)
+invariant_of-self c = counted_is (value_view c.self.inside.shape) c.reserve.new.self c.reserve.ensures.same (outstanding_of_shape c.self.inside.shape c.self.invariant)

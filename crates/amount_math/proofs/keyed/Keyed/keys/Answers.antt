@@ -1,7 +1,7 @@
 use Rattle.std.proofs.Common.{ap, arith}
 use Rattle.amount_math.specs.Content.{of_entries-nil}
 use Rattle.amount_math.specs.Held.{Roomed}
-use Rattle.amount_math.specs.Worth.{keys_of}
+use Rattle.amount_math.specs.ValueView.{keys_of}
 use Rattle.amount_math.proofs.Places.{keys_of_entries, keys_of-nothing}
 use Rattle.amount_math.proofs.keyed.Keyed.keys.Goals as goal
 

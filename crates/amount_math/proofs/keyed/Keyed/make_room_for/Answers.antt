@@ -2,7 +2,7 @@ use Rattle.std.proofs.Common.{◌+◌, ◌≤◌, ap, arith, length}
 use Rattle.std.proofs.lemmas.Result.{on_ok_weaker}
 use Rattle.std.specs.FinMap as fin
 use Rattle.amount_math.specs.Entries.{Entries}
-use Rattle.amount_math.specs.Worth.{keys_of}
+use Rattle.amount_math.specs.ValueView.{keys_of}
 use Rattle.amount_math.proofs.keyed.Keyed.make_room_for.Goals as goal
 
 pub returns-clause-ok : goal.returns-clause-ok

@@ -7,9 +7,9 @@ use Rattle.jessie_machine.specs.jessie_semantics.Play.{cost}
 use Rattle.refusals.specs.host_data.Tree.{items_size}
 use Rattle.refusals.specs.host_data.View.{items_of, trees}
 use Rattle.refusals.specs.host_data.declared.data.Data.{Data}
-use Rattle.contract_powers.specs.Running.{situation}
-use Rattle.contract_powers.proofs.Stable.{running_of}
-use Rattle.contract_powers.proofs.Steps.{failed_ready, goes_back, is_answered, less_room, ready, runs_on}
+use Rattle.contract_powers.specs.Situations.{situation}
+use Rattle.contract_powers.proofs.ReadyRuns.{running_of}
+use Rattle.contract_powers.proofs.RunSteps.{failed_ready, goes_back, is_answered, less_room, ready, runs_on}
 use Rattle.contract_powers.proofs.powers.ContractPowersPowers.call.Goals as goal
 
 pub call-requires-clause-turn : goal.call-requires-clause-turn

@@ -5,9 +5,9 @@ use Rattle.jessie_machine.specs.Host.{reply_of}
 use Rattle.jessie_machine.specs.jessie_semantics.Play as plays
 use Rattle.jessie_machine.specs.jessie_semantics.Play.{cost}
 use Rattle.refusals.specs.host_data.View.{tree}
-use Rattle.contract_powers.specs.Running.{situation}
-use Rattle.contract_powers.proofs.Stable.{running_of}
-use Rattle.contract_powers.proofs.Steps.{failed_ready, goes_back, is_answered, less_room, ready, runs_on}
+use Rattle.contract_powers.specs.Situations.{situation}
+use Rattle.contract_powers.proofs.ReadyRuns.{running_of}
+use Rattle.contract_powers.proofs.RunSteps.{failed_ready, goes_back, is_answered, less_room, ready, runs_on}
 use Rattle.contract_powers.proofs.powers.ContractPowersPowers.when.Goals as goal
 
 pub when-requires-clause-turn : goal.when-requires-clause-turn

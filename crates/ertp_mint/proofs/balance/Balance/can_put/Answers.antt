@@ -1,6 +1,6 @@
 use Rattle.std.proofs.Common.{subst, sym}
 use Rattle.amount_math.specs.KindLaws.{has_few, value_of_sum}
-use Rattle.amount_math.specs.Worth.{IsValue, fits_from_value}
+use Rattle.amount_math.specs.ValueView.{IsValue, fits_from_value}
 use Rattle.amount_math.specs.declared.Kind.{Kind}
 use Rattle.ertp_mint.proofs.balance.Balance.can_put.Goals as goal
 

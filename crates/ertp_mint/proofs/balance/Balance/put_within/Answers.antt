@@ -1,7 +1,7 @@
 use Rattle.std.proofs.Common.{◌≡◌, ℕ, ◌∙◌, ap}
 use Rattle.amount_math.specs.Held.{Held, with_more}
-use Rattle.amount_math.specs.Worth.{Worth, fits_from_value}
-use Rattle.ertp_mint.specs.Balances.{StoredAmount, put_taken, with_taken}
+use Rattle.amount_math.specs.ValueView.{ValueView, fits_from_value}
+use Rattle.ertp_mint.specs.Balances.{BalanceView, put_taken, with_taken}
 use Rattle.ertp_mint.proofs.balance.Balance.put_within.Goals as goal
 
 pub put_back-requires : goal.put_back-requires
@@ -13,6 +13,6 @@ pub returns-clause-undone : goal.returns-clause-undone
 returns-clause-undone c =
     let brand = c.self.inside.brand in
     let part = c.args.parcel.value.content in
-    let more : c.put_back.new.self ≡ with_more c.self.inside.held part = c.put_back.ensures.more ∙ ap (λ (p : ℕ × Worth). with_more c.self.inside.held p.1.content) c.into_parts-value.ensures in
-    let old : StoredAmount = record { amount = record { brand = brand; value = c.self.inside.held.value }; room = c.self.inside.held.room } in
+    let more : c.put_back.new.self ≡ with_more c.self.inside.held part = c.put_back.ensures.more ∙ ap (λ (p : ℕ × ValueView). with_more c.self.inside.held p.1.content) c.into_parts-value.ensures in
+    let old : BalanceView = record { amount = record { brand = brand; value = c.self.inside.held.value }; room = c.self.inside.held.room } in
     ap (λ (h : Held). with_taken (record { amount = record { brand = brand; value = h.value }; room = h.room }) part) more ∙ put_taken old part ∙ c.self.view_is

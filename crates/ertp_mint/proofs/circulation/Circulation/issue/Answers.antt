@@ -1,6 +1,6 @@
 use Rattle.std.proofs.Common.{◌∙◌, refl, subst, sym}
 use Rattle.amount_math.specs.Content.{sum}
-use Rattle.amount_math.specs.Worth.{Fits}
+use Rattle.amount_math.specs.ValueView.{Fits}
 use Rattle.ertp_mint.specs.Circulating.{CirculationView, with_issued_back}
 use Rattle.ertp_mint.proofs.Circulated.{circulates_issued, issued_is_out, may_issue, view_of}
 use Rattle.ertp_mint.proofs.circulation.Circulation.issue.Goals as goal

@@ -1,6 +1,6 @@
 use Rattle.std.proofs.Common.{IfErr, IsOk}
 use Rattle.amount_math.specs.Content.{Content}
-use Rattle.amount_math.specs.Worth.{Fits, IsIssueRefusal}
+use Rattle.amount_math.specs.ValueView.{Fits, IsIssueRefusal}
 use Rattle.amount_math.specs.declared.Kind.{Kind}
 use Rattle.ertp_mint.proofs.Placed.{said_of_value, value_rises}
 use Rattle.ertp_mint.proofs.keys_out.KeysOut.can_issue.Goals as goal

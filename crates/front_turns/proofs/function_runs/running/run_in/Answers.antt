@@ -1,22 +1,22 @@
 use Rattle.std.specs.Prelude.{IfOk}
 use Rattle.std.proofs.Common.{◌≡◌, ◌∙◌, List, length, false, refl, sym, ap, subst}
-use Rattle.contract_powers.proofs.Steps.{ready}
-use Rattle.contract_powers.specs.Running.{IsRunning, situation}
+use Rattle.contract_powers.proofs.RunSteps.{ready}
+use Rattle.contract_powers.specs.Situations.{IsRunning, situation}
 use Rattle.fair_laws.specs.delivery_laws.Works.{Evaluates}
 use Rattle.delivery_tasks.specs.delivery_turns.Functions.{FunctionCall, module_play}
 use Rattle.front_turns.specs.FunctionRuns.{WentOn}
-use Rattle.world_reads.specs.host_world.Worlds.{world_of}
-use Rattle.plain_stores.specs.actors.Tables.{instance_at}
+use Rattle.contract_powers.specs.host_world.Worlds.{world_of}
+use Rattle.contract_powers.specs.actors.Tables.{instance_at}
 use Rattle.jessie_interpreter.specs.Outcomes.{outcome}
 use Rattle.jessie_interpreter.specs.jessie_semantics.Play.{Play}
 use Rattle.jessie_interpreter.specs.jessie_grammar.Syntax.{variable_names}
 use Rattle.jessie_interpreter.specs.jessie_grammar.declared.syntax.Module.{Module}
 use Rattle.delivery_tasks.specs.host_data.Tree.{Tree}
 use Rattle.delivery_tasks.specs.host_data.View.{trees}
-use Rattle.world_effects.proofs.world_laws.Lists.{length_map}
-use Rattle.plain_stores.specs.world_state.Known.{module_of}
-use Rattle.front_turns.proofs.Ending.{asks, undone}
-use Rattle.front_turns.proofs.Going.{went_so}
+use Rattle.contract_powers.proofs.world_laws.Lists.{length_map}
+use Rattle.contract_powers.specs.world_state.Known.{module_of}
+use Rattle.front_turns.proofs.RunEnds.{asks, undone}
+use Rattle.front_turns.proofs.Plays.{went_so}
 use Rattle.front_turns.proofs.function_runs.running.run_in.Goals as goal
 
 pub invariant_of-powers : goal.invariant_of-powers

@@ -1,6 +1,6 @@
 use Rattle.std.proofs.Common.{refl, sym, ◌∙◌, ◌<◌, rules}
-use Rattle.host_turns.proofs.Stepping.{none_waits_in, turned_called_for, turned_fair}
-use Rattle.world_effects.specs.world_state.Rights.{most_turns}
+use Rattle.host_turns.proofs.HostSteps.{none_waits_in, turned_called_for, turned_fair}
+use Rattle.front_turns.specs.world_state.Rights.{most_turns}
 use Rattle.host_turns.proofs.host.Host.next_turn.Goals as goal
 
 pub returns-then-waiting_in-eq0-clause-step : goal.returns-then-waiting_in-eq0-clause-step

@@ -4,12 +4,12 @@ use Rattle.std.specs.Str.{is_utf8}
 use Rattle.jessie_grammar.proofs.Words.{no_utf8}
 use Rattle.jessie_grammar.proofs.jessie_lexer.lexer.text_at.Goals as goal
 
-pub returns-in_ok-worded-in-Ok : goal.returns-in_ok-worded-in-Ok
-returns-in_ok-worded-in-Ok c =
+pub returns-in_ok-word_token-in-Ok : goal.returns-in_ok-word_token-in-Ok
+returns-in_ok-word_token-in-Ok c =
     let good : is_utf8 c.args.found.now ≡ true = is_utf8-from_IsUtf8 c.args.found.now c.in-Ok.ensures.cases.1 in
-    rw (good, c.in_ok-worded-in-Ok.ensures, c.in-Ok.ensures.cases.0) refl
+    rw (good, c.in_ok-word_token-in-Ok.ensures, c.in-Ok.ensures.cases.0) refl
 
 pub returns-in-Err : goal.returns-in-Err
 returns-in-Err c =
     let wrong : is_utf8 c.args.found.now ≡ false = no_utf8 c.args.found.now c.in-Err.ensures.cases.0 in
-    rw wrong c.bad.ensures
+    rw wrong c.bad_token.ensures

@@ -1,6 +1,6 @@
 use Rattle.std.proofs.Common.{◌≡◌, ◌<◌, length, ap, arith, subst, sym, ◌∙◌, OnOk}
 use Rattle.seats.proofs.Changes.{changed, with_room-same}
-use Rattle.ertp_mint.specs.Balances.{HasRoomFor, StoredAmount}
+use Rattle.ertp_mint.specs.Balances.{HasRoomFor, BalanceView}
 use Rattle.seats.specs.Seats.{SeatView, stored_in, with_room}
 use Rattle.seats.specs.Slots.{HasSlot, place_of, slot_of}
 use Rattle.seats.proofs.seat_slots.Seat.make_room_for.Goals as goal
@@ -20,7 +20,7 @@ returns-clause-same c =
     let within : c.place_of-place.result < length c.self.inside.slots.items = omega (arith, place, there) in
     let is = changed c.args.keyword.now _ c.args.self.now c.place_of-place.result (slot_of c.slot.inside.keyword c.slot.inside.balance) _ c.self.view_is place within c.slot.view_is c.index_mut-slot.ensures.value in
     let x = c.make_room_for.new.self in
-    let amount : x.amount ≡ (stored_in c.args.keyword.now c.args.self.now).amount = c.make_room_for.ensures.same ∙ sym (ap (λ (s : StoredAmount). s.amount) is.was) in
+    let amount : x.amount ≡ (stored_in c.args.keyword.now c.args.self.now).amount = c.make_room_for.ensures.same ∙ sym (ap (λ (s : BalanceView). s.amount) is.was) in
     subst (λ (s : SeatView). s ≡ with_room c.args.keyword.now (stored_in c.args.keyword.now s).room c.args.self.now) (sym (is.new x)) (with_room-same c.args.keyword.now c.args.self.now x is.there amount)
 
 pub returns-clause-room : goal.returns-clause-room
@@ -29,8 +29,8 @@ returns-clause-room c =
     let there : HasSlot c.args.keyword.now c.self.inside.slots.items = subst (λ (s : SeatView). HasSlot c.args.keyword.now s.slots) (sym c.self.view_is) c.requires.there in
     let within : c.place_of-place.result < length c.self.inside.slots.items = omega (arith, place, there) in
     let is = changed c.args.keyword.now _ c.args.self.now c.place_of-place.result (slot_of c.slot.inside.keyword c.slot.inside.balance) _ c.self.view_is place within c.slot.view_is c.index_mut-slot.ensures.value in
-    let before = ap (λ (s : StoredAmount). s.room) is.was in
-    let after = ap (λ (s : StoredAmount). s.room) (is.now c.make_room_for.new.self) in
+    let before = ap (λ (s : BalanceView). s.room) is.was in
+    let after = ap (λ (s : BalanceView). s.room) (is.now c.make_room_for.new.self) in
     omega (arith, before, after, c.make_room_for.ensures.room)
 
 pub returns-clause-ok : goal.returns-clause-ok
@@ -40,4 +40,4 @@ returns-clause-ok c =
     let within : c.place_of-place.result < length c.self.inside.slots.items = omega (arith, place, there) in
     let is = changed c.args.keyword.now _ c.args.self.now c.place_of-place.result (slot_of c.slot.inside.keyword c.slot.inside.balance) _ c.self.view_is place within c.slot.view_is c.index_mut-slot.ensures.value in
     let x = c.make_room_for.new.self in
-    subst (λ (s : StoredAmount). OnOk c.make_room_for.result (HasRoomFor s c.args.value.now.content)) (sym (is.now x)) c.make_room_for.ensures.ok
+    subst (λ (s : BalanceView). OnOk c.make_room_for.result (HasRoomFor s c.args.value.now.content)) (sym (is.now x)) c.make_room_for.ensures.ok

@@ -1,9 +1,9 @@
 use Rattle.std.proofs.Common.{◌≡◌, ◌<◌, ◌≤◌, length, ap, arith, subst, sym, ◌∙◌}
 use Rattle.ertp_mint.specs.amount_math.Amount.{holding}
 use Rattle.ertp_mint.specs.amount_math.Content.{sum}
-use Rattle.ertp_mint.specs.amount_math.Worth.{IsPutRefusal, IsValue}
+use Rattle.ertp_mint.specs.amount_math.ValueView.{IsPutRefusal, IsValue}
 use Rattle.seats.proofs.Changes.{changed, if_err, on_ok, put_in-there, said_under, value_further}
-use Rattle.ertp_mint.specs.Balances.{ComesOut, StoredAmount}
+use Rattle.ertp_mint.specs.Balances.{ComesOut, BalanceView}
 use Rattle.seats.specs.Seats.{SeatView, put_in, stored_in}
 use Rattle.seats.specs.Slots.{place_of, slot_of}
 use Rattle.seats.proofs.seat_slots.Seat.put.Goals as goal
@@ -22,7 +22,7 @@ returns-then-place-len-clause-ok c =
     let is = changed c.args.keyword.now _ c.args.self.now c.place_of-place.result (slot_of c.slot.inside.keyword c.slot.inside.balance) _ c.self.view_is place within c.slot.view_is c.index_mut-slot.ensures.value in
     let x = c.put.new.self in
     on_ok c.put.result (λ same.
-    let amount : x.amount ≡ holding (stored_in c.args.keyword.now c.args.self.now).amount (sum (stored_in c.args.keyword.now c.args.self.now).amount.value.content c.args.parcel.value.content) = same ∙ ap (λ (s : StoredAmount). holding s.amount (sum s.amount.value.content c.args.parcel.value.content)) (sym is.was) in
+    let amount : x.amount ≡ holding (stored_in c.args.keyword.now c.args.self.now).amount (sum (stored_in c.args.keyword.now c.args.self.now).amount.value.content c.args.parcel.value.content) = same ∙ ap (λ (s : BalanceView). holding s.amount (sum s.amount.value.content c.args.parcel.value.content)) (sym is.was) in
     subst (λ (s : SeatView). s ≡ put_in c.args.keyword.now c.args.parcel (stored_in c.args.keyword.now s).room c.args.self.now) (sym (is.new x)) (put_in-there c.args.keyword.now c.args.self.now c.args.parcel x is.there amount))
     c.put.ensures.ok
 
@@ -38,7 +38,7 @@ returns-then-place-len-clause-out c =
     let place = c.place_of-place.ensures ∙ ap (place_of c.args.keyword.now) c.as_slice.ensures.value in
     let within : c.place_of-place.result < length c.self.inside.slots.items = omega (arith, ap length c.as_slice.ensures.value) in
     let is = changed c.args.keyword.now _ c.args.self.now c.place_of-place.result (slot_of c.slot.inside.keyword c.slot.inside.balance) _ c.self.view_is place within c.slot.view_is c.index_mut-slot.ensures.value in
-    on_ok c.put.result (λ out. subst (λ (s : StoredAmount). ComesOut s c.args.parcel.value) (sym (is.now c.put.new.self)) out) c.put.ensures.out
+    on_ok c.put.result (λ out. subst (λ (s : BalanceView). ComesOut s c.args.parcel.value) (sym (is.now c.put.new.self)) out) c.put.ensures.out
 
 pub returns-then-place-len-clause-refused : goal.returns-then-place-len-clause-refused
 returns-then-place-len-clause-refused c =

@@ -1,6 +1,6 @@
 use Rattle.std.proofs.Common.{◌<◌, length, ap, arith, subst, sym, ◌∙◌}
 use Rattle.seats.proofs.Changes.{changed}
-use Rattle.ertp_mint.specs.Balances.{GoesIn, StoredAmount}
+use Rattle.ertp_mint.specs.Balances.{GoesIn, BalanceView}
 use Rattle.seats.specs.Seats.{SeatView}
 use Rattle.seats.specs.Slots.{HasSlot, place_of, slot_of}
 use Rattle.seats.proofs.seat_slots.Seat.take_value.Goals as goal
@@ -19,4 +19,4 @@ returns-clause-back c =
     let there : HasSlot c.args.keyword.now c.self.inside.slots.items = subst (λ (s : SeatView). HasSlot c.args.keyword.now s.slots) (sym c.self.view_is) c.requires.there in
     let within : c.place_of-place.result < length c.self.inside.slots.items = omega (arith, place, there) in
     let is = changed c.args.keyword.now _ c.args.self.now c.place_of-place.result (slot_of c.slot.inside.keyword c.slot.inside.balance) _ c.self.view_is place within c.slot.view_is c.index_mut-slot.ensures.value in
-    subst (λ (s : StoredAmount). GoesIn s c.take_value.result) (sym (is.now c.take_value.new.self)) c.take_value.ensures.back
+    subst (λ (s : BalanceView). GoesIn s c.take_value.result) (sym (is.now c.take_value.new.self)) c.take_value.ensures.back

@@ -1,6 +1,6 @@
 use Rattle.std.proofs.Common.{◌≡◌, ◌+◌, ◌*◌, ◌≤◌, ℕ, List, map, drop}
 use Rattle.refusals.specs.amount_math.Content.{count}
-use Rattle.refusals.specs.amount_math.Worth.{nat_bound}
+use Rattle.refusals.specs.amount_math.ValueView.{nat_bound}
 use Rattle.value_tests.specs.Totals.{total_of}
 use Rattle.value_tests.proofs.value_totals.Total.add_values.Given as goal
 

@@ -1,5 +1,5 @@
 use Rattle.std.proofs.Common.{ap, ◌∙◌}
-use Rattle.refusals.specs.amount_math.Worth.{keys_of}
+use Rattle.refusals.specs.amount_math.ValueView.{keys_of}
 use Rattle.value_tests.proofs.Kept.{keys_listed}
 use Rattle.value_tests.proofs.value_totals.Total.keys.Goals as goal
 

@@ -1,8 +1,8 @@
 use Rattle.std.proofs.Common.{◌≡◌, ◌∙◌, ap, refl, List, [], ◌∷◌, ◌++◌}
-use Rattle.right_steps.specs.declared.Step.{Step}
-use Rattle.right_steps.specs.declared.Step.TheVariants.{Moves}
-use Rattle.right_steps.specs.rights_model.declared.Holder.TheVariants.{Outside}
-use Rattle.right_steps.specs.rights_model.declared.Movement.{Movement}
+use Rattle.vault_model.specs.declared.Undo.{Undo}
+use Rattle.vault_model.specs.declared.Undo.TheVariants.{Moves}
+use Rattle.vault_model.specs.rights_model.declared.Holder.TheVariants.{Outside}
+use Rattle.vault_model.specs.rights_model.declared.Movement.{Movement}
 use Rattle.vault.specs.Drafts.{draft_of}
 use Rattle.vault.proofs.Made.{may_come, none_in_store, taken_after_so, taken_keeps_so}
 use Rattle.vault.proofs.Steps.{room_stays, same_draft}
@@ -24,7 +24,7 @@ invariant_of-self-in-Ok-issue c =
     let brand = rw (← c.self.view_is) at c.requires.brand in
     taken_keeps_so c.self.inside.stores c.note_take.new.stores c.issue.new.self c.self.inside.steps.items _ c.self.inside.movements.items _ c.self.inside.keys c.in-Ok.noted.keys c.self.inside.is_spoiled Outside c.args.brand c.args.brand c.args.value c.in-Ok.noted.movement sound c.self.invariant c.in-Ok.ensures.roomed c.in-Ok-issue.ensures.ok
     (may_come c.self.inside.stores c.note_take.new.stores c.self.inside.steps.items c.self.inside.movements.items c.self.inside.keys c.self.inside.is_spoiled c.args.brand c.args.value c.in-Ok.ensures.roomed brand c.in-Ok-issue.ensures.fits) refl
-    (c.push_reserved-in-Ok-issue.ensures.items ∙ ap (λ (l : List Step). l ++ Moves ∷ []) c.in-Ok.ensures.steps)
+    (c.push_reserved-in-Ok-issue.ensures.items ∙ ap (λ (l : List Undo). l ++ Moves ∷ []) c.in-Ok.ensures.steps)
     (c.push_reserved.ensures.items ∙ ap (λ (l : List Movement). l ++ c.in-Ok.noted.movement ∷ []) c.in-Ok.ensures.movements)
     c.in-Ok.ensures.movement brand c.in-Ok.ensures.keys c.in-Ok.ensures.hand_room
 
@@ -43,7 +43,7 @@ returns-in-Ok-issue-clause-ok c =
     let brand = rw (← c.self.view_is) at c.requires.brand in
     rw (← c.self.view_is) (taken_after_so c.self.inside.stores c.note_take.new.stores c.issue.new.self c.self.inside.steps.items _ c.self.inside.movements.items _ c.self.inside.keys c.in-Ok.noted.keys c.self.inside.is_spoiled Outside c.args.brand c.args.brand c.args.value c.in-Ok.noted.movement sound c.self.invariant c.in-Ok.ensures.roomed c.in-Ok-issue.ensures.ok
     (may_come c.self.inside.stores c.note_take.new.stores c.self.inside.steps.items c.self.inside.movements.items c.self.inside.keys c.self.inside.is_spoiled c.args.brand c.args.value c.in-Ok.ensures.roomed brand c.in-Ok-issue.ensures.fits) refl
-    (c.push_reserved-in-Ok-issue.ensures.items ∙ ap (λ (l : List Step). l ++ Moves ∷ []) c.in-Ok.ensures.steps)
+    (c.push_reserved-in-Ok-issue.ensures.items ∙ ap (λ (l : List Undo). l ++ Moves ∷ []) c.in-Ok.ensures.steps)
     (c.push_reserved.ensures.items ∙ ap (λ (l : List Movement). l ++ c.in-Ok.noted.movement ∷ []) c.in-Ok.ensures.movements)
     c.in-Ok.ensures.movement)
 

@@ -1,9 +1,9 @@
 use Rattle.std.proofs.Common.{◌≡◌, ◌∙◌, ap, List, [], ◌∷◌, ◌++◌}
-use Rattle.right_steps.specs.declared.Step.{Step}
-use Rattle.right_steps.specs.declared.Step.TheVariants.{Moves}
-use Rattle.right_steps.specs.rights_model.declared.Holder.TheVariants.{Hand}
-use Rattle.right_steps.specs.rights_model.declared.Movement.{Movement}
-use Rattle.right_steps.specs.rights_model.Table.{movement}
+use Rattle.vault_model.specs.declared.Undo.{Undo}
+use Rattle.vault_model.specs.declared.Undo.TheVariants.{Moves}
+use Rattle.vault_model.specs.rights_model.declared.Holder.TheVariants.{Hand}
+use Rattle.vault_model.specs.rights_model.declared.Movement.{Movement}
+use Rattle.vault_model.specs.rights_model.Table.{movement}
 use Rattle.vault.specs.Memory.{lists_of}
 use Rattle.vault.specs.Drafts.{draft_of}
 use Rattle.vault.proofs.Made.{put_after_so, put_keeps_so}
@@ -19,7 +19,7 @@ invariant_of-self-in-Ok-give_to c =
     let keep = rw (← c.self.view_is) at c.requires.hand in
     let can = can_give (lists_of c.self.inside.stores) c.args.to.now c.args.parcel target c.in-Ok-give_to.ensures.value in
     put_keeps_so c.self.inside.stores c.give_to.new.self c.self.inside.steps.items _ c.self.inside.movements.items _ c.self.inside.keys c.self.inside.is_spoiled c.args.to.now c.args.parcel c.in-Ok.movement sound c.self.invariant keep c.in-Ok-give_to.ensures.ok
-    (c.push_reserved-in-Ok-give_to.ensures.items ∙ ap (λ (l : List Step). l ++ Moves ∷ []) c.in-Ok.ensures.steps)
+    (c.push_reserved-in-Ok-give_to.ensures.items ∙ ap (λ (l : List Undo). l ++ Moves ∷ []) c.in-Ok.ensures.steps)
     (c.push_reserved.ensures.items ∙ ap (λ (l : List Movement). l ++ c.in-Ok.movement ∷ []) c.in-Ok.ensures.movements)
     (c.in-Ok.ensures.movement ∙ (λ i. movement (c.brand.ensures i) Hand c.args.to.now (c.value.ensures i)))
     can
@@ -40,7 +40,7 @@ returns-in-Ok-give_to-clause-ok c =
     let keep = rw (← c.self.view_is) at c.requires.hand in
     let can = can_give (lists_of c.self.inside.stores) c.args.to.now c.args.parcel target c.in-Ok-give_to.ensures.value in
     rw (← c.self.view_is) (put_after_so c.self.inside.stores c.give_to.new.self c.self.inside.steps.items _ c.self.inside.movements.items _ c.self.inside.keys c.self.inside.is_spoiled c.args.to.now c.args.parcel c.in-Ok.movement sound c.self.invariant keep c.in-Ok-give_to.ensures.ok
-    (c.push_reserved-in-Ok-give_to.ensures.items ∙ ap (λ (l : List Step). l ++ Moves ∷ []) c.in-Ok.ensures.steps)
+    (c.push_reserved-in-Ok-give_to.ensures.items ∙ ap (λ (l : List Undo). l ++ Moves ∷ []) c.in-Ok.ensures.steps)
     (c.push_reserved.ensures.items ∙ ap (λ (l : List Movement). l ++ c.in-Ok.movement ∷ []) c.in-Ok.ensures.movements)
     (c.in-Ok.ensures.movement ∙ (λ i. movement (c.brand.ensures i) Hand c.args.to.now (c.value.ensures i)))
     can)

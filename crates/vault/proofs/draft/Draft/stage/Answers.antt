@@ -1,6 +1,6 @@
 use Rattle.std.proofs.Common.{◌≡◌, sym, subst}
 use Rattle.std.specs.Prelude.{◌↔◌, IfErr, IsSome}
-use Rattle.right_steps.specs.Seats.{KeptSeat}
+use Rattle.vault_model.specs.Seats.{KeptSeat}
 use Rattle.seats.specs.declared.seats.StageFault.TheVariants.{SeatExited}
 use Rattle.vault.proofs.SeatReads.{seat_read}
 use Rattle.vault.proofs.Seated.{on_either, same_keeps, staged_keeps}

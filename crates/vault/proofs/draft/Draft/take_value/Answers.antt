@@ -1,9 +1,9 @@
 use Rattle.std.proofs.Common.{◌∙◌, ap, subst, List, [], ◌∷◌, ◌++◌}
-use Rattle.right_steps.specs.declared.Step.{Step}
-use Rattle.right_steps.specs.declared.Step.TheVariants.{Moves}
-use Rattle.right_steps.specs.rights_model.declared.Movement.{Movement}
+use Rattle.vault_model.specs.declared.Undo.{Undo}
+use Rattle.vault_model.specs.declared.Undo.TheVariants.{Moves}
+use Rattle.vault_model.specs.rights_model.declared.Movement.{Movement}
 use Rattle.vault.specs.Memory.{IsTaken, lists_of}
-use Rattle.right_steps.specs.Lists.{Lists}
+use Rattle.vault_model.specs.Lists.{Lists}
 use Rattle.vault.specs.Asked.{brand_of}
 use Rattle.vault.specs.Drafts.{draft_of}
 use Rattle.vault.proofs.Made.{taken_after_so, taken_keeps_so}
@@ -26,7 +26,7 @@ invariant_of-self-2 c =
     taken_keeps_so c.self.inside.stores c.note_take.new.stores c.take_from-parcel.new.self c.self.inside.steps.items _ c.self.inside.movements.items _ c.self.inside.keys c.in-Ok.noted.keys c.self.inside.is_spoiled c.args.from.now (brand_of (lists_of c.self.inside.stores) c.args.from.now) c.brand-brand.result c.args.value c.in-Ok.noted.movement sound c.self.invariant c.in-Ok.ensures.roomed
     (subst (λ (s : Lists). IsTaken c.note_take.new.stores c.take_from-parcel.new.self c.args.from.now (brand_of s c.args.from.now) c.args.value) c.in-Ok.ensures.roomed.lists c.take_from-parcel.ensures.taken)
     (can_take (lists_of c.self.inside.stores) c.args.from.now c.args.value source has) c.brand-brand.ensures
-    (c.push_reserved-2.ensures.items ∙ ap (λ (l : List Step). l ++ Moves ∷ []) c.in-Ok.ensures.steps)
+    (c.push_reserved-2.ensures.items ∙ ap (λ (l : List Undo). l ++ Moves ∷ []) c.in-Ok.ensures.steps)
     (c.push_reserved.ensures.items ∙ ap (λ (l : List Movement). l ++ c.in-Ok.noted.movement ∷ []) c.in-Ok.ensures.movements)
     c.in-Ok.ensures.movement brand c.in-Ok.ensures.keys c.in-Ok.ensures.hand_room
 
@@ -39,7 +39,7 @@ returns-clause-ok c =
     rw (← c.self.view_is) (taken_after_so c.self.inside.stores c.note_take.new.stores c.take_from-parcel.new.self c.self.inside.steps.items _ c.self.inside.movements.items _ c.self.inside.keys c.in-Ok.noted.keys c.self.inside.is_spoiled c.args.from.now (brand_of (lists_of c.self.inside.stores) c.args.from.now) c.brand-brand.result c.args.value c.in-Ok.noted.movement sound c.self.invariant c.in-Ok.ensures.roomed
     (subst (λ (s : Lists). IsTaken c.note_take.new.stores c.take_from-parcel.new.self c.args.from.now (brand_of s c.args.from.now) c.args.value) c.in-Ok.ensures.roomed.lists c.take_from-parcel.ensures.taken)
     (can_take (lists_of c.self.inside.stores) c.args.from.now c.args.value source has) c.brand-brand.ensures
-    (c.push_reserved-2.ensures.items ∙ ap (λ (l : List Step). l ++ Moves ∷ []) c.in-Ok.ensures.steps)
+    (c.push_reserved-2.ensures.items ∙ ap (λ (l : List Undo). l ++ Moves ∷ []) c.in-Ok.ensures.steps)
     (c.push_reserved.ensures.items ∙ ap (λ (l : List Movement). l ++ c.in-Ok.noted.movement ∷ []) c.in-Ok.ensures.movements)
     c.in-Ok.ensures.movement)
 

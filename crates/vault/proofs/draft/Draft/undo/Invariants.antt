@@ -1,5 +1,5 @@
 use Rattle.std.proofs.Common.{reverse, vec_len}
-use Rattle.right_steps.specs.Backwards.{all_back}
+use Rattle.vault_model.specs.Backwards.{all_back}
 use Rattle.vault.specs.Memory.{lists_of, rooms_of}
 use Rattle.vault.specs.Working.{IsWorking}
 use Rattle.vault.proofs.draft.Draft.undo.Given as goal

@@ -1,5 +1,5 @@
 use Rattle.std.proofs.Common.{sym, ◌∙◌, ap}
-use Rattle.right_steps.specs.amount_math.declared.Amount.{Amount}
+use Rattle.vault_model.specs.amount_math.declared.Amount.{Amount}
 use Rattle.vault.proofs.Slots.{slot_is, slot_is_there}
 use Rattle.vault.proofs.stores.Stores.brand.Goals as goal
 

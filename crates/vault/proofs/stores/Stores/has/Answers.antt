@@ -1,6 +1,6 @@
 use Rattle.std.proofs.Common.{subst}
 use Rattle.std.specs.Prelude.{IsTrue}
-use Rattle.right_steps.specs.amount_math.Content.{Contains}
+use Rattle.vault_model.specs.amount_math.Content.{Contains}
 use Rattle.vault.proofs.Slots.{held_content, held_kind, slot_is_there}
 use Rattle.vault.proofs.stores.Stores.has.Goals as goal
 

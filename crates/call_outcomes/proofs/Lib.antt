@@ -1,0 +1,2 @@
+pub mod Shaped
+pub use Rattle.registers.proofs as registers

@@ -1,0 +1,5 @@
+pub mod Moves
+pub mod Views
+pub mod Lists
+pub mod CallOutcomes
+pub use Rattle.registers.specs as registers

@@ -1,2 +1,0 @@
-pub mod Shaped
-pub use Rattle.plain_stores.proofs as plain_stores

@@ -1,0 +1,5 @@
+use Rattle.contract_reads.proofs.KnownObjects.{issuer_known}
+use Rattle.contract_reads.proofs.contract_words.objects.issuer_number.Goals as goal
+
+pub object_at-requires-clause-known : goal.object_at-requires-clause-known
+object_at-requires-clause-known c = rw c.made.ensures.made (issuer_known _ c.args.place _ c.requires.known)

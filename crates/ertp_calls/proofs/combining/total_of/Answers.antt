@@ -1,5 +1,0 @@
-use Rattle.ertp_calls.proofs.LiveLists.{kinds_of_values}
-use Rattle.ertp_calls.proofs.combining.total_of.Goals as goal
-
-pub whole_sum-requires : goal.whole_sum-requires
-whole_sum-requires c = rw c.as_slice.ensures.value (kinds_of_values c.args.kind c.args.given.now c.in_ok-values.values.items c.requires c.in_ok-values.ensures)

@@ -1,5 +1,0 @@
-use Rattle.refusals.specs.amount_math.KindLaws.{has_few}
-use Rattle.ertp_calls.proofs.service_reads.payment_reads.live_at.Goals as goal
-
-pub copy-requires : goal.copy-requires
-copy-requires c = has_few _ _ c.in-Some.ensures.value

@@ -1,0 +1,10 @@
+use Rattle.std.proofs.Common.{subst}
+use Rattle.ertp_calls.specs.call_outcomes.CallOutcomes.{GivesOutcome}
+use Rattle.rules.specs.Outcomes.{Outcome}
+use Rattle.ertp_calls.specs.host_world.Worlds.{world_of}
+use Rattle.host_data.specs.View.{trees}
+use Rattle.escrow_calls.proofs.Calls.{burn_at}
+use Rattle.escrow_calls.proofs.burns.burn_losses.Goals as goal
+
+pub returns : goal.returns
+returns c = subst (λ (o : Outcome). GivesOutcome o c.burn_of.result) (burn_at (world_of c.args.world.now) c.args.brand (trees c.args.args.now) c.in_ok-seat.seat c.in_ok-seat.ensures.gives) c.burn_of.ensures

@@ -1,0 +1,2 @@
+pub mod LiveLists
+pub mod PartLists

@@ -1,0 +1,5 @@
+use Rattle.issuer_calls.proofs.LiveLists.{kinds_of_values}
+use Rattle.issuer_calls.proofs.combination.total_of.Goals as goal
+
+pub whole_sum-requires : goal.whole_sum-requires
+whole_sum-requires c = rw c.as_slice.ensures.value (kinds_of_values c.args.kind c.args.given.now c.in_ok-values.values.items c.requires c.in_ok-values.ensures)

@@ -1,6 +1,0 @@
-use Rattle.std.proofs.Common.{◌≡◌, take}
-use Rattle.rearrange.specs.Seats.{seats_named}
-use Rattle.rearrange.proofs.transfers.seats_named.Given as goal
-
-abbrev pub invariant-loop-transfer : goal.invariant-loop-transfer
-invariant-loop-transfer l = l.seats.items ≡ seats_named (take l.transfer-index l.list)

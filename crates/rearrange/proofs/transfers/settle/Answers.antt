@@ -1,7 +1,0 @@
-use Rattle.std.proofs.Common.{sym, subst}
-use Rattle.proposals.specs.Rows.{AreApart}
-use Rattle.rearrange.proofs.Agreeing.{AreApart-settled}
-use Rattle.rearrange.proofs.transfers.settle.Goals as goal
-
-pub returns-clause-apart : goal.returns-clause-apart
-returns-clause-apart c = subst AreApart (sym c.in_ok-rows.ensures) (AreApart-settled c.allocation_of.result.now c.args.rows.now c.allocation_of.ensures.apart c.requires.apart)

@@ -1,7 +1,0 @@
-//! Laws of the rules of all calls: each call of the host's own objects, and each of a contract's,
-//! owes what every call owes, for all methods of the tables.
-#![tactic(auto)]
-
-pub mod call_row_laws;
-pub mod contract_row_laws;
-pub mod service_row_laws;

@@ -1,8 +1,0 @@
-use Rattle.host_data.proofs.ReadLists.{IsRead}
-use Rattle.host_data.specs.View.{tree}
-use Rattle.rules.specs.Rearranging.{parts_in}
-use Rattle.row_transfers.specs.Views.{parts_views}
-use Rattle.row_transfers.proofs.parts.all_parts.Given as goal
-
-abbrev pub invariant-loop-item : goal.invariant-loop-item
-invariant-loop-item l = IsRead parts_in tree l.items l.item-index (parts_views l.list.items)

@@ -1,7 +1,0 @@
-use Rattle.host_data.proofs.ReadLists.{IsRead}
-use Rattle.rules.specs.Rearranging.{asked_in}
-use Rattle.row_transfers.specs.Views.{asked_views, parts_view}
-use Rattle.row_transfers.proofs.rows.all_asked.Given as goal
-
-abbrev pub invariant-loop-parts : goal.invariant-loop-parts
-invariant-loop-parts l = IsRead asked_in parts_view l.list l.parts-index (asked_views l.read.items)

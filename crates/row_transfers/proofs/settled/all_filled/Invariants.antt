@@ -1,6 +1,0 @@
-use Rattle.std.proofs.Common.{◌≡◌, map, take}
-use Rattle.rearrange.specs.Settled.{filled}
-use Rattle.row_transfers.proofs.settled.all_filled.Given as goal
-
-abbrev pub invariant-loop-slot : goal.invariant-loop-slot
-invariant-loop-slot l = l.after.items ≡ map (filled l.rows) (take l.slot-index l.slots)

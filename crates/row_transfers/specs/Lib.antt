@@ -1,5 +1,0 @@
-pub mod Views
-pub mod Brands
-pub mod Fine
-pub mod Reading
-pub mod Tests

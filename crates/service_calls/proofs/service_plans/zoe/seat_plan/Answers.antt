@@ -1,7 +1,0 @@
-use Rattle.service_calls.proofs.service_plans.zoe.seat_plan.Goals as goal
-
-pub returns-in-getProposal : goal.returns-in-getProposal
-returns-in-getProposal c = rw c.in-getProposal.is (c.plan_of_reading.ensures _ c.get_proposal.ensures)
-
-pub returns-in-getFinalAllocation : goal.returns-in-getFinalAllocation
-returns-in-getFinalAllocation c = rw c.in-getFinalAllocation.is (c.plan_of_reading-in-getFinalAllocation.ensures _ c.get_final_allocation.ensures)

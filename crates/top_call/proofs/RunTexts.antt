@@ -1,0 +1,130 @@
+-- The journal of a run is what its lines and its end write, and a close row of the host after them.
+use Rattle.std.proofs.Common.{◌≡◌, ℕ, ◌+◌, ◌≤◌, List, [], ◌∷◌, ◌++◌, length, map, Option, refl, sym, ap, subst, ◌∙◌, arith, append_assoc, append-nil}
+use Rattle.std.proofs.KnownBytes.{Appends-kept, Appends-nil, Appends-trans}
+use Rattle.std.proofs.lemmas.Grind.{flat_map-append}
+use Rattle.std.specs.Io.KnownBytes.{Appends, Keeps}
+use Rattle.std.specs.List.{flat_map}
+use Rattle.host_turns.specs.contract_texts.Reader.{reader}
+use Rattle.run_laws.specs.delivery_turns.Hosts.{HostState}
+use Rattle.host_io.specs.Fronts.{AppendsFront}
+use Rattle.run_laws.specs.message_lines.InputLines.{lines_of}
+use Rattle.run_laws.specs.message_lines.Meanings.{Meaning, meaning_of, run}
+use Rattle.host_turns.specs.turn_rows.Rows.{close_row, rows_of}
+use Rattle.host_turns.specs.turn_rows.Texts.{journal_text, row_text}
+use Rattle.host_turns.specs.turn_rows.Turns.{Turn}
+use Rattle.host_turns.specs.world_state.Rights.{most_turns}
+use Rattle.run_laws.specs.Runs.{AppendsTurns, Run, close_text, drained, first_host, journal_of, left_of, line_run, lines_run, meanings_of, no_turn, run_of, run_then, turns_in, turns_of, turns_text}
+use Rattle.top_call.proofs.LineRuns.{lines_turns_count, turns_both}
+use Rattle.top_call.proofs.TurnTexts.{Written, written_all, written_more}
+
+-- ---- the text
+
+rows_then : (ts : List Turn) → flat_map row_text (flat_map rows_of ts) ≡ turns_text ts
+rows_then [] = refl
+rows_then (t ∷ ts) = flat_map-append row_text (rows_of t) (flat_map rows_of ts) ∙ ap (λ bytes. flat_map row_text (rows_of t) ++ bytes) (rows_then ts)
+
+text_parts : (ts : List Turn) (left : ℕ) → journal_text ts left ≡ turns_text ts ++ row_text (close_row left (length ts))
+text_parts ts left =
+    flat_map-append row_text (flat_map rows_of ts) (close_row left (length ts) ∷ [])
+    ∙ (λ i. rows_then ts i ++ append-nil (row_text (close_row left (length ts))) i)
+
+journal_parts : (meter most : ℕ) (input : List ℕ) → journal_of reader meter most input ≡ turns_text (turns_of reader meter most input) ++ row_text (close_row (left_of reader meter most input) (length (turns_of reader meter most input)))
+unfolding journal_of
+journal_parts meter most input = text_parts (turns_of reader meter most input) (left_of reader meter most input)
+
+-- ---- the lines, and then the end
+
+run_assoc : (a b c : Run) → run_then a (run_then b c) ≡ run_then (run_then a b) c
+run_assoc a b c = ap (λ ts. record { turns = ts; end = c.end }) (sym (append_assoc a.turns b.turns c.turns))
+
+lines_then : (s : HostState) (a b : List Meaning) → lines_run reader s (a ++ b) ≡ run_then (lines_run reader s a) (lines_run reader (lines_run reader s a).end b)
+lines_then s [] b = refl
+lines_then s (m ∷ a) b =
+    let one = line_run reader s m in
+    let rest = lines_run reader one.end a in
+    ap (λ r. run_then one r) (lines_then one.end a b) ∙ run_assoc one rest (lines_run reader rest.end b)
+
+abbrev pub meant : List ℕ → List Meaning
+meant input = map meaning_of (lines_of input)
+
+-- the end of the input is a line of its own
+abbrev last : ℕ → HostState → Run
+last most s = lines_run reader s (run most ∷ [])
+
+last_turns : (most : ℕ) (s : HostState) → turns_in (last most s) ≡ turns_in (drained reader most s) ++ []
+last_turns most s = turns_both (drained reader most s) (no_turn (drained reader most s).end)
+
+module _ (meter most : ℕ) (input : List ℕ) where
+  abbrev all : List Turn
+  all = turns_of reader meter most input
+
+  abbrev end : HostState
+  end = (run_of reader meter most input).end
+
+  pub run_parts : run_of reader meter most input ≡ run_then (lines_run reader (first_host meter) (meant input)) (last most (lines_run reader (first_host meter) (meant input)).end)
+  run_parts = lines_then (first_host meter) (meant input) (run most ∷ [])
+
+  all_parts : all ≡ turns_in (lines_run reader (first_host meter) (meant input)) ++ (turns_in (drained reader most (lines_run reader (first_host meter) (meant input)).end) ++ [])
+  all_parts =
+      let lines = lines_run reader (first_host meter) (meant input) in
+      ap turns_in run_parts ∙ turns_both lines (last most lines.end) ∙ ap (λ ts. turns_in lines ++ ts) (last_turns most lines.end)
+
+  pub run_start : (s : HostState) (old : Option (List ℕ)) → s ≡ first_host meter
+      → Written all (turns_in (lines_run reader s (meant input)) ++ (turns_in (drained reader most (lines_run reader s (meant input)).end) ++ [])) 0 s.turns old old
+  run_start s old e = record {
+    done = [];
+    whole = all_parts ∙ ap (λ t. turns_in (lines_run reader t (meant input)) ++ (turns_in (drained reader most (lines_run reader t (meant input)).end) ++ [])) (sym e);
+    count = ap (λ (t : HostState). t.turns) e;
+    appended = Appends-nil old;
+  }
+
+  module _ (s t : HostState) (e : s ≡ first_host meter) (is : t ≡ (lines_run reader s (meant input)).end) where
+    pub run_lines : (old new : Option (List ℕ)) → Appends old new (turns_text (turns_in (lines_run reader s (meant input)))) → Written all (turns_in (drained reader most t) ++ []) 0 t.turns old new
+    run_lines old new h =
+        subst (λ (u : HostState). Written all (turns_in (drained reader most u) ++ []) 0 u.turns old new) (sym is)
+        (written_more _ _ _ _ _ _ old old new (run_start s old e) h (lines_turns_count (meant input) s))
+
+    -- all turns were written once the deliveries at the end were run
+    pub run_written : (old mid new : Option (List ℕ)) → Appends old mid (turns_text (turns_in (lines_run reader s (meant input)))) → Appends mid new (turns_text (turns_in (drained reader most t))) → Appends old new (turns_text all)
+    run_written old mid new h more =
+        written_all all 0 (t.turns + length (turns_in (drained reader most t))) old new (written_more _ _ [] _ _ _ old mid new (run_lines old mid h) more refl)
+
+    -- the host at the end
+    pub run_ends : (u : HostState) → u ≡ (drained reader most t).end → u ≡ end
+    run_ends u ends = ends ∙ ap (λ v. (drained reader most v).end) (is ∙ ap (λ v. (lines_run reader v (meant input)).end) e) ∙ ap (λ (r : Run). r.end) (sym run_parts)
+
+  turns_run : length all ≡ end.turns
+  turns_run = omega (arith, lines_turns_count (meanings_of most input) (first_host meter))
+
+  module _ (u : HostState) (is : u ≡ end) where
+    pub run_few : u.turns ≤ most_turns → length all ≤ most_turns
+    run_few few = omega (arith, few, ap (λ (t : HostState). t.turns) is, turns_run)
+
+    -- ---- the close row
+
+    journal_closes : journal_of reader meter most input ≡ turns_text all ++ close_text u
+    journal_closes = journal_parts meter most input ∙ ap (λ n. turns_text all ++ row_text (close_row (left_of reader meter most input) n)) turns_run ∙ ap (λ t. turns_text all ++ close_text t) (sym is)
+
+    pub run_closed : (old mid new : Option (List ℕ)) → Appends old mid (turns_text all) → Appends mid new (close_text u) → Appends old new (journal_of reader meter most input)
+    run_closed old mid new turns close = rw journal_closes (Appends-trans old mid new _ _ turns close)
+
+    pub run_close_failed : (old mid new : Option (List ℕ)) → Appends old mid (turns_text all) → AppendsFront mid new (close_text u) → AppendsFront old new (journal_of reader meter most input)
+    run_close_failed old mid new turns f = record {
+      front = turns_text all ++ f.front;
+      back = f.back;
+      whole = journal_closes ∙ ap (λ xs. turns_text all ++ xs) f.whole ∙ sym (append_assoc (turns_text all) f.front f.back);
+      appended = Appends-trans old mid new _ _ turns f.appended;
+    }
+
+  -- nothing came of it
+  pub run_close_kept : (old mid new : Option (List ℕ)) → Appends old mid (turns_text all) → Keeps mid new → AppendsTurns old new all
+  run_close_kept old mid new turns kept = record { first = all; later = []; whole = sym (append-nil all); appended = Appends-kept old mid new _ turns kept }
+
+  -- a fault before it
+  pub run_turns_failed : (old new : Option (List ℕ)) → AppendsFront old new (turns_text all) → AppendsFront old new (journal_of reader meter most input)
+  run_turns_failed old new f = record {
+    front = f.front;
+    back = f.back ++ close_text end;
+    whole = journal_closes end refl ∙ rw f.whole (append_assoc f.front f.back (close_text end));
+    appended = f.appended;
+  }
