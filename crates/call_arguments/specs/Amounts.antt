@@ -1,41 +1,21 @@
 -- Amounts that a call is given (ERTP): what is read as one, of values of each kind.
-use Rattle.std.specs.Prelude.{ℕ, ◌==◌, ◌&&◌, List, [], ◌∷◌, Bool, true, false, Option, Some, None, Result, Ok, Err, if◌then◌else◌}
+use Rattle.std.specs.Prelude.{ℕ, ◌==◌, ◌&&◌, List, [], ◌∷◌, Bool, true, false, Result, Ok, if◌then◌else◌}
 use Rattle.std.specs.Str.{bytes_eq}
 use Rattle.refusals.specs.amount_math.Content.{entries}
 use Rattle.refusals.specs.amount_math.ValueView.{ValueView}
 use Rattle.refusals.specs.amount_math.declared.Kind.{Kind}
 use Rattle.refusals.specs.host_data.Tree.{Tree, is_null}
 use Rattle.refusals.specs.host_data.Amounts.{amount_fields, value_in}
-use Rattle.refusals.specs.host_data.declared.refusals.Stop as earlier
-use Rattle.refusals.specs.host_data.declared.refusals.Stop.TheVariants as reading
 use Rattle.refusals.specs.Codes.{bad_args, bad_value, wrong_amount, wrong_brand}
 use Rattle.refusals.specs.Outcomes.{◌>>=◌, ◌>>◌, need, wanted}
 use Rattle.refusals.specs.declared.codes.Refusal.{Refusal}
-use Rattle.refusals.specs.declared.stops.Stop.{Stop}
-use Rattle.refusals.specs.declared.stops.Stop.TheVariants.{NoMemory, Refused}
-
-abbrev pub given_by : {A E : Type 0} → Result A E → Option A
-given_by (Ok x) = Some x
-given_by (Err e) = None
-
--- the value of the kind that data stands for, where it does
-unfoldable pub value_of : Kind → Tree → Option ValueView
-value_of kind t = given_by (value_in kind t)
-
--- what the reading of a value ends with
-abbrev pub is_refused : earlier.Stop → Bool
-is_refused reading.NoMemory = false
-is_refused (reading.Refused r) = true
-
-abbrev pub unread : earlier.Stop → Stop
-unread stop = if is_refused stop then Refused bad_value else NoMemory
 
 -- an amount of the brand, of which the values are of the kind
 unfoldable pub amount_in : ℕ → Kind → ℕ → Tree → Result ValueView Refusal
 amount_in brand kind place t = do
   parts ← wanted (amount_fields t) (bad_args place)
   need (parts.brand == brand) (wrong_brand parts.brand)
-  wanted (value_of kind parts.value) bad_value
+  wanted (value_in kind parts.value) bad_value
 
 -- the same keys as often, in their order
 abbrev pub same_entries : List (List ℕ × ℕ) → List (List ℕ × ℕ) → Bool

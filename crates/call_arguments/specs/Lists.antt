@@ -4,11 +4,10 @@ use Rattle.refusals.specs.amount_math.ValueView.{ValueView}
 use Rattle.refusals.specs.amount_math.declared.Kind.{Kind}
 use Rattle.refusals.specs.host_data.Tree.{Tree}
 use Rattle.refusals.specs.host_data.declared.data.ObjKind.{ObjKind}
-use Rattle.refusals.specs.host_data.Amounts.{AmountData, amount_fields, read_all}
+use Rattle.refusals.specs.host_data.Amounts.{AmountData, amount_fields, read_all, value_in}
 use Rattle.refusals.specs.Codes.{bad_args, bad_value, wrong_brand, wrong_object}
 use Rattle.refusals.specs.Outcomes.{◌>>=◌, ◌>>◌, none_such, wanted}
 use Rattle.refusals.specs.declared.codes.Refusal.{Refusal}
-use Rattle.call_arguments.specs.Amounts.{value_of}
 use Rattle.call_arguments.specs.Arguments.{object_in}
 use Rattle.call_arguments.specs.Numbers.{least_failing}
 
@@ -23,11 +22,11 @@ abbrev pub least_other : ℕ → List AmountData → Option ℕ
 least_other brand amounts = least_failing (λ n. n == brand) (map (λ a. a.brand) amounts)
 
 -- the value of the kind that an amount has
-abbrev pub value_in : Kind → AmountData → Option ValueView
-value_in kind a = value_of kind a.value
+abbrev pub value_of : Kind → AmountData → Option ValueView
+value_of kind a = value_in kind a.value
 
 unfoldable pub brand_values : Kind → List AmountData → Result (List ValueView) Refusal
-brand_values kind amounts = wanted (read_all (value_in kind) amounts) bad_value
+brand_values kind amounts = wanted (read_all (value_of kind) amounts) bad_value
 
 -- amounts of the brand, of which the values are of the kind; each test over all of them before the next
 unfoldable pub amounts_listed : ℕ → Kind → ℕ → List Tree → Result (List ValueView) Refusal

@@ -6,11 +6,10 @@ use Rattle.refusals.specs.host_text.Words.{is_keyword}
 use Rattle.refusals.specs.amount_math.ValueView.{ValueView}
 use Rattle.refusals.specs.host_data.Tree.{Tree}
 use Rattle.refusals.specs.host_data.declared.data.ObjKind.{ObjKind}
-use Rattle.refusals.specs.host_data.Amounts.{AmountData, amount_data, amount_fields, read_all}
+use Rattle.refusals.specs.host_data.Amounts.{AmountData, amount_data, amount_fields, read_all, value_in}
 use Rattle.refusals.specs.Codes.{bad_args, bad_keyword, bad_value, wrong_object}
 use Rattle.refusals.specs.Outcomes.{◌>>=◌, ◌>>◌, none_such, wanted}
 use Rattle.refusals.specs.declared.codes.Refusal.{Refusal}
-use Rattle.call_arguments.specs.Amounts.{value_of}
 use Rattle.call_arguments.specs.Arguments.{object_in}
 use Rattle.call_arguments.specs.declared.records.GivenShare.{GivenShare}
 
@@ -65,7 +64,7 @@ shares_in place fields = do
 
 -- the value of a share, of the kind of the brand that it names
 abbrev pub share_value : ShareData → Option ValueView
-share_value r = value_of r.amount.kind r.amount.value
+share_value r = value_in r.amount.kind r.amount.value
 
 unfoldable pub values_in : List ShareData → Result (List ValueView) Refusal
 values_in shares = wanted (read_all share_value shares) bad_value

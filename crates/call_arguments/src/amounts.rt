@@ -2,15 +2,14 @@
 
 ghost use Rattle.std.specs.Prelude.{◌≡◌, IfOk};
 ghost use Rattle.refusals.specs.host_data.View.{tree};
-ghost use Rattle.refusals.specs.host_data.Amounts.{IsValueOf, amount_data, amount_fields, seen};
+ghost use Rattle.refusals.specs.host_data.Amounts.{IsValueOf, amount_data, amount_fields, seen, value_in};
 ghost use Rattle.refusals.specs.Codes.{bad_args, bad_value, wrong_amount};
 ghost use Rattle.refusals.specs.Outcomes.{Gives, need, wanted};
-ghost use Rattle.call_arguments.specs.Amounts.{amount_in, held_in, is_refused, is_same, unread, value_of};
+ghost use Rattle.call_arguments.specs.Amounts.{amount_in, held_in, is_same};
 
 use crate::places::is_missing;
 use refusals::amount_math_lib::{Kind, Value};
-use refusals::codes::{BareCode, NumberCode};
-use refusals::host_data_lib::Stop as DataStop;
+use refusals::codes::NumberCode;
 use refusals::host_data_lib::amounts::{GivenAmount, amount_fields, read_value};
 use refusals::host_data_lib::data::Data;
 use refusals::stops::{Stop, wrong_amount};
@@ -19,34 +18,12 @@ use std::alloc::Global;
 /// A value of the kind (ERTP): else `BadValue`. A number from 0 to 2^63 - 1, an array of texts, or an array
 /// of pairs of a text and a count from 1 to 2^63 - 1; texts in any order, none twice, each of 1 to 64 bytes,
 /// at most 4,096 (own).
-#[tactic(auto, unfolding(crate::specs::Amounts::value_of, refusals::specs::Outcomes::wanted))]
+#[tactic(auto, unfolding(refusals::specs::Outcomes::wanted))]
 pub fn value(alloc: Global, kind: Kind, given: &Data) -> Result<Value, Stop>
-    ensures gives { Gives (λ value. value) result (wanted (value_of kind (tree given.now)) bad_value) }
+    ensures gives { Gives (λ value. value) result (wanted (value_in kind (tree given.now)) bad_value) }
     ensures own { IfOk result (IsValueOf kind) }
 {
-    match read_value(alloc, kind, given) {
-        Ok(value) => Ok(value),
-        Err(stop) => Err(unread(stop)),
-    }
-}
-
-/// What the reading of a value ends with, whose one refusal is `BadValue`.
-fn unread(stop: DataStop) -> Stop
-    ensures { result ≡ unread stop }
-{
-    let is_refused = is_refused(&stop);
-    drop(stop);
-    if is_refused {
-        Stop::bare(BareCode::BadValue)
-    } else {
-        Stop::NoMemory
-    }
-}
-
-fn is_refused(stop: &DataStop) -> bool
-    ensures { result ≡ is_refused stop.now }
-{
-    matches!(stop, DataStop::Refused(_))
+    Ok(read_value(alloc, kind, given)?)
 }
 
 /// What stands in an amount: else `BadArgs` with the place.

@@ -1,5 +1,5 @@
 -- Keys with their counts in any order: which of them are the entries of a set or a bag, and of which.
-use Rattle.std.proofs.Common.{◌≡◌, ◌≢◌, ℕ, zero, suc, ◌+◌, ◌<◌, ◌≤◌, Bool, true, false, cond, not, ◌&&◌, ◌||◌, Option, Some, None, Result, Ok, Err, if◌then◌else◌, List, [], ◌∷◌, length, map, nat_le, refl, sym, ap, subst, ◌∙◌, arith, ℤ, pos, negsuc}
+use Rattle.std.proofs.Common.{◌≡◌, ◌≢◌, ℕ, zero, suc, ◌+◌, ◌<◌, ◌≤◌, Bool, true, false, cond, not, ◌&&◌, ◌||◌, Option, Some, None, Result, Ok, Err, IfErr, IfOk, if◌then◌else◌, List, [], ◌∷◌, length, map, nat_le, refl, sym, ap, subst, ◌∙◌, arith, ℤ, pos, negsuc}
 use Rattle.std.proofs.lemmas.Bool.{and_parts, and_from, leb-true, le-leb, false≢true}
 use Rattle.std.proofs.lemmas.List.Elements.{All-cons, All-head, All-tail, All-nil}
 use Rattle.std.proofs.lemmas.List.Sorted.{IsPermutation-refl, IsPermutation-cons, IsPermutation-trans, IsPermutation-middle, length_permutation, sum_by-IsPermutation}
@@ -25,14 +25,15 @@ use Rattle.amount_math.specs.Sparse.{at-put, put, put_by, same_found}
 use Rattle.amount_math.specs.Totals.{first, less, second}
 use Rattle.amount_math.specs.NatLaws.{IsNat-of_nat}
 use Rattle.amount_math.specs.ValueView.{IsBag, IsNat, IsNumber, IsSet, ValueView, most_keys, nat_bound}
+use Rattle.amount_math.specs.declared.Kind.{Kind}
 use Rattle.amount_math.specs.declared.Kind.TheVariants.{Nat, Set, Bag}
+use Rattle.amount_math.specs.declared.kinds.MakeFault.{MakeFault}
+use Rattle.amount_math.specs.declared.kinds.MakeFault.TheVariants.{BadValue, NoMemory}
 use Rattle.amount_math.proofs.Listed.{listed-tally, no_entries, rising_rest, below_rest, same_key}
 use Rattle.amount_math.proofs.Numbers.{number_is_within}
 use Rattle.amount_math.proofs.Permuted.{all_entries, as_many, bag_of_entries, keys_are_entries, made_of_keys, made_of_pairs, made_set, pairs_are_entries, pairs_are_small, set_is_bag, sorted_entries, IsPair}
-use Rattle.host_data.specs.Amounts.{are_apart, are_entries, counted_key, is_entry, keyed_value, nat_value, read_all, whole}
-use Rattle.host_data.specs.Outcomes.{bind, need, wanted}
-use Rattle.host_data.specs.declared.refusals.Refusal.{Refusal}
-use Rattle.host_data.specs.declared.refusals.Refusal.TheVariants.{BadValue}
+use Rattle.host_data.specs.Amounts.{Makes, are_apart, are_entries, bag_in, bag_of, counted_key, is_entry, keyed_value, nat_value, pair_in, read_all, set_in, set_of, whole}
+use Rattle.host_data.specs.Tree.{Tree, list_of, text_of}
 
 -- ---- tests
 
@@ -220,25 +221,28 @@ module _ (es : Entries) (c : Content) (bag : IsBag c) (same : IsPermutation es (
 
 -- ---- what keys are the value of
 
-keyed_so : (kind : _) (es : Entries) → are_entries es ≡ true → keyed_value kind es ≡ Ok (record { kind = kind; content = of_entries es })
-unfolding keyed_value bind need
-keyed_so kind es h = ap (λ b. bind (need b BadValue) (λ _. Ok (record { kind = kind; content = of_entries es }))) h
+abbrev pub keyed_if : Kind → Entries → Bool → Option ValueView
+keyed_if kind es b = if b then Some (record { kind = kind; content = of_entries es }) else None
 
-keyed_not : (kind : _) (es : Entries) → are_entries es ≡ false → keyed_value kind es ≡ Err BadValue
-unfolding keyed_value bind need
-keyed_not kind es h = ap (λ b. bind (need b BadValue) (λ _. Ok (record { kind = kind; content = of_entries es }))) h
+keyed_so : (kind : Kind) (es : Entries) → are_entries es ≡ true → keyed_value kind es ≡ Some (record { kind = kind; content = of_entries es })
+unfolding keyed_value
+keyed_so kind es h = ap (keyed_if kind es) h
 
-pub set_is : (ks : List (List ℕ)) (w : ValueView) → w.kind ≡ Set → IsKeysOf ks w.content → IsSet w.content → keyed_value Set (map as_one ks) ≡ Ok w
+keyed_not : (kind : Kind) (es : Entries) → are_entries es ≡ false → keyed_value kind es ≡ None
+unfolding keyed_value
+keyed_not kind es h = ap (keyed_if kind es) h
+
+pub set_is : (ks : List (List ℕ)) (w : ValueView) → w.kind ≡ Set → IsKeysOf ks w.content → IsSet w.content → set_of ks ≡ Some w
 set_is ks w kind keys set =
     let es = map as_one ks in
     let bag = set_is_bag w.content set in
     let same = keys_are_entries ks es (IsPermutation-refl es) w.content set keys in
-    keyed_so Set es (bag_passes es w.content bag same) ∙ (λ i. Ok (record { kind = sym kind i; content = bag_alone es w.content bag same i }))
+    keyed_so Set es (bag_passes es w.content bag same) ∙ (λ i. Some (record { kind = sym kind i; content = bag_alone es w.content bag same i }))
 
-pub set_is_not : (ks : List (List ℕ)) → ((c : Content) → IsSet c → ¬ IsKeysOf ks c) → keyed_value Set (map as_one ks) ≡ Err BadValue
+pub set_is_not : (ks : List (List ℕ)) → ((c : Content) → IsSet c → ¬ IsKeysOf ks c) → set_of ks ≡ None
 set_is_not ks none =
     let es = map as_one ks in
-    elim (are_entries es) as (λ b. are_entries es ≡ b → keyed_value Set es ≡ Err BadValue) [
+    elim (are_entries es) as (λ b. are_entries es ≡ b → keyed_value Set es ≡ None) [
       | true ↦ λ h.
           let c = of_entries es in
           let same = entries_permute es h in
@@ -283,53 +287,71 @@ read_are (p ∷ ps) es is = by (λ fs rest. read_are ps fs rest) p.1 refl
     by later (pos n) z = from later n z (read_all counted_key ps) refl (ap (λ x. one_read p.0 x (read_all counted_key ps)) (sym z) ∙ is)
     by later (negsuc n) z = absurd (none-some es (ap (λ x. one_read p.0 x (read_all counted_key ps)) (sym z) ∙ is))
 
-abbrev bag_from : List (List ℕ × ℤ) → Result ValueView Refusal
-bag_from ps = bind (wanted (read_all counted_key ps) BadValue) (keyed_value Bag)
+read_so : (ps : List (List ℕ × ℤ)) (es : Entries) → read_all counted_key ps ≡ Some es → bag_of ps ≡ keyed_value Bag es
+read_so ps es is = ap (option_and_then (keyed_value Bag)) is
 
-read_so : (ps : List (List ℕ × ℤ)) (es : Entries) → read_all counted_key ps ≡ Some es → bag_from ps ≡ keyed_value Bag es
-unfolding bind wanted
-read_so ps es is = ap (λ (o : Option Entries). bind (wanted o BadValue) (keyed_value Bag)) is
-
-read_not : (ps : List (List ℕ × ℤ)) → read_all counted_key ps ≡ None → bag_from ps ≡ Err BadValue
-unfolding bind wanted
-read_not ps is = ap (λ (o : Option Entries). bind (wanted o BadValue) (keyed_value Bag)) is
+read_not : (ps : List (List ℕ × ℤ)) → read_all counted_key ps ≡ None → bag_of ps ≡ None
+read_not ps is = ap (option_and_then (keyed_value Bag)) is
 
 as_made : (ps : List (List ℕ × ℤ)) (es : Entries) → map signed es ≡ ps → IsPermutation ps (map signed es)
 as_made ps es is = subst (λ (qs : List (List ℕ × ℤ)). IsPermutation ps qs) (sym is) (IsPermutation-refl ps)
 
-pub bag_is : (ps : List (List ℕ × ℤ)) (w : ValueView) → w.kind ≡ Bag → IsPairsOf ps w.content → IsBag w.content → bag_from ps ≡ Ok w
+pub bag_is : (ps : List (List ℕ × ℤ)) (w : ValueView) → w.kind ≡ Bag → IsPairsOf ps w.content → IsBag w.content → bag_of ps ≡ Some w
 bag_is ps w kind pairs bag =
     let small = pairs_are_small ps w.content bag pairs in
     let es = map unsigned ps in
     let same = pairs_are_entries ps es (as_made ps es (pairs_back ps small)) w.content pairs in
-    read_so ps es (pairs_read ps small) ∙ keyed_so Bag es (bag_passes es w.content bag same) ∙ (λ i. Ok (record { kind = sym kind i; content = bag_alone es w.content bag same i }))
+    read_so ps es (pairs_read ps small) ∙ keyed_so Bag es (bag_passes es w.content bag same) ∙ (λ i. Some (record { kind = sym kind i; content = bag_alone es w.content bag same i }))
 
-pub bag_is_not : (ps : List (List ℕ × ℤ)) → ((c : Content) → IsBag c → ¬ IsPairsOf ps c) → bag_from ps ≡ Err BadValue
+pub bag_is_not : (ps : List (List ℕ × ℤ)) → ((c : Content) → IsBag c → ¬ IsPairsOf ps c) → bag_of ps ≡ None
 bag_is_not ps none = by (read_all counted_key ps) refl
   where
-    by : (o : Option Entries) → read_all counted_key ps ≡ o → bag_from ps ≡ Err BadValue
+    by : (o : Option Entries) → read_all counted_key ps ≡ o → bag_of ps ≡ None
     by None is = read_not ps is
-    by (Some es) is = read_so ps es is ∙ elim (are_entries es) as (λ b. are_entries es ≡ b → keyed_value Bag es ≡ Err BadValue) [
+    by (Some es) is = read_so ps es is ∙ elim (are_entries es) as (λ b. are_entries es ≡ b → keyed_value Bag es ≡ None) [
       | true ↦ λ h. absurd (none (of_entries es) (entries_make_bag es h) (made_of_pairs ps es (as_made ps es (read_are ps es is)) (of_entries es) (entries_permute es h)))
       | false ↦ λ h. keyed_not Bag es h
     ] refl
 
+-- ---- what is made of data
+
+-- data that is a list is the value of what its items are read as
+pub set_at : (t : Tree) (items : List Tree) (ks : List (List ℕ)) → Some items ≡ list_of t → read_all text_of items ≡ Some ks → set_in t ≡ set_of ks
+unfolding set_in
+set_at t items ks at reads = ap (λ o. option_and_then set_of (option_and_then (read_all text_of) o)) (sym at) ∙ ap (option_and_then set_of) reads
+
+pub bag_at : (t : Tree) (items : List Tree) (ps : List (List ℕ × ℤ)) → Some items ≡ list_of t → read_all pair_in items ≡ Some ps → bag_in t ≡ bag_of ps
+unfolding bag_in
+bag_at t items ps at reads = ap (λ o. option_and_then bag_of (option_and_then (read_all pair_in) o)) (sym at) ∙ ap (option_and_then bag_of) reads
+
+pub set_made : (ks : List (List ℕ)) (r : Result ValueView MakeFault) → IfOk r (λ w. (w.kind ≡ Set) × IsKeysOf ks w.content) → IfOk r (λ w. IsSet w.content)
+    → IfErr r (λ fault. ¬ (fault ≡ NoMemory) → (c : Content) → IsSet c → ¬ IsKeysOf ks c) → Makes (λ w. w) r (set_of ks)
+set_made ks (Ok w) keys set none = set_is ks w keys.0 keys.1 set
+set_made ks (Err BadValue) keys set none = set_is_not ks (none (λ e. cc))
+set_made ks (Err NoMemory) keys set none = tt
+
+pub bag_made : (ps : List (List ℕ × ℤ)) (r : Result ValueView MakeFault) → IfOk r (λ w. (w.kind ≡ Bag) × IsPairsOf ps w.content) → IfOk r (λ w. IsBag w.content)
+    → IfErr r (λ fault. ¬ (fault ≡ NoMemory) → (c : Content) → IsBag c → ¬ IsPairsOf ps c) → Makes (λ w. w) r (bag_of ps)
+bag_made ps (Ok w) pairs bag none = bag_is ps w pairs.0 pairs.1 bag
+bag_made ps (Err BadValue) pairs bag none = bag_is_not ps (none (λ e. cc))
+bag_made ps (Err NoMemory) pairs bag none = tt
+
 -- ---- what a number is the value of
 
-abbrev pub nat_if : ℕ → Bool → Result ValueView Refusal
-nat_if n b = if b then Ok (record { kind = Nat; content = of_nat n }) else Err BadValue
+abbrev pub nat_if : ℕ → Bool → Option ValueView
+nat_if n b = if b then Some (record { kind = Nat; content = of_nat n }) else None
 
-pub nat_is : (z : ℤ) (w : ValueView) → w.kind ≡ Nat → IsNumber z w.content → IsNat w.content → nat_value z ≡ Ok w
+pub nat_is : (z : ℤ) (w : ValueView) → w.kind ≡ Nat → IsNumber z w.content → IsNat w.content → nat_value z ≡ Some w
 nat_is z w kind number nat =
     let n = number.number in
     let small : n ≤ nat_bound = omega (arith, number_is_within z w.content nat number) in
     ap nat_value number.whole
     ∙ ap (nat_if n) (le-leb n nat_bound small)
-    ∙ (λ i. Ok (record { kind = sym kind i; content = sym number.units i }))
+    ∙ (λ i. Some (record { kind = sym kind i; content = sym number.units i }))
 
-pub nat_is_not : (z : ℤ) → ((c : Content) → IsNat c → ¬ IsNumber z c) → nat_value z ≡ Err BadValue
+pub nat_is_not : (z : ℤ) → ((c : Content) → IsNat c → ¬ IsNumber z c) → nat_value z ≡ None
 nat_is_not (negsuc n) none = refl
-nat_is_not (pos n) none = elim (nat_le n nat_bound) as (λ b. nat_le n nat_bound ≡ b → nat_if n b ≡ Err BadValue) [
+nat_is_not (pos n) none = elim (nat_le n nat_bound) as (λ b. nat_le n nat_bound ≡ b → nat_if n b ≡ None) [
   | true ↦ λ h. absurd (none (of_nat n) (IsNat-of_nat n (leb-true n nat_bound h)) (record { number = n; whole = refl; units = refl }))
   | false ↦ λ h. refl
 ] refl

@@ -4,6 +4,5 @@ pub mod ValueTrees
 pub mod KeyedData
 pub mod ReadLists
 pub mod ValuesRead
-pub mod Shown
 pub use Rattle.amount_math.proofs as amount_math
 pub use Rattle.host_text.proofs as host_text

@@ -1,10 +1,8 @@
 -- A list that is read item by item.
-use Rattle.std.proofs.Common.{◌≡◌, ℕ, ◌+◌, ◌<◌, ◌≤◌, Option, Some, None, Ok, List, [], ◌∷◌, ◌++◌, length, map, drop, get_or, refl, sym, ap, ◌∙◌}
+use Rattle.std.proofs.Common.{◌≡◌, ℕ, ◌+◌, ◌<◌, ◌≤◌, Option, Some, None, List, [], ◌∷◌, ◌++◌, length, map, drop, get_or, refl, sym, ap, ◌∙◌}
 use Rattle.std.proofs.lemmas.List.{append-nil, append_assoc, drop_all, drop_more}
 use Rattle.std.specs.Option.{option_and_then, option_map}
 use Rattle.host_data.specs.Amounts.{read_all}
-use Rattle.host_data.specs.Outcomes.{wanted}
-use Rattle.host_data.specs.declared.refusals.Refusal.{Refusal}
 
 module _ {X A B : Type 0} (f : A → Option B) (v : X → A) where
   -- what was read of the first i goes before what the others are read as
@@ -39,9 +37,3 @@ module _ {X A B : Type 0} (f : A → Option B) (v : X → A) where
 
     pub read_ends : length xs ≤ i → read_all f (map v xs) ≡ Some done
     read_ends past = is.so_far ∙ ap (λ zs. option_map (λ ys. done ++ ys) (read_all f (map v zs))) (drop_all i xs past) ∙ ap Some (append-nil done)
-
--- what is wanted is there
-pub there : {A : Type 0} (o : Option A) (r : Refusal) (x : A) → wanted o r ≡ Ok x → o ≡ Some x
-unfolding wanted
-there None r x e = cc
-there (Some y) r x e = cc

@@ -8,15 +8,14 @@ use Rattle.amount_math.specs.Entries.{Entries, as_one, most_of_key}
 use Rattle.amount_math.specs.ValueView.{IsValue, ValueView, most_keys, nat_bound}
 use Rattle.amount_math.specs.declared.Kind.{Kind}
 use Rattle.amount_math.specs.declared.Kind.TheVariants.{Nat, Set, Bag}
+use Rattle.amount_math.specs.declared.kinds.MakeFault.{MakeFault}
+use Rattle.amount_math.specs.declared.kinds.MakeFault.TheVariants.{BadValue, NoMemory}
 use Rattle.host_data.specs.Tree.{Tree, null, number_of, text_of, object_of, list_of, field_of, field_count}
 use Rattle.host_data.specs.View.{tree}
 use Rattle.host_data.specs.declared.data.Data.{Data}
 use Rattle.host_data.specs.declared.data.ObjKind.{ObjKind}
 use Rattle.host_data.specs.declared.data.ObjKind.TheVariants.{Brand}
-use Rattle.host_data.specs.Outcomes.{◌>>=◌, ◌>>◌, need, wanted}
 use Rattle.host_data.specs.declared.amounts.GivenAmount.{GivenAmount}
-use Rattle.host_data.specs.declared.refusals.Refusal.{Refusal}
-use Rattle.host_data.specs.declared.refusals.Refusal.TheVariants.{BadValue}
 
 -- what an argument is, null where it is missing
 abbrev pub seen : Option (Bor Data) → Tree
@@ -31,13 +30,9 @@ read_all read [] = Some []
 read_all read (x ∷ xs) = option_and_then (λ y. option_map (λ ys. y ∷ ys) (read_all read xs)) (read x)
 
 -- a number of units
-abbrev pub nat_value : ℤ → Result ValueView Refusal
-nat_value (pos n) = if nat_le n nat_bound then Ok (record { kind = Nat; content = of_nat n }) else Err BadValue
-nat_value (negsuc n) = Err BadValue
-
-abbrev pub nat_from : Option ℤ → Result ValueView Refusal
-nat_from None = Err BadValue
-nat_from (Some z) = nat_value z
+abbrev pub nat_value : ℤ → Option ValueView
+nat_value (pos n) = if nat_le n nat_bound then Some (record { kind = Nat; content = of_nat n }) else None
+nat_value (negsuc n) = None
 
 -- a key of 1 to 64 bytes with its count, from 1 to 2^63 - 1
 abbrev pub is_entry : List ℕ × ℕ → Bool
@@ -53,17 +48,15 @@ abbrev pub are_entries : Entries → Bool
 are_entries es = list_all is_entry es && are_apart es && nat_le (length es) most_keys
 
 -- the value of the kind that has these keys
-unfoldable pub keyed_value : Kind → Entries → Result ValueView Refusal
-keyed_value kind es = do
-  need (are_entries es) BadValue
-  Ok (record { kind = kind; content = of_entries es })
+unfoldable pub keyed_value : Kind → Entries → Option ValueView
+keyed_value kind es = if are_entries es then Some (record { kind = kind; content = of_entries es }) else None
 
 -- a set is an array of texts
-unfoldable pub set_in : Tree → Result ValueView Refusal
-set_in t = do
-  items ← wanted (list_of t) BadValue
-  keys ← wanted (read_all text_of items) BadValue
-  keyed_value Set (map as_one keys)
+abbrev pub set_of : List (List ℕ) → Option ValueView
+set_of keys = keyed_value Set (map as_one keys)
+
+unfoldable pub set_in : Tree → Option ValueView
+set_in t = option_and_then set_of (option_and_then (read_all text_of) (list_of t))
 
 -- a key with a number, as an array of both
 abbrev pub pair_from : List Tree → Option (List ℕ × ℤ)
@@ -82,18 +75,27 @@ abbrev pub counted_key : List ℕ × ℤ → Option (List ℕ × ℕ)
 counted_key p = option_map (λ n. (p.0, n)) (whole p.1)
 
 -- a bag is an array of arrays, each of a text and its count
-unfoldable pub bag_in : Tree → Result ValueView Refusal
-bag_in t = do
-  items ← wanted (list_of t) BadValue
-  pairs ← wanted (read_all pair_in items) BadValue
-  entries ← wanted (read_all counted_key pairs) BadValue
-  keyed_value Bag entries
+abbrev pub bag_of : List (List ℕ × ℤ) → Option ValueView
+bag_of pairs = option_and_then (keyed_value Bag) (read_all counted_key pairs)
 
--- the value of a kind that data stands for
-unfoldable pub value_in : Kind → Tree → Result ValueView Refusal
-value_in Nat t = nat_from (number_of t)
+unfoldable pub bag_in : Tree → Option ValueView
+bag_in t = option_and_then bag_of (option_and_then (read_all pair_in) (list_of t))
+
+-- the value of the kind that data stands for, where it does
+unfoldable pub value_in : Kind → Tree → Option ValueView
+value_in Nat t = option_and_then nat_value (number_of t)
 value_in Set t = set_in t
 value_in Bag t = bag_in t
+
+-- it is a bad value where data stands for none, unless memory ran out
+abbrev pub Fails : {Y : Type 0} → MakeFault → Option Y → Type 0
+Fails BadValue read = read ≡ None
+Fails NoMemory read = Unit {0}
+
+-- what was made, seen by a view, is what data stands for, unless memory ran out
+abbrev pub Makes : {X Y : Type 0} → (X → Y) → Result X MakeFault → Option Y → Type 0
+Makes view (Ok x) read = read ≡ Some (view x)
+Makes view (Err e) read = Fails e read
 
 -- a value of the kind
 pub record IsValueOf (kind : Kind) (w : ValueView) : Type 0 where

@@ -1,16 +1,12 @@
-//! Values and amounts that are read from data. The one contract of each reader: what it reads, or
-//! refuses first, is as its definition says.
+//! Values and amounts that are read from data. The one contract of each reader: what it reads is what
+//! its definition says that the data stands for.
 
-ghost use Rattle.std.specs.Prelude.{◌≡◌, IfOk, map, option_map};
-ghost use Rattle.amount_math.specs.Entries.{as_one};
+ghost use Rattle.std.specs.Prelude.{◌≡◌, IfOk, option_and_then, option_map};
 ghost use Rattle.host_data.specs.Tree.{number_of, text_of};
 ghost use Rattle.host_data.specs.View.{tree, trees};
-ghost use Rattle.host_data.specs.Amounts.{IsValueOf, amount_data, amount_fields, bag_in, counted_key, kind_of_brand, keyed_value, nat_from, nat_value, pair_from, pair_in, read_all, set_in, value_in};
-ghost use Rattle.host_data.specs.Outcomes.{Gives, bind, wanted};
-ghost use Rattle.host_data.specs.declared.refusals.Refusal.TheVariants as refusals;
+ghost use Rattle.host_data.specs.Amounts.{IsValueOf, Makes, amount_data, amount_fields, bag_in, kind_of_brand, nat_value, pair_from, pair_in, read_all, set_in, value_in};
 
 use crate::data::{Data, ObjKind};
-use crate::refusals::{Refusal, Stop};
 use amount_math::{AmountKind, BagKind, Key, Kind, MakeFault, NatKind, SetKind, Value};
 use std::alloc::Global;
 
@@ -18,8 +14,8 @@ use std::alloc::Global;
 /// an array of arrays, each of a text and a count from 1 to 2^63 - 1. Texts come in any order, none twice,
 /// each of 1 to 64 bytes, at most 4,096 of them (own). Else `BadValue`.
 #[tactic(auto, unfolding(crate::specs::Amounts::value_in))]
-pub fn read_value(alloc: Global, kind: Kind, given: &Data) -> Result<Value, Stop>
-    ensures gives { Gives (λ value. value) result (value_in kind (tree given.now)) }
+pub fn read_value(alloc: Global, kind: Kind, given: &Data) -> Result<Value, MakeFault>
+    ensures gives { Makes (λ value. value) result (value_in kind (tree given.now)) }
     ensures own { IfOk result (IsValueOf kind) }
 {
     match kind {
@@ -30,75 +26,54 @@ pub fn read_value(alloc: Global, kind: Kind, given: &Data) -> Result<Value, Stop
 }
 
 /// A number of units, where it is there.
-fn nat(given: Option<i128>) -> Result<Value, Stop>
-    ensures { Gives (λ value. value) result (nat_from given) }
+fn nat(given: Option<i128>) -> Result<Value, MakeFault>
+    ensures { Makes (λ value. value) result (option_and_then nat_value given) }
 {
     match given {
         Some(number) => nat_of(number),
-        None => Err(Stop::Refused(Refusal::BadValue)),
+        None => Err(MakeFault::BadValue),
     }
 }
 
 /// So many units.
-fn nat_of(number: i128) -> Result<Value, Stop>
-    ensures { Gives (λ value. value) result (nat_value number) }
+fn nat_of(number: i128) -> Result<Value, MakeFault>
+    ensures { Makes (λ value. value) result (nat_value number) }
 {
     match NatKind::make(number) {
         Ok(value) => Ok(value),
-        Err(_) => Err(Stop::Refused(Refusal::BadValue)),
+        Err(_) => Err(MakeFault::BadValue),
     }
 }
 
 /// Texts that are the keys of a set.
-#[tactic(auto, unfolding(crate::specs::Amounts::set_in, crate::specs::Outcomes::bind, crate::specs::Outcomes::wanted))]
-fn set(alloc: Global, given: &Data) -> Result<Value, Stop>
-    ensures { Gives (λ value. value) result (set_in (tree given.now)) }
+#[tactic(auto, unfolding(crate::specs::Amounts::set_in))]
+fn set(alloc: Global, given: &Data) -> Result<Value, MakeFault>
+    ensures { Makes (λ value. value) result (set_in (tree given.now)) }
 {
     let Some(items) = given.items() else {
-        return Err(Stop::Refused(Refusal::BadValue));
+        return Err(MakeFault::BadValue);
     };
-    set_of(keys(alloc, items)?)
+    SetKind::make(keys(alloc, items)?)
 }
 
 /// Texts with their counts.
-#[tactic(auto, unfolding(crate::specs::Amounts::bag_in, crate::specs::Outcomes::bind, crate::specs::Outcomes::wanted))]
-fn bag(alloc: Global, given: &Data) -> Result<Value, Stop>
-    ensures { Gives (λ value. value) result (bag_in (tree given.now)) }
+#[tactic(auto, unfolding(crate::specs::Amounts::bag_in))]
+fn bag(alloc: Global, given: &Data) -> Result<Value, MakeFault>
+    ensures { Makes (λ value. value) result (bag_in (tree given.now)) }
 {
     let Some(items) = given.items() else {
-        return Err(Stop::Refused(Refusal::BadValue));
+        return Err(MakeFault::BadValue);
     };
-    bag_of(pairs(alloc, items)?)
-}
-
-/// The set that has the keys, each once.
-fn set_of(keys: Vec<Key>) -> Result<Value, Stop>
-    ensures { Gives (λ value. value) result (keyed_value Kind.Set (map as_one keys.items)) }
-{
-    match SetKind::make(keys) {
-        Ok(value) => Ok(value),
-        Err(MakeFault::BadValue) => Err(Stop::Refused(Refusal::BadValue)),
-        Err(MakeFault::NoMemory) => Err(Stop::NoMemory),
-    }
-}
-
-/// The bag that has the keys, each as often as its number says.
-fn bag_of(pairs: Vec<(Key, i128)>) -> Result<Value, Stop>
-    ensures { Gives (λ value. value) result (bind (wanted (read_all counted_key pairs.items) refusals.BadValue) (keyed_value Kind.Bag)) }
-{
-    match BagKind::make(pairs) {
-        Ok(value) => Ok(value),
-        Err(MakeFault::BadValue) => Err(Stop::Refused(Refusal::BadValue)),
-        Err(MakeFault::NoMemory) => Err(Stop::NoMemory),
-    }
+    BagKind::make(pairs(alloc, items)?)
 }
 
 /// The texts of an array, where all its items are texts.
-#[tactic(auto, unfolding(crate::specs::Outcomes::wanted))]
-fn keys(alloc: Global, items: &[Data]) -> Result<Vec<Key>, Stop>
-    ensures { Gives (λ keys. keys.items) result (wanted (read_all text_of (trees items.now)) refusals.BadValue) }
+fn keys(alloc: Global, items: &[Data]) -> Result<Vec<Key>, MakeFault>
+    ensures { Makes (λ keys. keys.items) result (read_all text_of (trees items.now)) }
 {
-    let mut keys = Vec::with_capacity(alloc, items.len())?;
+    let Ok(mut keys) = Vec::with_capacity(alloc, items.len()) else {
+        return Err(MakeFault::NoMemory);
+    };
     for item in items {
         keys.push_reserved(key(alloc, item)?);
     }
@@ -106,22 +81,25 @@ fn keys(alloc: Global, items: &[Data]) -> Result<Vec<Key>, Stop>
 }
 
 /// A text.
-#[tactic(auto, unfolding(crate::specs::Outcomes::wanted))]
-fn key(alloc: Global, given: &Data) -> Result<Key, Stop>
-    ensures { Gives (λ key. key) result (wanted (text_of (tree given.now)) refusals.BadValue) }
+fn key(alloc: Global, given: &Data) -> Result<Key, MakeFault>
+    ensures { Makes (λ key. key) result (text_of (tree given.now)) }
 {
     let Some(text) = given.text() else {
-        return Err(Stop::Refused(Refusal::BadValue));
+        return Err(MakeFault::BadValue);
     };
-    Ok(Key::new(String::from_str(alloc, text.as_str())?))
+    match String::from_str(alloc, text.as_str()) {
+        Ok(text) => Ok(Key::new(text)),
+        Err(_) => Err(MakeFault::NoMemory),
+    }
 }
 
 /// The pairs of an array, where all its items are arrays of a text and a number.
-#[tactic(auto, unfolding(crate::specs::Outcomes::wanted))]
-fn pairs(alloc: Global, items: &[Data]) -> Result<Vec<(Key, i128)>, Stop>
-    ensures { Gives (λ pairs. pairs.items) result (wanted (read_all pair_in (trees items.now)) refusals.BadValue) }
+fn pairs(alloc: Global, items: &[Data]) -> Result<Vec<(Key, i128)>, MakeFault>
+    ensures { Makes (λ pairs. pairs.items) result (read_all pair_in (trees items.now)) }
 {
-    let mut pairs = Vec::with_capacity(alloc, items.len())?;
+    let Ok(mut pairs) = Vec::with_capacity(alloc, items.len()) else {
+        return Err(MakeFault::NoMemory);
+    };
     for item in items {
         pairs.push_reserved(pair(alloc, item)?);
     }
@@ -129,15 +107,14 @@ fn pairs(alloc: Global, items: &[Data]) -> Result<Vec<(Key, i128)>, Stop>
 }
 
 /// A text and a number.
-#[tactic(auto, unfolding(crate::specs::Outcomes::wanted))]
-fn pair(alloc: Global, given: &Data) -> Result<(Key, i128), Stop>
-    ensures { Gives (λ pair. pair) result (wanted (pair_in (tree given.now)) refusals.BadValue) }
+fn pair(alloc: Global, given: &Data) -> Result<(Key, i128), MakeFault>
+    ensures { Makes (λ pair. pair) result (pair_in (tree given.now)) }
 {
     let Some([first, count]) = given.items() else {
-        return Err(Stop::Refused(Refusal::BadValue));
+        return Err(MakeFault::BadValue);
     };
     let Some(count) = count.number() else {
-        return Err(Stop::Refused(Refusal::BadValue));
+        return Err(MakeFault::BadValue);
     };
     Ok((key(alloc, first)?, count))
 }

@@ -6,7 +6,6 @@
 pub mod amounts;
 pub mod data;
 pub mod laws;
-pub mod refusals;
 pub mod values;
 
 /// What `amount_math` gives to those above.

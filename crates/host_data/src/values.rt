@@ -18,7 +18,7 @@ pub fn object_data(kind: ObjKind, number: u32) -> Data
 }
 
 /// Puts a field at the end of a record that is being made.
-pub(crate) fn put(
+pub fn put(
     alloc: Global,
     fields: &mut Vec<(Text, Data)>,
     name: &str,
@@ -32,7 +32,7 @@ pub(crate) fn put(
 }
 
 /// Two as an array's parts.
-pub(crate) fn two(alloc: Global, first: Data, second: Data) -> Result<Vec<Data>, AllocError>
+pub fn two(alloc: Global, first: Data, second: Data) -> Result<Vec<Data>, AllocError>
     ensures { IfOk result (λ made. trees made.items ≡ tree first ∷ tree second ∷ []) }
 {
     let mut made = Vec::with_capacity(alloc, 2)?;

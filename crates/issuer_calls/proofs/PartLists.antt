@@ -13,7 +13,7 @@ use Rattle.refusals.specs.host_data.Tree.{Tree}
 use Rattle.refusals.specs.host_data.View.{tree, trees}
 use Rattle.refusals.specs.host_data.declared.data.Data.{Data}
 use Rattle.refusals.specs.host_data.declared.data.ObjKind.TheVariants as kinds
-use Rattle.rules.specs.call_arguments.Lists.{amounts_listed, brand_values, listed_in, value_in}
+use Rattle.rules.specs.call_arguments.Lists.{amounts_listed, brand_values, listed_in, value_of}
 use Rattle.refusals.proofs.Steps.{after_need, after_none_such, after_step, ok_has, wanted_there}
 use Rattle.ertp_calls.proofs.rule_laws.GivenData.{if_wanted}
 use Rattle.ertp_calls.proofs.rule_laws.Lists.{parts_are, sum_is}
@@ -76,7 +76,7 @@ amounts_many brand kind place items =
     after_step _ _ _ (λ amounts is. after_none_such _ _ _ _ (λ same. wanted_many amounts (read_many amount_fields items amounts (wanted_there _ _ amounts is))))
   where
     wanted_many : (amounts : List AmountData) → length amounts ≡ length items → IfOk (brand_values kind amounts) (λ vs. length vs ≡ length items)
-    wanted_many amounts many = if_wanted _ _ _ (λ vs at. read_many (value_in kind) amounts vs at ∙ many)
+    wanted_many amounts many = if_wanted _ _ _ (λ vs at. read_many (value_of kind) amounts vs at ∙ many)
 
 pub some_listed : (place : ℕ) (args : List Tree) (items : List Data) → filled_list_at place args ≡ Ok (trees items) → 0 < length items
 some_listed place args items listed =

@@ -7,8 +7,8 @@ use Rattle.jessie_index.specs.jessie_values.Reasons.{bad_step}
 use Rattle.jessie_index.specs.jessie_values.Outcomes.{Fails}
 use Rattle.jessie_index.specs.jessie_values.declared.reasons.ValueFault.{ValueFault}
 use Rattle.jessie_index.specs.jessie_values.declared.reasons.ValueFault.TheVariants as fault
-use Rattle.jessie_semantics.specs.declared.refusals.AmountRefusal.{AmountRefusal}
-use Rattle.jessie_semantics.specs.Refusals.{amount_refusal_tree}
+use Rattle.jessie_semantics.specs.refusals.Codes.{refusal_tree}
+use Rattle.jessie_semantics.specs.refusals.declared.codes.Refusal.{Refusal}
 use Rattle.jessie_semantics.specs.Play.{Exchange}
 use Rattle.jessie_semantics.specs.Actions.{State, Action, ◌>>=◌, pure, throw}
 use Rattle.jessie_semantics.specs.Rules.{worked, counted}
@@ -60,7 +60,7 @@ worked_as_fault r e fault.NoMemory h q = halted_as unfinished e q unfinished_com
 worked_as_fault r e (fault.BadStep why) h q = worked_as_err r e why h q
 
 -- an answer of AmountMath
-pub counted_as_ok : {s : State} (r : Result Tree AmountRefusal) (v : Tree) → r ≡ Ok v → Computes (counted r) s (came v) s
+pub counted_as_ok : {s : State} (r : Result Tree Refusal) (v : Tree) → r ≡ Ok v → Computes (counted r) s (came v) s
 counted_as_ok {s} r v e = subst (λ r. Computes (counted r) s (came v) s) (sym e) (counted_ok v s)
 
 -- data that is thrown
@@ -70,7 +70,7 @@ thrown_computes t spends e = absurd e
 thrown_computes t unfinished e = unfinished_computes
 
 -- a refusal of AmountMath that is thrown as data
-pub counted_as_thrown : {s : State} (r : Result Tree AmountRefusal) (why : AmountRefusal) (t : Tree) (h : Halt) → r ≡ Err why → t ≡ amount_refusal_tree why → IsThrown t h → Computes (counted r) s (halted h) s
+pub counted_as_thrown : {s : State} (r : Result Tree Refusal) (why : Refusal) (t : Tree) (h : Halt) → r ≡ Err why → t ≡ refusal_tree why → IsThrown t h → Computes (counted r) s (halted h) s
 unfolding counted
 counted_as_thrown {s} r why t h e q c = subst (λ r. Computes (counted r) s (halted h) s) (sym e) (subst (λ t. Computes {A = Tree} (throw t) s (halted h) s) q (thrown_computes t h c))
 

@@ -8,8 +8,8 @@ ghost use Rattle.jessie_index.specs.jessie_values.Dispatch.{operate, skips, unar
 ghost use Rattle.jessie_index.specs.jessie_values.Accesses.{field_at, index_at, list_items};
 ghost use Rattle.jessie_index.specs.jessie_values.Records.{made_array, made_record};
 ghost use Rattle.jessie_semantics.specs.AmountMath.{amount_call};
-ghost use Rattle.jessie_semantics.specs.Refusals.{Fails};
-ghost use Rattle.jessie_semantics.specs.declared.refusals.AmountRefusal.{AmountRefusal};
+ghost use Rattle.jessie_semantics.specs.refusals.Outcomes.{Fails};
+ghost use Rattle.jessie_semantics.specs.refusals.declared.codes.Refusal.{Refusal};
 ghost use Rattle.jessie_semantics.specs.Actions.{State};
 ghost use Rattle.jessie_semantics.specs.Rules.{worked, counted, field_rule};
 ghost use Rattle.jessie_semantics.specs.Runs.{Computes, halted};
@@ -26,7 +26,7 @@ use jessie_index::jessie_values_lib::records::{array_data, record_data};
 use jessie_semantics::functions::call_amount_math;
 use jessie_semantics::host_data_lib::data::Data;
 use jessie_semantics::host_text_lib::text::Text;
-use jessie_semantics::refusals::AmountFault;
+use jessie_semantics::refusals_lib::stops::Stop as AmountStop;
 use std::alloc::Global;
 
 /// The truth value that it is.
@@ -138,12 +138,12 @@ pub fn make_record(alloc: Global, fields: Vec<(Text, Data)>) -> Result<Data, Sto
 }
 
 /// That of a call of AmountMath that gave no value.
-fn amount_stop(alloc: Global, fault: &AmountFault) -> Stop
-    ensures { (s : State) (given : Result Tree AmountRefusal) → Fails fault.now given → Computes (counted given) s (halted (halt result)) s }
+fn amount_stop(alloc: Global, fault: &AmountStop) -> Stop
+    ensures { (s : State) (given : Result Tree Refusal) → Fails fault.now given → Computes (counted given) s (halted (halt result)) s }
 {
     match fault {
-        AmountFault::NoMemory => Stop::NoMemory,
-        AmountFault::Refused(refusal) => match refusal.data(alloc) {
+        AmountStop::NoMemory => Stop::NoMemory,
+        AmountStop::Refused(refusal) => match refusal.data(alloc) {
             Ok(data) => throw_data(alloc, data),
             Err(_) => Stop::NoMemory,
         },

@@ -1,28 +1,27 @@
 -- What AmountMath makes of values: amounts of brands that it was given, and refusals that show no object.
-use Rattle.std.proofs.Common.{◌≡◌, ℕ, ℤ, zero, suc, ◌+◌, ◌≤◌, max, List, [], ◌∷◌, Bool, true, false, cond, Option, Some, None, refl, sym, subst, map, arith}
-use Rattle.std.specs.Prelude.{Result, Ok, Err, option_map, option_and_then, pos, negsuc, ◌==◌, codes}
+use Rattle.std.proofs.Common.{◌≡◌, ℕ, zero, suc, ◌+◌, ◌≤◌, max, List, [], ◌∷◌, Bool, true, false, cond, Option, Some, None, refl, sym, subst, map, arith}
+use Rattle.std.specs.Prelude.{IfSome, Result, Ok, Err, option_map, option_and_then, ◌==◌, codes}
 use Rattle.std.proofs.lemmas.Bool.Decides.{nat_tests}
 use Rattle.host_data.specs.amount_math.Content.{Content, entries}
 use Rattle.host_data.specs.amount_math.ValueView.{ValueView, with_content}
 use Rattle.host_data.specs.amount_math.declared.Kind.{Kind}
 use Rattle.host_data.specs.amount_math.declared.Kind.TheVariants.{Nat, Set, Bag}
-use Rattle.host_data.specs.Tree.{Tree, null, boolean, number, text, array, fields, object, function, no_items, item, Fields, no_fields, field, get, field_of, object_of, number_of, nesting, items_nesting, fields_nesting, Ordered, OrderedItems, OrderedFields}
+use Rattle.host_data.specs.Tree.{Tree, null, boolean, number, text, array, fields, object, function, Fields, no_fields, field, get, field_of, object_of, nesting, items_nesting, fields_nesting, Ordered, OrderedItems, OrderedFields}
 use Rattle.host_data.specs.View.{items_of}
 use Rattle.host_data.specs.declared.data.ObjKind.{ObjKind}
 use Rattle.host_data.specs.declared.data.ObjKind.TheVariants.{Ertp, Zoe, Timer, Brand, Issuer, Mint, Purse, Deposit, Payment, Installation, Instance, Zcf, Seat, Zseat, Zmint, Facet, Promise}
-use Rattle.host_data.specs.Outcomes as cd
-use Rattle.host_data.specs.Amounts.{amount_fields, kind_of_brand, value_in, nat_from, nat_value, set_in, bag_in, keyed_value}
+use Rattle.host_data.specs.Amounts.{amount_fields, IsValueOf, kind_of_brand, value_in}
 use Rattle.host_data.specs.Values.{brand_tree, value_tree, amount_tree, content_tree, key_tree, counted_tree}
-use Rattle.host_data.specs.Refusals.{refusal_tree, shown_by}
-use Rattle.host_data.specs.declared.refusals.Refusal.{Refusal}
-use Rattle.host_data.specs.declared.refusals.Refusal.TheVariants as q
-use Rattle.jessie_semantics.specs.Refusals.{amount_refusal_tree, bind, wanted, need, read}
+use Rattle.host_data.proofs.ValuesRead.{value_has}
+use Rattle.refusals.specs.Codes as told
+use Rattle.refusals.specs.Codes.{Shown, bad_value, refusal_tree, shown_by, shown_trees}
+use Rattle.refusals.specs.Outcomes.{bind, need, wanted}
+use Rattle.refusals.specs.declared.codes.Refusal.{Refusal}
+use Rattle.refusals.proofs.Plainly.{nests, ordered}
 use Rattle.jessie_semantics.specs.Given.{brand_in, worth_in, amount_made, amount_given, amount_of_brand, two_amounts, two_values}
 use Rattle.jessie_semantics.specs.Worths.{checked, in_bounds, first_past, has, sum_in, difference_in, least_in, greatest_in}
 use Rattle.host_data.specs.amount_math.ValueView.{bound}
 use Rattle.jessie_semantics.specs.AmountMath.{shown, worked, answer, answer_of, argument, function_named, amount_call}
-use Rattle.jessie_semantics.specs.declared.refusals.AmountRefusal.{AmountRefusal}
-use Rattle.jessie_semantics.specs.declared.refusals.AmountRefusal.TheVariants.{Refused, Overlap}
 use Rattle.jessie_semantics.specs.declared.amount_arguments.OneAmount.{OneAmount}
 use Rattle.jessie_semantics.specs.declared.amount_arguments.TwoAmounts.{TwoAmounts}
 use Rattle.jessie_semantics.specs.declared.functions.AmountFunction.{AmountFunction}
@@ -63,55 +62,30 @@ any_option : {A : Type 0} (x : Option A) → OptionHas Any x
 any_option None = tt
 any_option (Some a) = tt
 
--- a value that is read is of the kind
-
-read_on : {A B : Type 0} (Q : B → Type 0) (r : Result A Refusal) (g : A → Result B Refusal) → ((x : A) → ResultHas Q (g x)) → ResultHas Q (cd.bind r g)
-unfolding cd.bind
-read_on Q (Ok x) g h = h x
-read_on Q (Err r) g h = tt
-
-nat_kind : (z : ℤ) → ResultHas (λ w. w.kind ≡ Nat) (nat_value z)
-nat_kind (pos n) = picked (λ w. w.kind ≡ Nat) _ (Ok _) (Err _) refl tt
-nat_kind (negsuc n) = tt
-
-nat_from_kind : (o : Option ℤ) → ResultHas (λ w. w.kind ≡ Nat) (nat_from o)
-nat_from_kind None = tt
-nat_from_kind (Some z) = nat_kind z
-
-keyed_kind : (kind : Kind) (es : List (List ℕ × ℕ)) → ResultHas (λ w. w.kind ≡ kind) (keyed_value kind es)
-unfolding keyed_value
-keyed_kind kind es = read_on (λ w. w.kind ≡ kind) _ _ (λ _. refl)
-
-valued : (kind : Kind) (t : Tree) → ResultHas (λ w. w.kind ≡ kind) (value_in kind t)
-unfolding value_in set_in bag_in
-valued Nat t = nat_from_kind (number_of t)
-valued Set t = read_on _ _ _ (λ items. read_on _ _ _ (λ keys. keyed_kind Set _))
-valued Bag t = read_on _ _ _ (λ items. read_on _ _ _ (λ pairs. read_on _ _ _ (λ es. keyed_kind Bag _)))
-
 -- steps of a call
 
-step_on : {A B : Type 0} (P : A → Type 0) (Q : B → Type 0) (r : Result A AmountRefusal) (g : A → Result B AmountRefusal) → ResultHas P r → ((x : A) → P x → ResultHas Q (g x)) → ResultHas Q (bind r g)
+step_on : {A B : Type 0} (P : A → Type 0) (Q : B → Type 0) (r : Result A Refusal) (g : A → Result B Refusal) → ResultHas P r → ((x : A) → P x → ResultHas Q (g x)) → ResultHas Q (bind r g)
 unfolding bind
 step_on P Q (Ok x) g h i = i x h
 step_on P Q (Err r) g h i = tt
 
-wanted_has : {A : Type 0} (P : A → Type 0) (o : Option A) (r : AmountRefusal) → OptionHas P o → ResultHas P (wanted o r)
+wanted_has : {A : Type 0} (P : A → Type 0) (o : Option A) (r : Refusal) → OptionHas P o → ResultHas P (wanted o r)
 unfolding wanted
 wanted_has P None r h = tt
 wanted_has P (Some a) r h = h
 
-needed : (b : Bool) (r : AmountRefusal) → ResultHas (λ _. b ≡ true) (need b r)
+needed : (b : Bool) (r : Refusal) → ResultHas (λ _. b ≡ true) (need b r)
 unfolding need
 needed true r = refl
 needed false r = tt
 
-read_has : {A : Type 0} (P : A → Type 0) (r : Result A Refusal) → ResultHas P r → ResultHas P (read r)
-unfolding read
-read_has P (Ok x) h = h
-read_has P (Err r) h = tt
-
+-- a value that is read is of the kind
 worth_has : (kind : Kind) (t : Tree) → ResultHas (λ w. w.kind ≡ kind) (worth_in kind t)
-worth_has kind t = read_has (λ w. w.kind ≡ kind) (value_in kind t) (valued kind t)
+worth_has kind t = wanted_has (λ w. w.kind ≡ kind) (value_in kind t) bad_value (by (value_in kind t) (value_has kind t))
+  where
+    by : (o : Option ValueView) → IfSome o (IsValueOf kind) → OptionHas (λ w. w.kind ≡ kind) o
+    by None h = tt
+    by (Some w) h = h.kind_is
 
 one_number : (a b : ℕ) → (a == b) ≡ true → a ≡ b
 one_number a b e = grind (arith, nat_tests)
@@ -123,7 +97,7 @@ pub record AmountsKept (W : Tree → Type 0) : Type 0 where
   pub fields_have : (x : List ℕ) (t : Tree) → W t → OptionHas W (field_of x t)
   pub values : (w : ValueView) → W (value_tree w)
   pub amount_trees : (n : ℕ) (w : ValueView) → W (brand_tree w.kind n) → W (amount_tree (record { brand = n; value = w }))
-  pub refusals : (r : AmountRefusal) → W (amount_refusal_tree r)
+  pub refusals : (r : Refusal) → W (refusal_tree r)
 
 module _ (W : Tree → Type 0) (k : AmountsKept W) where
   abbrev BrandHas : Kind → ℕ → Type 0
@@ -202,16 +176,16 @@ module _ (W : Tree → Type 0) (k : AmountsKept W) where
   shown_has : (n : ℕ) (w : ValueView) → BrandHas w.kind n → W (shown n w)
   shown_has n w h = k.amount_trees n w h
 
-  one_shown : (r : Result OneAmount AmountRefusal) (g : OneAmount → Tree) → ResultHas One r → ((a : OneAmount) → One a → W (g a)) → ResultHas W (bind r (λ a. Ok (g a)))
+  one_shown : (r : Result OneAmount Refusal) (g : OneAmount → Tree) → ResultHas One r → ((a : OneAmount) → One a → W (g a)) → ResultHas W (bind r (λ a. Ok (g a)))
   one_shown r g h i = step_on One W r _ h i
 
-  two_tested : (r : Result TwoAmounts AmountRefusal) (g : TwoAmounts → Bool) → ResultHas W (bind r (λ a. Ok (boolean (g a))))
+  two_tested : (r : Result TwoAmounts Refusal) (g : TwoAmounts → Bool) → ResultHas W (bind r (λ a. Ok (boolean (g a))))
   two_tested r g = step_on Any W r _ (any r) (λ a _. k.truths (g a))
 
-  abbrev Keeps : (ValueView → ValueView → Result ValueView AmountRefusal) → Type 0
+  abbrev Keeps : (ValueView → ValueView → Result ValueView Refusal) → Type 0
   Keeps g = (a b : ValueView) (n : ℕ) → BrandHas a.kind n → BrandHas b.kind n → ResultHas (λ w. BrandHas w.kind n) (g a b)
 
-  two_worked : (g : ValueView → ValueView → Result ValueView AmountRefusal) (v w : Tree) → W v → Keeps g → ResultHas W (worked g v w)
+  two_worked : (g : ValueView → ValueView → Result ValueView Refusal) (v w : Tree) → W v → Keeps g → ResultHas W (worked g v w)
   two_worked g v w h i = step_on Two W _ _ (two_have v w h) (λ a j. step_on (λ x. BrandHas x.kind a.brand) W _ _ (i a.left a.right a.brand j.0 j.1) (λ x q. shown_has a.brand x q))
 
   bounded : (w : ValueView) (o : Option (List ℕ)) (n : ℕ) → BrandHas w.kind n → ResultHas (λ x. BrandHas x.kind n) (in_bounds w o)
@@ -253,7 +227,7 @@ module _ (W : Tree → Type 0) (k : AmountsKept W) where
   argument_has zero (v ∷ vs) h = h.0
   argument_has (suc i) (v ∷ vs) h = argument_has i vs h.1
 
-  answered : (r : Result Tree AmountRefusal) → ResultHas W r → AmountHas W r
+  answered : (r : Result Tree Refusal) → ResultHas W r → AmountHas W r
   answered (Ok v) h = h
   answered (Err r) h = k.refusals r
 
@@ -288,18 +262,15 @@ amount_within : (K : Known) (n : ℕ) (w : ValueView) → Within K (brand_tree w
 unfolding amount_tree
 amount_within K n w h = (h, (value_within K w, tt))
 
-shown_within : (K : Known) (r : Refusal) → ItemsWithin K (items_of (shown_by r))
-shown_within K (q.NoMethod x) = (tt, tt)
-shown_within K (q.BadArgs x) = (tt, tt)
-shown_within K q.BadValue = tt
-shown_within K (q.WrongBrand x) = (tt, tt)
-shown_within K (q.NotEnough x y) = (value_within K x, (value_within K y, tt))
-shown_within K (q.TooMuch x y) = (tt, (tt, tt))
+shown_within : (K : Known) (ss : List Shown) → ItemsWithin K (items_of (shown_trees ss))
+shown_within K [] = tt
+shown_within K (told.number z ∷ ss) = (tt, shown_within K ss)
+shown_within K (told.words x ∷ ss) = (tt, shown_within K ss)
+shown_within K (told.worth w ∷ ss) = (value_within K w, shown_within K ss)
 
-refusal_within : (K : Known) (r : AmountRefusal) → Within K (amount_refusal_tree r)
-unfolding amount_refusal_tree refusal_tree
-refusal_within K (Refused r) = (tt, (shown_within K r, tt))
-refusal_within K (Overlap x) = (tt, ((tt, tt), tt))
+refusal_within : (K : Known) (r : Refusal) → Within K (refusal_tree r)
+unfolding refusal_tree
+refusal_within K r = (tt, (shown_within K (shown_by r), tt))
 
 get_within : (K : Known) (x : List ℕ) (fs : Fields) → Within K (fields fs) → OptionHas (Within K) (get x fs)
 get_within K x no_fields h = tt
@@ -375,24 +346,8 @@ amount_form : (n : ℕ) (w : ValueView) → InForm (amount_tree (record { brand 
 unfolding amount_tree
 amount_form n w = let v = value_form w in within_form 3 (amount_tree (record { brand = n; value = w })) (omega arith) ((tt, refl, (v.0, tt, tt)), deeper _ 2 (most_both 0 _ 2 (omega arith) (most_both (nesting (value_tree w)) 0 2 v.1 (omega arith))))
 
-abbrev ShownFlat : Refusal → Type 0
-ShownFlat r = OrderedItems (items_of (shown_by r)) × (items_nesting (items_of (shown_by r)) ≤ 2)
-
-two_shown : (x y : ValueView) → OrderedItems (item (value_tree x) (item (value_tree y) no_items)) × (items_nesting (item (value_tree x) (item (value_tree y) no_items)) ≤ 2)
-two_shown x y = let v = value_form x in let w = value_form y in ((v.0, (w.0, tt)), most_both (nesting (value_tree x)) _ 2 v.1 (most_both (nesting (value_tree y)) 0 2 w.1 (omega arith)))
-
-shown_form : (r : Refusal) → ShownFlat r
-shown_form (q.NoMethod x) = ((tt, tt), omega arith)
-shown_form (q.BadArgs x) = ((tt, tt), omega arith)
-shown_form q.BadValue = (tt, omega arith)
-shown_form (q.WrongBrand x) = ((tt, tt), omega arith)
-shown_form (q.NotEnough x y) = two_shown x y
-shown_form (q.TooMuch x y) = ((tt, (tt, tt)), omega arith)
-
-refusal_form : (r : AmountRefusal) → InForm (amount_refusal_tree r)
-unfolding amount_refusal_tree refusal_tree
-refusal_form (Refused r) = let s = shown_form r in within_form 4 (amount_refusal_tree (Refused r)) (omega arith) ((tt, refl, (s.0, tt, tt)), deeper _ 3 (most_both 0 _ 3 (omega arith) (most_both _ 0 3 (deeper _ 2 s.1) (omega arith))))
-refusal_form (Overlap x) = within_form 4 (amount_refusal_tree (Overlap x)) (omega arith) ((tt, refl, ((tt, tt), tt, tt)), omega arith)
+refusal_form : (r : Refusal) → InForm (refusal_tree r)
+refusal_form r = (ordered r, omega (arith, nests r))
 
 get_form : (x : List ℕ) (fs : Fields) → OrderedFields fs → fields_nesting fs ≤ 32 → OptionHas InForm (get x fs)
 get_form x no_fields h i = tt
@@ -447,18 +402,15 @@ amount_named : (n : ℕ) (w : ValueView) → HasFieldNames (amount_tree (record 
 unfolding amount_tree
 amount_named n w = (refl, tt, (refl, value_named w, tt))
 
-shown_named : (r : Refusal) → NamedItems (shown_by r)
-shown_named (q.NoMethod x) = (tt, tt)
-shown_named (q.BadArgs x) = (tt, tt)
-shown_named q.BadValue = tt
-shown_named (q.WrongBrand x) = (tt, tt)
-shown_named (q.NotEnough x y) = (value_named x, (value_named y, tt))
-shown_named (q.TooMuch x y) = (tt, (tt, tt))
+shown_named : (ss : List Shown) → NamedItems (shown_trees ss)
+shown_named [] = tt
+shown_named (told.number z ∷ ss) = (tt, shown_named ss)
+shown_named (told.words x ∷ ss) = (tt, shown_named ss)
+shown_named (told.worth w ∷ ss) = (value_named w, shown_named ss)
 
-refusal_named : (r : AmountRefusal) → HasFieldNames (amount_refusal_tree r)
-unfolding amount_refusal_tree refusal_tree
-refusal_named (Refused r) = (refl, tt, (refl, shown_named r, tt))
-refusal_named (Overlap x) = (refl, tt, (refl, (tt, tt), tt))
+refusal_named : (r : Refusal) → HasFieldNames (refusal_tree r)
+unfolding refusal_tree
+refusal_named r = (refl, tt, (refl, shown_named (shown_by r), tt))
 
 get_named : (x : List ℕ) (fs : Fields) → FieldNamesAre IsFieldName fs → OptionHas HasFieldNames (get x fs)
 get_named x no_fields h = tt

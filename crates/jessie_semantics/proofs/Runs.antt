@@ -5,8 +5,8 @@ use Rattle.host_data.specs.Tree.{Tree, items_size}
 use Rattle.host_data.specs.View.{items_of}
 use Rattle.jessie_values.specs.declared.reasons.Reason.{Reason}
 use Rattle.jessie_values.specs.Reasons.{bad_step}
-use Rattle.jessie_semantics.specs.declared.refusals.AmountRefusal.{AmountRefusal}
-use Rattle.jessie_semantics.specs.Refusals.{amount_refusal_tree}
+use Rattle.refusals.specs.Codes.{refusal_tree}
+use Rattle.refusals.specs.declared.codes.Refusal.{Refusal}
 use Rattle.jessie_semantics.specs.Play.{Call, Exchange}
 use Rattle.jessie_semantics.specs.Actions.{Bindings, State, went, Then, Action, pure, throw, spend, onward, ◌>>=◌, ◌>>◌, otherwise, caught, charge, ask, metered, first_of, look, bind, named, scoped, within}
 use Rattle.jessie_semantics.specs.Rules.{worked, counted, host, heard}
@@ -155,7 +155,7 @@ pub counted_ok : (v : Tree) (s : State) → Computes (counted (Ok v)) s (came v)
 unfolding counted pure
 counted_ok v s = record { does = λ f k. refl }
 
-pub counted_err : (r : AmountRefusal) (s : State) → Computes (counted (Err r)) s (halted (throws (amount_refusal_tree r))) s
+pub counted_err : (r : Refusal) (s : State) → Computes (counted (Err r)) s (halted (throws (refusal_tree r))) s
 unfolding counted throw
 counted_err r s = record { does = λ f k. refl }
 

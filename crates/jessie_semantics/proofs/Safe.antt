@@ -26,8 +26,8 @@ use Rattle.jessie_values.specs.BuiltIns.{harden, keys, len, push}
 use Rattle.jessie_values.specs.BuiltIns.{put as put_part}
 use Rattle.jessie_values.specs.Requests.{when_call, far_call}
 use Rattle.jessie_semantics.specs.AmountMath.{amount_call}
-use Rattle.jessie_semantics.specs.Refusals.{amount_refusal_tree}
-use Rattle.jessie_semantics.specs.declared.refusals.AmountRefusal.{AmountRefusal}
+use Rattle.refusals.specs.Codes.{refusal_tree}
+use Rattle.refusals.specs.declared.codes.Refusal.{Refusal}
 use Rattle.jessie_values.specs.Literals.{literal_tree}
 use Rattle.jessie_semantics.specs.Play.{Call, cost, Reply, given, refused, reply_size, Play, Ends, Spends, Asks, after}
 use Rattle.jessie_semantics.specs.Actions.{Bindings, State, Flow, went, fails, Then, Action, pure, throw, spend, onward, ◌>>=◌, otherwise, caught, charge, ask, metered, first_of, look, is_bound, rebind, bind, paid, named, put, scoped, within}
@@ -49,9 +49,9 @@ abbrev pub ResultHas : {A E : Type 0} → (A → Type 0) → Result A E → Type
 ResultHas P (Ok a) = P a
 ResultHas P (Err r) = Unit {0}
 
-abbrev pub AmountHas : (Tree → Type 0) → Result Tree AmountRefusal → Type 0
+abbrev pub AmountHas : (Tree → Type 0) → Result Tree Refusal → Type 0
 AmountHas W (Ok v) = W v
-AmountHas W (Err r) = W (amount_refusal_tree r)
+AmountHas W (Err r) = W (refusal_tree r)
 
 -- a call that what is shown can pay
 abbrev pub Payable : (Tree → Type 0) → List Tree → Call → Type 0
@@ -269,10 +269,10 @@ module _ (W : Tree → Type 0) (N : ℕ) where
   worked_safe P (Ok a) b h = record { safe = λ s m k i q g. (pure_safe P a h).safe s m k i q g }
   worked_safe P (Err r) b h = record { safe = λ s m k i q g. (throw_safe P (bad_step r) (b r)).safe s m k i q g }
 
-  counted_safe : (r : Result Tree AmountRefusal) → AmountHas W r → SafeAction W (counted r)
+  counted_safe : (r : Result Tree Refusal) → AmountHas W r → SafeAction W (counted r)
   unfolding counted
   counted_safe (Ok v) h = record { safe = λ s m k i q g. (pure_safe W v h).safe s m k i q g }
-  counted_safe (Err r) h = record { safe = λ s m k i q g. (throw_safe W (amount_refusal_tree r) h).safe s m k i q g }
+  counted_safe (Err r) h = record { safe = λ s m k i q g. (throw_safe W (refusal_tree r) h).safe s m k i q g }
 
   target_has : (v : Tree) → W v → ResultHas (λ o. W (object o)) (of_kind (object_of v))
   target_has null h = tt

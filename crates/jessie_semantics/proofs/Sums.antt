@@ -19,8 +19,10 @@ use Rattle.host_data.specs.amount_math.declared.PutFault.{PutFault}
 use Rattle.host_data.specs.amount_math.declared.PutFault.TheVariants as put_fault
 use Rattle.host_data.specs.amount_math.declared.TooMuch.{TooMuch}
 use Rattle.host_data.proofs.amount_math.Listed.{below_rest, rising_rest, same_key}
-use Rattle.jessie_semantics.specs.declared.refusals.AmountRefusal.TheVariants.{Overlap}
-use Rattle.jessie_semantics.specs.Refusals.{Fails, IsSmall, told, too_much}
+use Rattle.refusals.specs.Codes.{too_much}
+use Rattle.refusals.specs.Outcomes.{Fails}
+use Rattle.refusals.specs.Told.{CanShow, PutCanShow, put_told}
+use Rattle.refusals.specs.declared.codes.Refusal.TheVariants.{Overlap}
 use Rattle.jessie_semantics.specs.Worths.{checked, elements, first_past, has_few, in_bounds}
 
 -- ---- the first element past a bound
@@ -106,7 +108,7 @@ passes_keys kind c over ne p =
     ∙ ap (λ b. cond b (Ok w) (Err (too_much (keys_of c) most_keys))) (many kind c ne p.passes)
     ∙ ap (λ n. Err (too_much n most_keys)) (sym p.counted) ∙ ap (λ n. Err (too_much over.sum n)) (sym p.bounded)
 
-pub refused : (w : ValueView) (fault : PutFault) → IsPutRefusal w.kind w.content fault → Fails (told fault) (checked w)
+pub refused : (w : ValueView) (fault : PutFault) → IsPutRefusal w.kind w.content fault → Fails (put_told fault) (checked w)
 refused w (put_fault.Overlap key) h = overlaps w.kind w.content key h.0 h.1
 refused w (put_fault.TooMuch over) h = elim h as (λ _. checked w ≡ Err (too_much over.sum over.bound)) [
   | inl p ↦ passes w.kind w.content over p.0 p.1
@@ -126,16 +128,16 @@ few_keys Nat c ne v = absurd (ne refl)
 few_keys Set c ne v = v.keyed.few
 few_keys Bag c ne v = v.keyed.few
 
-pub small : (kind : Kind) (a b : Content) (fault : PutFault) → IsValue kind a → IsValue kind b → IsPutRefusal kind (sum a b) fault → IsSmall fault
+pub small : (kind : Kind) (a b : Content) (fault : PutFault) → IsValue kind a → IsValue kind b → IsPutRefusal kind (sum a b) fault → PutCanShow fault
 small kind a b (put_fault.Overlap key) v w h = tt
-small kind a b (put_fault.TooMuch over) v w h = elim h as (λ _. (over.sum < 2 ^ 127) × (over.bound < 2 ^ 127)) [
+small kind a b (put_fault.TooMuch over) v w h = elim h as (λ _. CanShow over.sum over.bound) [
   | inl p ↦
       let q = p.1 in
       let x = (fits_from_value kind a v).each q.element in
       let y = (fits_from_value kind b w).each q.element in
-      (omega (arith, q.counted, count-sum a b q.element, x, y, bounded kind), omega (arith, q.bounded, bounded kind))
+      record { sum_fits = omega (arith, q.counted, count-sum a b q.element, x, y, bounded kind); bound_fits = omega (arith, q.bounded, bounded kind) }
   | inr p ↦
       let q = p.1 in
-      (omega (arith, q.counted, keys_of-sum a b, few_keys kind a p.0 v, few_keys kind b p.0 w), omega (arith, q.bounded))
+      record { sum_fits = omega (arith, q.counted, keys_of-sum a b, few_keys kind a p.0 v, few_keys kind b p.0 w); bound_fits = omega (arith, q.bounded) }
 ]
 small kind a b put_fault.NoMemory v w h = tt

@@ -5,12 +5,11 @@ use Rattle.host_data.specs.amount_math.Content.{nothing}
 use Rattle.host_data.specs.amount_math.ValueView.{ValueView}
 use Rattle.host_data.specs.Tree.{Tree, null, boolean}
 use Rattle.host_data.specs.Values.{amount_tree, value_tree}
-use Rattle.host_data.specs.declared.refusals.Refusal.TheVariants.{NoMethod}
+use Rattle.refusals.specs.Codes.{bad_args, no_method}
+use Rattle.refusals.specs.Outcomes.{◌>>=◌, wanted}
+use Rattle.refusals.specs.declared.codes.Refusal.{Refusal}
 use Rattle.jessie_semantics.specs.declared.functions.AmountFunction.{AmountFunction}
 use Rattle.jessie_semantics.specs.declared.functions.AmountFunction.TheVariants.{Make, MakeEmpty, MakeEmptyFromAmount, IsEmpty, IsGte, IsEqual, Add, Subtract, Min, Max, Coerce, GetValue}
-use Rattle.jessie_semantics.specs.declared.refusals.AmountRefusal.{AmountRefusal}
-use Rattle.jessie_semantics.specs.declared.refusals.AmountRefusal.TheVariants.{Refused}
-use Rattle.jessie_semantics.specs.Refusals.{◌>>=◌, bad_args, wanted}
 use Rattle.jessie_semantics.specs.Given.{amount_given, amount_made, amount_of_brand, brand_in, two_amounts}
 use Rattle.jessie_semantics.specs.declared.worths.Operation.TheVariants.{Sum, Difference, Least, Greatest}
 use Rattle.jessie_semantics.specs.Worths.{has, is_nothing, value_of_two}
@@ -18,35 +17,35 @@ use Rattle.jessie_semantics.specs.Worths.{has, is_nothing, value_of_two}
 abbrev pub shown : ℕ → ValueView → Tree
 shown brand w = amount_tree (record { brand = brand; value = w })
 
-abbrev pub made : Tree → Tree → Result Tree AmountRefusal
+abbrev pub made : Tree → Tree → Result Tree Refusal
 made brand value = amount_made brand value >>= λ a. Ok (shown a.brand a.value)
 
-abbrev pub made_empty : Tree → Result Tree AmountRefusal
+abbrev pub made_empty : Tree → Result Tree Refusal
 made_empty brand = wanted (brand_in brand) (bad_args 1) >>= λ own. Ok (shown own.number (record { kind = own.kind; content = nothing }))
 
-abbrev pub emptied : Tree → Result Tree AmountRefusal
+abbrev pub emptied : Tree → Result Tree Refusal
 emptied v = amount_given v >>= λ a. Ok (shown a.brand (record { kind = a.value.kind; content = nothing }))
 
-abbrev pub emptiness : Tree → Result Tree AmountRefusal
+abbrev pub emptiness : Tree → Result Tree Refusal
 emptiness v = amount_given v >>= λ a. Ok (boolean (is_nothing a.value.content))
 
-abbrev pub containment : Tree → Tree → Result Tree AmountRefusal
+abbrev pub containment : Tree → Tree → Result Tree Refusal
 containment v w = two_amounts v w >>= λ two. Ok (boolean (has two.left two.right))
 
-abbrev pub equality : Tree → Tree → Result Tree AmountRefusal
+abbrev pub equality : Tree → Tree → Result Tree Refusal
 equality v w = two_amounts v w >>= λ two. Ok (boolean (has two.left two.right && has two.right two.left))
 
 -- an amount of the brand of two, which a function makes of their values
-abbrev pub worked : (ValueView → ValueView → Result ValueView AmountRefusal) → Tree → Tree → Result Tree AmountRefusal
+abbrev pub worked : (ValueView → ValueView → Result ValueView Refusal) → Tree → Tree → Result Tree Refusal
 worked f v w = two_amounts v w >>= λ two. f two.left two.right >>= λ x. Ok (shown two.brand x)
 
-abbrev pub coerced : Tree → Tree → Result Tree AmountRefusal
+abbrev pub coerced : Tree → Tree → Result Tree Refusal
 coerced brand v = amount_of_brand brand v >>= λ a. Ok (shown a.brand a.value)
 
-abbrev pub value_of : Tree → Tree → Result Tree AmountRefusal
+abbrev pub value_of : Tree → Tree → Result Tree Refusal
 value_of brand v = amount_of_brand brand v >>= λ a. Ok (value_tree a.value)
 
-abbrev pub answer : AmountFunction → Tree → Tree → Result Tree AmountRefusal
+abbrev pub answer : AmountFunction → Tree → Tree → Result Tree Refusal
 answer Make v w = made v w
 answer MakeEmpty v w = made_empty v
 answer MakeEmptyFromAmount v w = emptied v
@@ -80,10 +79,10 @@ function_named name =
 abbrev pub argument : ℕ → List Tree → Tree
 argument i vs = slice_index_or vs i null
 
-abbrev pub answer_of : Option AmountFunction → List ℕ → List Tree → Result Tree AmountRefusal
-answer_of None name vs = Err (Refused (NoMethod name))
+abbrev pub answer_of : Option AmountFunction → List ℕ → List Tree → Result Tree Refusal
+answer_of None name vs = Err (no_method name)
 answer_of (Some f) name vs = answer f (argument 0 vs) (argument 1 vs)
 
 -- `AmountMath.name(arguments)`: surplus arguments are dropped, and another name is no function of it
-unfoldable pub amount_call : List ℕ → List Tree → Result Tree AmountRefusal
+unfoldable pub amount_call : List ℕ → List Tree → Result Tree Refusal
 amount_call name vs = answer_of (function_named name) name vs

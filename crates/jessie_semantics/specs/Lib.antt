@@ -1,4 +1,3 @@
-pub mod Refusals
 pub mod Given
 pub mod Worths
 pub mod AmountMath
@@ -11,5 +10,6 @@ pub mod Form
 pub mod Runs
 pub mod Naming
 pub use Rattle.host_data.specs as host_data
+pub use Rattle.refusals.specs as refusals
 pub use Rattle.jessie_values.specs.jessie_grammar
 pub use Rattle.jessie_values.specs as jessie_values

@@ -5,6 +5,8 @@ use Rattle.std.specs.Prelude.{ℕ, zero, suc, ◌+◌, List, [], ◌∷◌, ◌+
 use Rattle.std.specs.Str.{bytes_eq}
 use Rattle.host_data.specs.Tree.{Tree, null, function, object_of, size, items_size}
 use Rattle.host_data.specs.View.{items_of}
+use Rattle.refusals.specs.Codes.{refusal_tree}
+use Rattle.refusals.specs.declared.codes.Refusal.{Refusal}
 use Rattle.jessie_values.specs.jessie_grammar.Syntax.{Term, literal, name, call, built_in, amount_math, send, listing, composed, linked, unary, chain, choice, Terms, no_terms, term, NamedTerms, no_named, named_term, Operands, no_operands, operand, Link, at_field, method, at_index, Links, no_links, link, Statement, declare_const, declare_let, assign, choose, repeat, each, give, give_nothing, raise, attempt, run, Branches, no_branches, branch, Block, done, step, Routine}
 use Rattle.jessie_values.specs.jessie_grammar.declared.syntax.BuiltIn.{BuiltIn}
 use Rattle.jessie_values.specs.jessie_grammar.declared.syntax.BuiltIn.TheVariants.{When, Far, Harden, Keys, Len, Push, Put}
@@ -23,8 +25,6 @@ use Rattle.jessie_values.specs.BuiltIns.{harden, keys, len, push}
 use Rattle.jessie_values.specs.BuiltIns.{put as put_part}
 use Rattle.jessie_values.specs.Requests.{WhenCall, FarCall, when_call, far_call}
 use Rattle.jessie_semantics.specs.AmountMath.{amount_call}
-use Rattle.jessie_semantics.specs.Refusals.{amount_refusal_tree}
-use Rattle.jessie_semantics.specs.declared.refusals.AmountRefusal.{AmountRefusal}
 use Rattle.jessie_semantics.specs.Play.{Call, Reply, given, refused, Play, Ends, returned, threw}
 use Rattle.jessie_semantics.specs.Play.{call as asks_call, send as asks_send, when as asks_when, far as asks_far}
 use Rattle.jessie_semantics.specs.Actions.{Bindings, went, fails, Then, Action, pure, throw, spend, ◌>>=◌, ◌>>◌, caught, charge, ask, metered, bind, paid, named, put, scoped, within}
@@ -38,9 +38,9 @@ worked (Ok a) = pure a
 worked (Err r) = throw (bad_step r)
 
 -- an answer of AmountMath, or its refusal
-unfoldable pub counted : Result Tree AmountRefusal → Action Tree
+unfoldable pub counted : Result Tree Refusal → Action Tree
 counted (Ok v) = pure v
-counted (Err r) = throw (amount_refusal_tree r)
+counted (Err r) = throw (refusal_tree r)
 
 -- The module as its functions run: the functions, and what a call of one within this one does.
 pub record Program : Type 0 where

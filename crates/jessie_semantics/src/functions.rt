@@ -1,22 +1,21 @@
 //! The functions of AmountMath, by their names.
 
-ghost use Rattle.std.specs.Prelude.{◌≡◌, [], Err, IfOk, Ok, OnErr};
+ghost use Rattle.std.specs.Prelude.{◌≡◌, Err, IfOk, Ok, OnErr};
 ghost use Rattle.host_data.specs.Tree.{null};
 ghost use Rattle.host_data.specs.View.{tree, trees};
-ghost use Rattle.jessie_semantics.specs.AmountMath.{amount_call, answer, answer_of, argument, coerced, containment, emptied, emptiness, equality, function_named, made, made_empty, shown, value_of, worked};
-ghost use Rattle.jessie_semantics.specs.Refusals.{Answers};
+ghost use Rattle.jessie_semantics.specs.AmountMath.{amount_call, answer, argument, coerced, containment, emptied, emptiness, equality, function_named, made, made_empty, shown, value_of, worked};
+ghost use Rattle.refusals.specs.Outcomes.{Gives};
 ghost use Rattle.jessie_semantics.specs.Worths.{value_of_two};
 
 use crate::amount_arguments::{
     amount_of_brand, amount_of_value, given_amount, two_amounts, wanted_brand,
 };
-use crate::refusals::{AmountFault, AmountRefusal, put};
 use crate::worths::{Operation, has, is_nothing, value_of_two};
 use host_data::amount_math_lib::Value;
 use host_data::data::{Data, ObjKind};
-use host_data::host_text_lib::text::Text;
-use host_data::refusals::Refusal;
-use host_data::values::{object_data, value_data};
+use host_data::values::{object_data, put, value_data};
+use refusals::codes::TextCode;
+use refusals::stops::Stop;
 use std::alloc::{AllocError, Global};
 
 /// A function of AmountMath.
@@ -61,8 +60,8 @@ fn function_named(name: &str) -> Option<AmountFunction>
 /// of what is no brand or amount, `WrongBrand` with the brand of the second amount, `BadValue`, and then
 /// what the kind of the values refuses: `Overlap`, `TooMuch`, `NotEnough`. Values are shown in byte order.
 #[tactic(auto, unfolding(crate::specs::AmountMath::amount_call))]
-pub fn call_amount_math(alloc: Global, name: &str, args: &[Data]) -> Result<Data, AmountFault>
-    ensures { Answers tree result (amount_call name.now (trees args.now)) }
+pub fn call_amount_math(alloc: Global, name: &str, args: &[Data]) -> Result<Data, Stop>
+    ensures { Gives tree result (amount_call name.now (trees args.now)) }
 {
     let null = Data::Null;
     match function_named(name) {
@@ -72,15 +71,8 @@ pub fn call_amount_math(alloc: Global, name: &str, args: &[Data]) -> Result<Data
             argument(args, 0, &null),
             argument(args, 1, &null),
         ),
-        None => no_function(alloc, name),
+        None => Err(Stop::worded(alloc, TextCode::NoMethod, name)),
     }
-}
-
-fn no_function(alloc: Global, name: &str) -> Result<Data, AmountFault>
-    ensures { Answers tree result (answer_of None name.now []) }
-{
-    let name = Text::from_str(alloc, name)?;
-    Err(AmountFault::Refused(AmountRefusal::Refused(Refusal::NoMethod(name))))
 }
 
 /// An argument, null where it is missing.
@@ -101,8 +93,8 @@ fn answer(
     function: AmountFunction,
     first: &Data,
     second: &Data,
-) -> Result<Data, AmountFault>
-    ensures { Answers tree result (answer function (tree first.now) (tree second.now)) }
+) -> Result<Data, Stop>
+    ensures { Gives tree result (answer function (tree first.now) (tree second.now)) }
 {
     match function {
         AmountFunction::Make => make(alloc, first, second),
@@ -121,13 +113,13 @@ fn answer(
 }
 
 /// What was made, unless memory ran out.
-fn or_no_memory(made: Result<Data, AllocError>) -> Result<Data, AmountFault>
+fn or_no_memory(made: Result<Data, AllocError>) -> Result<Data, Stop>
     ensures ok { IfOk made (λ value. result ≡ Ok value) }
-    ensures err { OnErr made (result ≡ Err AmountFault.NoMemory) }
+    ensures err { OnErr made (result ≡ Err Stop.NoMemory) }
 {
     match made {
         Ok(value) => Ok(value),
-        Err(_) => Err(AmountFault::NoMemory),
+        Err(_) => Err(Stop::NoMemory),
     }
 }
 
@@ -143,63 +135,63 @@ fn amount_data(alloc: Global, brand: u32, value: &Value) -> Result<Data, AllocEr
     Ok(Data::Record(fields))
 }
 
-#[tactic(auto, unfolding(crate::specs::Refusals::bind))]
-fn make(alloc: Global, brand: &Data, value: &Data) -> Result<Data, AmountFault>
-    ensures { Answers tree result (made (tree brand.now) (tree value.now)) }
+#[tactic(auto, unfolding(refusals::specs::Outcomes::bind))]
+fn make(alloc: Global, brand: &Data, value: &Data) -> Result<Data, Stop>
+    ensures { Gives tree result (made (tree brand.now) (tree value.now)) }
 {
     let amount = amount_of_value(alloc, brand, value)?;
     or_no_memory(amount_data(alloc, amount.brand, &amount.value))
 }
 
-#[tactic(auto, unfolding(crate::specs::Refusals::bind))]
-fn make_empty(alloc: Global, brand: &Data) -> Result<Data, AmountFault>
-    ensures { Answers tree result (made_empty (tree brand.now)) }
+#[tactic(auto, unfolding(refusals::specs::Outcomes::bind))]
+fn make_empty(alloc: Global, brand: &Data) -> Result<Data, Stop>
+    ensures { Gives tree result (made_empty (tree brand.now)) }
 {
     let own = wanted_brand(brand)?;
     or_no_memory(amount_data(alloc, own.number, &Value::empty(own.kind)))
 }
 
-#[tactic(auto, unfolding(crate::specs::Refusals::bind))]
-fn make_empty_from(alloc: Global, given: &Data) -> Result<Data, AmountFault>
-    ensures { Answers tree result (emptied (tree given.now)) }
+#[tactic(auto, unfolding(refusals::specs::Outcomes::bind))]
+fn make_empty_from(alloc: Global, given: &Data) -> Result<Data, Stop>
+    ensures { Gives tree result (emptied (tree given.now)) }
 {
     let amount = given_amount(alloc, given)?;
     or_no_memory(amount_data(alloc, amount.brand, &Value::empty(amount.value.kind())))
 }
 
-#[tactic(auto, unfolding(crate::specs::Refusals::bind))]
-fn emptiness(alloc: Global, given: &Data) -> Result<Data, AmountFault>
-    ensures { Answers tree result (emptiness (tree given.now)) }
+#[tactic(auto, unfolding(refusals::specs::Outcomes::bind))]
+fn emptiness(alloc: Global, given: &Data) -> Result<Data, Stop>
+    ensures { Gives tree result (emptiness (tree given.now)) }
 {
     let amount = given_amount(alloc, given)?;
     Ok(Data::Bool(is_nothing(&amount.value)))
 }
 
-#[tactic(auto, unfolding(crate::specs::Refusals::bind))]
-fn containment(alloc: Global, first: &Data, second: &Data) -> Result<Data, AmountFault>
-    ensures { Answers tree result (containment (tree first.now) (tree second.now)) }
+#[tactic(auto, unfolding(refusals::specs::Outcomes::bind))]
+fn containment(alloc: Global, first: &Data, second: &Data) -> Result<Data, Stop>
+    ensures { Gives tree result (containment (tree first.now) (tree second.now)) }
 {
     let two = two_amounts(alloc, first, second)?;
     Ok(Data::Bool(has(&two.left, &two.right)))
 }
 
-#[tactic(auto, unfolding(crate::specs::Refusals::bind))]
-fn equality(alloc: Global, first: &Data, second: &Data) -> Result<Data, AmountFault>
-    ensures { Answers tree result (equality (tree first.now) (tree second.now)) }
+#[tactic(auto, unfolding(refusals::specs::Outcomes::bind))]
+fn equality(alloc: Global, first: &Data, second: &Data) -> Result<Data, Stop>
+    ensures { Gives tree result (equality (tree first.now) (tree second.now)) }
 {
     let two = two_amounts(alloc, first, second)?;
     Ok(Data::Bool(has(&two.left, &two.right) && has(&two.right, &two.left)))
 }
 
 /// The amount of the brand of two that a function makes of their values.
-#[tactic(auto, unfolding(crate::specs::Refusals::bind))]
+#[tactic(auto, unfolding(refusals::specs::Outcomes::bind))]
 fn amount_of_two(
     alloc: Global,
     operation: Operation,
     first: &Data,
     second: &Data,
-) -> Result<Data, AmountFault>
-    ensures { Answers tree result (worked (value_of_two operation) (tree first.now) (tree second.now)) }
+) -> Result<Data, Stop>
+    ensures { Gives tree result (worked (value_of_two operation) (tree first.now) (tree second.now)) }
 {
     let two = two_amounts(alloc, first, second)?;
     let brand = two.brand;
@@ -207,17 +199,17 @@ fn amount_of_two(
     or_no_memory(amount_data(alloc, brand, &value))
 }
 
-#[tactic(auto, unfolding(crate::specs::Refusals::bind))]
-fn coerce(alloc: Global, brand: &Data, given: &Data) -> Result<Data, AmountFault>
-    ensures { Answers tree result (coerced (tree brand.now) (tree given.now)) }
+#[tactic(auto, unfolding(refusals::specs::Outcomes::bind))]
+fn coerce(alloc: Global, brand: &Data, given: &Data) -> Result<Data, Stop>
+    ensures { Gives tree result (coerced (tree brand.now) (tree given.now)) }
 {
     let amount = amount_of_brand(alloc, brand, given)?;
     or_no_memory(amount_data(alloc, amount.brand, &amount.value))
 }
 
-#[tactic(auto, unfolding(crate::specs::Refusals::bind))]
-fn value_of(alloc: Global, brand: &Data, given: &Data) -> Result<Data, AmountFault>
-    ensures { Answers tree result (value_of (tree brand.now) (tree given.now)) }
+#[tactic(auto, unfolding(refusals::specs::Outcomes::bind))]
+fn value_of(alloc: Global, brand: &Data, given: &Data) -> Result<Data, Stop>
+    ensures { Gives tree result (value_of (tree brand.now) (tree given.now)) }
 {
     let amount = amount_of_brand(alloc, brand, given)?;
     or_no_memory(value_data(alloc, &amount.value))

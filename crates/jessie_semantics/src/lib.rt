@@ -5,7 +5,6 @@
 pub mod amount_arguments;
 pub mod functions;
 pub mod laws;
-pub mod refusals;
 mod worths;
 
 /// What `host_data` gives to those above.
@@ -47,6 +46,13 @@ pub mod jessie_values_lib {
 
     pub mod requests {
         pub use jessie_values::requests::{FarArguments, WhenArguments, far_call, when_call};
+    }
+}
+
+/// What `refusals` gives to those above.
+pub mod refusals_lib {
+    pub mod stops {
+        pub use refusals::stops::Stop;
     }
 }
 

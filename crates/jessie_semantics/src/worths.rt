@@ -2,13 +2,15 @@
 
 ghost use Rattle.std.specs.Prelude.{◌≡◌, ◌↔◌, IfOk, IsTrue};
 ghost use Rattle.host_data.specs.amount_math.Content.{Contains};
-ghost use Rattle.jessie_semantics.specs.Refusals.{Answers};
-ghost use Rattle.jessie_semantics.specs.Worths.{difference_in, greatest_in, has, is_nothing, least_in, not_enough, sum_in, value_of_two};
+ghost use Rattle.refusals.specs.Codes.{not_enough};
+ghost use Rattle.refusals.specs.Outcomes.{Gives};
+ghost use Rattle.jessie_semantics.specs.Worths.{difference_in, greatest_in, has, is_nothing, least_in, sum_in, value_of_two};
 
 use crate::amount_arguments::TwoAmounts;
-use crate::refusals::{AmountFault, AmountRefusal, put_fault};
 use host_data::amount_math_lib::Value;
-use host_data::refusals::Refusal;
+use host_data::amount_math_lib::shortfall::Shortfall;
+use refusals::codes::Refusal;
+use refusals::stops::Stop;
 
 /// What is made of two values.
 #[derive(Clone, Copy)]
@@ -20,9 +22,9 @@ pub enum Operation {
 }
 
 /// The value that the operation makes of two.
-pub(crate) fn value_of_two(operation: Operation, two: TwoAmounts) -> Result<Value, AmountFault>
+pub(crate) fn value_of_two(operation: Operation, two: TwoAmounts) -> Result<Value, Stop>
     requires { two.left.kind ≡ two.right.kind }
-    ensures { Answers (λ value. value) result (value_of_two operation two.left two.right) }
+    ensures { Gives (λ value. value) result (value_of_two operation two.left two.right) }
 {
     let TwoAmounts {
         brand: _,
@@ -54,29 +56,29 @@ pub(crate) fn has(left: &Value, right: &Value) -> bool
 }
 
 /// That neither value is enough, with both.
-fn not_enough(left: Value, right: Value) -> AmountFault
-    ensures { result ≡ AmountFault.Refused (not_enough left right) }
+fn not_enough(held: Value, asked: Value) -> Stop
+    ensures { result ≡ Stop.Refused (not_enough held asked) }
 {
-    AmountFault::Refused(AmountRefusal::Refused(Refusal::NotEnough(left, right)))
+    Stop::Refused(Refusal::NotEnough(Shortfall { held, asked }))
 }
 
 /// The sum.
-fn sum_in(mut left: Value, right: Value) -> Result<Value, AmountFault>
+fn sum_in(mut left: Value, right: Value) -> Result<Value, Stop>
     requires { left.kind ≡ right.kind }
-    ensures { Answers (λ sum. sum) result (sum_in left right) }
+    ensures { Gives (λ sum. sum) result (sum_in left right) }
 {
     let _kind = left.kind();
     let _other = right.kind();
     match left.absorb(right) {
         Ok(()) => Ok(left),
-        Err((_, fault)) => Err(put_fault(fault)),
+        Err((_, fault)) => Err(Stop::of_put(fault)),
     }
 }
 
 /// The left less the right.
-fn difference_in(mut left: Value, right: Value) -> Result<Value, AmountFault>
+fn difference_in(mut left: Value, right: Value) -> Result<Value, Stop>
     requires { left.kind ≡ right.kind }
-    ensures { Answers (λ rest. rest) result (difference_in left right) }
+    ensures { Gives (λ rest. rest) result (difference_in left right) }
 {
     if !has(&left, &right) {
         return Err(not_enough(left, right));
@@ -86,9 +88,9 @@ fn difference_in(mut left: Value, right: Value) -> Result<Value, AmountFault>
 }
 
 /// The one of the two that the other has.
-fn least_in(left: Value, right: Value) -> Result<Value, AmountFault>
+fn least_in(left: Value, right: Value) -> Result<Value, Stop>
     requires { left.kind ≡ right.kind }
-    ensures { Answers (λ least. least) result (least_in left right) }
+    ensures { Gives (λ least. least) result (least_in left right) }
 {
     if has(&right, &left) {
         Ok(left)
@@ -100,9 +102,9 @@ fn least_in(left: Value, right: Value) -> Result<Value, AmountFault>
 }
 
 /// The one of the two that has the other.
-fn greatest_in(left: Value, right: Value) -> Result<Value, AmountFault>
+fn greatest_in(left: Value, right: Value) -> Result<Value, Stop>
     requires { left.kind ≡ right.kind }
-    ensures { Answers (λ greatest. greatest) result (greatest_in left right) }
+    ensures { Gives (λ greatest. greatest) result (greatest_in left right) }
 {
     if has(&left, &right) {
         Ok(left)

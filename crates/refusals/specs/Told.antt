@@ -1,11 +1,18 @@
--- Faults of sums and parts as the refusals that they are told by.
+-- Faults of values, sums and parts as the refusals that they are told by.
 use Rattle.std.specs.Prelude.{ℕ, ◌^◌, ◌<◌}
 use Rattle.host_data.specs.amount_math.declared.PutFault.{PutFault}
 use Rattle.host_data.specs.amount_math.declared.PutFault.TheVariants as put_fault
-use Rattle.refusals.specs.Codes.{too_much}
+use Rattle.host_data.specs.amount_math.declared.kinds.MakeFault.{MakeFault}
+use Rattle.host_data.specs.amount_math.declared.kinds.MakeFault.TheVariants as make_fault
+use Rattle.refusals.specs.Codes.{bad_value, too_much}
 use Rattle.refusals.specs.declared.codes.Refusal.TheVariants.{Overlap}
 use Rattle.refusals.specs.declared.stops.Stop.{Stop}
 use Rattle.refusals.specs.declared.stops.Stop.TheVariants.{NoMemory, Refused}
+
+-- why data is read as no value
+abbrev pub make_told : MakeFault → Stop
+make_told make_fault.BadValue = Refused bad_value
+make_told make_fault.NoMemory = NoMemory
 
 -- numbers that data can hold
 pub record CanShow (sum bound : ℕ) : Type 0 where

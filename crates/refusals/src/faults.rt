@@ -1,12 +1,23 @@
-//! Faults of sums and parts as the refusals that they are told by.
+//! Faults of values, sums and parts as the refusals that they are told by.
 
 ghost use Rattle.std.specs.Prelude.{◌≡◌};
 ghost use Rattle.refusals.specs.Codes.{too_much};
-ghost use Rattle.refusals.specs.Told.{CanShow, PutCanShow, put_told};
+ghost use Rattle.refusals.specs.Told.{CanShow, PutCanShow, make_told, put_told};
 
-use crate::codes::Refusal;
+use crate::codes::{BareCode, Refusal};
 use crate::stops::Stop;
-use host_data::amount_math_lib::{PutFault, TooMuch};
+use host_data::amount_math_lib::{MakeFault, PutFault, TooMuch};
+
+impl From<MakeFault> for Stop {
+    ghost from_gives = { λ fault e. e ≡ make_told fault };
+
+    fn from(fault: MakeFault) -> Stop {
+        match fault {
+            MakeFault::BadValue => Stop::bare(BareCode::BadValue),
+            MakeFault::NoMemory => Stop::NoMemory,
+        }
+    }
+}
 
 /// A sum passes its bound.
 pub fn too_much(over: TooMuch) -> Refusal

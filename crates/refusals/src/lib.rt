@@ -11,8 +11,6 @@ pub mod stops;
 
 /// What `host_data` gives to those above.
 pub mod host_data_lib {
-    pub use host_data::refusals::Stop;
-
     pub mod amounts {
         pub use host_data::amounts::{GivenAmount, amount_fields, read_value};
     }

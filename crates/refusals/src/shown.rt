@@ -11,7 +11,7 @@ use crate::codes::{Refusal, Unkept};
 use host_data::amount_math_lib::Value;
 use host_data::data::Data;
 use host_data::host_text_lib::text::Text;
-use host_data::values::value_data;
+use host_data::values::{put, two, value_data};
 use std::alloc::{AllocError, Global};
 
 impl Refusal {
@@ -54,20 +54,6 @@ impl Refusal {
     }
 }
 
-/// Puts a field at the end of a record that is being made.
-fn put(
-    alloc: Global,
-    fields: &mut Vec<(Text, Data)>,
-    name: &str,
-    value: Data,
-) -> Result<(), AllocError>
-    ensures { OnOk result (named_trees fields.new.items ≡ named_trees fields.old.items ++ (name.now, tree value) ∷ []) }
-{
-    let name = Text::from_str(alloc, name)?;
-    fields.push((name, value))?;
-    Ok(())
-}
-
 /// A record's first field, with the name of a code.
 fn code_field(alloc: Global, code: &str) -> Result<Vec<(Text, Data)>, AllocError>
     ensures { IfOk result (λ made. named_trees made.items ≡ (codes "code", text code.now) ∷ []) }
@@ -93,15 +79,6 @@ fn one(alloc: Global, shown: Data) -> Result<Vec<Data>, AllocError>
 {
     let mut made = Vec::with_capacity(alloc, 1)?;
     made.push_reserved(shown);
-    Ok(made)
-}
-
-fn two(alloc: Global, first: Data, second: Data) -> Result<Vec<Data>, AllocError>
-    ensures { IfOk result (λ made. trees made.items ≡ tree first ∷ tree second ∷ []) }
-{
-    let mut made = Vec::with_capacity(alloc, 2)?;
-    made.push_reserved(first);
-    made.push_reserved(second);
     Ok(made)
 }
 

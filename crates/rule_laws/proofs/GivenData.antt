@@ -1,26 +1,25 @@
 -- What readers of arguments give: a value that is read is one, and an object that is read was made, and is named.
-use Rattle.std.proofs.Common.{◌≡◌, ℕ, zero, suc, ◌<◌, ◌-◌, Bool, true, false, List, [], ◌∷◌, length, Option, Some, None, Result, Ok, Err, IfOk, if◌then◌else◌, inl, inr, refl, subst}
+use Rattle.std.proofs.Common.{◌≡◌, ℕ, zero, suc, ◌<◌, ◌-◌, Bool, true, false, List, [], ◌∷◌, length, Option, Some, None, Ok, IfOk, if◌then◌else◌, inl, inr, refl}
 use Rattle.std.specs.Prelude.{slice_index_or}
 use Rattle.std.proofs.lemmas.Bool.{false≢true}
 use Rattle.std.proofs.lemmas.Option.{same_Some}
 use Rattle.world_laws.specs.amount_math.ValueView.{ValueView}
 use Rattle.world_laws.specs.amount_math.declared.Kind.{Kind}
-use Rattle.rules.specs.call_arguments.Amounts.{amount_in, given_by, value_of}
+use Rattle.rules.specs.call_arguments.Amounts.{amount_in}
 use Rattle.rules.specs.call_arguments.Arguments.{arg, is_kind, number_of_kind, object_at, object_in}
 use Rattle.rules.proofs.call_arguments.Made.{read_made}
 use Rattle.world_laws.specs.host_data.Amounts.{IsValueOf, value_in}
-use Rattle.world_laws.specs.host_data.declared.refusals.Refusal as earlier
 use Rattle.world_laws.specs.host_data.Tree.{Tree, null, boolean, number, text, array, fields, object, function}
 use Rattle.world_laws.specs.host_data.declared.data.Obj.{Obj}
 use Rattle.world_laws.specs.host_data.declared.data.ObjKind.{ObjKind}
 use Rattle.world_laws.specs.host_data.declared.data.ObjKind.TheVariants as kinds
 use Rattle.world_laws.specs.refusals.Outcomes.{wanted}
 use Rattle.world_laws.specs.refusals.declared.codes.Refusal.{Refusal}
+use Rattle.world_laws.proofs.host_data.ValuesRead.{value_has}
 use Rattle.world_laws.proofs.refusals.Steps.{after_need, after_step, wanted_there}
 use Rattle.world_laws.specs.world_state.Known.{IsFormed, ObjectKnown, known_as, made_as}
 use Rattle.world_laws.specs.world_state.Worlds.{State}
 use Rattle.rules.specs.Licence.{IsObject, NamesPayment, SomeObject}
-use Rattle.rule_laws.proofs.Values.{value_in_has}
 
 -- what is wanted has what it has where it is there
 pub if_wanted : {A : Type 0} (P : A → Type 0) (o : Option A) (r : Refusal) → ((x : A) → o ≡ Some x → P x) → IfOk (wanted o r) P
@@ -30,14 +29,14 @@ if_wanted P None r h = tt
 
 -- ---- values
 
-value_given : (kind : Kind) (r : Result ValueView earlier.Refusal) (w : ValueView) → IfOk r (IsValueOf kind) → given_by r ≡ Some w → IsValueOf kind w
-value_given kind (Ok v) w has is = subst (IsValueOf kind) (same_Some v w is) has
-value_given kind (Err e) w has is = absurd (cc)
+-- a value that was read is one of the kind
+pub value_read : (kind : Kind) (t : Tree) (v : ValueView) → value_in kind t ≡ Some v → IsValueOf kind v
+value_read kind t v is = rw is at (value_has kind t)
 
 pub amount_is : (brand : ℕ) (kind : Kind) (place : ℕ) (t : Tree) → IfOk (amount_in brand kind place t) (IsValueOf kind)
-unfolding amount_in value_of
+unfolding amount_in
 amount_is brand kind place t =
-    after_step _ _ _ (λ parts is. after_need _ _ _ _ (λ same. if_wanted _ _ _ (λ w given. value_given kind (value_in kind parts.value) w (value_in_has kind parts.value) given)))
+    after_step _ _ _ (λ parts is. after_need _ _ _ _ (λ same. if_wanted _ _ _ (λ v read. value_read kind parts.value v read)))
 
 -- ---- objects
 

@@ -10,16 +10,13 @@ use Rattle.world_laws.specs.amount_math.KindLaws.{fits_part, keys_within, nothin
 use Rattle.world_laws.specs.amount_math.ValueView.{Fits, HasFew, IsValue, ValueView}
 use Rattle.world_laws.specs.amount_math.declared.Kind.{Kind}
 use Rattle.world_laws.specs.amount_math.declared.Kind.TheVariants.{Nat, Set, Bag}
-use Rattle.rules.specs.call_arguments.Amounts.{given_by, value_of}
 use Rattle.rules.specs.call_arguments.Arguments.{arg, is_kind, list_at, object_in}
 use Rattle.rules.specs.call_arguments.Numbers.{AreApart, least, least_failing, least_of}
 use Rattle.rules.proofs.call_arguments.ArgumentLists.{none_twice}
 use Rattle.rules.proofs.call_arguments.Made.{read_made}
-use Rattle.world_laws.specs.host_data.Amounts.{AmountData, IsValueOf, read_all, value_in}
-use Rattle.world_laws.specs.host_data.declared.refusals.Refusal as earlier
+use Rattle.world_laws.specs.host_data.Amounts.{AmountData, IsValueOf, read_all}
 use Rattle.rules.specs.Licence.{IsObject, NamesPayment, SomeItem, SomeObject}
-use Rattle.rule_laws.proofs.GivenData.{data_names, if_wanted}
-use Rattle.rule_laws.proofs.Values.{value_in_has}
+use Rattle.rule_laws.proofs.GivenData.{data_names, if_wanted, value_read}
 use Rattle.world_laws.specs.host_data.Nodes.{EachItem, EachNode, ObjectIs}
 use Rattle.world_laws.specs.ertp_mint.Stocks.{most_made}
 use Rattle.rules.specs.Lists.{least_other, live_listed, next_payments, with_value}
@@ -27,8 +24,7 @@ use Rattle.world_laws.specs.host_data.Tree.{Items, Tree, array, item, list_of, l
 use Rattle.world_laws.specs.host_data.declared.data.Obj.{Obj}
 use Rattle.world_laws.specs.host_data.declared.data.ObjKind.{ObjKind}
 use Rattle.world_laws.specs.host_data.declared.data.ObjKind.TheVariants as kinds
-use Rattle.rules.specs.call_arguments.Lists.{amounts_listed, brand_values, objects_in}
-use Rattle.rules.specs.call_arguments.Lists as given_lists
+use Rattle.rules.specs.call_arguments.Lists.{amounts_listed, brand_values, objects_in, value_of}
 use Rattle.world_laws.specs.refusals.Codes.{bad_args, limit, wrong_object}
 use Rattle.world_laws.specs.refusals.Outcomes.{bind, ◌>>=◌, need}
 use Rattle.world_laws.specs.refusals.declared.codes.Refusal.{Refusal}
@@ -134,18 +130,10 @@ listed_are w brand args formed =
 
 -- ---- values
 
-value_given : (kind : Kind) (r : Result ValueView earlier.Refusal) (v : ValueView) → IfOk r (IsValueOf kind) → given_by r ≡ Some v → IsValueOf kind v
-value_given kind (Ok x) v has is = subst (IsValueOf kind) (same_Some x v is) has
-value_given kind (Err e) v has is = absurd (cc)
-
-value_read : (kind : Kind) (t : Tree) (v : ValueView) → value_of kind t ≡ Some v → IsValueOf kind v
-unfolding value_of
-value_read kind t v is = value_given kind (value_in kind t) v (value_in_has kind t) is
-
-values_read : (kind : Kind) (xs : List AmountData) (vs : List ValueView) → read_all (given_lists.value_in kind) xs ≡ Some vs → AllByRecursion (IsValueOf kind) vs
+values_read : (kind : Kind) (xs : List AmountData) (vs : List ValueView) → read_all (value_of kind) xs ≡ Some vs → AllByRecursion (IsValueOf kind) vs
 values_read kind [] vs e = subst (AllByRecursion (IsValueOf kind)) (same_Some [] vs e) tt
 values_read kind (a ∷ xs) vs e =
-    one_read (IsValueOf kind) (given_lists.value_in kind a) (read_all (given_lists.value_in kind) xs) vs (λ v is. value_read kind a.value v is) (λ us at. values_read kind xs us at) e
+    one_read (IsValueOf kind) (value_of kind a) (read_all (value_of kind) xs) vs (λ v is. value_read kind a.value v is) (λ us at. values_read kind xs us at) e
 
 pub parts_are : (brand : ℕ) (kind : Kind) (place : ℕ) (items : List Tree) → IfOk (amounts_listed brand kind place items) (AllByRecursion (IsValueOf kind))
 unfolding amounts_listed brand_values

@@ -5,15 +5,13 @@ use Rattle.std.specs.List.{AllByRecursion}
 use Rattle.std.specs.Ordering.{is_le, nat_cmp}
 use Rattle.std.specs.Str.{bytes_eq}
 use Rattle.std.specs.declared.cmp.Ordering.TheVariants.{Less}
-use Rattle.std.proofs.Common.{◌≡◌, ℕ, ◌+◌, ◌<◌, Bool, true, false, cond, List, [], ◌∷◌, length, IfOk, Option, Some, None, Result, Ok, Err, codes, refl, sym, ap, subst, ◌∙◌, arith}
+use Rattle.std.proofs.Common.{◌≡◌, ℕ, ◌+◌, ◌<◌, Bool, true, false, cond, List, [], ◌∷◌, length, Option, Some, None, Ok, codes, refl, sym, ap, subst, ◌∙◌, arith}
 use Rattle.std.proofs.lemmas.Option.{same_Some}
 use Rattle.world_laws.specs.amount_math.ValueView.{IsValue, ValueView}
 use Rattle.world_laws.specs.amount_math.declared.Kind.{Kind}
 use Rattle.world_laws.specs.amount_math.declared.Kind.TheVariants.{Nat, Set, Bag}
-use Rattle.rules.specs.call_arguments.Amounts.{given_by, value_of}
-use Rattle.world_laws.specs.host_data.Amounts.{AmountData, IsValueOf, amount_fields, has_two, kind_of_brand, read_all, value_in}
-use Rattle.world_laws.specs.host_data.declared.refusals.Refusal as earlier
-use Rattle.rule_laws.proofs.Values.{value_in_has}
+use Rattle.world_laws.specs.host_data.Amounts.{AmountData, amount_fields, has_two, kind_of_brand, read_all}
+use Rattle.rule_laws.proofs.GivenData.{value_read}
 use Rattle.world_laws.specs.host_data.Nodes.{AreInOrder, EachField, EachNode, ObjectIs}
 use Rattle.world_laws.specs.host_text.Words.{is_keyword}
 use Rattle.world_laws.specs.host_data.Tree as trees
@@ -181,14 +179,6 @@ keywords_are (f ∷ fs) give e =
     (λ r rs at rest. ap (λ k. k ∷ keywords rs) (same_name f r at) ∙ ap (λ ks. f.0 ∷ ks) (keywords_are fs rs rest)) e
 
 -- ---- values
-
-value_given : (kind : Kind) (r : Result ValueView earlier.Refusal) (v : ValueView) → IfOk r (IsValueOf kind) → given_by r ≡ Some v → IsValueOf kind v
-value_given kind (Ok x) v has is = subst (IsValueOf kind) (same_Some x v is) has
-value_given kind (Err e) v has is = absurd (cc)
-
-pub value_read : (kind : Kind) (t : Tree) (v : ValueView) → value_of kind t ≡ Some v → IsValueOf kind v
-unfolding value_of
-value_read kind t v is = value_given kind (value_in kind t) v (value_in_has kind t) is
 
 -- a share is a value of a brand that was made
 pub record IsReadShare (w : State) (r : Share) : Type 0 where

@@ -2,12 +2,12 @@
 use Rattle.std.specs.Prelude.{IfSome, map, option_and_then, option_map, ◌*◌}
 use Rattle.std.specs.List.{AllByRecursion}
 use Rattle.std.proofs.lemmas.List.Sorted.{length_permutation}
-use Rattle.std.proofs.Common.{◌≡◌, ℕ, ℤ, pos, negsuc, zero, suc, ◌+◌, ◌-◌, ◌≤◌, ◌^◌, nat_le, Bool, true, false, cond, List, [], ◌∷◌, length, Option, Some, None, Result, Ok, Err, IfOk, codes, refl, sym, ap, subst, arith}
+use Rattle.std.proofs.Common.{◌≡◌, ℕ, ℤ, pos, negsuc, zero, suc, ◌+◌, ◌-◌, ◌≤◌, ◌^◌, nat_le, Bool, true, false, cond, List, [], ◌∷◌, length, Option, Some, None, codes, refl, sym, ap, subst, arith}
 use Rattle.std.specs.Prelude.{slice_index_or}
 use Rattle.std.specs.Str.{bytes_eq}
 use Rattle.std.proofs.lemmas.Bool.{leb-true}
-use Rattle.std.proofs.lemmas.Option.{same_Some}
-use Rattle.world_laws.specs.amount_math.Content.{Content, entries, of_entries, of_nat}
+use Rattle.std.proofs.lemmas.Option.{option_and_then_some, same_Some}
+use Rattle.world_laws.specs.amount_math.Content.{Content, entries, of_entries}
 use Rattle.world_laws.specs.amount_math.Counted.{counted, counted-of_nat}
 use Rattle.world_laws.specs.amount_math.Entries.{Entries, IsEntry, as_one}
 use Rattle.world_laws.specs.amount_math.Totals.{weighed}
@@ -15,13 +15,9 @@ use Rattle.world_laws.specs.amount_math.ValueView.{IsBag, ValueView, nat_bound}
 use Rattle.world_laws.proofs.amount_math.Listed.{entries_are}
 use Rattle.world_laws.specs.amount_math.declared.Kind.{Kind}
 use Rattle.world_laws.specs.amount_math.declared.Kind.TheVariants.{Bag, Nat, Set}
-use Rattle.rules.specs.call_arguments.Amounts.{given_by, value_of}
 use Rattle.rules.specs.call_arguments.Arguments.{arg}
-use Rattle.world_laws.specs.host_data.Amounts.{AmountData, amount_fields, are_entries, bag_in, counted_key, has_two, keyed_value, kind_of_brand, nat_from, nat_value, pair_in, read_all, set_in, value_in}
-use Rattle.world_laws.proofs.host_data.KeyedData.{entries_make_bag, entries_permute}
-use Rattle.world_laws.specs.host_data.Outcomes as steps
-use Rattle.world_laws.specs.host_data.declared.refusals.Refusal as earlier
-use Rattle.world_laws.specs.host_data.declared.refusals.Refusal.TheVariants.{BadValue}
+use Rattle.world_laws.specs.host_data.Amounts.{AmountData, amount_fields, are_entries, bag_in, bag_of, counted_key, has_two, keyed_value, kind_of_brand, nat_value, pair_in, read_all, set_in, set_of, value_in}
+use Rattle.world_laws.proofs.host_data.KeyedData.{entries_make_bag, entries_permute, keyed_if, nat_if}
 use Rattle.world_laws.specs.host_data.Tree as trees
 use Rattle.world_laws.specs.host_data.Tree.{Fields, Items, Tree, field_count, field_of, fields_size, get, items_size, list_of, listed, number_of, object_of, paired, size, text_of}
 use Rattle.world_laws.specs.host_data.View.{items_of}
@@ -77,59 +73,48 @@ module _ (most : ℕ) where
   abbrev Counts : ValueView → Type 0
   Counts v = counted v.content ≤ 2 ^ 63 * most
 
-  after_wanted_there : {A : Type 0} (o : Option A) (f : A → Result ValueView earlier.Refusal) → ((x : A) → o ≡ Some x → IfOk (f x) Counts) → IfOk (steps.bind (steps.wanted o BadValue) f) Counts
-  unfolding steps.bind steps.wanted
-  after_wanted_there (Some x) f h = h x refl
-  after_wanted_there None f h = tt
-
-  keyed_counts : (kind : Kind) (es : Entries) → length es ≤ most → IfOk (keyed_value kind es) Counts
-  unfolding keyed_value steps.bind steps.need
+  keyed_counts : (kind : Kind) (es : Entries) → length es ≤ most → IfSome (keyed_value kind es) Counts
+  unfolding keyed_value
   keyed_counts kind es many = by (are_entries es) refl
     where
-      by : (b : Bool) → are_entries es ≡ b → IfOk (steps.bind (steps.need b BadValue) (λ _. Ok (record { kind = kind; content = of_entries es }))) Counts
-      by true is =
-          omega (arith, many, counted_entries es is)
+      by : (b : Bool) → are_entries es ≡ b → IfSome (keyed_if kind es b) Counts
+      by true is = omega (arith, many, counted_entries es is)
       by false is = tt
 
-nat_counts : (most : ℕ) (z : ℤ) → 1 ≤ most → IfOk (nat_value z) (Counts most)
+nat_counts : (most : ℕ) (z : ℤ) → 1 ≤ most → IfSome (nat_value z) (Counts most)
 nat_counts most (negsuc n) le = tt
 nat_counts most (pos n) le = by (nat_le n nat_bound) refl
   where
-    by : (b : Bool) → nat_le n nat_bound ≡ b → IfOk (cond b (Ok (record { kind = Nat; content = of_nat n })) (Err BadValue)) (Counts most)
+    by : (b : Bool) → nat_le n nat_bound ≡ b → IfSome (nat_if n b) (Counts most)
     by true is = omega (arith, le, leb-true n nat_bound is, counted-of_nat n)
     by false is = tt
-
-nat_from_counts : (most : ℕ) (o : Option ℤ) → 1 ≤ most → IfOk (nat_from o) (Counts most)
-nat_from_counts most None le = tt
-nat_from_counts most (Some z) le = nat_counts most z le
 
 ones_many : (ks : List (List ℕ)) → length (map as_one ks) ≡ length ks
 ones_many [] = refl
 ones_many (k ∷ ks) = ap suc (ones_many ks)
 
-set_counts : (t : Tree) → IfOk (set_in t) (Counts (size t))
+-- what is read of a list is at most as many as the data has size
+read_few : {B : Type 0} (read : Tree → Option B) (t : Tree) (ys : List B) → option_and_then (read_all read) (list_of t) ≡ Some ys → length ys ≤ size t
+read_few read t ys is = option_and_then_some (read_all read) (list_of t) ys is (λ items at reads. omega (arith, read_many read items ys reads, list_many t items at))
+
+set_counts : (t : Tree) → IfSome (set_in t) (Counts (size t))
 unfolding set_in
-set_counts t = after_wanted_there (size t) (list_of t) _ (λ items at. after_wanted_there (size t) (read_all text_of items) _ (λ ks reads.
-    keyed_counts (size t) Set (map as_one ks) (omega (arith, ones_many ks, read_many text_of items ks reads, list_many t items at))))
+set_counts t = then_given (Counts (size t)) (option_and_then (read_all text_of) (list_of t)) set_of (λ ks reads.
+    keyed_counts (size t) Set (map as_one ks) (omega (arith, ones_many ks, read_few text_of t ks reads)))
 
-bag_counts : (t : Tree) → IfOk (bag_in t) (Counts (size t))
+bag_counts : (t : Tree) → IfSome (bag_in t) (Counts (size t))
 unfolding bag_in
-bag_counts t = after_wanted_there (size t) (list_of t) _ (λ items at. after_wanted_there (size t) (read_all pair_in items) _ (λ ps pairs. after_wanted_there (size t) (read_all counted_key ps) _ (λ es reads.
-    keyed_counts (size t) Bag es (omega (arith, read_many counted_key ps es reads, read_many pair_in items ps pairs, list_many t items at)))))
+bag_counts t = then_given (Counts (size t)) (option_and_then (read_all pair_in) (list_of t)) bag_of (λ ps pairs. then_given (Counts (size t)) (read_all counted_key ps) (keyed_value Bag) (λ es reads.
+    keyed_counts (size t) Bag es (omega (arith, read_many counted_key ps es reads, read_few pair_in t ps pairs))))
 
-value_counts : (kind : Kind) (t : Tree) → IfOk (value_in kind t) (Counts (size t))
+value_counts : (kind : Kind) (t : Tree) → IfSome (value_in kind t) (Counts (size t))
 unfolding value_in
-value_counts Nat t = nat_from_counts (size t) (number_of t) (some_size t)
+value_counts Nat t = then_given (Counts (size t)) (number_of t) nat_value (λ z at. nat_counts (size t) z (some_size t))
 value_counts Set t = set_counts t
 value_counts Bag t = bag_counts t
 
-given_counts : (most : ℕ) (r : Result ValueView earlier.Refusal) → IfOk r (Counts most) → IfSome (given_by r) (Counts most)
-given_counts most (Ok v) is = is
-given_counts most (Err e) is = tt
-
-read_counts : (kind : Kind) (t : Tree) (v : ValueView) → value_of kind t ≡ Some v → counted v.content ≤ 2 ^ 63 * size t
-unfolding value_of
-read_counts kind t v is = some_has (Counts (size t)) (given_by (value_in kind t)) v is (given_counts (size t) (value_in kind t) (value_counts kind t))
+read_counts : (kind : Kind) (t : Tree) (v : ValueView) → value_in kind t ≡ Some v → counted v.content ≤ 2 ^ 63 * size t
+read_counts kind t v is = some_has (Counts (size t)) (value_in kind t) v is (value_counts kind t)
 
 -- ---- shares
 

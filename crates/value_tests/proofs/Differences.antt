@@ -1,5 +1,5 @@
 -- The entries of a difference, and the values that are made of them.
-use Rattle.std.proofs.Common.{◌≡◌, ℕ, ◌-◌, ◌≤◌, ◌&&◌, true, false, cond, List, [], ◌∷◌, Some, Ok, refl, sym, ap, subst, ◌∙◌, arith}
+use Rattle.std.proofs.Common.{◌≡◌, ℕ, ◌-◌, ◌≤◌, ◌&&◌, true, false, cond, List, [], ◌∷◌, Some, refl, sym, ap, subst, ◌∙◌, arith}
 use lib.Dec.{T}
 use Rattle.std.specs.List.{All}
 use Rattle.std.specs.List.Sorted.{IsPermutation}
@@ -8,9 +8,10 @@ use Rattle.std.specs.Ordering.{eq_by_cmp, is_lt}
 use Rattle.std.specs.FinMap as fin
 use Rattle.std.specs.FinMap.{find, is_sorted}
 use Rattle.std.specs.FinMap.Entries.{below_all}
-use Rattle.std.specs.Prelude.{ℤ, Result, map}
+use Rattle.std.specs.Prelude.{ℤ, map}
 use Rattle.std.proofs.lemmas.List.Elements.{All-cons, All-head, All-nil, All-tail}
 use Rattle.std.proofs.lemmas.List.Sorted.{IsPermutation-refl}
+use Rattle.std.proofs.lemmas.Option.{same_Some}
 use Rattle.refusals.proofs.amount_math.Listed.{entries-of_entries, entries_are, listed-tally, same_key}
 use Rattle.refusals.proofs.amount_math.Lowered.{each_kept, rising_kept, tally_kept}
 use Rattle.refusals.specs.amount_math.Content.{Content, Contains, count, count_listed, count-difference, count-of_entries, difference, entries, key_cmp, listed, of_entries, same_content}
@@ -20,7 +21,6 @@ use Rattle.refusals.specs.amount_math.KindLaws.{value_of_part}
 use Rattle.refusals.specs.amount_math.ValueView.{HasKeys, IsBag, IsSet, ValueView}
 use Rattle.refusals.specs.amount_math.declared.Kind.TheVariants.{Bag, Set}
 use Rattle.refusals.proofs.host_data.KeyedData.{bag_is, set_is}
-use Rattle.refusals.specs.host_data.declared.refusals.Refusal.{Refusal}
 use Rattle.value_tests.specs.Left.{left_of, less_by}
 
 pub entries_rise : (c : Content) → IsRising (entries c)
@@ -104,10 +104,7 @@ module _ (a b : Content) (set : IsSet a) (ks : List (List ℕ)) (are : ks ≡ ma
   made_set w kind keys value =
       let one = set_is ks w kind keys value in
       let other = set_is ks (record { kind = Set; content = difference a b }) refl set_keys is_set in
-      same (sym one ∙ other)
-    where
-      same : ◌≡◌ {A = Result ValueView Refusal} (Ok w) (Ok (record { kind = Set; content = difference a b })) → w ≡ record { kind = Set; content = difference a b }
-      same e = cc
+      same_Some _ _ (sym one ∙ other)
 
   pub makes_set : ((c : Content) → IsSet c → ¬ IsKeysOf ks c) → ⊥
   makes_set none = none (difference a b) is_set set_keys
@@ -127,10 +124,7 @@ module _ (a b : Content) (bag : IsBag a) (ps : List (List ℕ × ℤ)) (are : ps
   made_bag w kind pairs value =
       let one = bag_is ps w kind pairs value in
       let other = bag_is ps (record { kind = Bag; content = difference a b }) refl bag_pairs is_bag in
-      same (sym one ∙ other)
-    where
-      same : ◌≡◌ {A = Result ValueView Refusal} (Ok w) (Ok (record { kind = Bag; content = difference a b })) → w ≡ record { kind = Bag; content = difference a b }
-      same e = cc
+      same_Some _ _ (sym one ∙ other)
 
   pub makes_bag : ((c : Content) → IsBag c → ¬ IsPairsOf ps c) → ⊥
   makes_bag none = none (difference a b) is_bag bag_pairs

@@ -5,8 +5,8 @@ use Rattle.host_data.specs.amount_math.declared.Kind.{Kind}
 use Rattle.jessie_semantics.proofs.Sums.{refused, small, value_passes}
 use Rattle.jessie_semantics.proofs.worths.sum_in.Goals as goal
 
-pub put_fault-requires : goal.put_fault-requires
-put_fault-requires c =
+pub of_put-requires : goal.of_put-requires
+of_put-requires c =
     let other = subst (λ (kind : Kind). IsValue kind c.args.right.content) (sym c.requires) c.kind-other.ensures.value in
     small c.args.left.kind c.args.left.content c.args.right.content c.in-Err.fault c.kind-kind.ensures.value other c.in-Err.ensures.refused
 
@@ -16,4 +16,4 @@ returns-in-Ok c =
 
 pub returns-in-Err : goal.returns-in-Err
 returns-in-Err c =
-    rw c.put_fault.ensures (refused (with_content c.args.left (sum c.args.left.content c.args.right.content)) c.in-Err.fault c.in-Err.ensures.refused)
+    rw c.of_put.ensures (refused (with_content c.args.left (sum c.args.left.content c.args.right.content)) c.in-Err.fault c.in-Err.ensures.refused)
