@@ -1,2 +1,1 @@
-pub mod ConstantLists
 pub mod Lists

@@ -1,8 +1,7 @@
 //! Constants, which a state variable can hold at first: each function gives what it read and the
 //! tokens after it, and puts what the text does with names behind the name uses.
-ghost use Rattle.std.specs.Prelude.{[], ◌∷◌, ◌≡◌, ◌<◌, true, length};
+ghost use Rattle.std.specs.Prelude.{[], ◌≡◌, ◌<◌};
 ghost use Rattle.jessie_grammar.specs.Parse.{Gives};
-ghost use Rattle.jessie_grammar.specs.Levels.{more_items};
 ghost use Rattle.jessie_grammar.specs.Rules as rules;
 
 use jessie_grammar::host_text_lib::text::Text;
@@ -16,80 +15,35 @@ use jessie_terminals::constants::{
 use jessie_terminals::kinds::{is, is_literal};
 use jessie_terminals::name_uses::fills;
 use jessie_terminals::names::name;
-use jessie_terminals::symbols::{expect, open};
+use jessie_terminals::symbols::{expect, next_place, open};
 use jessie_terminals::values::{literal, negative};
 use sqlite_items::{Boxed, Items};
 use std::alloc::Global;
 
-/// A comma, and the constant behind it or none; and whether more may follow.
+/// The constants of an array up to its closing bracket.
 #[cycle(constant)]
-#[tactic(auto, using(jessie_grammar::proofs::Reading::inner_constant_is))]
-fn item_step<'a>(
-    alloc: Global,
-    tokens: &'a [Token],
-    room: u32,
-    found: &mut Items<Constant>,
-    name_uses: &mut Items<NameUse>,
-) -> Result<(bool, &'a [Token]), ParseError>
-    requires { 0 < room }
-    ensures { Gives (λ x. (((found.new, name_uses.new), x.0), x.1.now)) result
-        (rules.comma_step Kind.RightBracket (rules.inner_constant room)
-        ((found.old, name_uses.old), true) tokens.now) }
-{
-    let rest = expect(tokens, Kind::Comma)?;
-    if is(rest, Kind::Comma) || is(rest, Kind::RightBracket) {
-        return Ok((false, rest));
-    }
-    let (item, rest) = constant(alloc, rest, room - 1, name_uses)?;
-    add_constant(item, found)?;
-    Ok((true, rest))
-}
-
-/// The constants of an array after its first ones.
-#[cycle(constant)]
-fn more_constants<'a>(
+fn items<'a>(
     alloc: Global,
     tokens: &'a [Token],
     room: u32,
     found: &mut Items<Constant>,
     name_uses: &mut Items<NameUse>,
 ) -> Result<&'a [Token], ParseError>
-    requires { 0 < room }
+    requires room { 0 < room }
+    requires none { found.old ≡ [] }
     ensures { Gives (λ rest. ((found.new, name_uses.new), rest.now)) result
-        (more_items Kind.RightBracket (rules.inner_constant room) (found.old, name_uses.old)
-        tokens.now) }
-{
-    let mut more = true;
-    let mut rest = tokens;
-    'items: while more && is(rest, Kind::Comma) {
-        let (again, after) = item_step(alloc, rest, room, found, name_uses)?;
-        more = again;
-        rest = after;
-    }
-    Ok(rest)
-}
-
-/// The constants of an array up to its closing bracket.
-#[cycle(constant)]
-#[tactic(auto, using(jessie_grammar::proofs::Reading::inner_constant_is))]
-fn constants<'a>(
-    alloc: Global,
-    tokens: &'a [Token],
-    room: u32,
-    name_uses: &mut Items<NameUse>,
-) -> Result<(Items<Constant>, &'a [Token]), ParseError>
-    requires { 0 < room }
-    ensures { Gives (λ x. ((x.0, name_uses.new), x.1.now)) result
         (rules.listed Kind.RightBracket (rules.inner_constant room) name_uses.old tokens.now) }
 {
-    let mut found = Items::new(alloc);
-    if is(tokens, Kind::RightBracket) {
-        return Ok((found, tokens));
+    let mut more = !is(tokens, Kind::RightBracket);
+    let mut rest = tokens;
+    'items: while more {
+        let (item, after) = constant(alloc, rest, room - 1, name_uses)?;
+        add_constant(item, found)?;
+        let (again, next) = next_place(after, Kind::RightBracket);
+        more = again;
+        rest = next;
     }
-    let (first, rest) = constant(alloc, tokens, room - 1, name_uses)?;
-    add_constant(first, &mut found)?;
-    let rest = more_constants(alloc, rest, room, &mut found, name_uses)?;
-    Ok((found, rest))
+    Ok(rest)
 }
 
 #[cycle(constant)]
@@ -104,7 +58,8 @@ fn array<'a>(
         (rules.constant_array room (rules.inner_constant room) name_uses.old tokens.now) }
 {
     let rest = open(tokens, room, Kind::LeftBracket)?;
-    let (found, rest) = constants(alloc, rest, room, name_uses)?;
+    let mut found = Items::new(alloc);
+    let rest = items(alloc, rest, room, &mut found, name_uses)?;
     let rest = expect(rest, Kind::RightBracket)?;
     Ok((array_constant(alloc, found)?, rest))
 }
@@ -129,74 +84,31 @@ fn field<'a>(
     Ok(((key, value), rest))
 }
 
-/// A comma, and the field behind it or none; and whether more may follow.
-#[cycle(constant)]
-fn field_step<'a>(
-    alloc: Global,
-    tokens: &'a [Token],
-    room: u32,
-    found: &mut Items<(Text, Constant)>,
-    name_uses: &mut Items<NameUse>,
-) -> Result<(bool, &'a [Token]), ParseError>
-    requires { 0 < room }
-    ensures { Gives (λ x. (((found.new, name_uses.new), x.0), x.1.now)) result
-        (rules.comma_step Kind.RightBrace (rules.constant_field (rules.inner_constant room))
-        ((found.old, name_uses.old), true) tokens.now) }
-{
-    let rest = expect(tokens, Kind::Comma)?;
-    if is(rest, Kind::Comma) || is(rest, Kind::RightBrace) {
-        return Ok((false, rest));
-    }
-    let ((key, value), rest) = field(alloc, rest, room, name_uses)?;
-    add_constant_field(alloc, key, value, found)?;
-    Ok((true, rest))
-}
-
-/// The fields of a record after its first ones.
-#[cycle(constant)]
-fn more_fields<'a>(
-    alloc: Global,
-    tokens: &'a [Token],
-    room: u32,
-    found: &mut Items<(Text, Constant)>,
-    name_uses: &mut Items<NameUse>,
-) -> Result<&'a [Token], ParseError>
-    requires { 0 < room }
-    ensures { Gives (λ rest. ((found.new, name_uses.new), rest.now)) result
-        (more_items Kind.RightBrace (rules.constant_field (rules.inner_constant room))
-        (found.old, name_uses.old) tokens.now) }
-{
-    let mut more = true;
-    let mut rest = tokens;
-    'fields: while more && is(rest, Kind::Comma) {
-        let (again, after) = field_step(alloc, rest, room, found, name_uses)?;
-        more = again;
-        rest = after;
-    }
-    Ok(rest)
-}
-
 /// The fields of a record up to its closing brace.
 #[cycle(constant)]
 fn fields<'a>(
     alloc: Global,
     tokens: &'a [Token],
     room: u32,
+    found: &mut Items<(Text, Constant)>,
     name_uses: &mut Items<NameUse>,
-) -> Result<(Items<(Text, Constant)>, &'a [Token]), ParseError>
-    requires { 0 < room }
-    ensures { Gives (λ x. ((x.0, name_uses.new), x.1.now)) result
+) -> Result<&'a [Token], ParseError>
+    requires room { 0 < room }
+    requires none { found.old ≡ [] }
+    ensures { Gives (λ rest. ((found.new, name_uses.new), rest.now)) result
         (rules.listed Kind.RightBrace (rules.constant_field (rules.inner_constant room))
         name_uses.old tokens.now) }
 {
-    let mut found = Items::new(alloc);
-    if is(tokens, Kind::RightBrace) {
-        return Ok((found, tokens));
+    let mut more = !is(tokens, Kind::RightBrace);
+    let mut rest = tokens;
+    'fields: while more {
+        let ((key, value), after) = field(alloc, rest, room, name_uses)?;
+        add_constant_field(alloc, key, value, found)?;
+        let (again, next) = next_place(after, Kind::RightBrace);
+        more = again;
+        rest = next;
     }
-    let ((key, value), rest) = field(alloc, tokens, room, name_uses)?;
-    add_constant_field(alloc, key, value, &mut found)?;
-    let rest = more_fields(alloc, rest, room, &mut found, name_uses)?;
-    Ok((found, rest))
+    Ok(rest)
 }
 
 #[cycle(constant)]
@@ -212,7 +124,8 @@ fn record_text<'a>(
 {
     let rest = open(tokens, room, Kind::LeftBrace)?;
     name_uses.push(NameUse::Opens)?;
-    let (found, rest) = fields(alloc, rest, room, name_uses)?;
+    let mut found = Items::new(alloc);
+    let rest = fields(alloc, rest, room, &mut found, name_uses)?;
     let rest = expect(rest, Kind::RightBrace)?;
     name_uses.push(NameUse::Closes)?;
     Ok((record_constant(alloc, found)?, rest))

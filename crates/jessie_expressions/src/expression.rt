@@ -1,8 +1,8 @@
 //! Expressions: each function gives what it read and the tokens after it, and puts what the text
 //! does with names behind the name uses.
-ghost use Rattle.std.specs.Prelude.{ℕ, Bool, List, [], ◌∷◌, ◌≡◌, ◌⊎◌, ◌<◌, ◌≤◌, ◌+◌, true, length, IfOk, OnOk};
+ghost use Rattle.std.specs.Prelude.{List, [], ◌≡◌, ◌<◌, ◌≤◌, ◌+◌, true, IfOk, OnOk};
 ghost use Rattle.jessie_grammar.specs.Parse.{Gives, and_then, bracketed, one, pure, symbol};
-ghost use Rattle.jessie_grammar.specs.Levels.{level_at, level_ops, level_rest, level_tails, operands, more_items};
+ghost use Rattle.jessie_grammar.specs.Levels.{level_at, level_ops, level_rest, level_tails, operands};
 ghost use Rattle.jessie_grammar.specs.Rules as rules;
 ghost use Rattle.jessie_grammar.specs.Words as words;
 
@@ -22,83 +22,13 @@ use jessie_terminals::kinds::{
 };
 use jessie_terminals::name_uses::{calls, fills, shortens, uses};
 use jessie_terminals::names::{free_name, name};
-use jessie_terminals::symbols::{expect, open, operator, sign};
+use jessie_terminals::symbols::{expect, next_place, open, operator, sign};
 use jessie_terminals::values::literal;
 use sqlite_items::{Boxed, Items};
 use std::alloc::{AllocError, Global};
 
-/// One expression more of a list, behind which more may follow.
-#[cycle(expression)]
-#[tactic(auto, using(jessie_grammar::proofs::Reading::inner_is))]
-fn next_item<'a>(
-    alloc: Global,
-    tokens: &'a [Token],
-    room: u32,
-    found: &mut Items<Expr>,
-    name_uses: &mut Items<NameUse>,
-) -> Result<&'a [Token], ParseError>
-    requires { 0 < room }
-    ensures { Gives (λ rest. (((found.new, name_uses.new), true), rest.now)) result
-        (and_then {B = words.Found (List Expr) × Bool} (rules.inner room name_uses.old tokens.now)
-        (λ item. pure (words.more found.old item, true))) }
-{
-    let (item, rest) = expression(alloc, tokens, room - 1, name_uses)?;
-    let Ok(()) = add_expression(item, found) else {
-        return Err(ParseError::NoMemory);
-    };
-    Ok(rest)
-}
-
-/// A comma, and the expression behind it or none; and whether more may follow.
-#[cycle(expression)]
-fn item_step<'a>(
-    alloc: Global,
-    tokens: &'a [Token],
-    room: u32,
-    close: Kind,
-    found: &mut Items<Expr>,
-    name_uses: &mut Items<NameUse>,
-) -> Result<(bool, &'a [Token]), ParseError>
-    requires { 0 < room }
-    ensures { Gives (λ x. (((found.new, name_uses.new), x.0), x.1.now)) result
-        (rules.comma_step close (rules.inner room) ((found.old, name_uses.old), true) tokens.now) }
-{
-    let rest = expect(tokens, Kind::Comma)?;
-    if is(rest, Kind::Comma) || is(rest, close) {
-        return Ok((false, rest));
-    }
-    let rest = next_item(alloc, rest, room, found, name_uses)?;
-    Ok((true, rest))
-}
-
-/// The expressions of a list after its first ones.
-#[cycle(expression)]
-fn later_items<'a>(
-    alloc: Global,
-    tokens: &'a [Token],
-    room: u32,
-    close: Kind,
-    found: &mut Items<Expr>,
-    name_uses: &mut Items<NameUse>,
-) -> Result<&'a [Token], ParseError>
-    requires room { 0 < room }
-    requires close { (close ≡ Kind.RightParen) ⊎ (close ≡ Kind.RightBracket) }
-    ensures { Gives (λ rest. ((found.new, name_uses.new), rest.now)) result
-        (more_items close (rules.inner room) (found.old, name_uses.old) tokens.now) }
-{
-    let mut more = true;
-    let mut rest = tokens;
-    'items: while more && is(rest, Kind::Comma) {
-        let (again, after) = item_step(alloc, rest, room, close, found, name_uses)?;
-        more = again;
-        rest = after;
-    }
-    Ok(rest)
-}
-
 /// The expressions of a list up to its closing bracket.
 #[cycle(expression)]
-#[tactic(auto, using(jessie_grammar::proofs::Reading::inner_is))]
 fn items<'a>(
     alloc: Global,
     tokens: &'a [Token],
@@ -108,17 +38,20 @@ fn items<'a>(
     name_uses: &mut Items<NameUse>,
 ) -> Result<&'a [Token], ParseError>
     requires room { 0 < room }
-    requires close { (close ≡ Kind.RightParen) ⊎ (close ≡ Kind.RightBracket) }
     requires none { found.old ≡ [] }
     ensures { Gives (λ rest. ((found.new, name_uses.new), rest.now)) result
         (rules.listed close (rules.inner room) name_uses.old tokens.now) }
 {
-    if is(tokens, close) {
-        return Ok(tokens);
+    let mut more = !is(tokens, close);
+    let mut rest = tokens;
+    'items: while more {
+        let (item, after) = expression(alloc, rest, room - 1, name_uses)?;
+        add_expression(item, found)?;
+        let (again, next) = next_place(after, close);
+        more = again;
+        rest = next;
     }
-    let (first, rest) = expression(alloc, tokens, room - 1, name_uses)?;
-    add_expression(first, found)?;
-    later_items(alloc, rest, room, close, found, name_uses)
+    Ok(rest)
 }
 
 /// The expressions of a list between two brackets.
@@ -133,8 +66,7 @@ fn bracketed_items<'a>(
     found: &mut Items<Expr>,
     name_uses: &mut Items<NameUse>,
 ) -> Result<&'a [Token], ParseError>
-    requires close { (close ≡ Kind.RightParen) ⊎ (close ≡ Kind.RightBracket) }
-    requires none { found.old ≡ [] }
+    requires { found.old ≡ [] }
     ensures { Gives (λ rest. ((found.new, name_uses.new), rest.now)) result
         (bracketed room from close (rules.listed close (rules.inner room) name_uses.old) tokens.now) }
 {
@@ -252,74 +184,6 @@ fn field<'a>(
     Ok(((key, value), rest))
 }
 
-/// One field more of a record, behind which more may follow.
-#[cycle(expression)]
-fn next_field<'a>(
-    alloc: Global,
-    tokens: &'a [Token],
-    room: u32,
-    found: &mut Items<(Text, Expr)>,
-    name_uses: &mut Items<NameUse>,
-) -> Result<&'a [Token], ParseError>
-    requires { 0 < room }
-    ensures { Gives (λ rest. (((found.new, name_uses.new), true), rest.now)) result
-        (and_then {B = words.Found (List (List ℕ × Expr)) × Bool}
-        (rules.field (rules.inner room) name_uses.old tokens.now)
-        (λ item. pure (words.more found.old item, true))) }
-{
-    let ((key, value), rest) = field(alloc, tokens, room, name_uses)?;
-    let Ok(()) = add_field(alloc, key, value, found) else {
-        return Err(ParseError::NoMemory);
-    };
-    Ok(rest)
-}
-
-/// A comma, and the field behind it or none; and whether more may follow.
-#[cycle(expression)]
-fn field_step<'a>(
-    alloc: Global,
-    tokens: &'a [Token],
-    room: u32,
-    found: &mut Items<(Text, Expr)>,
-    name_uses: &mut Items<NameUse>,
-) -> Result<(bool, &'a [Token]), ParseError>
-    requires { 0 < room }
-    ensures { Gives (λ x. (((found.new, name_uses.new), x.0), x.1.now)) result
-        (rules.comma_step Kind.RightBrace (rules.field (rules.inner room))
-        ((found.old, name_uses.old), true) tokens.now) }
-{
-    let rest = expect(tokens, Kind::Comma)?;
-    if is(rest, Kind::Comma) || is(rest, Kind::RightBrace) {
-        return Ok((false, rest));
-    }
-    let rest = next_field(alloc, rest, room, found, name_uses)?;
-    Ok((true, rest))
-}
-
-/// The fields of a record after its first ones.
-#[cycle(expression)]
-fn later_fields<'a>(
-    alloc: Global,
-    tokens: &'a [Token],
-    room: u32,
-    found: &mut Items<(Text, Expr)>,
-    name_uses: &mut Items<NameUse>,
-) -> Result<&'a [Token], ParseError>
-    requires { 0 < room }
-    ensures { Gives (λ rest. ((found.new, name_uses.new), rest.now)) result
-        (more_items Kind.RightBrace (rules.field (rules.inner room)) (found.old, name_uses.old)
-        tokens.now) }
-{
-    let mut more = true;
-    let mut rest = tokens;
-    'fields: while more && is(rest, Kind::Comma) {
-        let (again, after) = field_step(alloc, rest, room, found, name_uses)?;
-        more = again;
-        rest = after;
-    }
-    Ok(rest)
-}
-
 /// The fields of a record up to its closing brace.
 #[cycle(expression)]
 fn fields<'a>(
@@ -334,12 +198,16 @@ fn fields<'a>(
     ensures { Gives (λ rest. ((found.new, name_uses.new), rest.now)) result
         (rules.listed Kind.RightBrace (rules.field (rules.inner room)) name_uses.old tokens.now) }
 {
-    if is(tokens, Kind::RightBrace) {
-        return Ok(tokens);
+    let mut more = !is(tokens, Kind::RightBrace);
+    let mut rest = tokens;
+    'fields: while more {
+        let ((key, value), after) = field(alloc, rest, room, name_uses)?;
+        add_field(alloc, key, value, found)?;
+        let (again, next) = next_place(after, Kind::RightBrace);
+        more = again;
+        rest = next;
     }
-    let ((key, value), rest) = field(alloc, tokens, room, name_uses)?;
-    add_field(alloc, key, value, found)?;
-    later_fields(alloc, rest, room, found, name_uses)
+    Ok(rest)
 }
 
 /// The fields of a record behind its opening brace.

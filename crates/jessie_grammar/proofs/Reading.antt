@@ -1,5 +1,5 @@
 -- Loops and depths, as the code goes through them.
-use Rattle.std.proofs.Common.{length, ◌≡◌, ℕ, zero, suc, ◌-◌, ◌+◌, ◌<◌, ◌≤◌, ◌⊎◌, inl, inr, drop, Bool, true, false, List, [], ◌∷◌, ◌++◌, Ok, Err, refl, sym, subst, ap, ◌∙◌, arith, length-append}
+use Rattle.std.proofs.Common.{length, ◌≡◌, ℕ, zero, suc, ◌-◌, ◌+◌, ◌<◌, ◌≤◌, drop, Bool, true, false, List, [], ◌∷◌, ◌++◌, Ok, Err, refl, subst, ap, ◌∙◌, arith, length-append}
 use Rattle.std.proofs.lemmas.List.{append-nil}
 use Rattle.jessie_grammar.specs.declared.jessie_lexer.token.Kind.{Kind}
 use Rattle.jessie_grammar.specs.declared.jessie_lexer.token.Kind.TheVariants as k
@@ -21,8 +21,8 @@ use Rattle.jessie_grammar.specs.StatementList.{names_after}
 use Rattle.jessie_grammar.specs.BlockTurns.{shut}
 use Rattle.jessie_grammar.specs.Levels.{level_at, operand, level_tails, level_rest, operands}
 use Rattle.jessie_grammar.proofs.Sets.{within_self, filled, apart}
-use Rattle.jessie_grammar.proofs.Good.{Good, Halts, Falls, falls, loop_more, loop_done, weaken, then_good}
-use Rattle.jessie_grammar.proofs.Exprs.{Reads, In, begins, ends, in_with, expr_good, field_good, comma_steps, post_accesses, op_steps, unary_good, prim_good, tails_good, or_ends, unary_ends, closed, fits}
+use Rattle.jessie_grammar.proofs.Good.{Halts, Falls, falls, loop_more, loop_done, then_good}
+use Rattle.jessie_grammar.proofs.Exprs.{Reads, In, begins, ends, in_with, expr_good, field_good, post_accesses, op_steps, unary_good, prim_good, tails_good, or_ends, unary_ends, closed, fits}
 use Rattle.jessie_grammar.proofs.Statements.{turns_good, block_good}
 use Rattle.jessie_grammar.proofs.Modules.{constant_begins, constant_good, constant_field_good, next_params, items}
 
@@ -76,24 +76,7 @@ inner_constant_good (suc room) h = constant_good (suc room) room (omega arith)
 
 -- ---- the loops
 
--- the lists of expressions end so
-abbrev pub IsListEnd : Kind → Type 0
-IsListEnd close = (close ≡ k.RightParen) ⊎ (close ≡ k.RightBracket)
-
-pub items_fall : (close : Kind) (room : ℕ) → IsListEnd close → 0 < room → Falls ongoing (k.Comma ∷ []) (p.comma_step close (p.inner room))
-items_fall close room (inl e) h = subst (λ c. Falls ongoing (k.Comma ∷ []) (p.comma_step c (p.inner room))) (sym e) (falls (comma_steps k.RightParen (λ es. weaken begins (k.Comma ∷ k.RightParen ∷ []) (inner_good room h es) refl refl) refl refl))
-items_fall close room (inr e) h = subst (λ c. Falls ongoing (k.Comma ∷ []) (p.comma_step c (p.inner room))) (sym e) (falls (comma_steps k.RightBracket (λ es. weaken begins (k.Comma ∷ k.RightBracket ∷ []) (inner_good room h es) refl refl) refl refl))
-
-pub fields_fall : (room : ℕ) → 0 < room → Falls ongoing (k.Comma ∷ []) (p.comma_step k.RightBrace (p.field (p.inner room)))
-fields_fall room h = falls (comma_steps k.RightBrace (field_good (inner_good room h)) refl refl)
-
-pub constants_fall : (room : ℕ) → 0 < room → Falls ongoing (k.Comma ∷ []) (p.comma_step k.RightBracket (p.inner_constant room))
-constants_fall room h = falls (comma_steps k.RightBracket (λ es. weaken constant_begins (k.Comma ∷ k.RightBracket ∷ []) (inner_constant_good room h es) refl refl) refl refl)
-
-pub constant_fields_fall : (room : ℕ) → 0 < room → Falls ongoing (k.Comma ∷ []) (p.comma_step k.RightBrace (p.constant_field (p.inner_constant room)))
-constant_fields_fall room h = falls (comma_steps k.RightBrace (constant_field_good (inner_constant_good room h)) refl refl)
-
--- what an item leaves is no longer than what it begins
+-- what stands behind an item is no longer than what begins with it
 abbrev pub Leaves : {A : Type 0} → (List NameUse → Parser A) → Type 0
 Leaves {A} q = (es : List NameUse) (ts us : List Token) (a : A) → q es ts ≡ Ok (a, us) → length us ≤ length ts
 

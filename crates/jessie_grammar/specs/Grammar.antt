@@ -1,6 +1,7 @@
 -- The grammar: which tokens stand for what, and which of them break which limit. Room is how many more
 -- brackets may be open; an expression or a body with n nests at most n of them, whatever room there is.
--- Each reads on from what the text did with names before it, and tells all that it did then.
+-- Each reads on from what the text did with names before it, and tells all that it did then. This is the view
+-- to be believed; Rules has the reader's, which the laws of Laws tie to it.
 use Rattle.std.specs.Prelude.{ℕ, zero, suc, ◌+◌, nat_lt, Bool, true, false, List, [], ◌∷◌, length}
 use Rattle.jessie_grammar.specs.declared.jessie_lexer.token.Kind.{Kind}
 use Rattle.jessie_grammar.specs.declared.jessie_lexer.token.Kind.TheVariants as k

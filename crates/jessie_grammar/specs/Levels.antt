@@ -1,11 +1,11 @@
--- Reading operators from one level of the table on, and the rest of a list.
-use Rattle.std.specs.Prelude.{ℕ, ◌+◌, true, false, drop, List, [], ◌∷◌, ◌==◌, if◌then◌else◌}
+-- Reading operators from one level of the table on, and the places of a list.
+use Rattle.std.specs.Prelude.{ℕ, ◌+◌, Bool, true, false, drop, List, [], ◌∷◌, ◌==◌, if◌then◌else◌}
 use Rattle.jessie_grammar.specs.declared.jessie_lexer.token.Kind.{Kind}
 use Rattle.jessie_grammar.specs.declared.jessie_lexer.token.Kind.TheVariants as k
 use Rattle.jessie_grammar.specs.declared.jessie_scopes.name_use.NameUse.{NameUse}
 use Rattle.jessie_grammar.specs.declared.syntax.Expr.{Expr}
-use Rattle.jessie_grammar.specs.Words.{Found, Level, table, ongoing, Chained, unchained, chained}
-use Rattle.jessie_grammar.specs.Parse.{Parser, ◌>>=◌, pure, loop}
+use Rattle.jessie_grammar.specs.Words.{Found, Level, table, Chained, unchained, chained}
+use Rattle.jessie_grammar.specs.Parse.{Parser, ◌>>=◌, ◌>>◌, pure, either, symbol}
 use Rattle.jessie_grammar.specs.Rules as rules
 
 abbrev pub level_at : ℕ → Level
@@ -30,6 +30,6 @@ level_ops room n s = rules.ops (level_at n) (operands room (n + 1)) s
 abbrev pub level_rest : ℕ → ℕ → Found Expr → Parser (Found Expr)
 level_rest room n t = level_ops room n (unchained t) >>= λ s. pure (chained s)
 
--- the items of a list after the first ones
-abbrev pub more_items : {A : Type 0} → Kind → (List NameUse → Parser (Found A)) → Found (List A) → Parser (Found (List A))
-more_items close item found = loop ongoing (k.Comma ∷ []) (rules.comma_step close item) (found, true) >>= λ s. pure s.0
+-- behind an item of a list that ends so: the comma, where there is one, and whether an item more follows
+abbrev pub next_place : Kind → Parser Bool
+next_place close = either (k.Comma ∷ []) (symbol k.Comma >> either (k.Comma ∷ close ∷ []) (pure false) (pure true)) (pure false)

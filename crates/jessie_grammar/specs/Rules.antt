@@ -1,4 +1,5 @@
--- Reading by the grammar, from the front.
+-- Reading by the grammar, from the front. This is the reader's view, where the next token decides each choice;
+-- Grammar has the one to be believed, to which the laws of Laws tie it.
 use Rattle.std.specs.Prelude.{ℕ, zero, suc, nat_lt, Bool, true, false, List, [], ◌∷◌, length}
 use Rattle.jessie_grammar.specs.declared.jessie_lexer.token.Kind.{Kind}
 use Rattle.jessie_grammar.specs.declared.jessie_lexer.token.Kind.TheVariants as k

@@ -1,11 +1,11 @@
 //! Quoted words and marks.
-ghost use Rattle.std.specs.Prelude.{[], ◌∷◌, ◌≡◌, ◌<◌, length, IfOk, None, Some};
+ghost use Rattle.std.specs.Prelude.{[], ◌∷◌, ◌≡◌, ◌<◌, length, IfOk, None, Ok, Some};
 ghost use Rattle.jessie_grammar.specs.Tokens.{has};
 ghost use Rattle.jessie_grammar.specs.Parse.{Gives, symbol, opening, one, free};
-ghost use Rattle.jessie_grammar.specs.Levels.{level_at};
+ghost use Rattle.jessie_grammar.specs.Levels.{level_at, next_place};
 ghost use Rattle.jessie_grammar.specs.Words as words;
 
-use crate::kinds::{is_operator, is_sign};
+use crate::kinds::{is, is_operator, is_sign};
 use jessie_grammar::jessie_language::fault::{Limit, ParseError};
 use jessie_grammar::jessie_lexer::token::{Kind, Token, number_of};
 use jessie_grammar::jessie_scopes::name_use::Binding;
@@ -50,6 +50,23 @@ pub fn open(tokens: &[Token], room: u32, kind: Kind) -> Result<&[Token], ParseEr
             Ok(rest)
         }
         _ => Err(refusal(tokens)),
+    }
+}
+
+/// What stands behind an item of a list that ends so: whether one more follows, and the tokens from
+/// there on. The comma before them is read, behind which the list may end.
+#[tactic(auto, unfolding(jessie_grammar::specs::Parse::symbol))]
+pub fn next_place(tokens: &[Token], close: Kind) -> (bool, &[Token])
+    ensures { next_place close tokens.now ≡ Ok (result.0, result.1.now) }
+{
+    match tokens {
+        [token, rest @ ..] if number_of(Kind::Comma) == number_of(token.kind) => {
+            if is(rest, Kind::Comma) || is(rest, close) {
+                return (false, rest);
+            }
+            (true, rest)
+        }
+        _ => (false, tokens),
     }
 }
 

@@ -1,4 +1,4 @@
-use Rattle.std.proofs.Common.{◌≡◌, ◌+◌, true, false, [], ◌∷◌, ◌∙◌, ap, refl, sym}
+use Rattle.std.proofs.Common.{◌≡◌, ◌+◌, true, false, [], Err, ◌∙◌, ap, refl, sym}
 use Rattle.std.proofs.lemmas.Result.{err_from_is_err_and}
 use Rattle.jessie_grammar.specs.declared.jessie_lexer.token.Kind.TheVariants as k
 use Rattle.jessie_grammar.specs.Tokens.{kind, has}
@@ -7,48 +7,46 @@ use Rattle.jessie_grammar.specs.Words.{always, ongoing, access_begins}
 use Rattle.jessie_grammar.specs.Parse.{and_then, pure}
 use Rattle.jessie_grammar.specs.Levels.{level_at, operands}
 use Rattle.jessie_grammar.specs.Rules as p
-use Rattle.jessie_grammar.proofs.Reading.{loop_goes, loop_ends, loop_fails, flag_goes, flag_fails, after_fails, items_fall, fields_fall, accesses_fall, op_falls, inner_is}
-use Rattle.jessie_expressions.proofs.expression.+expression.Goals.{later_items-then-items-test+else-is, later_items-else-items-test, later_fields-then-fields-test+else-is, later_fields-else-fields-test, operators-then-operators-test+else-is_operator, operators-else-operators-test}
-use Rattle.jessie_expressions.proofs.Lists.{bracketed_goes, listed_goes, gives_along, access_reads, access_fails}
+use Rattle.jessie_grammar.proofs.Reading.{loop_goes, loop_ends, loop_fails, flag_goes, flag_fails, after_fails, items_leave, fields_leave, accesses_fall, op_falls, inner_is}
+use Rattle.jessie_expressions.proofs.expression.+expression.Goals.{operators-then-operators-test+else-is_operator, operators-else-operators-test}
+use Rattle.jessie_expressions.proofs.Lists.{list_begins, list_goes, list_fails, list_ends, list_falls, bracketed_goes, gives_along, access_reads, access_fails}
 use Rattle.jessie_expressions.proofs.expression.+expression.Goals as goal
 
-pub later_items-returns-in_err-again : goal.later_items-returns-in_err-again
-later_items-returns-in_err-again t c =
+pub items-returns-in_err-item : goal.items-returns-in_err-item
+items-returns-in_err-item t c =
     let e = err_from_is_err_and c.from_residual.result c.from_residual.ensures.1 in
-    let h : has (k.Comma ∷ []) (kind c.items.rest.now) ≡ true = cc in
-    rw (e.1, e.2) (after_fails c.in_err-again.field-0.0 _ (λ s. pure s.0) (flag_fails (k.Comma ∷ []) (p.comma_step c.args.close (p.inner c.args.room)) (items_fall c.args.close c.args.room c.requires.close c.requires.room) _ _ _ _ c.in_err-again.field-0.0 c.items.invariant c.items-test.true h c.in_err-again.ensures))
+    rw (e.1, e.2) (list_fails c.args.close (p.inner c.args.room) _ _ _ c.items.rest.now c.in_err-item.field-0.0 c.items.invariant c.items-test.true (gives_along (λ x. x) (Err c.in_err-item.field-0.0) _ _ (inner_is c.args.room c.items.name_uses c.items.rest.now c.requires.room) c.in_err-item.ensures))
 
-pub later_items-items-smaller : goal.later_items-items-smaller
-later_items-items-smaller t c = (items_fall c.args.close c.args.room c.requires.close c.requires.room) _ c.items.rest.now c.in_ok-again.after.now _ refl c.in_ok-again.ensures
+pub items-items-init : goal.items-items-init
+items-items-init t c = list_begins c.args.close (p.inner c.args.room) c.args.name_uses.now _ c.args.tokens.now _ c.is-more.ensures c.requires.none
 
-pub later_items-items-preserved : goal.later_items-items-preserved
-later_items-items-preserved t c =
-    let h : has (k.Comma ∷ []) (kind c.items.rest.now) ≡ true = cc in
-    flag_goes (k.Comma ∷ []) (p.comma_step c.args.close (p.inner c.args.room)) (items_fall c.args.close c.args.room c.requires.close c.requires.room) _ _ _ _ _ _ c.items.invariant c.items-test.true h c.in_ok-again.ensures
+pub items-items-smaller : goal.items-items-smaller
+items-items-smaller t c = list_falls c.args.close (p.inner c.args.room) (items_leave c.args.room c.requires.room) _ _ _ _ c.items.rest.now _ _ c.items-test.true (inner_is c.args.room c.items.name_uses c.items.rest.now c.requires.room ∙ c.in_ok-item.ensures) c.next_place-again.ensures
 
-pub later_items-returns : goal.later_items-returns
-later_items-returns t c =
-    let h : c.items.more ≡ true → has (k.Comma ∷ []) (kind c.items.rest.now) ≡ false = λ m. elim c.items-test.branch [ later_items-then-items-test+else-is w ↦ cc | later_items-else-items-test w ↦ absurd (let no : true ≡ false = sym m ∙ w.items-test.false in cc) ] in
-    ap (λ o. and_then o (λ s. pure s.0)) (loop_ends ongoing (k.Comma ∷ []) (p.comma_step c.args.close (p.inner c.args.room)) (items_fall c.args.close c.args.room c.requires.close c.requires.room) _ _ _ c.items.invariant h)
+pub items-items-preserved : goal.items-items-preserved
+items-items-preserved t c =
+    list_goes c.args.close (p.inner c.args.room) (items_leave c.args.room c.requires.room) _ _ _ _ _ _ _ _ c.items.rest.now _ _ c.items.invariant c.items-test.true (inner_is c.args.room c.items.name_uses c.items.rest.now c.requires.room ∙ c.in_ok-item.ensures) c.in_ok-add_expression.ensures c.next_place-again.ensures
 
-pub later_fields-returns-in_err-again : goal.later_fields-returns-in_err-again
-later_fields-returns-in_err-again t c =
+pub items-returns : goal.items-returns
+items-returns t c = list_ends c.args.close (p.inner c.args.room) _ _ _ c.items.rest.now c.items.invariant c.items-test.false
+
+pub fields-returns-in_err-key : goal.fields-returns-in_err-key
+fields-returns-in_err-key t c =
     let e = err_from_is_err_and c.from_residual.result c.from_residual.ensures.1 in
-    let h : has (k.Comma ∷ []) (kind c.fields.rest.now) ≡ true = cc in
-    rw (e.1, e.2) (after_fails c.in_err-again.field-0.0 _ (λ s. pure s.0) (flag_fails (k.Comma ∷ []) (p.comma_step k.RightBrace (p.field (p.inner c.args.room))) (fields_fall c.args.room c.requires) _ _ _ _ c.in_err-again.field-0.0 c.fields.invariant c.fields-test.true h c.in_err-again.ensures))
+    rw (e.1, e.2) (list_fails k.RightBrace (p.field (p.inner c.args.room)) _ _ _ c.fields.rest.now c.in_err-key.field-0.0 c.fields.invariant c.fields-test.true c.in_err-key.ensures)
 
-pub later_fields-fields-smaller : goal.later_fields-fields-smaller
-later_fields-fields-smaller t c = (fields_fall c.args.room c.requires) _ c.fields.rest.now c.in_ok-again.after.now _ refl c.in_ok-again.ensures
+pub fields-fields-init : goal.fields-fields-init
+fields-fields-init t c = list_begins k.RightBrace (p.field (p.inner c.args.room)) c.args.name_uses.now _ c.args.tokens.now _ c.is-more.ensures c.requires.none
 
-pub later_fields-fields-preserved : goal.later_fields-fields-preserved
-later_fields-fields-preserved t c =
-    let h : has (k.Comma ∷ []) (kind c.fields.rest.now) ≡ true = cc in
-    flag_goes (k.Comma ∷ []) (p.comma_step k.RightBrace (p.field (p.inner c.args.room))) (fields_fall c.args.room c.requires) _ _ _ _ _ _ c.fields.invariant c.fields-test.true h c.in_ok-again.ensures
+pub fields-fields-smaller : goal.fields-fields-smaller
+fields-fields-smaller t c = list_falls k.RightBrace (p.field (p.inner c.args.room)) (fields_leave c.args.room c.requires.room) _ _ _ _ c.fields.rest.now _ _ c.fields-test.true c.in_ok-key.ensures c.next_place-again.ensures
 
-pub later_fields-returns : goal.later_fields-returns
-later_fields-returns t c =
-    let h : c.fields.more ≡ true → has (k.Comma ∷ []) (kind c.fields.rest.now) ≡ false = λ m. elim c.fields-test.branch [ later_fields-then-fields-test+else-is w ↦ cc | later_fields-else-fields-test w ↦ absurd (let no : true ≡ false = sym m ∙ w.fields-test.false in cc) ] in
-    ap (λ o. and_then o (λ s. pure s.0)) (loop_ends ongoing (k.Comma ∷ []) (p.comma_step k.RightBrace (p.field (p.inner c.args.room))) (fields_fall c.args.room c.requires) _ _ _ c.fields.invariant h)
+pub fields-fields-preserved : goal.fields-fields-preserved
+fields-fields-preserved t c =
+    list_goes k.RightBrace (p.field (p.inner c.args.room)) (fields_leave c.args.room c.requires.room) _ _ _ _ _ _ _ _ c.fields.rest.now _ _ c.fields.invariant c.fields-test.true c.in_ok-key.ensures c.in_ok-add_field.ensures c.next_place-again.ensures
+
+pub fields-returns : goal.fields-returns
+fields-returns t c = list_ends k.RightBrace (p.field (p.inner c.args.room)) _ _ _ c.fields.rest.now c.fields.invariant c.fields-test.false
 
 pub operators-returns-in_err-again : goal.operators-returns-in_err-again
 operators-returns-in_err-again t c =
@@ -87,16 +85,6 @@ pub accesses-returns : goal.accesses-returns
 accesses-returns t c =
     let h : has access_begins (kind c.accesses.rest.now) ≡ false = cc in
     λ first. loop_ends always access_begins (p.access_on c.args.room (p.inner c.args.room)) (accesses_fall c.args.room) _ _ _ (c.accesses.invariant first) (λ _. h)
-
-pub items-returns : goal.items-returns
-items-returns t c =
-    let h : has (c.args.close ∷ []) (kind c.args.tokens.now) ≡ false = cc in
-    gives_along _ _ _ _ (listed_goes c.args.close (p.inner c.args.room) c.args.name_uses.now c.args.tokens.now c.in_ok-first.rest.now _ _ _ c.add_expression.new.found h (inner_is c.args.room c.args.name_uses.now c.args.tokens.now c.requires.room ∙ c.in_ok-first.ensures) c.in_ok-add_expression.ensures c.requires.none) c.later_items.ensures
-
-pub fields-returns : goal.fields-returns
-fields-returns t c =
-    let h : has (k.RightBrace ∷ []) (kind c.args.tokens.now) ≡ false = cc in
-    gives_along _ _ _ _ (listed_goes k.RightBrace (p.field (p.inner c.args.room)) c.args.name_uses.now c.args.tokens.now c.in_ok-key.rest.now _ _ _ c.add_field.new.found h c.in_ok-key.ensures c.in_ok-add_field.ensures c.requires.none) c.later_fields.ensures
 
 pub group-returns : goal.group-returns
 group-returns t c =

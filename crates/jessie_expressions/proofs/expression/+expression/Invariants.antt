@@ -1,10 +1,11 @@
-use Rattle.std.proofs.Common.{◌≡◌, ◌+◌, ◌-◌, ◌*◌, true, [], ◌∷◌, length}
+use Rattle.std.proofs.Common.{◌≡◌, ◌+◌, ◌-◌, ◌*◌, true, length}
 use Rattle.jessie_grammar.specs.declared.jessie_lexer.token.Kind.TheVariants as k
 use Rattle.jessie_grammar.specs.declared.syntax.Expr.{Expr}
 use Rattle.jessie_grammar.specs.Parse.{loop}
 use Rattle.jessie_grammar.specs.Words.{always, ongoing, access_begins}
 use Rattle.jessie_grammar.specs.Levels.{level_at, operands}
 use Rattle.jessie_grammar.specs.Rules as p
+use Rattle.jessie_expressions.proofs.Lists.{items_from, places}
 use Rattle.jessie_expressions.proofs.expression.+expression.Given as goal
 
 -- each call goes down in room, or else in rank
@@ -65,26 +66,14 @@ decreases-expression l = 64 * l.room + 61
 abbrev pub decreases-field : goal.decreases-field
 decreases-field l = 64 * l.room + 1
 
-abbrev pub decreases-field_step : goal.decreases-field_step
-decreases-field_step l = 64 * l.room + 3
-
 abbrev pub decreases-fields : goal.decreases-fields
 decreases-fields l = 64 * l.room + 5
 
 abbrev pub decreases-group : goal.decreases-group
 decreases-group l = 64 * l.room + 0
 
-abbrev pub decreases-item_step : goal.decreases-item_step
-decreases-item_step l = 64 * l.room + 1
-
 abbrev pub decreases-items : goal.decreases-items
 decreases-items l = 64 * l.room + 3
-
-abbrev pub decreases-later_fields : goal.decreases-later_fields
-decreases-later_fields l = 64 * l.room + 4
-
-abbrev pub decreases-later_items : goal.decreases-later_items
-decreases-later_items l = 64 * l.room + 2
 
 abbrev pub decreases-method_call : goal.decreases-method_call
 decreases-method_call l = 64 * l.room + 6
@@ -94,12 +83,6 @@ decreases-method_access l = 64 * l.room + 6
 
 abbrev pub decreases-name_or_call : goal.decreases-name_or_call
 decreases-name_or_call l = 64 * l.room + 8
-
-abbrev pub decreases-next_field : goal.decreases-next_field
-decreases-next_field l = 64 * l.room + 2
-
-abbrev pub decreases-next_item : goal.decreases-next_item
-decreases-next_item l = 64 * l.room + 0
 
 abbrev pub decreases-fields_and_scope : goal.decreases-fields_and_scope
 decreases-fields_and_scope l = 64 * l.room + 6
@@ -149,18 +132,6 @@ decreases-operators l = 64 * l.room + 20 + 5 * (6 - l.level) + 1
 abbrev pub decreases-tails : goal.decreases-tails
 decreases-tails l = 64 * l.room + 20 + 5 * (6 - l.level) + 3
 
-abbrev pub invariant-later_items-items : goal.invariant-later_items-items
-invariant-later_items-items l = loop ongoing (k.Comma ∷ []) (p.comma_step l.fn.close (p.inner l.fn.room)) ((l.fn.found, l.fn.name_uses), true) l.fn.tokens ≡ loop ongoing (k.Comma ∷ []) (p.comma_step l.fn.close (p.inner l.fn.room)) ((l.found, l.name_uses), l.more) l.rest
-
-abbrev pub decreases-later_items-items : goal.decreases-later_items-items
-decreases-later_items-items l = length l.rest
-
-abbrev pub invariant-later_fields-fields : goal.invariant-later_fields-fields
-invariant-later_fields-fields l = loop ongoing (k.Comma ∷ []) (p.comma_step k.RightBrace (p.field (p.inner l.fn.room))) ((l.fn.found, l.fn.name_uses), true) l.fn.tokens ≡ loop ongoing (k.Comma ∷ []) (p.comma_step k.RightBrace (p.field (p.inner l.fn.room))) ((l.found, l.name_uses), l.more) l.rest
-
-abbrev pub decreases-later_fields-fields : goal.decreases-later_fields-fields
-decreases-later_fields-fields l = length l.rest
-
 abbrev pub invariant-accesses-accesses : goal.invariant-accesses-accesses
 invariant-accesses-accesses l = (first : Expr) → loop always access_begins (p.access_on l.fn.room (p.inner l.fn.room)) ((first, l.fn.found), l.fn.name_uses) l.fn.tokens ≡ loop always access_begins (p.access_on l.fn.room (p.inner l.fn.room)) ((first, l.found), l.name_uses) l.rest
 
@@ -172,3 +143,15 @@ invariant-operators-operators l = (first : Expr) → loop ongoing (level_at l.fn
 
 abbrev pub decreases-operators-operators : goal.decreases-operators-operators
 decreases-operators-operators l = length l.rest
+
+abbrev pub invariant-items-items : goal.invariant-items-items
+invariant-items-items l = p.listed l.fn.close (p.inner l.fn.room) l.fn.name_uses l.fn.tokens ≡ items_from l.fn.close (p.inner l.fn.room) (l.found, l.name_uses) l.more l.rest
+
+abbrev pub decreases-items-items : goal.decreases-items-items
+decreases-items-items l = length l.rest + places l.more
+
+abbrev pub invariant-fields-fields : goal.invariant-fields-fields
+invariant-fields-fields l = p.listed k.RightBrace (p.field (p.inner l.fn.room)) l.fn.name_uses l.fn.tokens ≡ items_from k.RightBrace (p.field (p.inner l.fn.room)) (l.found, l.name_uses) l.more l.rest
+
+abbrev pub decreases-fields-fields : goal.decreases-fields-fields
+decreases-fields-fields l = length l.rest + places l.more
