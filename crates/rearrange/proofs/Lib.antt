@@ -20,5 +20,9 @@ pub mod Gains
 pub mod TestedSeats
 pub mod Kept
 pub mod TestedChanges
+pub mod Added
+pub mod TestedWorking
+pub mod TestedTransfers
+pub mod Shown
 pub use Rattle.value_tests.proofs.lemmas
 pub use Rattle.value_tests.proofs as value_tests

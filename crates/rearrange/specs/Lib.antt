@@ -12,6 +12,8 @@ pub mod Bounds
 pub mod Told
 pub mod Slots
 pub mod TestedPlans
+pub mod TransferRefusals
+pub mod Values
 pub mod Moves
 pub use Rattle.value_tests.specs.ertp_mint
 pub use Rattle.rights_model.specs as rights_model

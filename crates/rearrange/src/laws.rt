@@ -1,7 +1,10 @@
 //! The laws. The bodies are empty: what they state is proved of the definitions.
 
+ghost use Rattle.std.specs.List.{AllByRecursion};
 ghost use Rattle.std.specs.Prelude.{◌≡◌, ◌↔◌, ◌≤◌, All, ℕ, List, Err, None, Ok, length, true};
 ghost use Rattle.proposals.specs.Losses.{IsLossesRefusal};
+ghost use Rattle.refusals.specs.amount_math.declared.PutFault.TheVariants as puts;
+ghost use Rattle.refusals.specs.amount_math.declared.TooMuch.{TooMuch};
 ghost use Rattle.refusals.specs.amount_math.declared.shortfall.LossFault.TheVariants as takes;
 ghost use Rattle.refusals.specs.amount_math.declared.shortfall.Shortfall.{Shortfall};
 ghost use Rattle.rearrange.specs.TestedPlans.{can_take_over, can_take_part, first_unkept, keeps, staged_changes};
@@ -13,13 +16,19 @@ ghost use Rattle.proposals.specs.declared.allocations.Share.{Share};
 ghost use Rattle.proposals.specs.declared.offers.Proposal.{Proposal};
 ghost use Rattle.proposals.specs.declared.plans.SeatState.{SeatState};
 ghost use Rattle.proposals.specs.declared.plans.Touched.{Touched};
+ghost use Rattle.proposals.specs.declared.plans.Transfer.{Transfer};
 ghost use Rattle.rearrange.specs.Plans.{IsPlanRefusal};
 ghost use Rattle.rearrange.specs.Safety.{AreSafe};
-ghost use Rattle.rearrange.specs.Seats.{staged_refusal, transfers_refusal};
+ghost use Rattle.rearrange.specs.Seats.{allocation_of, seats_named, staged_refusal, transfers_refusal};
 ghost use Rattle.rearrange.specs.Staged.{IsStagedRefusal, staged_plan};
 ghost use Rattle.rearrange.specs.Sums.{AreConserved};
+ghost use Rattle.rearrange.specs.TransferRefusals.{CanWork, IsTransfersRefusal, IsWorkRefusal, TransfersFault};
+ghost use Rattle.rearrange.specs.TransferRefusals.{gives, seated_changes, transfers_told};
+ghost use Rattle.rearrange.specs.Transfers.{HasOneBrand, transfers_plan};
+ghost use Rattle.rearrange.specs.Values.{AreValues, IsValued};
 ghost use Rattle.rearrange.specs.declared.plans.PlanFault.{PlanFault};
 ghost use Rattle.refusals.specs.Outcomes.{Fails, none_such};
+ghost use Rattle.refusals.specs.Told.{CanShow};
 ghost use Rattle.refusals.specs.declared.codes.Refusal.TheVariants.{NotEnough};
 
 /// A test of slots passes exactly where they cover the shares (Zoe's offer safety), and shares are refused to be
@@ -64,4 +73,25 @@ pub fn staging_is_taken_over_as_it_is_planned()
         → staged_changes i states seats ≡ Ok (staged_plan states seats) }
     ensures refused { (i : ℕ) (states : List SeatState) (seats : List ℕ) (fault : PlanFault) →
         IsStagedRefusal i states seats fault → Fails (plan_told fault) (staged_changes i states seats) }
+{}
+
+/// Transfers between seats that can take part are worked where their plan is made, and are refused by the
+/// fault that their plan is refused by.
+pub fn transfers_are_worked_as_they_are_planned()
+    ensures planned { (i : ℕ) (states : List SeatState) (list : List Transfer) →
+        transfers_refusal i states (seats_named list) ≡ None → CanWork (allocation_of states) list
+        → AreConserved (transfers_plan states list) → AreSafe states (transfers_plan states list)
+        → All (λ t. length t.after ≤ most_shares) (transfers_plan states list)
+        → seated_changes i states list ≡ Ok (transfers_plan states list) }
+    ensures refused { (i : ℕ) (states : List SeatState) (list : List Transfer) (fault : TransfersFault) →
+        IsTransfersRefusal i states list fault → Fails (transfers_told fault) (seated_changes i states list) }
+{}
+
+/// What transfers make too much can be shown, where what seats have and what transfers give are values, and all
+/// amounts for a seat and keyword are of one brand.
+pub fn what_transfers_make_too_much_can_be_shown()
+    ensures { (states : List SeatState) (list : List Transfer) (over : TooMuch) →
+        All (HasOneBrand states list) (seats_named list) → ((n : ℕ) → AreValues (allocation_of states n))
+        → AllByRecursion IsValued list → IsWorkRefusal (allocation_of states) list (gives (puts.TooMuch over))
+        → CanShow over.sum over.bound }
 {}
