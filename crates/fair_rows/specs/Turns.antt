@@ -8,6 +8,7 @@ use Rattle.turn_rows.specs.rights_model.Table.{holds}
 use Rattle.turn_rows.specs.rights_model.Totals.{brands_of}
 use Rattle.turn_rows.specs.rights_model.declared.Holder.TheVariants.{Payment}
 use Rattle.turn_rows.specs.rights_model.declared.Sum.{Sum}
+use Rattle.turn_rows.specs.declared.editions.Edition.{Edition}
 use Rattle.turn_rows.specs.Form.{AreInForm}
 use Rattle.turn_rows.specs.Texts.{journal_text}
 use Rattle.turn_rows.specs.Turns.{Event, exited, SeatExit, Turn}
@@ -88,8 +89,8 @@ AreFairFrom s (t ∷ ts) = IsFairTurn s t × AreFairFrom (with_turn s t) ts
 abbrev pub AreFair : List Turn → Type 0
 AreFair ts = AreFairFrom nothing_so_far ts
 
--- the bytes are the text of a fair journal: of turns in form, which are fair, with so many deliveries left
-pub record IsFairJournal (bytes : List ℕ) (ts : List Turn) (left : ℕ) : Type 0 where
-  pub text : bytes ≡ journal_text ts left
-  pub form : AreInForm ts left
+-- the bytes are the text of a fair journal in this edition: of turns in form, which are fair, with so many deliveries left
+pub record IsFairJournal (e : Edition) (bytes : List ℕ) (ts : List Turn) (left : ℕ) : Type 0 where
+  pub text : bytes ≡ journal_text e ts left
+  pub form : AreInForm e ts left
   pub fair : AreFair ts

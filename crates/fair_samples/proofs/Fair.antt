@@ -27,6 +27,7 @@ use Rattle.fair_samples.proofs.InForm.{are_in_form, in_form}
 use Rattle.fair_rows.specs.turn_rows.Texts.{journal_text}
 use Rattle.fair_samples.proofs.AmountRows.{called_on, currents_met, finals_met, one_digit, payments_met, printed, purses_met, served_on, slots_met}
 use Rattle.fair_samples.proofs.All.{all_but, tested}
+use Rattle.fair_rows.specs.turn_rows.Editions.{written}
 
 -- the sentences that speak of amounts that are answered
 abbrev of_amounts : Sentence → Bool
@@ -224,5 +225,5 @@ formed : are_in_form example ≡ true
 unfolding digits
 formed = refl
 
-pub example_is_journal : IsFairJournal (journal_text example 0) example 0
+pub example_is_journal : IsFairJournal written (journal_text written example 0) example 0
 example_is_journal = record { text = refl; form = in_form example 0 formed refl refl; fair = example_is_fair }

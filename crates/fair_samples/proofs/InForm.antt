@@ -23,6 +23,7 @@ use Rattle.fair_rows.specs.turn_rows.Kinds.{How, Kind}
 use Rattle.fair_rows.specs.turn_rows.Rows.{rows_of}
 use Rattle.fair_rows.specs.turn_rows.Turns.{Answer, Call, Element, Event, ExitRule, KeywordAmount, Opening, SeatExit, Turn, Value, after_deadline, broken, called, counted, elements, exited, fulfilled, key, moved, number, ok, on_demand, opened, refused, settled, spent, threw, waived, Payout}
 use Rattle.fair_samples.proofs.Printed.{each_so, every}
+use Rattle.fair_rows.specs.turn_rows.Editions.{written}
 
 -- ---- texts
 
@@ -363,23 +364,23 @@ abbrev has_value : Value → Bool
 has_value (number n) = nat_le n nat_bound
 has_value (elements es) = are_elements es
 
-value_is : (v : Value) → has_value v ≡ true → HasValueForm v
-value_is (number n) h = leb-true n nat_bound h
+value_is : (v : Value) → has_value v ≡ true → HasValueForm written v
+value_is (number n) h = omega (arith, leb-true n nat_bound h)
 value_is (elements es) h = elements_are es h
 
 abbrev has_amount : KeywordAmount → Bool
 has_amount a = is_keyword a.keyword && (nat_lt a.brand brands_end && has_value a.value)
 
-amount_is : (a : KeywordAmount) → has_amount a ≡ true → HasAmountForm a
+amount_is : (a : KeywordAmount) → has_amount a ≡ true → HasAmountForm written a
 amount_is a h = let t = three (is_keyword a.keyword) (nat_lt a.brand brands_end) (has_value a.value) (λ e. e) (ltb-true a.brand brands_end) (value_is a.value) h in record { keyword = t.0; brand = t.1; value = t.2 }
 
 abbrev are_amounts : List KeywordAmount → Bool
 are_amounts amounts = list_all has_amount amounts && is_rising (map (λ (a : KeywordAmount). a.keyword) amounts)
 
-amounts_are : (amounts : List KeywordAmount) → are_amounts amounts ≡ true → AreAmounts amounts
+amounts_are : (amounts : List KeywordAmount) → are_amounts amounts ≡ true → AreAmounts written amounts
 amounts_are amounts h =
     let p = and_parts (list_all has_amount amounts) (is_rising (map (λ (a : KeywordAmount). a.keyword) amounts)) h in
-    record { each = each_so (λ a. has_amount a ≡ true) HasAmountForm amount_is amounts (every has_amount amounts p.0); rising = rising_is (map (λ (a : KeywordAmount). a.keyword) amounts) p.1 }
+    record { each = each_so (λ a. has_amount a ≡ true) (HasAmountForm written) amount_is amounts (every has_amount amounts p.0); rising = rising_is (map (λ (a : KeywordAmount). a.keyword) amounts) p.1 }
 
 abbrev has_holder : Holder → Bool
 has_holder (Purse n) = nat_lt n objects_end
@@ -409,7 +410,7 @@ rule_is (after_deadline time) h = ltb-true time times_end h
 abbrev has_opening : Opening → Bool
 has_opening o = (nat_lt o.seat objects_end && nat_lt o.instance objects_end) && (are_amounts o.give && (are_amounts o.want && (nat_le (length (o.give ++ o.want)) most_keywords && has_rule o.exit)))
 
-opening_is : (o : Opening) → has_opening o ≡ true → HasOpeningForm o
+opening_is : (o : Opening) → has_opening o ≡ true → HasOpeningForm written o
 opening_is o h =
     let p = and_parts (nat_lt o.seat objects_end && nat_lt o.instance objects_end) _ h in
     let q = and_parts (nat_lt o.seat objects_end) (nat_lt o.instance objects_end) p.0 in
@@ -432,7 +433,7 @@ has_event (exited x) = has_exit x
 has_event (settled p (fulfilled d)) = nat_lt p objects_end && is_data d
 has_event (settled p (broken d)) = nat_lt p objects_end && is_data d
 
-event_is : (e : Event) → has_event e ≡ true → HasEventForm e
+event_is : (e : Event) → has_event e ≡ true → HasEventForm written e
 event_is (called c) h = call_form_is c h
 event_is (opened o) h = opening_is o h
 event_is (moved m) h = four (nat_lt m.brand brands_end) (has_holder m.from) (has_holder m.to) (has_value m.value) (ltb-true m.brand brands_end) (holder_is m.from) (holder_is m.to) (value_is m.value) h
@@ -462,15 +463,15 @@ stands runs _ h = tt
 
 abbrev turn_form : Turn → Bool
 turn_form t = (nat_lt t.number (2 ^ 64) && (delivered t.kind t.by t.on t.method t.arguments && (are_data t.arguments && answers t.kind t.answer)))
-    && ((has_answer t.answer && list_all (λ row. nat_le (depth row) max_depth) (rows_of t)) && (list_all has_event t.events && (list_all (may_stand (runs_function t.kind t.answer)) t.events && list_all has_sum t.sums)))
+    && ((has_answer t.answer && list_all (λ row. nat_le (depth row) max_depth) (rows_of written t)) && (list_all has_event t.events && (list_all (may_stand (runs_function t.kind t.answer)) t.events && list_all has_sum t.sums)))
 
-turn_form_is : (t : Turn) → turn_form t ≡ true → IsInForm t
+turn_form_is : (t : Turn) → turn_form t ≡ true → IsInForm written t
 turn_form_is t h =
     let p = and_parts (nat_lt t.number (2 ^ 64) && (delivered t.kind t.by t.on t.method t.arguments && (are_data t.arguments && answers t.kind t.answer))) _ h in
     let f = four (nat_lt t.number (2 ^ 64)) (delivered t.kind t.by t.on t.method t.arguments) (are_data t.arguments) (answers t.kind t.answer) (ltb-true t.number (2 ^ 64)) (delivered_is t.kind t.by t.on t.method t.arguments) (data_are t.arguments) (answers_are t.kind t.answer) p.0 in
-    let q = and_parts (has_answer t.answer && list_all (λ row. nat_le (depth row) max_depth) (rows_of t)) _ p.1 in
-    let r = and_parts (has_answer t.answer) (list_all (λ row. nat_le (depth row) max_depth) (rows_of t)) q.0 in
-    let g = three (list_all has_event t.events) (list_all (may_stand (runs_function t.kind t.answer)) t.events) (list_all has_sum t.sums) (λ i. each_so (λ e. has_event e ≡ true) HasEventForm event_is t.events (every has_event t.events i)) (λ i. each_so (λ e. may_stand (runs_function t.kind t.answer) e ≡ true) (MayStand (runs_function t.kind t.answer)) (stands (runs_function t.kind t.answer)) t.events (every (may_stand (runs_function t.kind t.answer)) t.events i)) (λ i. each_so (λ s. has_sum s ≡ true) HasSumForm sum_is t.sums (every has_sum t.sums i)) q.1 in
+    let q = and_parts (has_answer t.answer && list_all (λ row. nat_le (depth row) max_depth) (rows_of written t)) _ p.1 in
+    let r = and_parts (has_answer t.answer) (list_all (λ row. nat_le (depth row) max_depth) (rows_of written t)) q.0 in
+    let g = three (list_all has_event t.events) (list_all (may_stand (runs_function t.kind t.answer)) t.events) (list_all has_sum t.sums) (λ i. each_so (λ e. has_event e ≡ true) (HasEventForm written) event_is t.events (every has_event t.events i)) (λ i. each_so (λ e. may_stand (runs_function t.kind t.answer) e ≡ true) (MayStand (runs_function t.kind t.answer)) (stands (runs_function t.kind t.answer)) t.events (every (may_stand (runs_function t.kind t.answer)) t.events i)) (λ i. each_so (λ s. has_sum s ≡ true) HasSumForm sum_is t.sums (every has_sum t.sums i)) q.1 in
     record {
       number = f.0;
       delivered = f.1;
@@ -480,11 +481,11 @@ turn_form_is t h =
       events = g.0;
       calls = g.1;
       sums = g.2;
-      nesting = each_so (λ row. nat_le (depth row) max_depth ≡ true) (λ row. depth row ≤ max_depth) (λ row e. leb-true (depth row) max_depth e) (rows_of t) (every (λ row. nat_le (depth row) max_depth) (rows_of t) r.1);
+      nesting = each_so (λ row. nat_le (depth row) max_depth ≡ true) (λ row. depth row ≤ max_depth) (λ row e. leb-true (depth row) max_depth e) (rows_of written t) (every (λ row. nat_le (depth row) max_depth) (rows_of written t) r.1);
     }
 
 abbrev pub are_in_form : List Turn → Bool
 are_in_form ts = list_all turn_form ts
 
-pub in_form : (ts : List Turn) (left : ℕ) → are_in_form ts ≡ true → nat_lt (length ts) (2 ^ 64) ≡ true → nat_lt left (2 ^ 64) ≡ true → AreInForm ts left
-in_form ts left h many few = record { turns = each_so (λ t. turn_form t ≡ true) IsInForm turn_form_is ts (every turn_form ts h); as_many = ltb-true (length ts) (2 ^ 64) many; few = ltb-true left (2 ^ 64) few }
+pub in_form : (ts : List Turn) (left : ℕ) → are_in_form ts ≡ true → nat_lt (length ts) (2 ^ 64) ≡ true → nat_lt left (2 ^ 64) ≡ true → AreInForm written ts left
+in_form ts left h many few = record { turns = each_so (λ t. turn_form t ≡ true) (IsInForm written) turn_form_is ts (every turn_form ts h); as_many = ltb-true (length ts) (2 ^ 64) many; few = ltb-true left (2 ^ 64) few }

@@ -10,6 +10,7 @@ ghost use Rattle.fair_samples.specs.Example.{example};
 ghost use Rattle.fair_samples.specs.Further.{further};
 ghost use Rattle.fair_samples.specs.Samples.{sample};
 ghost use Rattle.fair_samples.specs.Sentences.{Meets, Sentence};
+ghost use Rattle.fair_rows.specs.turn_rows.Editions.{written};
 
 /// A list of turns is fair exactly where it meets each sentence.
 pub fn the_sentences_are_fairness()
@@ -27,7 +28,7 @@ pub fn no_sentence_follows()
 /// a fair journal.
 pub fn every_kind_of_row_is_fair()
     ensures fair { AreFair example }
-    ensures journal { IsFairJournal (journal_text example 0) example 0 }
+    ensures journal { IsFairJournal written (journal_text written example 0) example 0 }
 {}
 
 /// Of balance it is the empty hand alone that is asked: where all movements are defined and the hand is empty after

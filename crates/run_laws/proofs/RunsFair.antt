@@ -28,6 +28,7 @@ use Rattle.message_lines.specs.turn_rows.Turns.{Turn}
 use Rattle.fair_laws.specs.world_state.Rights.{most_turns}
 use Rattle.run_laws.specs.Limits.{AreFairToLimit, CanBePrinted, TellsLittle}
 use Rattle.run_laws.proofs.Little.{steps_tell_little}
+use Rattle.message_lines.specs.turn_rows.Editions.{written}
 
 -- ---- fair turns that lead to a host
 
@@ -122,8 +123,8 @@ module _ (read : TextReader) (gives : ReadsModules read) where
 
   -- ---- the journal
 
-  pub run_journal : (meter most : ℕ) (input : List ℕ) → meter ≤ most_meter → length (turns_of read meter most input) ≤ most_turns → AreInForm (turns_of read meter most input) (left_of read meter most input)
-      → IsFairJournal (journal_of read meter most input) (turns_of read meter most input) (left_of read meter most input)
+  pub run_journal : (meter most : ℕ) (input : List ℕ) → meter ≤ most_meter → length (turns_of read meter most input) ≤ most_turns → AreInForm written (turns_of read meter most input) (left_of read meter most input)
+      → IsFairJournal written (journal_of read meter most input) (turns_of read meter most input) (left_of read meter most input)
   unfolding journal_of
   run_journal meter most input few short form =
       let ts = turns_of read meter most input in

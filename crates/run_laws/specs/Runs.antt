@@ -1,18 +1,20 @@
 -- A run: from the bytes of an input to its turns, and to the journal.
 use Rattle.std.specs.Prelude.{◌≡◌, ◌≤◌, ◌+◌, ℕ, zero, suc, map, List, [], ◌∷◌, ◌++◌, length, Option}
 use Rattle.std.specs.Io.KnownBytes.{Appends}
-use Rattle.std.specs.List.{flat_map}
+use Rattle.std.specs.List.{AllByRecursion, flat_map}
 use Rattle.std.specs.Option.{option_map_or}
 use Rattle.fair_laws.specs.delivery_turns.Hosts.{HostState, Step, step_of, with_line}
 use Rattle.message_lines.specs.InputLines.{lines_of}
 use Rattle.message_lines.specs.Meanings.{Meaning, blank, delivered, meaning_of, run}
 use Rattle.fair_laws.specs.rules.Zoe.{TextReader}
+use Rattle.fair_laws.specs.turn_writer.ShortRows.{HasShortRows}
 use Rattle.message_lines.specs.turn_records.Printed.{printed}
 use Rattle.message_lines.specs.turn_rows.Rows.{close_row, rows_of}
 use Rattle.message_lines.specs.turn_rows.Texts.{journal_text, row_text}
 use Rattle.message_lines.specs.turn_rows.Turns.{Turn}
 use Rattle.fair_laws.specs.world_laws.First.{first_world}
 use Rattle.fair_laws.specs.world_state.Rights.{most_turns}
+use Rattle.message_lines.specs.turn_rows.Editions.{written}
 
 -- the most that a function may cost
 abbrev pub most_meter : ℕ
@@ -89,11 +91,11 @@ left_of read meter most input = left_in (run_of read meter most input).end
 -- the journal of a run
 unfoldable pub journal_of : TextReader → ℕ → ℕ → List ℕ → List ℕ
 journal_of read meter most input =
-    journal_text (turns_of read meter most input) (left_of read meter most input)
+    journal_text written (turns_of read meter most input) (left_of read meter most input)
 
 -- the rows of a turn, and of turns
 abbrev pub turn_text : Turn → List ℕ
-turn_text t = flat_map row_text (rows_of t)
+turn_text t = flat_map row_text (rows_of written t)
 
 abbrev pub turns_text : List Turn → List ℕ
 turns_text ts = flat_map turn_text ts
@@ -102,11 +104,12 @@ turns_text ts = flat_map turn_text ts
 abbrev pub close_text : HostState → List ℕ
 close_text s = row_text (close_row (left_in s) s.turns)
 
--- the rows of the first turns were appended, whole, and nothing else
+-- the rows of the first turns were appended, whole and none too long, and nothing else
 pub record AppendsTurns (old new : Option (List ℕ)) (turns : List Turn) : Type 0 where
   pub first : List Turn
   pub later : List Turn
   pub whole : turns ≡ first ++ later
+  pub short : AllByRecursion HasShortRows first
   pub appended : Appends old new (turns_text first)
 
 -- those of the first turns, up to the last that may be run and no further, where another is left
@@ -116,4 +119,5 @@ pub record AppendsToLimit (old new : Option (List ℕ)) (before : ℕ) (turns : 
   pub whole : turns ≡ first ++ later
   pub last : before + length first ≡ most_turns
   pub more : 1 ≤ length later
+  pub short : AllByRecursion HasShortRows first
   pub appended : Appends old new (turns_text first)

@@ -11,6 +11,7 @@ ghost use Rattle.run_laws.specs.Runs.{HostTurn, journal_of, left_of, most_meter,
 ghost use Rattle.fair_laws.specs.rules.Zoe.{ReadsModules, TextReader};
 ghost use Rattle.message_lines.specs.turn_rows.Form.{AreInForm};
 ghost use Rattle.fair_laws.specs.world_state.Rights.{most_turns};
+ghost use Rattle.message_lines.specs.turn_rows.Editions.{written};
 
 /// The turns of a run are fair, up to the last that may be run, where what is read of texts are modules
 /// that can be installed; and one that was refused, or spent its meter, tells little.
@@ -42,7 +43,7 @@ pub fn journals_of_runs_are_fair()
     ensures journal { (read : TextReader) (meter most : ℕ) (input : List ℕ)
         → ReadsModules read → meter ≤ most_meter
         → length (turns_of read meter most input) ≤ most_turns
-        → AreInForm (turns_of read meter most input) (left_of read meter most input)
-        → IsFairJournal (journal_of read meter most input) (turns_of read meter most input)
+        → AreInForm written (turns_of read meter most input) (left_of read meter most input)
+        → IsFairJournal written (journal_of read meter most input) (turns_of read meter most input)
         (left_of read meter most input) }
 {}

@@ -9,6 +9,7 @@ use Rattle.run_laws.specs.delivery_turns.Hosts.{HostState, Step, step_from, step
 use Rattle.host_io.specs.Fronts.{AppendsFront}
 use Rattle.host_turns.specs.turn_records.Views.{turn_view}
 use Rattle.run_laws.specs.turn_writer.Printing.{CanPrint}
+use Rattle.run_laws.specs.turn_writer.ShortRows.{HasShortRows}
 use Rattle.host_turns.specs.turn_rows.Form.{IsInForm}
 use Rattle.host_turns.specs.turn_records.declared.turns.TurnRecord.{TurnRecord}
 use Rattle.host_turns.specs.turn_records.Deliveries.{Delivery}
@@ -25,6 +26,7 @@ use Rattle.host_turns.specs.declared.steps.StepFault.TheVariants as step
 use Rattle.top_call.specs.declared.run.RunFault.{RunFault}
 use Rattle.top_call.specs.declared.run.RunFault.TheVariants as fault
 use Rattle.top_call.proofs.TurnTexts.{Written, failed_next, limit_left, written_all, written_more}
+use Rattle.host_turns.specs.turn_rows.Editions.{written}
 
 -- ---- the rows of the next turn
 
@@ -44,10 +46,10 @@ pub stepped_none : (old new : HostState) (stepped : Option TurnRecord) → stepp
 stepped_none old new stepped e h = let P : Option TurnRecord → Type 0 = λ o. IsStep old new (Ok o) in subst P e h
 
 pub turn_text_of : (old new : HostState) (turn : TurnRecord) (stepped : Option TurnRecord) (text : List ℕ) → stepped ≡ Some turn → IsStep old new (Ok stepped) → text ≡ turn_text (printed (turn_view turn))
-    → (CanPrint (turn_view turn) → IsInForm (printed (turn_view turn))) → IsTurnText old new text
-turn_text_of old new turn stepped text e h is form =
+    → (CanPrint (turn_view turn) → IsInForm written (printed (turn_view turn))) → HasShortRows (printed (turn_view turn)) → IsTurnText old new text
+turn_text_of old new turn stepped text e h is form short =
     let made = stepped_some old new turn stepped e h in
-    record { turn = turn_view turn; step = made.step; early = made.early; text = is; form = form }
+    record { turn = turn_view turn; step = made.step; early = made.early; text = is; form = form; short = short }
 
 -- what a drain meets
 
@@ -110,8 +112,8 @@ module _ (all : List Turn) (n k : ℕ) (s : HostState) (old mid : Option (List �
       next : Written all (printed t.turn ∷ turns_in (drained reader m t.next)) n s.turns old mid
       next = rw (left, drained_more m s t is) at h
 
-      pub drain_turn : Appends mid new (turn_text (printed t.turn)) → TurnsLeft all n m t.next old new
-      drain_turn more = written_more all (printed t.turn ∷ []) (turns_in (drained reader m t.next)) n s.turns t.next.turns old mid new next (rw append-nil more) (step_count reader s t is)
+      pub drain_turn : HasShortRows (printed t.turn) → Appends mid new (turn_text (printed t.turn)) → TurnsLeft all n m t.next old new
+      drain_turn short more = written_more all (printed t.turn ∷ []) (turns_in (drained reader m t.next)) n s.turns t.next.turns old mid new next (short, tt) (rw append-nil more) (step_count reader s t is)
 
       pub drain_failed : AppendsFront mid new (turn_text (printed t.turn)) → AppendsFront old new (turns_text all)
       drain_failed f = failed_next all (printed t.turn ∷ []) (turns_in (drained reader m t.next)) n s.turns old mid new next (rw append-nil f)

@@ -64,7 +64,7 @@ module _ (c : Seen) where
 
   -- no turn was written
   no_turns : (ts : List Turn) → c.written.now ≡ c.written.before → AppendsTurns c.written.before c.written.now ts
-  no_turns ts same = record { first = []; later = ts; whole = refl; appended = subst (λ w. Appends c.written.before w []) (sym same) (Appends-nil c.written.before) }
+  no_turns ts same = record { first = []; later = ts; whole = refl; short = tt; appended = subst (λ w. Appends c.written.before w []) (sym same) (Appends-nil c.written.before) }
 
   pub no_memory : c.written.now ≡ c.written.before → IsQuiet c.source → IsQuiet c.sink → IsOutOfMemory c
   no_memory same source sink = record {
@@ -95,7 +95,7 @@ module _ (c : Seen) where
 
     -- what the run says, the whole call says
     pub says_on : (s : Status) → Says s ran → Says s c
-    says_on Done is = record { completes = told completes (record { journal = is.completes.journal; fair = is.completes.fair; within = is.completes.within }); quiet = record { source = source; sink = is.quiet.sink } }
+    says_on Done is = record { completes = told completes (record { journal = is.completes.journal; fair = is.completes.fair; short = is.completes.short; within = is.completes.within }); quiet = record { source = source; sink = is.quiet.sink } }
     says_on WriteFault is = record { breaks_off = told breaks (record { front = is.breaks_off.front; bytes = is.breaks_off.bytes }); source = source; sink = is.sink }
     says_on TurnLimit is = record { stops = told stops (record { turns = is.stops.turns; past = is.stops.past }); quiet = record { source = source; sink = is.quiet.sink } }
     says_on NoMemory is = record { turns = told first_turns is.turns; quiet = record { source = source; sink = is.quiet.sink } }

@@ -9,11 +9,13 @@ use Rattle.run_laws.specs.fair_rows.Turns.{IsFairJournal}
 use Rattle.host_io.specs.Causes.{Rose}
 use Rattle.host_io.specs.Fronts.{AppendsFront}
 use Rattle.run_laws.specs.Runs.{AppendsToLimit, AppendsTurns, journal_of, left_of, turns_of}
+use Rattle.run_laws.specs.turn_writer.ShortRows.{HasShortJournal}
 use Rattle.run_laws.specs.message_lines.InputLines.{is_too_long}
 use Rattle.host_turns.specs.turn_rows.Turns.{Turn}
 use Rattle.host_turns.specs.world_state.Rights.{most_turns}
 use Rattle.top_call.specs.declared.top.Status.{Status}
 use Rattle.top_call.specs.declared.top.Status.TheVariants.{Done, Usage, ReadFault, WriteFault, NoMemory, TurnLimit, TooLong}
+use Rattle.host_turns.specs.turn_rows.Editions.{written}
 
 -- the exit status
 abbrev pub exit_code : Status → ℕ
@@ -91,10 +93,12 @@ pub record IsPast (o : Options) (input : List ℕ) : Type 0 where
 
 -- ---- what each status says
 
--- the journal of the input was written, which passes no limit; it is the text of a fair journal, of turns in form
+-- the journal of the input was written, which passes no limit; it is the text of a fair journal, of turns in form, and
+-- none of its rows is too long
 pub record Completes (c : Seen) (input : List ℕ) : Type 0 where
   pub journal : Appends c.written.before c.written.now (journal_for c input)
-  pub fair : IsFairJournal (journal_for c input) (turns_for c input) (left_for c input)
+  pub fair : IsFairJournal written (journal_for c input) (turns_for c input) (left_for c input)
+  pub short : HasShortJournal (turns_for c input) (left_for c input)
   pub within : IsWithin c.options input
 
 pub record IsDone (c : Seen) : Type 0 where
@@ -121,7 +125,7 @@ pub record IsWriteFault (c : Seen) : Type 0 where
   pub source : IsQuiet c.source
   pub sink : HasRisen c.sink
 
--- memory ran out, and the rows of the first turns were written, whole
+-- memory ran out, or a row would be too long, and the rows of the first turns were written, whole
 pub record IsOutOfMemory (c : Seen) : Type 0 where
   pub turns : IfSome c.held
       (λ input. AppendsTurns c.written.before c.written.now (turns_for c input))

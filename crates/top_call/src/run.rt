@@ -18,8 +18,11 @@ ghost use Rattle.run_laws.specs.message_lines.Meanings.{meaning_of};
 ghost use Rattle.host_turns.specs.turn_records.Views.{turn_view};
 ghost use Rattle.run_laws.specs.turn_writer.Printing.{CanPrint};
 ghost use Rattle.host_turns.specs.turn_records.Printed.{printed};
+ghost use Rattle.run_laws.specs.turn_writer.ShortRows.{HasShortJournal, HasShortRows, IsShortRow};
 ghost use Rattle.host_turns.specs.turn_rows.Form.{IsInForm};
+ghost use Rattle.host_turns.specs.turn_rows.Rows.{close_row};
 ghost use Rattle.host_turns.specs.world_state.Rights.{most_turns};
+ghost use Rattle.host_turns.specs.turn_rows.Editions.{written};
 
 use host_io::{Failed, Sink, write_all};
 use host_turns::contract_powers_lib::planner::Planner;
@@ -72,7 +75,8 @@ fn write<K: Sink>(sink: &mut K, text: &str) -> Result<(), RunFault>
 /// The rows of a turn, which is let go.
 fn text_of(alloc: Global, turn: TurnRecord) -> Result<String, AllocError>
     ensures text { IfOk result (λ text. string_bytes text ≡ turn_text (printed (turn_view turn))) }
-    ensures form { CanPrint (turn_view turn) → IsInForm (printed (turn_view turn)) }
+    ensures form { CanPrint (turn_view turn) → IsInForm written (printed (turn_view turn)) }
+    ensures short { IfOk result (λ _. HasShortRows (printed (turn_view turn))) }
 {
     is_in_form(&turn);
     let text = write_turn(alloc, &turn);
@@ -212,6 +216,8 @@ fn close<P: Planner, K: Sink>(alloc: Global, host: &Host<P>, sink: &mut K) -> Re
     ensures quiet { (IsErrOf result RunFault.Failed → ⊥)
         → K.faults sink.new ≡ K.faults sink.old }
     ensures left { OnOk result (left_in (host_of host.now) < 2 ^ 64) }
+    ensures short { let host = host_of host.now in
+        OnOk result (IsShortRow (close_row (left_in host) host.turns)) }
 {
     let Ok(text) = write_close(alloc, host.waiting(), host.turns()) else {
         return Err(RunFault::NoMemory);
@@ -247,7 +253,10 @@ pub fn run_input<P: Planner, K: Sink>(
     // It is the text of a fair journal: of turns in form, which are fair, with so many deliveries left.
     ensures fair { let turns = turns_of reader meter most input.now in
         let left = left_of reader meter most input.now in
-        OnOk result (IsFairJournal (journal_of reader meter most input.now) turns left) }
+        OnOk result (IsFairJournal written (journal_of reader meter most input.now) turns left) }
+    // No row of it is too long.
+    ensures short { let turns = turns_of reader meter most input.now in
+        OnOk result (HasShortJournal turns (left_of reader meter most input.now)) }
 {
     let Ok(mut host) = Host::<P>::new(alloc, meter) else {
         return Err(RunFault::NoMemory);

@@ -17,13 +17,14 @@ use Rattle.turn_records.specs.Turns.{Turn}
 use Rattle.turn_records.proofs.Parts.{answer_is, call_form, data_are, delivered_is, settlement_is}
 use Rattle.turn_records.proofs.Ordered.{payout_keywords, payout_numbers, payouts_each, payouts_rise, shares_are, shares_count}
 use Rattle.turn_records.proofs.Nested.{answer_depth, event_depth, trees_depth}
+use Rattle.turn_rows.specs.Editions.{written}
 
 rule_is : (e : offered.Exit) → IsTellableRule e → HasExitRuleForm (printed_rule e)
 rule_is OnDemand h = tt
 rule_is Waived h = tt
 rule_is (AfterDeadline t) h = h
 
-opening_is : (o : Opening) → IsTellableOpening o → HasOpeningForm (printed_opening o)
+opening_is : (o : Opening) → IsTellableOpening o → HasOpeningForm written (printed_opening o)
 opening_is o h = record {
   seat = h.seat;
   instance = h.instance;
@@ -41,14 +42,14 @@ exit_is x h = record {
   rising = payouts_rise x.payouts;
 }
 
-event_is : (e : Event) → IsTellableEvent e → HasEventForm (printed_event e)
+event_is : (e : Event) → IsTellableEvent e → HasEventForm written (printed_event e)
 event_is (called c) h = call_form c h
 event_is (opened o) h = opening_is o h
 event_is (moved m) h = (h.brand, h.from, h.to, value_form m.value h.value.value h.value.texts)
 event_is (exited x) h = exit_is x h
 event_is (settled n s) h = (h.0, settlement_is s h.1)
 
-events_are : (es : List Event) → AllByRecursion IsTellableEvent es → AllByRecursion HasEventForm (map printed_event es)
+events_are : (es : List Event) → AllByRecursion IsTellableEvent es → AllByRecursion (HasEventForm written) (map printed_event es)
 events_are [] h = tt
 events_are (e ∷ es) h = (event_is e h.0, events_are es h.1)
 
@@ -56,18 +57,18 @@ calls_stand : (runs : Bool) (es : List Event) → AllByRecursion (λ e. MayStand
 calls_stand runs [] h = tt
 calls_stand runs (e ∷ es) h = (h.0, calls_stand runs es h.1)
 
-sums_shallow : (ss : List Sum) → AllByRecursion (λ row. depth row ≤ max_depth) (map sum_row ss)
+sums_shallow : (ss : List Sum) → AllByRecursion (λ row. depth row ≤ max_depth) (map (sum_row written) ss)
 sums_shallow [] = tt
 sums_shallow (s ∷ ss) = (omega arith, sums_shallow ss)
 
-rows_shallow : (es : List Event) (ss : List Sum) → AllByRecursion IsTellableEvent es → AllByRecursion (λ row. depth row ≤ max_depth) (map event_row (map printed_event es) ++ map sum_row ss)
+rows_shallow : (es : List Event) (ss : List Sum) → AllByRecursion IsTellableEvent es → AllByRecursion (λ row. depth row ≤ max_depth) (map event_row (map printed_event es) ++ map (sum_row written) ss)
 rows_shallow [] ss h = sums_shallow ss
 rows_shallow (e ∷ es) ss h = (event_depth e h.0, rows_shallow es ss h.1)
 
 turn_shallow : (t : Turn) → IsTellable t → depth (turn_row (printed t)) ≤ max_depth
 turn_shallow t h = omega (arith, answer_depth t.answer h.answer, trees_depth (trees_of t.delivery t.reading) h.arguments)
 
-pub in_form : (t : Turn) → IsTellable t → IsInForm (printed t)
+pub in_form : (t : Turn) → IsTellable t → IsInForm written (printed t)
 in_form t h = record {
   number = h.number;
   delivered = delivered_is t.delivery t.reading h.read h.delivery h.reading;

@@ -17,6 +17,7 @@ use Rattle.turn_rows.specs.Rows.{amount_json, amounts_json, payment_name, payout
 use Rattle.turn_rows.specs.Turns.{KeywordAmount, Payout}
 use Rattle.turn_records.specs.Printed.{printed_payouts, printed_share, printed_shares}
 use Rattle.turn_records.specs.Tellable.{IsTellablePayout, IsTellableShare}
+use Rattle.turn_rows.specs.Editions.{written}
 
 none_sorted : IsStrictlySortedBy key_cmp []
 unfolding IsStrictlySortedBy
@@ -41,24 +42,24 @@ shares_rise : (rs : List Share) → IsStrictlySortedBy key_cmp (map (λ a. a.key
 shares_rise [] = none_sorted
 shares_rise (r ∷ rs) = amounts_rise (printed_share r) (printed_shares rs) (shares_rise rs)
 
-share_is : (r : Share) → IsTellableShare r → HasAmountForm (printed_share r)
+share_is : (r : Share) → IsTellableShare r → HasAmountForm written (printed_share r)
 share_is r h = record { keyword = h.keyword; brand = h.brand; value = value_form r.amount.value h.value.value h.value.texts }
 
-put_each : (o : Ordering) (r u : KeywordAmount) (us vs : List KeywordAmount) → HasAmountForm r → AllByRecursion HasAmountForm (u ∷ us) → AllByRecursion HasAmountForm vs
-    → AllByRecursion HasAmountForm (match_ordering o (r ∷ u ∷ us) (record r { keyword = u.keyword } ∷ us) (u ∷ vs))
+put_each : (o : Ordering) (r u : KeywordAmount) (us vs : List KeywordAmount) → HasAmountForm written r → AllByRecursion (HasAmountForm written) (u ∷ us) → AllByRecursion (HasAmountForm written) vs
+    → AllByRecursion (HasAmountForm written) (match_ordering o (r ∷ u ∷ us) (record r { keyword = u.keyword } ∷ us) (u ∷ vs))
 put_each Less r u us vs is h more = (is, h)
 put_each Equal r u us vs is h more = (record { keyword = h.0.keyword; brand = is.brand; value = is.value }, h.1)
 put_each Greater r u us vs is h more = (h.0, more)
 
-amounts_put : (r : KeywordAmount) (rs : List KeywordAmount) → HasAmountForm r → AllByRecursion HasAmountForm rs → AllByRecursion HasAmountForm (put_amount r rs)
+amounts_put : (r : KeywordAmount) (rs : List KeywordAmount) → HasAmountForm written r → AllByRecursion (HasAmountForm written) rs → AllByRecursion (HasAmountForm written) (put_amount r rs)
 amounts_put r [] is h = (is, tt)
 amounts_put r (u ∷ us) is h = put_each (slice_cmp nat_cmp r.keyword u.keyword) r u us (put_amount r us) is h (amounts_put r us is h.1)
 
-shares_each : (rs : List Share) → AllByRecursion IsTellableShare rs → AllByRecursion HasAmountForm (printed_shares rs)
+shares_each : (rs : List Share) → AllByRecursion IsTellableShare rs → AllByRecursion (HasAmountForm written) (printed_shares rs)
 shares_each [] h = tt
 shares_each (r ∷ rs) h = amounts_put (printed_share r) (printed_shares rs) (share_is r h.0) (shares_each rs h.1)
 
-pub shares_are : (rs : List Share) → AllByRecursion IsTellableShare rs → AreAmounts (printed_shares rs)
+pub shares_are : (rs : List Share) → AllByRecursion IsTellableShare rs → AreAmounts written (printed_shares rs)
 shares_are rs h = record { each = shares_each rs h; rising = shares_rise rs }
 
 put_count : (o : Ordering) (r u v : KeywordAmount) (us vs : List KeywordAmount) → length vs ≤ suc (length us) → length (match_ordering o (r ∷ u ∷ us) (v ∷ us) (u ∷ vs)) ≤ suc (suc (length us))

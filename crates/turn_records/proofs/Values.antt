@@ -28,6 +28,7 @@ use Rattle.refusals.specs.host_data.Values.{content_tree, counted_tree, key_tree
 use Rattle.turn_rows.specs.Rows.{elements_json, number_json, value_json}
 use Rattle.turn_records.specs.PrintedData.{printed, printed_items, printed_number}
 use Rattle.turn_records.specs.Values.{counted_element, key_element, printed_content, printed_value}
+use Rattle.turn_rows.specs.Editions.{written}
 
 number_alike : (n : ℕ) (b : Bool) → nat_lt n (2 ^ 63) ≡ b → number_json n ≡ printed_number (pos n)
 number_alike n true low = rw low refl
@@ -117,10 +118,10 @@ bag_form c bag told =
       few = omega (arith, length-map (entries c) counted_element, fin.len-entries c.held, bag.keyed.few);
     }
 
-content_form : (kind : Kind) (c : Content) → IsValue kind c → HasTexts c → HasValueForm (printed_content kind c)
-content_form Nat c is told = is.fits.each unit
+content_form : (kind : Kind) (c : Content) → IsValue kind c → HasTexts c → HasValueForm written (printed_content kind c)
+content_form Nat c is told = omega (arith, is.fits.each unit)
 content_form Set c is told = set_form c is told
 content_form Bag c is told = bag_form c is told
 
-pub value_form : (w : ValueView) → IsValue w.kind w.content → HasTexts w.content → HasValueForm (printed_value w)
+pub value_form : (w : ValueView) → IsValue w.kind w.content → HasTexts w.content → HasValueForm written (printed_value w)
 value_form w is told = content_form w.kind w.content is told

@@ -5,6 +5,9 @@ use Rattle.rights_model.specs.declared.Sum.{Sum}
 use Rattle.turn_rows.proofs.Ranges.{IsPlainAnswer, IsPlainEvent, IsPlainSettlement, IsPlainTurn}
 use Rattle.turn_rows.specs.Rows.{amounts_json, answer_json, close_row, elements_json, event_row, exit_rule_json, number_json, payouts_json, rows_of, settlement_json, sum_row, value_json}
 use Rattle.turn_rows.proofs.Ranges.{ArePlain, ArePlainMembers, IsPlain}
+use Rattle.turn_rows.specs.Editions.{version_rows}
+use Rattle.turn_rows.specs.declared.editions.Edition.{Edition}
+use Rattle.turn_rows.specs.declared.editions.Edition.TheVariants.{First, Second}
 use Rattle.turn_rows.specs.Turns.{Answer, Element, Event, ExitRule, Payout, KeywordAmount, Settlement, Turn, Value, after_deadline, broken, called, counted, elements, fulfilled, key, exited, moved, number, ok, on_demand, opened, refused, settled, spent, threw, waived}
 
 number_by : (n : ℕ) (b : Bool) → nat_lt n (2 ^ 63) ≡ b → IsPlain (number_json n)
@@ -53,16 +56,24 @@ plain_event (moved m) h = (tt, (tt, (tt, (tt, (plain_value m.value, tt)))))
 plain_event (exited x) h = (tt, (plain_payouts x.payouts, (tt, (h, tt))))
 plain_event (settled promise s) h = (h.0, (tt, (plain_settlement s h.1, tt)))
 
-plain_sums : (ss : List Sum) → AllByRecursion IsPlain (map sum_row ss)
-plain_sums [] = tt
-plain_sums (s ∷ ss) = ((tt, (tt, (tt, (tt, (tt, (tt, (tt, tt))))))), plain_sums ss)
+plain_sum : (d : Edition) (s : Sum) → IsPlain (sum_row d s)
+plain_sum First s = (tt, (tt, (tt, (tt, (tt, (tt, (tt, tt)))))))
+plain_sum Second s = (tt, (tt, (tt, (tt, (tt, (tt, (tt, (tt, tt))))))))
 
-plain_events : (es : List Event) (ss : List Sum) → AllByRecursion IsPlainEvent es → AllByRecursion IsPlain (map event_row es ++ map sum_row ss)
-plain_events [] ss h = plain_sums ss
-plain_events (e ∷ es) ss h = (plain_event e h.0, plain_events es ss h.1)
+plain_sums : (d : Edition) (ss : List Sum) → AllByRecursion IsPlain (map (sum_row d) ss)
+plain_sums d [] = tt
+plain_sums d (s ∷ ss) = (plain_sum d s, plain_sums d ss)
 
-pub plain_turn : (t : Turn) → IsPlainTurn t → AllByRecursion IsPlain (rows_of t)
-plain_turn t h = ((plain_answer t.answer h.answer, (h.arguments, (tt, (tt, (tt, (h.number, (tt, (tt, tt)))))))), plain_events t.events t.sums h.events)
+plain_events : (d : Edition) (es : List Event) (ss : List Sum) → AllByRecursion IsPlainEvent es → AllByRecursion IsPlain (map event_row es ++ map (sum_row d) ss)
+plain_events d [] ss h = plain_sums d ss
+plain_events d (e ∷ es) ss h = (plain_event e h.0, plain_events d es ss h.1)
+
+pub plain_turn : (d : Edition) (t : Turn) → IsPlainTurn t → AllByRecursion IsPlain (rows_of d t)
+plain_turn d t h = ((plain_answer t.answer h.answer, (h.arguments, (tt, (tt, (tt, (h.number, (tt, (tt, tt)))))))), plain_events d t.events t.sums h.events)
 
 pub plain_close : (left turns : ℕ) → left < 2 ^ 64 → turns < 2 ^ 64 → IsPlain (close_row left turns)
 plain_close left turns first second = (first, (tt, (second, tt)))
+
+pub plain_version : (d : Edition) → AllByRecursion IsPlain (version_rows d)
+plain_version First = tt
+plain_version Second = ((tt, (omega arith, tt)), tt)

@@ -6,6 +6,7 @@ use Rattle.rights_model.specs.declared.Holder.{Holder}
 use Rattle.rights_model.specs.declared.Holder.TheVariants as holders
 use Rattle.rights_model.specs.declared.Sum.{Sum}
 use Rattle.turn_rows.specs.Texts.{journal_rows}
+use Rattle.turn_rows.specs.declared.editions.Edition.{Edition}
 use Rattle.turn_rows.specs.Turns.{Answer, Element, key, counted, Value, number, elements, KeywordAmount, ExitRule, on_demand, waived, after_deadline, Opening, Payout, Event, called, opened, moved, exited, settled, Settlement, fulfilled, broken, Turn, ok, refused, threw, spent}
 
 abbrev pub IsPlainNumber : json.Num → Type 0
@@ -88,8 +89,8 @@ pub record IsTurn (t : Turn) : Type 0 where
   pub events : AllByRecursion IsEvent t.events
   pub sums : AllByRecursion IsSum t.sums
 
-pub record IsJournal (ts : List Turn) (left : ℕ) : Type 0 where
-  pub rows : AllByRecursion IsPlain (journal_rows ts left)
+pub record IsJournal (e : Edition) (ts : List Turn) (left : ℕ) : Type 0 where
+  pub rows : AllByRecursion IsPlain (journal_rows e ts left)
   pub turns : AllByRecursion IsTurn ts
 
 -- ---- turns whose rows are plain

@@ -13,6 +13,9 @@ use Rattle.turn_rows.specs.Kinds as kinds
 use Rattle.turn_rows.specs.Kinds.{How, how_word, Kind, kind_word}
 use Rattle.turn_rows.specs.Rows.{amounts_json, answer_json, call_row, element_json, elements_json, event_row, exit_rule_json, exit_row, move_row, number_json, open_row, payouts_json, rows_of, settlement_json, sum_row, turn_row, value_json}
 use Rattle.turn_rows.specs.Texts.{journal_rows, journal_text, row_text}
+use Rattle.turn_rows.specs.Editions.{version_rows}
+use Rattle.turn_rows.specs.declared.editions.Edition.{Edition}
+use Rattle.turn_rows.specs.declared.editions.Edition.TheVariants.{First, Second}
 use Rattle.turn_rows.proofs.Ranges.{IsElement, IsEvent, IsExitRule, IsJournal, IsOpening, IsPayout, IsPlain, IsAmount, IsSum, IsTurn, IsValue, IsWide}
 use Rattle.turn_rows.specs.Turns.{Answer, ok, refused, threw, spent, Call, Element, key, counted, Value, number, elements, KeywordAmount, ExitRule, on_demand, waived, after_deadline, Opening, Move, Payout, SeatExit, Settlement, fulfilled, broken, Event, called, opened, moved, exited, settled, Turn}
 use Rattle.turn_rows.proofs.Feeds.{no_feed, slice_split-row}
@@ -118,8 +121,8 @@ event_read (moved m) h = ap moved (move_read m h)
 event_read (exited x) h = ap exited (seat_exit_read x h)
 event_read (settled promise s) h = ap (settled promise) (settlement_read s)
 
-pub sum_read : (s : Sum) → IsSum s → sum_in (sum_row s) ≡ s
-sum_read s h = rw (brand_read s.brand h.brand, value-decimal s.burned h.burned, value-decimal s.minted h.minted, value-decimal s.payments h.payments, value-decimal s.purses h.purses, value-decimal s.slots h.slots) refl
+pub sum_read : (d : Edition) (s : Sum) → IsSum s → sum_in (sum_row d s) ≡ s
+sum_read d s h = rw (brand_read s.brand h.brand, value-decimal s.burned h.burned, value-decimal s.minted h.minted, value-decimal s.payments h.payments, value-decimal s.purses h.purses, value-decimal s.slots h.slots) refl
 
 pub turn_read : (t : Turn) → turn_in (turn_row t) t.events t.sums ≡ t
 turn_read t = rw (kind_read t.kind, answer_read t.answer) refl
@@ -140,16 +143,20 @@ abbrev with_row : json.Data → Later → Later
 with_row row l =
     if bytes_eq (text_in (codes "row") row) (codes "turn") then later [] [] (turn_in row l.events l.sums ∷ l.turns) l.left else
     if bytes_eq (text_in (codes "row") row) (codes "sum") then later l.events (sum_in row ∷ l.sums) l.turns l.left else
-    if bytes_eq (text_in (codes "row") row) (codes "close") then later [] [] [] (whole_in (codes "left") row) else later (event_in row ∷ l.events) l.sums l.turns l.left
+    if bytes_eq (text_in (codes "row") row) (codes "close") then later [] [] [] (whole_in (codes "left") row) else
+    if bytes_eq (text_in (codes "row") row) (codes "version") then l else later (event_in row ∷ l.events) l.sums l.turns l.left
 
 abbrev told_by : List json.Data → Later
 told_by [] = later [] [] [] 0
 told_by (row ∷ rows) = with_row row (told_by rows)
 
-sums_told : (ss : List Sum) (more : List json.Data) (ts : List Turn) (left : ℕ) → AllByRecursion IsSum ss → told_by more ≡ later [] [] ts left
-    → told_by (map sum_row ss ++ more) ≡ later [] ss ts left
-sums_told [] more ts left h is = is
-sums_told (s ∷ ss) more ts left h is = rw (sums_told ss more ts left h.1 is) (ap (λ x. later [] (x ∷ ss) ts left) (sum_read s h.0))
+with_sum : (d : Edition) (s : Sum) (l : Later) → with_row (sum_row d s) l ≡ later l.events (sum_in (sum_row d s) ∷ l.sums) l.turns l.left
+with_sum d s l = refl
+
+sums_told : (d : Edition) (ss : List Sum) (more : List json.Data) (ts : List Turn) (left : ℕ) → AllByRecursion IsSum ss → told_by more ≡ later [] [] ts left
+    → told_by (map (sum_row d) ss ++ more) ≡ later [] ss ts left
+sums_told d [] more ts left h is = is
+sums_told d (s ∷ ss) more ts left h is = rw (sums_told d ss more ts left h.1 is) (with_sum d s (later [] ss ts left) ∙ ap (λ x. later [] (x ∷ ss) ts left) (sum_read d s h.0))
 
 with_event : (e : Event) (l : Later) → with_row (event_row e) l ≡ later (event_in (event_row e) ∷ l.events) l.sums l.turns l.left
 with_event (called c) l = refl
@@ -164,15 +171,19 @@ events_told [] more ss ts left h is = is
 events_told (e ∷ es) more ss ts left h is =
     ap (with_row (event_row e)) (events_told es more ss ts left h.1 is) ∙ with_event e _ ∙ ap (λ x. later (x ∷ es) ss ts left) (event_read e h.0)
 
-turn_told : (t : Turn) (more : List json.Data) (ts : List Turn) (left : ℕ) → IsTurn t → told_by more ≡ later [] [] ts left → told_by (rows_of t ++ more) ≡ later [] [] (t ∷ ts) left
-turn_told t more ts left h is =
-    let below : told_by ((map event_row t.events ++ map sum_row t.sums) ++ more) ≡ later t.events t.sums ts left =
-    rw append_assoc (events_told t.events _ t.sums ts left h.events (sums_told t.sums more ts left h.sums is)) in
+turn_told : (d : Edition) (t : Turn) (more : List json.Data) (ts : List Turn) (left : ℕ) → IsTurn t → told_by more ≡ later [] [] ts left → told_by (rows_of d t ++ more) ≡ later [] [] (t ∷ ts) left
+turn_told d t more ts left h is =
+    let below : told_by ((map event_row t.events ++ map (sum_row d) t.sums) ++ more) ≡ later t.events t.sums ts left =
+    rw append_assoc (events_told t.events _ t.sums ts left h.events (sums_told d t.sums more ts left h.sums is)) in
     rw below (ap (λ x. later [] [] (x ∷ ts) left) (turn_read t))
 
-turns_told : (ts : List Turn) (more : List json.Data) (left : ℕ) → AllByRecursion IsTurn ts → told_by more ≡ later [] [] [] left → told_by (flat_map rows_of ts ++ more) ≡ later [] [] ts left
-turns_told [] more left h is = is
-turns_told (t ∷ ts) more left h is = ap told_by (append_assoc (rows_of t) (flat_map rows_of ts) more) ∙ turn_told t _ ts left h.0 (turns_told ts more left h.1 is)
+turns_told : (d : Edition) (ts : List Turn) (more : List json.Data) (left : ℕ) → AllByRecursion IsTurn ts → told_by more ≡ later [] [] [] left → told_by (flat_map (rows_of d) ts ++ more) ≡ later [] [] ts left
+turns_told d [] more left h is = is
+turns_told d (t ∷ ts) more left h is = ap told_by (append_assoc (rows_of d t) (flat_map (rows_of d) ts) more) ∙ turn_told d t _ ts left h.0 (turns_told d ts more left h.1 is)
+
+version_told : (d : Edition) (more : List json.Data) → told_by (version_rows d ++ more) ≡ told_by more
+version_told First more = refl
+version_told Second more = refl
 
 -- ---- texts
 
@@ -194,10 +205,10 @@ one_list (x ∷ xs) (y ∷ ys) h k same =
     let tails : map compact_text xs ++ [] ∷ [] ≡ map compact_text ys ++ [] ∷ [] = cc in
     rw (one_value x y h.0 k.0 heads, one_list xs ys h.1 k.1 tails) refl
 
-pub one_text : (ts us : List Turn) (left others : ℕ) → IsJournal ts left → IsJournal us others → journal_text ts left ≡ journal_text us others → (ts ≡ us) × (left ≡ others)
-one_text ts us left others h k same =
-    let lines : map compact_text (journal_rows ts left) ++ [] ∷ [] ≡ map compact_text (journal_rows us others) ++ [] ∷ [] =
-    sym (lines_are (journal_rows ts left) h.rows) ∙ ap (slice_split (λ b. eqb b 10)) same ∙ lines_are (journal_rows us others) k.rows in
-    let rows : journal_rows ts left ≡ journal_rows us others = one_list _ _ h.rows k.rows lines in
-    let told : later [] [] ts left ≡ later [] [] us others = sym (turns_told ts _ left h.turns refl) ∙ ap told_by rows ∙ turns_told us _ others k.turns refl in
+pub one_text : (d : Edition) (ts us : List Turn) (left others : ℕ) → IsJournal d ts left → IsJournal d us others → journal_text d ts left ≡ journal_text d us others → (ts ≡ us) × (left ≡ others)
+one_text d ts us left others h k same =
+    let lines : map compact_text (journal_rows d ts left) ++ [] ∷ [] ≡ map compact_text (journal_rows d us others) ++ [] ∷ [] =
+    sym (lines_are (journal_rows d ts left) h.rows) ∙ ap (slice_split (λ b. eqb b 10)) same ∙ lines_are (journal_rows d us others) k.rows in
+    let rows : journal_rows d ts left ≡ journal_rows d us others = one_list _ _ h.rows k.rows lines in
+    let told : later [] [] ts left ≡ later [] [] us others = sym (version_told d _ ∙ turns_told d ts _ left h.turns refl) ∙ ap told_by rows ∙ (version_told d _ ∙ turns_told d us _ others k.turns refl) in
     (ap (λ l. l.turns) told, ap (λ l. l.left) told)

@@ -10,14 +10,16 @@ use Rattle.serde_json.specs.Data.{depth}
 use Rattle.serde_json.specs.Read.{max_depth}
 use Rattle.rights_model.specs.host_text.Words.{is_field_name, is_keyword, is_label}
 use Rattle.rights_model.specs.amount_math.Content.{key_cmp}
-use Rattle.rights_model.specs.amount_math.ValueView.{bag_bound, most_keys, nat_bound}
+use Rattle.rights_model.specs.amount_math.ValueView.{bag_bound, most_keys}
 use Rattle.rights_model.specs.declared.Holder.{Holder}
 use Rattle.rights_model.specs.declared.Holder.TheVariants as holders
 use Rattle.rights_model.specs.declared.Sum.{Sum}
+use Rattle.turn_rows.specs.Editions.{nat_end}
 use Rattle.turn_rows.specs.Kinds as kinds
 use Rattle.turn_rows.specs.Kinds.{How, Kind}
 use Rattle.turn_rows.specs.Rows.{rows_of}
 use Rattle.turn_rows.specs.Turns.{Answer, ok, refused, threw, spent, Call, Element, key, counted, Value, number, elements, KeywordAmount, ExitRule, on_demand, waived, after_deadline, Opening, SeatExit, Settlement, fulfilled, broken, Event, called, opened, moved, exited, settled, Turn}
+use Rattle.turn_rows.specs.declared.editions.Edition.{Edition}
 
 -- ---- numbers
 
@@ -259,18 +261,18 @@ pub record AreElements (es : List Element) : Type 0 where
   pub rising : IsStrictlySortedBy key_cmp (map key_of es)
   pub few : length es ≤ most_keys
 
-abbrev pub HasValueForm : Value → Type 0
-HasValueForm (number n) = n ≤ nat_bound
-HasValueForm (elements es) = AreElements es
+abbrev pub HasValueForm : Edition → Value → Type 0
+HasValueForm e (number n) = n < nat_end e
+HasValueForm e (elements es) = AreElements es
 
-pub record HasAmountForm (a : KeywordAmount) : Type 0 where
+pub record HasAmountForm (e : Edition) (a : KeywordAmount) : Type 0 where
   pub keyword : is_keyword a.keyword ≡ true
   pub brand : a.brand < brands_end
-  pub value : HasValueForm a.value
+  pub value : HasValueForm e a.value
 
 -- amounts stand in byte order of their keywords
-pub record AreAmounts (amounts : List KeywordAmount) : Type 0 where
-  pub each : AllByRecursion HasAmountForm amounts
+pub record AreAmounts (e : Edition) (amounts : List KeywordAmount) : Type 0 where
+  pub each : AllByRecursion (HasAmountForm e) amounts
   pub rising : IsStrictlySortedBy key_cmp (map (λ a. a.keyword) amounts)
 
 abbrev pub HasHolderForm : Holder → Type 0
@@ -287,11 +289,11 @@ HasExitRuleForm on_demand = Unit {0}
 HasExitRuleForm waived = Unit {0}
 HasExitRuleForm (after_deadline time) = time < times_end
 
-pub record HasOpeningForm (o : Opening) : Type 0 where
+pub record HasOpeningForm (e : Edition) (o : Opening) : Type 0 where
   pub seat : o.seat < objects_end
   pub instance : o.instance < objects_end
-  pub give : AreAmounts o.give
-  pub want : AreAmounts o.want
+  pub give : AreAmounts e o.give
+  pub want : AreAmounts e o.want
   pub few : length (o.give ++ o.want) ≤ most_keywords
   pub exit : HasExitRuleForm o.exit
 
@@ -306,12 +308,12 @@ abbrev pub HasSettlementForm : Settlement → Type 0
 HasSettlementForm (fulfilled d) = IsData d
 HasSettlementForm (broken d) = IsData d
 
-abbrev pub HasEventForm : Event → Type 0
-HasEventForm (called c) = HasCallForm c
-HasEventForm (opened o) = HasOpeningForm o
-HasEventForm (moved m) = (m.brand < brands_end) × HasHolderForm m.from × HasHolderForm m.to × HasValueForm m.value
-HasEventForm (exited x) = HasExitForm x
-HasEventForm (settled promise s) = (promise < objects_end) × HasSettlementForm s
+abbrev pub HasEventForm : Edition → Event → Type 0
+HasEventForm e (called c) = HasCallForm c
+HasEventForm e (opened o) = HasOpeningForm e o
+HasEventForm e (moved m) = (m.brand < brands_end) × HasHolderForm m.from × HasHolderForm m.to × HasValueForm e m.value
+HasEventForm e (exited x) = HasExitForm x
+HasEventForm e (settled promise s) = (promise < objects_end) × HasSettlementForm s
 
 pub record HasSumForm (s : Sum) : Type 0 where
   pub brand : s.brand < brands_end
@@ -339,19 +341,19 @@ MayStand runs (called c) = runs ≡ true
 MayStand runs _ = Unit {0}
 
 -- a turn whose rows are those that may be written: which they are goes by their kind, and no row nests deeper than is read
-pub record IsInForm (t : Turn) : Type 0 where
+pub record IsInForm (e : Edition) (t : Turn) : Type 0 where
   pub number : t.number < 2 ^ 64
   pub delivered : IsDelivered t.kind t.by t.on t.method t.arguments
   pub arguments : AreData t.arguments
   pub answered : IsAnswerOf t.kind t.answer
   pub answer : HasAnswerForm t.answer
-  pub events : AllByRecursion HasEventForm t.events
+  pub events : AllByRecursion (HasEventForm e) t.events
   pub calls : AllByRecursion (MayStand (runs_function t.kind t.answer)) t.events
   pub sums : AllByRecursion HasSumForm t.sums
-  pub nesting : AllByRecursion (λ row. depth row ≤ max_depth) (rows_of t)
+  pub nesting : AllByRecursion (λ row. depth row ≤ max_depth) (rows_of e t)
 
 -- turns in form, and a close row with numbers of 64 bits
-pub record AreInForm (ts : List Turn) (left : ℕ) : Type 0 where
-  pub turns : AllByRecursion IsInForm ts
+pub record AreInForm (e : Edition) (ts : List Turn) (left : ℕ) : Type 0 where
+  pub turns : AllByRecursion (IsInForm e) ts
   pub as_many : length ts < 2 ^ 64
   pub few : left < 2 ^ 64

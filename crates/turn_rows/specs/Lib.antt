@@ -1,6 +1,7 @@
 pub mod Kinds
 pub mod Causes
 pub mod Turns
+pub mod Editions
 pub mod Rows
 pub mod Texts
 pub mod ReadBack

@@ -15,6 +15,7 @@ use Rattle.turn_rows.specs.Kinds as kinds
 use Rattle.turn_rows.specs.Kinds.{How, Kind}
 use Rattle.turn_rows.specs.Rows.{close_row, event_row, sum_row, turn_row}
 use Rattle.turn_rows.specs.Turns.{Answer, ok, refused, threw, spent, Call, Element, key, counted, Value, number, elements, KeywordAmount, ExitRule, on_demand, waived, after_deadline, Opening, Move, Payout, SeatExit, Settlement, fulfilled, broken, Event, called, opened, moved, exited, settled, Turn}
+use Rattle.turn_rows.specs.declared.editions.Edition.{Edition}
 
 -- ---- members of a row
 
@@ -215,8 +216,8 @@ closing_in row = record { left = whole_in (codes "left") row; turns = whole_in (
 abbrev pub IsEventRow : json.Data → Type 0
 IsEventRow row = event_row (event_in row) ≡ row
 
-abbrev pub IsSumRow : json.Data → Type 0
-IsSumRow row = sum_row (sum_in row) ≡ row
+abbrev pub IsSumRow : Edition → json.Data → Type 0
+IsSumRow e row = sum_row e (sum_in row) ≡ row
 
 abbrev pub IsTurnRow : json.Data → Type 0
 IsTurnRow row = turn_row (turn_in row [] []) ≡ row

@@ -5,8 +5,10 @@ use Rattle.rights_model.specs.declared.Holder.{Holder}
 use Rattle.rights_model.specs.declared.Holder.TheVariants as holders
 use Rattle.rights_model.specs.declared.Sum.{Sum}
 use Rattle.turn_rows.specs.Causes.{cause_word}
+use Rattle.turn_rows.specs.Editions.{supply_members}
 use Rattle.turn_rows.specs.Kinds.{how_word, kind_word}
 use Rattle.turn_rows.specs.Turns.{Answer, ok, refused, threw, spent, Call, Element, key, counted, Value, number, elements, KeywordAmount, ExitRule, on_demand, waived, after_deadline, Opening, Move, Payout, SeatExit, Settlement, fulfilled, broken, Event, called, opened, moved, exited, settled, Turn}
+use Rattle.turn_rows.specs.declared.editions.Edition.{Edition}
 
 -- ---- names
 
@@ -124,17 +126,17 @@ event_row (moved m) = move_row m
 event_row (exited x) = exit_row x
 event_row (settled promise s) = settle_row promise s
 
-abbrev pub sum_row : Sum → json.Data
-sum_row s =
+abbrev pub sum_row : Edition → Sum → json.Data
+sum_row e s =
     json.object (json.member (codes "brand") (json.string (brand_name s.brand)) (json.member (codes "burned") (json.string (decimal s.burned))
     (json.member (codes "minted") (json.string (decimal s.minted)) (json.member (codes "payments") (json.string (decimal s.payments))
     (json.member (codes "purses") (json.string (decimal s.purses)) (json.member (codes "row") (json.string (codes "sum"))
-    (json.member (codes "slots") (json.string (decimal s.slots)) json.no_members)))))))
+    (json.member (codes "slots") (json.string (decimal s.slots)) (supply_members e s))))))))
 
 abbrev pub close_row : ℕ → ℕ → json.Data
 close_row left turns =
     json.object (json.member (codes "left") (whole left) (json.member (codes "row") (json.string (codes "close"))
     (json.member (codes "turns") (whole turns) json.no_members)))
 
-abbrev pub rows_of : Turn → List json.Data
-rows_of t = turn_row t ∷ (map event_row t.events ++ map sum_row t.sums)
+abbrev pub rows_of : Edition → Turn → List json.Data
+rows_of e t = turn_row t ∷ (map event_row t.events ++ map (sum_row e) t.sums)

@@ -8,6 +8,7 @@ ghost use Rattle.turn_rows.specs.ReadBack.{closing_in, event_in, sum_in, turn_in
 ghost use Rattle.turn_rows.specs.Rows.{close_row, event_row, sum_row, turn_row};
 ghost use Rattle.turn_rows.specs.Texts.{OneText};
 ghost use Rattle.turn_rows.specs.Turns.{Event, Turn};
+ghost use Rattle.turn_rows.specs.declared.editions.Edition.{Edition};
 ghost use Rattle.turn_rows.specs.Worked.{WorkedTexts};
 
 /// No journal in form has the text of another: the text tells the turns, and how many deliveries are left.
@@ -17,8 +18,8 @@ pub fn one_text()
 
 /// What a row in form says is read back from it.
 pub fn rows_are_read_back()
-    ensures events { (e : Event) → HasEventForm e → event_in (event_row e) ≡ e }
-    ensures sums { (s : Sum) → HasSumForm s → sum_in (sum_row s) ≡ s }
+    ensures events { (d : Edition) (e : Event) → HasEventForm d e → event_in (event_row e) ≡ e }
+    ensures sums { (d : Edition) (s : Sum) → HasSumForm s → sum_in (sum_row d s) ≡ s }
     ensures turns { (t : Turn) → turn_in (turn_row t) t.events t.sums ≡ t }
     ensures left { (left turns : ℕ) → (closing_in (close_row left turns)).left ≡ left }
     ensures closed { (left turns : ℕ) → (closing_in (close_row left turns)).turns ≡ turns }

@@ -2,6 +2,7 @@
 //! the text of a journal, which tells its turns and what is left.
 #![tactic(auto)]
 
+pub mod editions;
 pub mod laws;
 
 /// What `rights_model` gives to those above.

@@ -4,6 +4,8 @@ pub mod Told
 pub mod Texts
 pub mod Nodes
 pub mod Brought
+pub mod RowSizes
+pub mod MoreRows
 pub use Rattle.turn_records.proofs.host_data
 pub use Rattle.turn_records.proofs.proposals
 pub use Rattle.turn_records.proofs.refusals

@@ -22,6 +22,7 @@ use Rattle.turn_records.specs.Printed.{notice_tree}
 use Rattle.turn_records.specs.Tellable.{ArePrintable, IsTellableValue}
 use Rattle.turn_writer.specs.Printing.{CanPrintAll, CanPrintData, CanPrintNode, IsBrandBelow}
 use Rattle.turn_writer.specs.Typed.{HasDataTypes, HasFieldTypes, HasNodeTypes, HasSettlementTypes, HaveDataTypes}
+use Rattle.turn_rows.specs.Editions.{written}
 
 -- ---- what the types give, and the rest
 
@@ -79,7 +80,7 @@ counts_form : (n : ℕ) → n < most_nested → (es : List (List ℕ × ℕ)) �
 counts_form n low [] h = tt
 counts_form n low (e ∷ es) h = ((low, (h.0.0.text, (omega (arith, h.0.2), tt))), counts_form n low es h.1)
 
-content_form : (kind : Kind) (c : Content) → HasValueForm (printed_content kind c) → EachNode HasForm 0 (content_tree kind c)
+content_form : (kind : Kind) (c : Content) → HasValueForm written (printed_content kind c) → EachNode HasForm 0 (content_tree kind c)
 content_form Nat c h = omega (arith, h)
 content_form Set c h = (omega arith, keys_form 1 (entries c) h.each)
 content_form Bag c h = (omega arith, counts_form 1 (omega arith) (entries c) h.each)

@@ -113,7 +113,7 @@ turn_told t h f = record {
 
 -- ---- lists as they are seen
 
-each_by : {A B : Type 0} (P : B → Type 0) (view : A → B) (xs : List A) → AllByRecursion (λ x. P (view x)) xs → AllByRecursion P (map view xs)
+pub each_by : {A B : Type 0} (P : B → Type 0) (view : A → B) (xs : List A) → AllByRecursion (λ x. P (view x)) xs → AllByRecursion P (map view xs)
 each_by P view [] h = tt
 each_by P view (x ∷ xs) h = (h.0, each_by P view xs h.1)
 

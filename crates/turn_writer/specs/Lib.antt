@@ -1,5 +1,6 @@
 pub mod JsonRows
 pub mod Notices
+pub mod ShortRows
 pub mod Texts
 pub mod Typed
 pub mod Printing

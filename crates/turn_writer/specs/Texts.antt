@@ -11,6 +11,7 @@ use Rattle.turn_rows.specs.Texts.{row_text}
 use Rattle.turn_records.specs.Deliveries.{Delivery, Reading}
 use Rattle.turn_records.specs.Events.{Event}
 use Rattle.turn_records.specs.Printed.{kind_of, printed_event, printed_settlement, printed_trees, trees_of}
+use Rattle.turn_rows.specs.Editions.{written}
 
 -- ---- JSON
 
@@ -40,4 +41,4 @@ abbrev pub events_text : List Event → List ℕ
 events_text es = flat_map row_text (map event_row (map printed_event es))
 
 abbrev pub sums_text : List Sum → List ℕ
-sums_text sums = flat_map row_text (map sum_row sums)
+sums_text sums = flat_map row_text (map (sum_row written) sums)

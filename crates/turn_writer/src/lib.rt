@@ -2,21 +2,24 @@
 //! turn, and for want of memory nothing is written.
 #![tactic(auto)]
 
-ghost use Rattle.std.specs.Prelude.{◌≡◌, false};
-ghost use Rattle.std.specs.List.{flat_map};
+ghost use Rattle.std.specs.Prelude.{◌≡◌, false, map, IfOk, OnOk};
+ghost use Rattle.std.specs.List.{AllByRecursion, flat_map};
 ghost use Rattle.serde_json.specs.View.{view};
 ghost use Rattle.serde_json.specs.Written.{has_float};
-ghost use Rattle.turn_rows.specs.Rows.{close_row, rows_of, sum_row, turn_row};
+ghost use Rattle.turn_rows.specs.Rows.{close_row, event_row, rows_of, sum_row, turn_row};
 ghost use Rattle.turn_rows.specs.Texts.{row_text};
-ghost use Rattle.turn_records.specs.Printed.{printed};
+ghost use Rattle.turn_records.specs.Printed.{printed, printed_event};
 ghost use Rattle.turn_records.specs.Views.{event_view, event_views, turn_view};
 ghost use Rattle.turn_writer.specs.JsonRows.{Adds, IsJson, IsText};
+ghost use Rattle.turn_writer.specs.ShortRows.{HasShortRows, IsShortRow};
 ghost use Rattle.turn_writer.specs.Texts.{event_text, events_text, sums_text};
+ghost use Rattle.turn_rows.specs.Editions.{written};
 
 mod answers;
 mod event_rows;
 mod json_row;
 mod names;
+mod row_sizes;
 pub mod turn_form;
 mod turn_row;
 
@@ -52,6 +55,7 @@ pub mod turn_records_lib {
 use event_rows::event_value;
 use json_row::JsonRow;
 use names::{brand_text, decimal_text};
+use row_sizes::{MOST_ROW, has_long_row};
 use serde_json::Value;
 use std::alloc::{AllocError, Global};
 use turn_records::events::Event;
@@ -61,7 +65,7 @@ use turn_row::turn_value;
 use turn_rows::rights_model_lib::Sum;
 
 fn sum_value(alloc: Global, sum: &Sum) -> Result<Value, AllocError>
-    ensures { IsJson result (sum_row sum.now) }
+    ensures { IsJson result (sum_row written sum.now) }
 {
     JsonRow::new(alloc)
         .string("brand", brand_text(alloc, sum.brand))
@@ -74,27 +78,34 @@ fn sum_value(alloc: Global, sum: &Sum) -> Result<Value, AllocError>
         .finish()
 }
 
-/// Adds a row to the text.
+/// Adds a row to the text. One that is too long is refused as for want of memory.
 #[tactic(auto, unfolding(turn_rows::specs::Texts::row_text))]
 fn push_row(alloc: Global, text: &mut String, row: &Value) -> Result<(), AllocError>
     requires { has_float (view row.now) ≡ false }
-    ensures { Adds result text.old text.new (row_text (view row.now)) }
+    ensures adds { Adds result text.old text.new (row_text (view row.now)) }
+    ensures short { OnOk result (IsShortRow (view row.now)) }
 {
     let line = row.to_string(alloc)?;
+    if line.len() as u64 > MOST_ROW {
+        return Err(AllocError);
+    }
     text.push_str(line.as_str())?;
     text.push_str("\n")?;
     Ok(())
 }
 
 fn push_event(alloc: Global, text: &mut String, event: &Event) -> Result<(), AllocError>
-    ensures { Adds result text.old text.new (event_text (event_view event.now)) }
+    ensures adds { Adds result text.old text.new (event_text (event_view event.now)) }
+    ensures short { OnOk result (IsShortRow (event_row (printed_event (event_view event.now)))) }
 {
     let row = event_value(alloc, event)?;
     push_row(alloc, text, &row)
 }
 
 fn push_events(alloc: Global, text: &mut String, events: &[Event]) -> Result<(), AllocError>
-    ensures { Adds result text.old text.new (events_text (event_views events.now)) }
+    ensures adds { Adds result text.old text.new (events_text (event_views events.now)) }
+    ensures short { let told = map printed_event (event_views events.now) in
+        OnOk result (AllByRecursion IsShortRow (map event_row told)) }
 {
     for event in events {
         push_event(alloc, text, event)?;
@@ -103,14 +114,16 @@ fn push_events(alloc: Global, text: &mut String, events: &[Event]) -> Result<(),
 }
 
 fn push_sum(alloc: Global, text: &mut String, sum: &Sum) -> Result<(), AllocError>
-    ensures { Adds result text.old text.new (row_text (sum_row sum.now)) }
+    ensures adds { Adds result text.old text.new (row_text (sum_row written sum.now)) }
+    ensures short { OnOk result (IsShortRow (sum_row written sum.now)) }
 {
     let row = sum_value(alloc, sum)?;
     push_row(alloc, text, &row)
 }
 
 fn push_sums(alloc: Global, text: &mut String, sums: &[Sum]) -> Result<(), AllocError>
-    ensures { Adds result text.old text.new (sums_text sums.now) }
+    ensures adds { Adds result text.old text.new (sums_text sums.now) }
+    ensures short { OnOk result (AllByRecursion IsShortRow (map (sum_row written) sums.now)) }
 {
     for sum in sums {
         push_sum(alloc, text, sum)?;
@@ -119,16 +132,23 @@ fn push_sums(alloc: Global, text: &mut String, sums: &[Sum]) -> Result<(), Alloc
 }
 
 fn push_turn_row(alloc: Global, text: &mut String, turn: &TurnRecord) -> Result<(), AllocError>
-    ensures { Adds result text.old text.new (row_text (turn_row (printed (turn_view turn.now)))) }
+    ensures adds { Adds result text.old text.new
+        (row_text (turn_row (printed (turn_view turn.now)))) }
+    ensures short { OnOk result (IsShortRow (turn_row (printed (turn_view turn.now)))) }
 {
     let row = turn_value(alloc, turn)?;
     push_row(alloc, text, &row)
 }
 
-/// The rows of a turn: the turn row, the rows of what happened as it happened, and the sums.
+/// The rows of a turn: the turn row, the rows of what happened as it happened, and the sums. Where a row
+/// would be longer than readers of journals take, there are none, as for want of memory.
 pub fn write_turn(alloc: Global, turn: &TurnRecord) -> Result<String, AllocError>
-    ensures { IsText result (flat_map row_text (rows_of (printed (turn_view turn.now)))) }
+    ensures text { IsText result (flat_map row_text (rows_of written (printed (turn_view turn.now)))) }
+    ensures short { IfOk result (λ _. HasShortRows (printed (turn_view turn.now))) }
 {
+    if has_long_row(turn) {
+        return Err(AllocError);
+    }
     let mut text = String::new(alloc);
     push_turn_row(alloc, &mut text, turn)?;
     push_events(alloc, &mut text, turn.events.as_slice())?;
@@ -148,7 +168,8 @@ fn close_value(alloc: Global, left: u64, turns: u32) -> Result<Value, AllocError
 
 /// The close row: how many deliveries are left, and how many turns were run.
 pub fn write_close(alloc: Global, left: u64, turns: u32) -> Result<String, AllocError>
-    ensures { IsText result (row_text (close_row left turns)) }
+    ensures text { IsText result (row_text (close_row left turns)) }
+    ensures short { IfOk result (λ _. IsShortRow (close_row left turns)) }
 {
     let mut text = String::new(alloc);
     let row = close_value(alloc, left, turns)?;

@@ -8,6 +8,7 @@ ghost use Rattle.turn_records.specs.Printed.{printed};
 ghost use Rattle.turn_records.specs.Views.{turn_view};
 ghost use Rattle.turn_writer.specs.Printing.{CanPrint};
 ghost use Rattle.turn_writer.specs.Typed.{HasTypes};
+ghost use Rattle.turn_rows.specs.Editions.{written};
 
 mod amounts;
 mod data;
@@ -36,7 +37,7 @@ fn has_types(turn: &TurnRecord)
 /// printed in form. It changes nothing, and looks at each node of the data once: what it states is proved of
 /// the types.
 pub fn is_in_form(turn: &TurnRecord)
-    ensures { CanPrint (turn_view turn.now) → IsInForm (printed (turn_view turn.now)) }
+    ensures { CanPrint (turn_view turn.now) → IsInForm written (printed (turn_view turn.now)) }
 {
     has_types(turn);
 }

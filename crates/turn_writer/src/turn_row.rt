@@ -29,7 +29,7 @@ use turn_records::turns::TurnRecord;
 use turn_rows::host_text_lib::label::Label;
 
 /// How deep a settlement's value may nest for the record around it to be data.
-const MOST_INSIDE: u32 = 31;
+pub(crate) const MOST_INSIDE: u32 = 31;
 
 // ---- the kind
 

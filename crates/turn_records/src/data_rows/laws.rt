@@ -10,6 +10,7 @@ ghost use Rattle.turn_rows.specs.Rows.{value_json};
 ghost use Rattle.turn_records.specs.Printable.{IsPrintable, most_nested};
 ghost use Rattle.turn_records.specs.PrintedData.{printed};
 ghost use Rattle.turn_records.specs.Values.{HasTexts, printed_value};
+ghost use Rattle.turn_rows.specs.Editions.{written};
 
 /// Printable data is printed as rows may have it, a mark of an object or a number one deeper than the data.
 pub fn data_is_in_form()
@@ -19,7 +20,7 @@ pub fn data_is_in_form()
 
 /// A value whose keys are texts is printed as rows may have it.
 pub fn values_are_in_form()
-    ensures { (w : ValueView) → IsValue w.kind w.content → HasTexts w.content → HasValueForm (printed_value w) }
+    ensures { (w : ValueView) → IsValue w.kind w.content → HasTexts w.content → HasValueForm written (printed_value w) }
 {}
 
 /// A value is printed alike in a row of its own and as data.

@@ -51,10 +51,10 @@ loop-preserved g c =
     let left : c.args.most - c.loop.counter ≡ suc (c.args.most - (c.loop.counter + 1)) = omega arith in
     let stepped = text_some _ _ _ _ c.in-Some.is c.in_ok-text.ensures in
     record {
-      worked = drain_turn _ _ _ _ _ _ c.loop.invariant.worked _ left _ stepped.step _ (rw (c.as_str.ensures.value, stepped.text) at c.in_ok-write.ensures.ok);
+      worked = drain_turn _ _ _ _ _ _ c.loop.invariant.worked _ left _ stepped.step _ stepped.short (rw (c.as_str.ensures.value, stepped.text) at c.in_ok-write.ensures.ok);
       ends = c.loop.invariant.ends ∙ end_turn _ _ _ _ left stepped.step;
       few = omega (arith, step_count reader _ _ stepped.step, stepped.early);
-      form = λ rest. c.loop.invariant.form (form_turn _ _ _ _ left stepped.step stepped.form rest);
+      form = λ rest. c.loop.invariant.form (form_turn _ _ _ _ left stepped.step (record { form = stepped.form; short = stepped.short }) rest);
       quiet = c.in_ok-write.ensures.quiet ∙ c.loop.invariant.quiet;
     }
 

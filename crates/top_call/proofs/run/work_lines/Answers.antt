@@ -1,7 +1,7 @@
 use Rattle.std.proofs.Common.{◌∙◌, ap, map}
 use Rattle.std.proofs.lemmas.Result.{err_from_is_err_and}
 use Rattle.run_laws.specs.message_lines.Meanings.{meaning_of}
-use Rattle.top_call.proofs.InForm.{form_line}
+use Rattle.top_call.proofs.InForm.{form_line, turns_short}
 use Rattle.top_call.proofs.LineRuns.{line_ends, line_next, line_worked}
 use Rattle.top_call.proofs.TurnTexts.{failed_next, limit_next, memory_next}
 use Rattle.top_call.proofs.run.work_lines.Goals as goal
@@ -12,7 +12,7 @@ loop-line-preserved g c =
     record {
       can = tt;
       finite = tt;
-      worked = line_worked _ _ _ _ steps _ c.in_ok-work_line.ensures.host _ _ _ _ _ c.loop-line.invariant.worked c.in_ok-work_line.ensures.ok;
+      worked = line_worked _ _ _ _ steps _ c.in_ok-work_line.ensures.host _ _ _ _ _ c.loop-line.invariant.worked (turns_short _ c.in_ok-work_line.ensures.form) c.in_ok-work_line.ensures.ok;
       ends = c.loop-line.invariant.ends ∙ line_ends _ _ _ _ steps _ c.in_ok-work_line.ensures.host;
       few = c.in_ok-work_line.ensures.few;
       form = λ rest. c.loop-line.invariant.form (form_line _ _ _ _ steps _ c.in_ok-work_line.ensures.host c.in_ok-work_line.ensures.form rest);

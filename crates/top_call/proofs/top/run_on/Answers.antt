@@ -7,6 +7,7 @@ returns-in-Ok-clause-says g c = record {
   completes = record {
     journal = c.in-Ok.ensures.ok;
     fair = c.in-Ok.ensures.fair;
+    short = c.in-Ok.ensures.short;
     within = record { bytes = c.requires.short; turns = c.in-Ok.ensures.few };
   };
   quiet = record { source = refl; sink = c.in-Ok.ensures.quiet (λ e. cc e) };
