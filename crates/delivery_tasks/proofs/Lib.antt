@@ -1,6 +1,4 @@
-pub mod PathStates
-pub mod PartLists
-pub mod SentCalls
+pub mod ReadMessages
 pub mod BareSeats
 pub mod DueDeliveries
 pub mod Settlements

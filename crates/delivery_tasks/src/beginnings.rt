@@ -16,9 +16,9 @@ ghost use Rattle.delivery_tasks.specs.Views.{IsTaskShaped, RefusedBy, beginning_
 use crate::calls::method_beginning;
 use crate::effects::{binding, exit_if_open, one_effect};
 use crate::functions::{handler_call, notice_call, run_task, start_call, wakeup_call};
-use crate::messages::{addressed_call, gift_of, sent_to};
 use crate::notices::settlement_of;
 use crate::tasks::{Beginning, FunctionCall, Task};
+use delivery_reads::messages::{addressed_call, gift_of, sent_to};
 use delivery_turns::promise_store_lib::Settlement;
 use delivery_turns::turn_records_lib::deliveries::{
     Delivery, Notice, Offer, Reading, Send, Start, Wakeup,
@@ -63,28 +63,33 @@ fn refuse(stop: Stop) -> Result<Beginning, AllocError>
 // ---- messages
 
 /// A call that a party asks for.
-#[tactic(auto, unfolding(delivery_turns::specs::Tasks::beginning))]
+#[tactic(auto, using(crate::proofs::ReadMessages::addressed_is), unfolding(delivery_turns::specs::Tasks::beginning))]
 fn call_beginning(alloc: Global, world: &World, call: &LineCall) -> Result<Beginning, AllocError>
     requires { IsGoodWorld (in_front (deliveries.call (line_call_view call.now)) (world_of world.now)) }
     ensures begins { IfOk result (λ b. beginning_view b
         ≡ beginning (world_of world.now) (deliveries.call (line_call_view call.now))) }
     ensures shaped { IfOk result (λ b. IsTaskShaped b.task) }
 {
-    match addressed_call(alloc, world, call) {
+    match addressed_call(
+        alloc,
+        &world.registers.parties,
+        &world.registers.promises,
+        call,
+    ) {
         Ok(to) => method_beginning(alloc, world, &call.method, to),
         Err(stop) => refuse(stop),
     }
 }
 
 /// A call that an instance sent.
-#[tactic(auto, unfolding(delivery_turns::specs::Tasks::beginning))]
+#[tactic(auto, using(crate::proofs::ReadMessages::sent_is), unfolding(delivery_turns::specs::Tasks::beginning))]
 fn send_beginning(alloc: Global, world: &World, send: &Send) -> Result<Beginning, AllocError>
     requires { IsGoodWorld (in_front (deliveries.send (send_view send.now)) (world_of world.now)) }
     ensures begins { IfOk result (λ b. beginning_view b
         ≡ beginning (world_of world.now) (deliveries.send (send_view send.now))) }
     ensures shaped { IfOk result (λ b. IsTaskShaped b.task) }
 {
-    match sent_to(alloc, world, send) {
+    match sent_to(alloc, &world.registers.promises, send) {
         Ok(to) => method_beginning(alloc, world, &send.method, to),
         Err(stop) => refuse(stop),
     }
@@ -111,13 +116,18 @@ fn bind_gift(alloc: Global, gift: &LineGift, given: Data) -> Result<Beginning, A
 }
 
 /// What a party gives.
-#[tactic(auto, unfolding(delivery_turns::specs::Tasks::beginning))]
+#[tactic(auto, using(crate::proofs::ReadMessages::gift_is), unfolding(delivery_turns::specs::Tasks::beginning))]
 fn give_beginning(alloc: Global, world: &World, gift: &LineGift) -> Result<Beginning, AllocError>
     ensures begins { IfOk result (λ b. beginning_view b
         ≡ beginning (world_of world.now) (deliveries.give (line_gift_view gift.now))) }
     ensures shaped { IfOk result (λ b. IsTaskShaped b.task) }
 {
-    match gift_of(alloc, world, gift) {
+    match gift_of(
+        alloc,
+        &world.registers.parties,
+        &world.registers.promises,
+        gift,
+    ) {
         Ok(found) => bind_gift(alloc, gift, found),
         Err(stop) => refuse(stop),
     }

@@ -8,15 +8,15 @@ ghost use Rattle.world_reads.specs.host_world.Worlds.{world_of};
 ghost use Rattle.delivery_turns.specs.actors.Facets.{facet_view};
 ghost use Rattle.host_data.specs.Tree.{object};
 ghost use Rattle.host_data.specs.View.{tree, trees};
-ghost use Rattle.delivery_tasks.specs.MessageViews.{addressed_view};
+ghost use Rattle.delivery_reads.specs.MessageViews.{addressed_view};
 ghost use Rattle.delivery_turns.specs.world_state.Good.{IsGoodWorld};
 ghost use Rattle.delivery_turns.specs.world_state.Known.{IsHanded};
 ghost use Rattle.delivery_turns.specs.Tasks as tasks;
 ghost use Rattle.delivery_tasks.specs.Views.{IsTaskShaped, beginning_view, function_call_view, task_view};
 
 use crate::functions::has_halted;
-use crate::messages::Addressed;
 use crate::tasks::{Beginning, FunctionCall, Task};
+use delivery_reads::messages::Addressed;
 use delivery_turns::actors_lib::instance_store::facets::Facet;
 use delivery_turns::turn_records_lib::deliveries::Reading;
 use host_data::data::{Data, Obj, ObjKind, copy_items};

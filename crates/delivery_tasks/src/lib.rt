@@ -8,11 +8,8 @@ pub mod effects;
 pub mod endings;
 pub mod functions;
 mod leaving;
-pub mod messages;
 pub mod notices;
 pub mod open_seats;
-pub mod parts;
-pub mod paths;
 mod settling;
 pub mod tasks;
 

@@ -15,7 +15,7 @@ use Rattle.delivery_turns.specs.turn_records.declared.messages.Part as P
 use Rattle.delivery_turns.specs.turn_records.Messages as told
 use Rattle.delivery_turns.specs.world_state.Worlds.{State}
 use Rattle.delivery_turns.specs.Messages.{resolved, resolved_all, resolved_fields}
-use Rattle.delivery_tasks.specs.Reads.{named_views}
+use Rattle.delivery_reads.specs.Reads.{named_views}
 
 -- the items behind those that are there
 abbrev before : List Tree → Items → Items

@@ -9,7 +9,7 @@ use Rattle.refusals.specs.declared.codes.Refusal.{Refusal}
 use Rattle.delivery_turns.specs.turn_records.Deliveries.{Send}
 use Rattle.delivery_turns.specs.world_state.Worlds.{State}
 use Rattle.delivery_turns.specs.Messages.{Addressed, found_or_refused, promise_states, sent_to}
-use Rattle.delivery_tasks.specs.Reads.{object_met}
+use Rattle.delivery_reads.specs.Reads.{object_met}
 
 abbrev pub sent_as : Send → Obj → Addressed
 sent_as s target = record { target = target; arguments = s.arguments }

@@ -7,8 +7,8 @@ use Rattle.std.specs.Prelude.{nat_lt}
 use Rattle.delivery_turns.specs.actors.Paths.{stands_at, states_in}
 use Rattle.delivery_turns.specs.promise_store.States.{StateView, pending}
 use Rattle.delivery_turns.specs.promise_store.Turns.{Store, state_at}
-use Rattle.world_reads.specs.registers.PromiseTables.{book_of}
-use Rattle.world_reads.proofs.registers.Steps.{made_is, state_is}
+use Rattle.registers.specs.PromiseTables.{book_of}
+use Rattle.registers.proofs.Steps.{made_is, state_is}
 use Rattle.delivery_turns.specs.turn_records.declared.deliveries.Notice.{Notice}
 use Rattle.delivery_turns.specs.world_state.Promises.{state_of}
 use Rattle.delivery_turns.specs.world_state.Worlds.{State, promises_made}
