@@ -19,11 +19,15 @@ pub record ValueView : Type 0 where
 
 -- the highest number of a nat value
 abbrev pub nat_bound : ℕ
-nat_bound = 2 ^ 63 - 1
+nat_bound = 2 ^ 120 - 1
 
 -- the highest count of a key of a bag
 abbrev pub bag_bound : ℕ
 bag_bound = 2 ^ 63 - 1
+
+-- the highest total of the counts that were ever issued of a brand
+abbrev pub minted_bound : ℕ
+minted_bound = 2 ^ 126 - 1
 
 -- how many of an element there may be
 abbrev pub bound : Kind → ℕ

@@ -9,7 +9,7 @@ use crate::handed::or_both;
 use crate::keyed::Keyed;
 use crate::made::{each_counted, each_once, within_bound};
 use crate::shape::Shape;
-use crate::{Key, Kind, PutFault, TooMuch, Value};
+use crate::{Key, Kind, NAT_BOUND, PutFault, TooMuch, Value};
 
 /// The data isn't a value of the kind.
 #[derive(Clone, Copy, PartialEq, Eq)]
@@ -189,7 +189,7 @@ impl AmountKind for NatKind {
     ghost gte_is_transitive = { λ a b c _ _ _. Contains-trans a b c };
 
     fn make(from: i128) -> Result<Value, BadValue> {
-        match within_bound(from) {
+        match within_bound(from, NAT_BOUND) {
             Some(number) => Ok(Value::nat(number)),
             None => Err(BadValue),
         }

@@ -35,7 +35,10 @@ use std::alloc::{AllocError, Global};
 use std::marker::Model;
 
 /// The highest number of a nat value.
-pub const NAT_BOUND: u128 = (1 << 63) - 1;
+pub const NAT_BOUND: u128 = (1 << 120) - 1;
+
+/// The highest total of the counts that were ever issued of a brand.
+pub const MINTED_BOUND: u128 = (1 << 126) - 1;
 
 /// The most keys that a set or a bag may have (own).
 pub const KEYS_BOUND: u128 = 4096;

@@ -6,10 +6,10 @@ ghost use Rattle.std.specs.List.Sorted.{IsPermutation};
 ghost use Rattle.amount_math.specs.Content.{Content, entries, key_cmp};
 ghost use Rattle.amount_math.specs.Entries.{IsEntry, IsRising, as_one, entry_at};
 ghost use Rattle.amount_math.specs.KindData.{IsPairsOf, signed};
-ghost use Rattle.amount_math.specs.ValueView.{IsBag, nat_bound};
+ghost use Rattle.amount_math.specs.ValueView.{IsBag};
 ghost use Rattle.std.specs.declared.cmp.Ordering.TheVariants.{Less};
 
-use crate::{Entry, Key, MakeFault, NAT_BOUND};
+use crate::{COUNT_BOUND, Entry, Key, MakeFault};
 use std::alloc::AllocError;
 use std::cmp::Ordering;
 
@@ -44,15 +44,15 @@ pub(crate) fn each_once(mut keys: Vec<Key>) -> Result<Vec<Entry>, AllocError>
     Ok(made)
 }
 
-/// The number, if it is a whole one within the bound.
-pub(crate) fn within_bound(number: i128) -> Option<u128>
-    ensures some { IfSome result (λ n. (number ≡ pos n) × (n ≤ nat_bound)) }
-    ensures none { IsNone result → (n : ℕ) → number ≡ pos n → nat_bound < n }
+/// The number, if it is a whole one within a bound.
+pub(crate) fn within_bound(number: i128, most: u128) -> Option<u128>
+    ensures some { IfSome result (λ n. (number ≡ pos n) × (n ≤ most)) }
+    ensures none { IsNone result → (n : ℕ) → number ≡ pos n → most < n }
 {
     let Ok(whole) = u128::try_from(number) else {
         return None;
     };
-    if whole > NAT_BOUND {
+    if whole > most {
         return None;
     }
     Some(whole)
@@ -68,7 +68,7 @@ pub(crate) fn each_counted(mut pairs: Vec<(Key, i128)>) -> Result<Vec<Entry>, Ma
     };
     while let Some(pair) = pairs.pop() {
         let (key, number) = pair;
-        let Some(count) = within_bound(number) else {
+        let Some(count) = within_bound(number, u128::from(COUNT_BOUND)) else {
             return Err(MakeFault::BadValue);
         };
         made.push_reserved(Entry::new(key, count as u64));

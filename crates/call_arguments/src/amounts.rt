@@ -15,7 +15,7 @@ use refusals::host_data_lib::data::Data;
 use refusals::stops::{Stop, wrong_amount};
 use std::alloc::Global;
 
-/// A value of the kind (ERTP): else `BadValue`. A number from 0 to 2^63 - 1, an array of texts, or an array
+/// A value of the kind (ERTP): else `BadValue`. A number from 0 to 2^120 - 1, an array of texts, or an array
 /// of pairs of a text and a count from 1 to 2^63 - 1; texts in any order, none twice, each of 1 to 64 bytes,
 /// at most 4,096 (own).
 #[tactic(auto, unfolding(refusals::specs::Outcomes::wanted))]

@@ -100,17 +100,17 @@ module _ (w : State) (i : ℕ) (good : IsGoodWorld w) (made : i < length w.table
         let kept_then : AllHave (IsKnownTo v i) values = all_so (formed_grows w v g (Some i)) values kept in
         let functions : FunctionsKnown (Refers v i) (routines m) = functions_refer v i (routines m) (λ q is. function_grows w v g i q (function_there w i q good made is)) in
         let within : NextHas (Within (Refers v i)) n (after p rs) =
-        safe_after (Within (Refers v i)) n meter p rs
-        (play_safe (Within (Refers v i)) n AnyName (routines m) (closed_within (Refers v i) (routines m) functions) (any_names (routines m)) (variable_names m) f args values meter meter
-        (all_so (within_of v i) args known_then) (all_so (within_of v i) values kept_then) refl (omega arith)) (replies_so (within_of v i) rs h) in
+        safe_after (Within (Refers v i)) n p rs
+        (play_safe (Within (Refers v i)) n AnyName (routines m) (closed_within (Refers v i) (routines m) functions) (any_names (routines m)) (variable_names m) f args values meter
+        (all_so (within_of v i) args known_then) (all_so (within_of v i) values kept_then) refl) (replies_so (within_of v i) rs h) in
         let form : NextHas InForm n (after p rs) =
-        safe_after InForm n meter p rs
-        (play_safe InForm n AnyName (routines m) (closed_form (routines m)) (any_names (routines m)) (variable_names m) f args values meter meter
-        (all_so (form_of v i) args known_then) (all_so (form_of v i) values kept_then) refl (omega arith)) (replies_so (form_of v i) rs h) in
+        safe_after InForm n p rs
+        (play_safe InForm n AnyName (routines m) (closed_form (routines m)) (any_names (routines m)) (variable_names m) f args values meter
+        (all_so (form_of v i) args known_then) (all_so (form_of v i) values kept_then) refl) (replies_so (form_of v i) rs h) in
         let names : NextHas HasFieldNames n (after p rs) =
-        safe_after HasFieldNames n meter p rs
-        (play_safe HasFieldNames n IsFieldName (routines m) (closed_named (routines m) (routines_named (routines m) (module_is w i good made).named)) (module_is w i good made).writes (variable_names m) f args values meter meter
-        (all_so (names_of v i) args known_then) (all_so (names_of v i) values kept_then) refl (omega arith)) (replies_so (names_of v i) rs h) in
+        safe_after HasFieldNames n p rs
+        (play_safe HasFieldNames n IsFieldName (routines m) (closed_named (routines m) (routines_named (routines m) (module_is w i good made).named)) (module_is w i good made).writes (variable_names m) f args values meter
+        (all_so (names_of v i) args known_then) (all_so (names_of v i) values kept_then) refl) (replies_so (names_of v i) rs h) in
         join_next (known_of v i) n (after p rs) within form names
 
     pub evaluates : Evaluates w i (length (variable_names m)) (module_play m f args values meter)

@@ -1,7 +1,7 @@
 -- Calls of the host are told only where a function was run that didn't spend its meter.
 use Rattle.std.specs.Prelude.{IfOk, cond, is_none, nat_lt}
 use Rattle.std.specs.List.{AllByRecursion}
-use Rattle.std.proofs.Common.{◌≡◌, ℕ, ◌<◌, Bool, true, false, List, [], ◌∷◌, ◌++◌, Option, Some, None, Result, Ok, Err, refl, sym, subst}
+use Rattle.std.proofs.Common.{◌≡◌, ℕ, Bool, true, false, List, [], ◌∷◌, ◌++◌, Option, Some, None, Result, Ok, Err, refl, sym, subst}
 use Rattle.delivery_turns.specs.rules.Acts.{MayAct}
 use Rattle.delivery_turns.specs.rules.Obligations.{IsRule}
 use Rattle.delivery_turns.specs.rules.Outcomes.{Outcome}
@@ -26,7 +26,6 @@ use Rattle.delivery_turns.specs.turn_records.Events.{Answer, given, spent, threw
 use Rattle.delivery_turns.specs.turn_records.Messages.{LineGift}
 use Rattle.delivery_turns.specs.turn_rows.Causes as causes
 use Rattle.delivery_turns.specs.world_state.Good.{IsGoodWorld}
-use Rattle.delivery_turns.specs.world_state.Rights.{IsRoomy, most_issued}
 use Rattle.delivery_turns.specs.world_state.Worlds.{Effect, State, exit, halt, in_front, keep_state, note_call, seat_at, set_time}
 use Rattle.rule_laws.proofs.world_laws.Fronts.{due_behind, good_behind}
 use Rattle.delivery_turns.specs.rules.Methods.{serve as serve_call}
@@ -132,10 +131,10 @@ module _ (read : TextReader) (meter : ℕ) (w : State) (d : Delivery) where
   on_tells kinds.Facet o m args e runs is = facet_tells (target o args) (runs (subst IsOfFacet (sym e) tt)) (facet_at w.facets o.number) m args
   on_tells k o m args e runs is = row_tells (target o args) o m args (serve_call read w o m args) is
 
-  called_tells : (served : AreGoodServices (serve_call read)) (good : IsGoodWorld (in_front d w)) (room : IsRoomy w.rights.out most_issued) (m : List ℕ) (r : Result Addressed Refusal)
+  called_tells : (served : AreGoodServices (serve_call read)) (good : IsGoodWorld (in_front d w)) (m : List ℕ) (r : Result Addressed Refusal)
       → ((a : Addressed) → IsOfFacet a.target.kind → RunsFunction d (target a.target a.arguments)) → IfOk r (IsAddressed w (good_behind w d good)) → let b = call_beginning w m r in TellsWell b.reading (task_work read meter w b.task)
-  called_tells served good room m (Ok a) runs is = on_tells a.target.kind a.target m a.arguments refl (runs a) (service_rule read w d a.target m a.arguments served good room is.target is.arguments)
-  called_tells served good room m (Err refusal) runs is = refused_tells deliveries.nothing refusal
+  called_tells served good m (Ok a) runs is = on_tells a.target.kind a.target m a.arguments refl (runs a) (service_rule read w d a.target m a.arguments served good is.target is.arguments)
+  called_tells served good m (Err refusal) runs is = refused_tells deliveries.nothing refusal
 
   -- ---- what else is delivered
 
@@ -154,23 +153,23 @@ module _ (read : TextReader) (meter : ℕ) (w : State) (d : Delivery) where
   deadline_tells r seat true = (tt, tt)
   deadline_tells r seat false = tt
 
-pub delivery_tells : (read : TextReader) (served : AreGoodServices (serve_call read)) (meter : ℕ) (w : State) (d : Delivery) → IsGoodWorld (in_front d w) → IsRoomy w.rights.out most_issued
+pub delivery_tells : (read : TextReader) (served : AreGoodServices (serve_call read)) (meter : ℕ) (w : State) (d : Delivery) → IsGoodWorld (in_front d w)
     → let b = beginning w d in TellsWell read meter w d b.reading (task_work read meter w b.task)
 unfolding beginning
-delivery_tells read served meter w (deliveries.call c) good room =
+delivery_tells read served meter w (deliveries.call c) good =
     let d = deliveries.call c in
     let whole = good_behind w d good in
-    called_tells read meter w d served good room c.method (addressed w c) (λ a is. is) (weaker_ok (IsCalled w whole c) (IsAddressed w whole) (addressed w c) (λ a is. is.addressed_to) (addressed_there w whole c (due_behind w d good)))
-delivery_tells read served meter w (deliveries.send s) good room =
+    called_tells read meter w d served good c.method (addressed w c) (λ a is. is) (weaker_ok (IsCalled w whole c) (IsAddressed w whole) (addressed w c) (λ a is. is.addressed_to) (addressed_there w whole c (due_behind w d good)))
+delivery_tells read served meter w (deliveries.send s) good =
     let d = deliveries.send s in
-    called_tells read meter w d served good room s.method (sent_to w s) (λ a is. is) (sent_there w (good_behind w d good) s (due_behind w d good))
-delivery_tells read served meter w (deliveries.give g) good room = gift_tells read meter w (deliveries.give g) g (gift_of w g)
-delivery_tells read served meter w (deliveries.tick t) good room = tick_tells read meter w (deliveries.tick t) deliveries.nothing t (nat_lt t w.schedule.time)
-delivery_tells read served meter w (deliveries.bad r) good room = refused_tells read meter w (deliveries.bad r) deliveries.nothing r
-delivery_tells read served meter w (deliveries.start s) good room = task_tells read meter w (deliveries.start s) deliveries.nothing tt (start_call s)
-delivery_tells read served meter w (deliveries.offer o) good room = task_tells read meter w (deliveries.offer o) deliveries.nothing tt (handler_call o)
-delivery_tells read served meter w (deliveries.wake x) good room = task_tells read meter w (deliveries.wake x) (deliveries.time w.schedule.time) tt (wakeup_call x w.schedule.time)
-delivery_tells read served meter w (deliveries.notify n) good room =
+    called_tells read meter w d served good s.method (sent_to w s) (λ a is. is) (sent_there w (good_behind w d good) s (due_behind w d good))
+delivery_tells read served meter w (deliveries.give g) good = gift_tells read meter w (deliveries.give g) g (gift_of w g)
+delivery_tells read served meter w (deliveries.tick t) good = tick_tells read meter w (deliveries.tick t) deliveries.nothing t (nat_lt t w.schedule.time)
+delivery_tells read served meter w (deliveries.bad r) good = refused_tells read meter w (deliveries.bad r) deliveries.nothing r
+delivery_tells read served meter w (deliveries.start s) good = task_tells read meter w (deliveries.start s) deliveries.nothing tt (start_call s)
+delivery_tells read served meter w (deliveries.offer o) good = task_tells read meter w (deliveries.offer o) deliveries.nothing tt (handler_call o)
+delivery_tells read served meter w (deliveries.wake x) good = task_tells read meter w (deliveries.wake x) (deliveries.time w.schedule.time) tt (wakeup_call x w.schedule.time)
+delivery_tells read served meter w (deliveries.notify n) good =
     let s = settlement_of w n.promise in
     task_tells read meter w (deliveries.notify n) (deliveries.settlement s) tt (notice_call n s)
-delivery_tells read served meter w (deliveries.deadline seat) good room = deadline_tells read meter w (deliveries.deadline seat) deliveries.nothing seat (is_none (seat_at w.seats seat).last)
+delivery_tells read served meter w (deliveries.deadline seat) good = deadline_tells read meter w (deliveries.deadline seat) deliveries.nothing seat (is_none (seat_at w.seats seat).last)

@@ -1,8 +1,7 @@
 -- A step keeps a host good.
 use Rattle.std.specs.Prelude.{IfSome, cond, is_none}
 use Rattle.std.specs.List.{AllByRecursion}
-use Rattle.std.proofs.Math.Nat.{add-mul}
-use Rattle.std.proofs.Common.{◌≡◌, ℕ, suc, ◌+◌, ◌-◌, ◌*◌, ◌≤◌, ◌<◌, Bool, true, false, List, [], ◌∷◌, ◌++◌, Option, Some, None, refl, sym, ap, ◌∙◌, subst, arith}
+use Rattle.std.proofs.Common.{◌≡◌, ℕ, ◌+◌, ◌-◌, Bool, true, false, List, [], ◌∷◌, ◌++◌, Option, Some, None, refl, subst}
 use Rattle.delivery_turns.specs.actors.Tables.{instance_at}
 use Rattle.delivery_turns.specs.promise_store.States.{SettlementView}
 use Rattle.delivery_turns.specs.promise_store.declared.links.Following.{Following}
@@ -15,24 +14,21 @@ use Rattle.delivery_turns.specs.turn_records.Deliveries.{Delivery, promise_of}
 use Rattle.delivery_turns.specs.turn_records.Events.{Answer, Event, given, threw}
 use Rattle.delivery_turns.specs.turn_rows.Causes.{Cause}
 use Rattle.delivery_turns.specs.world_state.Good.{IsDue, IsFacet, IsGoodWorld, IsInvitation, IsLabel, IsNotice, IsSettled, IsTimedEntry}
-use Rattle.delivery_turns.specs.world_state.Rights.{IsRoomy, most_issued, most_turns}
-use Rattle.delivery_turns.specs.world_state.Worlds.{Effect, State, after, after_all, behind, end_staging, halt, in_front, invite, issued_by, issued_by_all, moves, note_call, offer, seat_at}
+use Rattle.delivery_turns.specs.world_state.Worlds.{Effect, State, after_all, behind, end_staging, halt, in_front, invite, moves, note_call, offer, seat_at}
 use Rattle.rule_laws.proofs.world_laws.Forms.{due_grows, facet_grows, instance_grows, invitation_grows, label_grows, notice_grows, settled_grows, timed_grows}
 use Rattle.rule_laws.proofs.world_laws.Fronts.{begins, good_behind}
 use Rattle.rule_laws.proofs.world_laws.Kept.{good-after_all}
 use Rattle.rule_laws.proofs.world_laws.Lists.{all_map}
-use Rattle.rule_laws.proofs.world_laws.Roomy.{roomy-after_all}
 use Rattle.delivery_turns.specs.rules.Methods.{serve as serve_call}
 use Rattle.delivery_turns.specs.Endings.{binds, binds_to, departs, ending, publishes, settles}
 use Rattle.delivery_turns.specs.Hosts.{HostState, step_after, step_from, step_of, untold}
-use Rattle.delivery_turns.specs.Tasks.{beginning, exits_with, task_work}
+use Rattle.delivery_turns.specs.Tasks.{exits_with}
 use Rattle.delivery_turns.specs.Turns.{delivery_turn}
 use Rattle.delivery_laws.specs.Hosts.{IsGoodHost}
 use Rattle.delivery_laws.specs.Told.{with_log}
-use Rattle.delivery_laws.specs.Works.{AreGoodHostCalls, most_meter}
+use Rattle.delivery_laws.specs.Works.{AreGoodHostCalls}
 use Rattle.delivery_laws.proofs.Logs.{log_grows}
-use Rattle.delivery_laws.proofs.Runs.{issued_both}
-use Rattle.delivery_laws.proofs.Works.{turn_good, work_is}
+use Rattle.delivery_laws.proofs.Works.{turn_good}
 
 -- ---- what was told is no matter of the world's
 
@@ -47,6 +43,7 @@ good_told l w is =
       slot_kinds = is.slot_kinds;
       valued = is.valued;
       bounded = is.bounded;
+      minted = is.minted;
       brands = is.brands;
       invited = is.invited;
       seats = is.seats;
@@ -73,7 +70,7 @@ good_told l w is =
       waiting = all_map (IsDue w) (IsDue v) (due_grows w v g) w.waiting is.waiting;
     }
 
--- ---- a turn's end issues nothing, and tells of no call
+-- ---- a turn's end brings nothing, and tells of no call
 
 abbrev pub IsQuiet : Effect → Type 0
 IsQuiet (moves ms) = ⊥
@@ -81,17 +78,6 @@ IsQuiet (offer o) = ⊥
 IsQuiet (invite d) = ⊥
 IsQuiet (note_call c) = ⊥
 IsQuiet _ = Unit {0}
-
-quiet_one : (w : State) (e : Effect) → IsQuiet e → issued_by w e ≡ 0
-quiet_one w (moves ms) q = absurd q
-quiet_one w (offer o) q = absurd q
-quiet_one w (invite d) q = absurd q
-quiet_one w (note_call c) q = absurd q
-quiet_one w e q = refl
-
-quiet_all : (w : State) (es : List Effect) → AllByRecursion IsQuiet es → issued_by_all w es ≡ 0
-quiet_all w [] q = refl
-quiet_all w (e ∷ es) q = let here = quiet_one w e q.0 in let rest = quiet_all (after w e) es q.1 in omega (arith, here, rest)
 
 pub quiet_both : (es fs : List Effect) → AllByRecursion IsQuiet es → AllByRecursion IsQuiet fs → AllByRecursion IsQuiet (es ++ fs)
 quiet_both [] fs q r = r
@@ -133,52 +119,25 @@ quiet_end w d a =
     (quiet_both (settles w.promises.follows (promise_of d) (settled_after d a)) _ (quiet_settlement w.promises.follows (promise_of d) (settled_after d a))
     (quiet_both (departs d a w) _ (quiet_departure d a w) (quiet_both (binds d a) (end_staging ∷ []) (quiet_binding d a) (tt, tt))))
 
-pub turn_issues : (read : TextReader) (served : AreGoodServices (serve_call read)) (called : AreGoodHostCalls) (meter : ℕ) (few : meter ≤ most_meter) (w : State) (d : Delivery) → IsGoodWorld (in_front d w) → IsRoomy w.rights.out most_issued
-    → issued_by_all w (delivery_turn read meter w d).effects ≤ most_issued
-unfolding delivery_turn
-turn_issues read served called meter few w d good room =
-    let work = task_work read meter w (beginning w d).task in
-    let is = work_is read served called meter few w d good room in
-    let u = after_all w work.effects in
-    let both = issued_both w work.effects (ending d work.answer u) in
-    let none = quiet_all u (ending d work.answer u) (quiet_end u d work.answer) in
-    let n = is.issues in
-    omega (arith, both, none, n)
-
 -- ---- a step
 
-pub one_turn : (left : ℕ) → 0 < left → left * most_issued ≡ most_issued + (left - 1) * most_issued
-one_turn left some = let e : 1 + (left - 1) ≡ left = omega arith in let split = add-mul 1 (left - 1) most_issued in ap (λ k. k * most_issued) (sym e) ∙ (split ∙ omega arith)
-
--- there is room for a turn that isn't run yet
-pub host_room : (s : HostState) → IsGoodHost s → s.turns < most_turns → IsRoomy s.world.rights.out most_issued
-host_room s host before =
-    let split = one_turn (most_turns - s.turns) (omega (arith, before)) in
-    record { each = λ b. let r = host.room.each b in omega (arith, r, split) }
-
 module _ (read : TextReader) (served : AreGoodServices (serve_call read)) (called : AreGoodHostCalls) where
-  step_good : (s : HostState) (d : Delivery) (ds : List Delivery) → s.world.waiting ≡ d ∷ ds → IsGoodHost s → s.turns < most_turns → IsGoodHost (step_after s d (delivery_turn read s.meter (behind s.world) d)).next
-  step_good s d ds front host before =
+  step_good : (s : HostState) (d : Delivery) (ds : List Delivery) → s.world.waiting ≡ d ∷ ds → IsGoodHost s → IsGoodHost (step_after s d (delivery_turn read s.meter (behind s.world) d)).next
+  step_good s d ds front host =
       let w = behind s.world in
       let good : IsGoodWorld (in_front d w) = subst IsGoodWorld (begins s.world d ds front) host.world in
-      let split = one_turn (most_turns - s.turns) (omega (arith, before)) in
-      let room : IsRoomy w.rights.out most_issued = host_room s host before in
       let es = (delivery_turn read s.meter w d).effects in
-      let are = turn_good read served called s.meter host.meter w d good room in
-      let issues = turn_issues read served called s.meter host.meter w d good room in
-      let left : most_turns - (s.turns + 1) ≡ most_turns - s.turns - 1 = omega arith in
+      let are = turn_good read served called s.meter w d good in
       record {
         meter = host.meter;
         world = good_told [] (after_all w es) (good-after_all w es are (good_behind w d good));
-        room = subst (λ k. IsRoomy (after_all w es).rights.out (k * most_issued)) (sym left)
-            (roomy-after_all w es ((most_turns - s.turns) * most_issued) ((most_turns - s.turns - 1) * most_issued) host.room (omega (arith, issues, split)));
         untold = refl;
       }
 
-  from_good : (s : HostState) (ws : List Delivery) → s.world.waiting ≡ ws → IsGoodHost s → s.turns < most_turns → IfSome (step_from read s ws) (λ t. IsGoodHost t.next)
-  from_good s [] front host before = tt
-  from_good s (d ∷ ds) front host before = step_good s d ds front host before
+  from_good : (s : HostState) (ws : List Delivery) → s.world.waiting ≡ ws → IsGoodHost s → IfSome (step_from read s ws) (λ t. IsGoodHost t.next)
+  from_good s [] front host = tt
+  from_good s (d ∷ ds) front host = step_good s d ds front host
 
-  pub steps_good : (s : HostState) → IsGoodHost s → s.turns < most_turns → IfSome (step_of read s) (λ t. IsGoodHost t.next)
+  pub steps_good : (s : HostState) → IsGoodHost s → IfSome (step_of read s) (λ t. IsGoodHost t.next)
   unfolding step_of
-  steps_good s host before = from_good s s.world.waiting refl host before
+  steps_good s host = from_good s s.world.waiting refl host

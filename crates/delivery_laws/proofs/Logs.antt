@@ -1,6 +1,5 @@
--- What was told in the turn changes nothing of what effects do, of what they need, and of what they issue.
-use Rattle.std.specs.Prelude.{IfSome}
-use Rattle.std.proofs.Common.{◌≡◌, ℕ, ◌≤◌, ◌+◌, List, [], ◌∷◌, Option, Some, None, length, ◌++◌, refl, sym, ap, ◌∙◌, subst, arith}
+-- What was told in the turn changes nothing of what effects do and of what they need.
+use Rattle.std.proofs.Common.{◌≡◌, ℕ, ◌+◌, List, [], ◌∷◌, Option, Some, None, length, ◌++◌, refl, sym, ap, subst, arith}
 use Rattle.delivery_turns.specs.actors.SeatPromises.{pair_at}
 use Rattle.delivery_turns.specs.promise_store.States.{SettlementView, ok}
 use Rattle.delivery_turns.specs.turn_records.Deliveries.{Delivery}
@@ -10,7 +9,7 @@ use Rattle.delivery_turns.specs.world_state.Good.{AreGood, IsGoodEffect, IsMaker
 use Rattle.delivery_turns.specs.world_state.Known.{Extends, Grows, Keeps}
 use Rattle.delivery_turns.specs.world_state.Promises.{CascadeStep, Flow, PromiseBook, Resolved, all_stepped, as_resolved, cascade, flowing, following, notifies, resolving, resolving_to, settlement_at, settles, settling, stepped, target_of}
 use Rattle.delivery_turns.specs.world_state.Rights.{slots_at}
-use Rattle.delivery_turns.specs.world_state.Worlds.{Effect, Maker, State, add_issuer, after, after_all, arrive, bind_label, empty_payment, empty_seat, end_staging, exit, halt, install, invite, issued_by, issued_by_all, keep_state, leaving_events, make_facet, moves, new_brand, new_purse, note_call, of_host, of_instance, of_kit, offer, payouts_tree, publish, resolve, rights_left, seats_left, send, set_time, stage, start, stop, unstage, wake, when}
+use Rattle.delivery_turns.specs.world_state.Worlds.{Effect, Maker, State, add_issuer, after, after_all, arrive, bind_label, empty_payment, empty_seat, end_staging, exit, halt, install, invite, keep_state, leaving_events, make_facet, moves, new_brand, new_purse, note_call, of_host, of_instance, of_kit, offer, payouts_tree, publish, resolve, rights_left, seats_left, send, set_time, stage, start, stop, unstage, wake, when}
 use Rattle.rule_laws.proofs.world_laws.Forms.{facet_grows, formed_grows, handed_all_grow, invitation_grows, issuer_grows, issuers_all_grow, known_all_grow, settling_grows, wakeup_grows}
 use Rattle.delivery_laws.specs.Told.{with_log}
 
@@ -183,18 +182,3 @@ pub all_good_untold : (l : List Event) (w : State) (es : List Effect) → AreGoo
 all_good_untold l w [] is = tt
 all_good_untold l w (e ∷ es) is =
     (good_untold l w e is.0, subst (λ (x : State). AreGood x es) (sym (effect_untold l w e)) (all_good_untold (after (with_log l w) e).log (after w e) es is.1))
-
--- ---- what they issue
-
-issued_untold : (l : List Event) (w : State) (e : Effect) → issued_by (with_log l w) e ≡ issued_by w e
-issued_untold l w (moves ms) = refl
-issued_untold l w (offer o) = refl
-issued_untold l w (invite d) = refl
-issued_untold l w _ = refl
-
-pub all_issued_untold : (l : List Event) (w : State) (es : List Effect) → issued_by_all (with_log l w) es ≡ issued_by_all w es
-all_issued_untold l w [] = refl
-all_issued_untold l w (e ∷ es) =
-    let rest : issued_by_all (after (with_log l w) e) es ≡ issued_by_all (after w e) es =
-    subst (λ (x : State). issued_by_all x es ≡ issued_by_all (after w e) es) (sym (effect_untold l w e)) (all_issued_untold (after (with_log l w) e).log (after w e) es) in
-    omega (arith, issued_untold l w e, rest)

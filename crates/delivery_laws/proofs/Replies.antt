@@ -1,12 +1,9 @@
--- What the host does for a call of an instance's function is good, what it answers the instance may know, and it
--- issues no more than the call was charged for.
-use Rattle.std.specs.Prelude.{IfOk, IfSome, nat_lt}
+-- What the host does for a call of an instance's function is good, and what it answers the instance may know.
+use Rattle.std.specs.Prelude.{IfOk}
 use Rattle.std.specs.List.{AllByRecursion}
-use Rattle.std.proofs.Common.{◌≡◌, ℕ, ◌+◌, ◌*◌, ◌^◌, ◌-◌, ◌≤◌, ◌<◌, Bool, true, false, not, ◌||◌, List, [], ◌∷◌, ◌++◌, Option, Some, None, Result, Ok, Err, length, refl, sym, ap, subst, arith}
-use Rattle.std.specs.Prelude.{slice_index_or}
-use Rattle.rule_laws.specs.call_arguments.Arguments.{arg}
+use Rattle.std.proofs.Common.{◌≡◌, ℕ, ◌+◌, ◌-◌, ◌<◌, Bool, true, false, not, ◌||◌, List, [], ◌∷◌, ◌++◌, Option, Some, None, Ok, Err, length, refl, sym, ap, subst, arith}
 use Rattle.delivery_turns.specs.rules.Acts.{MayAct}
-use Rattle.delivery_turns.specs.rules.Obligations.{CanCall, IsRule, most_issued_by}
+use Rattle.delivery_turns.specs.rules.Obligations.{CanCall, IsRule}
 use Rattle.delivery_turns.specs.rules.Outcomes.{Outcome}
 use Rattle.rule_laws.proofs.Forms.{null_formed, object_formed}
 use Rattle.rule_laws.proofs.Next.{after_next_of}
@@ -14,7 +11,7 @@ use Rattle.turn_writer.specs.host_data.Nodes.{EachField, FunctionIs, ObjectIs, I
 use Rattle.turn_writer.proofs.host_data.Nodes.{weaker}
 use Rattle.rule_laws.specs.ertp_mint.Stocks.{most_made}
 use Rattle.rule_laws.specs.jessie_semantics.Keeping.{AllHave, CallHas, ReplyHas, method_fields}
-use Rattle.rule_laws.specs.jessie_semantics.Play.{Call, call, cost, far, send, when}
+use Rattle.rule_laws.specs.jessie_semantics.Play.{Call, call, far, send, when}
 use Rattle.turn_writer.specs.host_data.Tree as trees
 use Rattle.turn_writer.specs.host_data.Tree.{Tree, is_local, object, some_local, stays}
 use Rattle.turn_writer.specs.host_data.View.{items_of}
@@ -37,22 +34,21 @@ use Rattle.delivery_turns.specs.turn_records.Printed.{printed_answer}
 use Rattle.delivery_turns.specs.turn_rows.Form.{IsCallAnswer}
 use Rattle.delivery_turns.specs.world_state.Promises.{PromiseBook, asking, settlement_at, with_promise}
 use Rattle.delivery_turns.specs.world_state.Good.{AreGood, IsGoodWorld, IsMethod}
-use Rattle.delivery_turns.specs.world_state.Known.{FunctionKnown, HasNames, IsFormed, IsHanded, IsKnownTo, ObjectKnown, known_as, made_as}
-use Rattle.delivery_turns.specs.world_state.Rights.{IsRoomy}
+use Rattle.delivery_turns.specs.world_state.Known.{FunctionKnown, HasNames, IsFormed, IsHanded, IsKnownTo, ObjectKnown, known_as}
 use Rattle.delivery_turns.specs.world_state.Worlds as worlds
-use Rattle.delivery_turns.specs.world_state.Worlds.{Effect, State, after, after_all, bind_label, issued_by_all, note_call, promises_made, request_of, resolve}
+use Rattle.delivery_turns.specs.world_state.Worlds.{Effect, State, after, after_all, bind_label, note_call, promises_made, request_of, resolve}
 use Rattle.rule_laws.proofs.world_laws.Forms.{formed_grows}
 use Rattle.rule_laws.proofs.world_laws.Kept.{good-after_all}
 use Rattle.rule_laws.proofs.world_laws.Lists.{all_read_or, length_append}
 use Rattle.delivery_turns.specs.HostCalls.{method_fields as told_fields}
-use Rattle.delivery_turns.specs.HostCalls.{answer_of, call_effects, call_reply, effects_of, reply_of, told_call, told_effects}
+use Rattle.delivery_turns.specs.HostCalls.{answer_of, reply_of, told_call, told_effects}
 use Rattle.delivery_turns.specs.rules.PromisesAndFacets.{call_rule, far_rule, send_rule, when_rule}
 use Rattle.delivery_laws.specs.Told.{with_log}
 use Rattle.delivery_laws.specs.Works.{AreGoodHostCalls, IsCallWork, IsOfCall}
-use Rattle.delivery_laws.proofs.Asking.{all_have, have_all}
+use Rattle.delivery_laws.proofs.Asking.{all_have}
 use Rattle.delivery_laws.proofs.Knowing.{handed_of}
 use Rattle.delivery_laws.proofs.Printing.{all_print, below, formed_prints}
-use Rattle.delivery_laws.proofs.Logs.{all_good_untold, all_issued_untold, effects_untold, log_grows}
+use Rattle.delivery_laws.proofs.Logs.{all_good_untold, effects_untold, log_grows}
 
 -- ---- refusals
 
@@ -98,14 +94,13 @@ calm_acts w caller o m (e ∷ es) is = (calm_act w caller o m e is.0, calm_acts 
 
 -- ---- what a rule is for an instance
 
-pub record IsWork (w : State) (i n : ℕ) (answer : Tree) (es : List Effect) : Type 0 where
+pub record IsWork (w : State) (i : ℕ) (answer : Tree) (es : List Effect) : Type 0 where
   pub good : AreGood w es
   pub known : IsKnownTo (after_all w es) i answer
   pub calm : AllByRecursion IsOfCall es
-  pub issues : issued_by_all w es ≤ n
 
-abbrev IsWorkOf : State → ℕ → ℕ → Outcome → Type 0
-IsWorkOf w i n row = IfOk row (λ d. IsWork w i n d.0 d.1)
+abbrev IsWorkOf : State → ℕ → Outcome → Type 0
+IsWorkOf w i row = IfOk row (λ d. IsWork w i d.0 d.1)
 
 -- ---- how a call is told can be printed
 
@@ -122,9 +117,9 @@ call_answer (Ok (answer, es)) = tt
 call_answer (Err r) = tt
 
 module _ (w : State) (i : ℕ) (good : IsGoodWorld w) where
-  answer_prints : (n : ℕ) (row : Outcome) → IsWorkOf w i n row → CanPrintAnswer (answer_of row)
-  answer_prints n (Err r) is = tt
-  answer_prints n (Ok (answer, es)) is = formed_prints (after_all w es) (good-after_all w es is.good good) (Some i) answer is.known
+  answer_prints : (row : Outcome) → IsWorkOf w i row → CanPrintAnswer (answer_of row)
+  answer_prints (Err r) is = tt
+  answer_prints (Ok (answer, es)) is = formed_prints (after_all w es) (good-after_all w es is.good good) (Some i) answer is.known
 
   called_prints : (o : Obj) (args : List Tree) → IsKnownTo w i (object o) → AllHave (IsKnownTo w i) args → CanPrintObject (Some o) × CanPrintAll args
   called_prints o args target known = (below w good (Some i) o target.objects, all_print w good (Some i) args (all_have (IsKnownTo w i) args known))
@@ -154,38 +149,35 @@ module _ (w : State) (i : ℕ) (good : IsGoodWorld w) where
 
 -- ---- and once it is told
 
-record IsTold (w : State) (i n : ℕ) (c : Call) (row : Outcome) : Type 0 where
+record IsTold (w : State) (i : ℕ) (c : Call) (row : Outcome) : Type 0 where
   good : AreGood w (told_effects c row)
   known : ReplyHas (IsKnownTo (after_all w (told_effects c row)) i) (reply_of row)
   calm : AllByRecursion IsOfCall (told_effects c row)
-  issues : issued_by_all w (told_effects c row) ≤ n
 
-told_is : (w : State) (i n : ℕ) (c : Call) (row : Outcome) → IsWorkOf w i n row → CanPrintCall (told_call c (answer_of row)) → IsTold w i n c row
-told_is w i n c (Err r) is prints = record { good = (tt, tt); known = refusal_formed _ (Some i) r; calm = (prints, tt); issues = omega arith }
-told_is w i n c (Ok (answer, es)) is prints =
+told_is : (w : State) (i : ℕ) (c : Call) (row : Outcome) → IsWorkOf w i row → CanPrintCall (told_call c (answer_of row)) → IsTold w i c row
+told_is w i c (Err r) is prints = record { good = (tt, tt); known = refusal_formed _ (Some i) r; calm = (prints, tt) }
+told_is w i c (Ok (answer, es)) is prints =
     let l = w.log ++ called (told_call c (answer_of (Ok (answer, es)))) ∷ [] in
     let u = after_all (with_log l w) es in
     record {
       good = (tt, all_good_untold l w es is.good);
       known = subst (λ (x : State). IsKnownTo x i answer) (sym (effects_untold l w es)) (formed_grows (after_all w es) (with_log u.log (after_all w es)) (log_grows u.log (after_all w es)) (Some i) answer is.known);
       calm = (prints, is.calm);
-      issues = omega (arith, all_issued_untold l w es, is.issues);
     }
 
 -- ---- calls of methods
 
-call_can : (w : State) (i : ℕ) (o : Obj) (args : List Tree) → IsGoodWorld w → i < length w.tables.instances → IsKnownTo w i (object o) → AllHave (IsKnownTo w i) args → IsRoomy w.rights.out (most_issued_by (Some i) args) → CanCall w (Some i) o args
-call_can w i o args good made target known room = record {
+call_can : (w : State) (i : ℕ) (o : Obj) (args : List Tree) → IsGoodWorld w → i < length w.tables.instances → IsKnownTo w i (object o) → AllHave (IsKnownTo w i) args → CanCall w (Some i) o args
+call_can w i o args good made target known = record {
   good = good;
   hosted = made;
   target = target.objects;
   arguments = λ place. all_read_or (IsKnownTo w i) args (place - 1) trees.null (all_have (IsKnownTo w i) args known) (null_formed w (Some i));
-  room = room;
 }
 
-outcome_work : (w : State) (i n : ℕ) (o : Obj) (m : List ℕ) (args : List Tree) (row : Outcome) → most_issued_by (Some i) args ≤ n → IfOk row (λ d. IsRule w (Some i) o m args d.0 d.1) → IsWorkOf w i n row
-outcome_work w i n o m args (Err r) le is = tt
-outcome_work w i n o m args (Ok (answer, es)) le is = record { good = is.good; known = is.known; calm = calm_acts w (Some i) o m es is.acts; issues = omega (arith, is.issues, le) }
+outcome_work : (w : State) (i : ℕ) (o : Obj) (m : List ℕ) (args : List Tree) (row : Outcome) → IfOk row (λ d. IsRule w (Some i) o m args d.0 d.1) → IsWorkOf w i row
+outcome_work w i o m args (Err r) is = tt
+outcome_work w i o m args (Ok (answer, es)) is = record { good = is.good; known = is.known; calm = calm_acts w (Some i) o m es is.acts }
 
 -- ---- sends
 
@@ -205,17 +197,16 @@ handed_all : (w : State) (i : ℕ) (vs : List Tree) → some_local (items_of vs)
 handed_all w i [] e h = tt
 handed_all w i (v ∷ vs) e h = (handed_of w i v (or_left _ _ e) h.0, handed_all w i vs (or_right (is_local v) _ e) h.1)
 
-send_is : (w : State) (i n : ℕ) (target : Obj) (m : List ℕ) (args : List Tree) → i < length w.tables.instances → IsKnownTo w i (object target) → AllHave (IsKnownTo w i) args → IsWorkOf w i n (send_rule w i target m args)
+send_is : (w : State) (i : ℕ) (target : Obj) (m : List ℕ) (args : List Tree) → i < length w.tables.instances → IsKnownTo w i (object target) → AllHave (IsKnownTo w i) args → IsWorkOf w i (send_rule w i target m args)
 unfolding send_rule
-send_is w i n target m args made known all =
-    after_need (λ d. IsWork w i n d.0 d.1) (not (stays target.kind || some_local (items_of args))) _ _
-    (λ e. after_next_of (λ d. IsWork w i n d.0 d.1) (promises_made w) most_made _ (λ room.
+send_is w i target m args made known all =
+    after_need (λ d. IsWork w i d.0 d.1) (not (stays target.kind || some_local (items_of args))) _ _
+    (λ e. after_next_of (λ d. IsWork w i d.0 d.1) (promises_made w) most_made _ (λ room.
     let free = not_true _ e in
     record {
       good = (record { made = made; target = handed_of w i (object target) (or_left _ _ free) known; arguments = handed_all w i args (or_right (stays target.kind) _ free) all; room = room }, tt);
       known = object_formed _ (Some i) (record { kind = kinds.Promise; number = promises_made w }) (let more = length_append w.promises.settled (None ∷ []) in omega (arith, more));
       calm = (tt, tt);
-      issues = omega arith;
     }))
 
 -- ---- requests
@@ -234,14 +225,13 @@ asked_made w i p f held =
     let more = length_append w.promises.settled (None ∷ []) in
     omega (arith, same, more)
 
-when_is : (w : State) (i n : ℕ) (promise : Obj) (f : List ℕ) (held : Tree) → i < length w.tables.instances → is_promise promise.kind ≡ true → IsKnownTo w i (object promise) → IsKnownTo w i (trees.function f) → IsKnownTo w i held → IsWorkOf w i n (when_rule w i promise f held)
+when_is : (w : State) (i : ℕ) (promise : Obj) (f : List ℕ) (held : Tree) → i < length w.tables.instances → is_promise promise.kind ≡ true → IsKnownTo w i (object promise) → IsKnownTo w i (trees.function f) → IsKnownTo w i held → IsWorkOf w i (when_rule w i promise f held)
 unfolding when_rule
-when_is w i n promise f held made is known named kept =
-    after_next_of (λ d. IsWork w i n d.0 d.1) (promises_made w) most_made _ (λ room. record {
+when_is w i promise f held made is known named kept =
+    after_next_of (λ d. IsWork w i d.0 d.1) (promises_made w) most_made _ (λ room. record {
       good = (record { made = promise_there w i promise.kind promise.number is known.objects; function = named.functions; held = kept; room = room }, tt);
       known = object_formed _ (Some i) (record { kind = kinds.Promise; number = promises_made w }) (asked_made w i promise.number f held);
       calm = (tt, tt);
-      issues = omega arith;
     })
 
 -- ---- facets
@@ -250,29 +240,28 @@ methods_there : (w : State) (i n : ℕ) (ms : List (List ℕ × List ℕ)) → E
 methods_there w i n [] h = tt
 methods_there w i n (m ∷ ms) h = (h.0, methods_there w i n ms h.1)
 
-far_is : (w : State) (i n : ℕ) (ms : List (List ℕ × List ℕ)) (held : Tree) → i < length w.tables.instances → IsKnownTo w i (trees.fields (method_fields ms)) → IsKnownTo w i held → IsWorkOf w i n (far_rule w i ms held)
+far_is : (w : State) (i : ℕ) (ms : List (List ℕ × List ℕ)) (held : Tree) → i < length w.tables.instances → IsKnownTo w i (trees.fields (method_fields ms)) → IsKnownTo w i held → IsWorkOf w i (far_rule w i ms held)
 unfolding far_rule
-far_is w i n ms held made named kept =
-    after_next_of (λ d. IsWork w i n d.0 d.1) (length w.facets) most_made _ (λ room. record {
+far_is w i ms held made named kept =
+    after_next_of (λ d. IsWork w i d.0 d.1) (length w.facets) most_made _ (λ room. record {
       good = (record { facet = record { made = made; methods = methods_there w i 1 ms named.functions.1; held = kept }; room = room }, tt);
       known = object_formed _ (Some i) (record { kind = kinds.Facet; number = length w.facets }) (let more = length_append w.facets (record { instance = i; methods = ms; held = held } ∷ []) in omega (arith, more));
       calm = (tt, tt);
-      issues = omega arith;
     })
 
 -- ---- any call
 
 module _ (served : AreGoodHostCalls) (w : State) (i : ℕ) (good : IsGoodWorld w) (made : i < length w.tables.instances) where
-  row_is : (c : Call) → CallHas (IsKnownTo w i) c → IsRoomy w.rights.out (2 ^ 63 * cost c) → IsWorkOf w i (2 ^ 63 * cost c) (call_rule w i c)
-  row_is (call o m args) known room = outcome_work w i _ o m args (serve_own w o m args) (omega arith) (served w i o m args (call_can w i o args good made known.0 known.1 room))
-  row_is (send o m args) known room = send_is w i _ o m args made known.0 known.1
-  row_is (when o f held) known room = when_is w i _ o f held made known.0 known.1 known.2 known.3
-  row_is (far x ms held) known room = far_is w i _ ms held made known.0 known.1
+  row_is : (c : Call) → CallHas (IsKnownTo w i) c → IsWorkOf w i (call_rule w i c)
+  row_is (call o m args) known = outcome_work w i o m args (serve_own w o m args) (served w i o m args (call_can w i o args good made known.0 known.1))
+  row_is (send o m args) known = send_is w i o m args made known.0 known.1
+  row_is (when o f held) known = when_is w i o f held made known.0 known.1 known.2 known.3
+  row_is (far x ms held) known = far_is w i ms held made known.0 known.1
 
-  pub call_is : (c : Call) → CallHas (IsKnownTo w i) c → IsRoomy w.rights.out (2 ^ 63 * cost c) → IsCallWork w i (2 ^ 63 * cost c) c
-  call_is c known room =
+  pub call_is : (c : Call) → CallHas (IsKnownTo w i) c → IsCallWork w i c
+  call_is c known =
       let row = call_rule w i c in
-      let work = row_is c known room in
-      let prints = told_prints w i good c row known (answer_prints w i good (2 ^ 63 * cost c) row work) in
-      let is = told_is w i (2 ^ 63 * cost c) c row work prints in
-      record { good = is.good; known = is.known; calm = is.calm; issues = is.issues }
+      let work = row_is c known in
+      let prints = told_prints w i good c row known (answer_prints w i good row work) in
+      let is = told_is w i c row work prints in
+      record { good = is.good; known = is.known; calm = is.calm }

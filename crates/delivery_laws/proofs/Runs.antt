@@ -1,24 +1,20 @@
 -- What the function of an instance comes to is good: each of its calls, one after another, what it gives or throws,
 -- and the values of its state.
 use Rattle.std.specs.List.{AllByRecursion}
-use Rattle.std.proofs.Math.Nat.{mul-add, mul-le-mul_left}
-use Rattle.std.proofs.Common.{◌≡◌, ℕ, ◌+◌, ◌*◌, ◌^◌, ◌-◌, ◌≤◌, ◌<◌, List, [], ◌∷◌, ◌++◌, Some, length, refl, sym, ap, ◌∙◌, subst, arith}
-use Rattle.rule_laws.specs.jessie_semantics.Keeping.{AllHave, CallHas, EndingHas, Fits, NextHas, RepliesHave, ReplyHas}
-use Rattle.rule_laws.specs.jessie_semantics.Play.{Asks, Call, Ending, Ends, Play, Reply, Spends, after, cost, reply_size}
-use Rattle.turn_writer.specs.host_data.Tree.{Tree}
+use Rattle.std.proofs.Common.{◌≡◌, ℕ, ◌+◌, ◌-◌, ◌<◌, List, [], ◌∷◌, ◌++◌, Some, length, refl, sym, ap, subst, arith}
+use Rattle.rule_laws.specs.jessie_semantics.Keeping.{AllHave, CallHas, EndingHas, NextHas, RepliesHave, ReplyHas}
+use Rattle.rule_laws.specs.jessie_semantics.Play.{Asks, Call, Ends, Play, Reply, Spends, after}
 use Rattle.delivery_turns.specs.world_state.Good.{AreGood, IsGoodWorld}
-use Rattle.delivery_turns.specs.world_state.Known.{Extends, Grows, IsKnownTo, Keeps}
-use Rattle.delivery_turns.specs.world_state.Rights.{IsRoomy}
-use Rattle.delivery_turns.specs.world_state.Worlds.{Effect, State, after_all, issued_by_all}
+use Rattle.delivery_turns.specs.world_state.Known.{Grows, IsKnownTo}
+use Rattle.delivery_turns.specs.world_state.Worlds.{Effect, State, after_all}
 use Rattle.delivery_turns.specs.world_state.Worlds as worlds
 use Rattle.rule_laws.proofs.world_laws.Forms.{formed_grows}
 use Rattle.rule_laws.proofs.world_laws.Growing.{grows-after}
 use Rattle.rule_laws.proofs.world_laws.Kept.{good-after_all}
 use Rattle.rule_laws.proofs.world_laws.Lists.{extends_refl, extends_trans, keeps_refl, keeps_trans}
-use Rattle.rule_laws.proofs.world_laws.Roomy.{roomy-after_all}
 use Rattle.delivery_turns.specs.Functions.{Run, ended, ran_out, run, run_after}
 use Rattle.delivery_turns.specs.HostCalls.{call_effects, call_reply}
-use Rattle.delivery_laws.specs.Works.{AreGoodHostCalls, Evaluates, IsCallWork, IsEnded, IsOfCall, IsRun}
+use Rattle.delivery_laws.specs.Works.{AreGoodHostCalls, Evaluates, IsOfCall, IsRun}
 use Rattle.delivery_laws.proofs.Asking.{replies_so}
 use Rattle.delivery_laws.proofs.Replies.{call_is}
 
@@ -78,10 +74,6 @@ pub calm_both : (es fs : List Effect) → AllByRecursion IsOfCall es → AllByRe
 calm_both [] fs g h = h
 calm_both (e ∷ es) fs g h = (g.0, calm_both es fs g.1 h)
 
-pub issued_both : (w : State) (es fs : List Effect) → issued_by_all w (es ++ fs) ≡ issued_by_all w es + issued_by_all (after_all w es) fs
-issued_both w [] fs = omega arith
-issued_both w (e ∷ es) fs = let rest = issued_both (worlds.after w e) es fs in omega (arith, rest)
-
 -- ---- answers so far
 
 pub have_end : (v : State) (i : ℕ) (rs : List Reply) (r : Reply) → RepliesHave (IsKnownTo v i) rs → ReplyHas (IsKnownTo v i) r → RepliesHave (IsKnownTo v i) (rs ++ r ∷ [])
@@ -96,40 +88,28 @@ after_more (Asks d f) (q ∷ rs) c go r e = after_more (f q) rs c go r e
 
 -- ---- a run behind the calls before it
 
--- so much and then so much is no more than all
-pub scaled : (k a b c : ℕ) → a + b ≤ c → k * a + k * b ≤ k * c
-scaled k a b c le = let e = mul-add k a b in let h = mul-le-mul_left {m = a + b} {n = c} k le in omega (arith, e, h)
-
-then_run : (w : State) (i n c a m : ℕ) (es : List Effect) (r : Run) → c + a ≤ m → AreGood w es → AllByRecursion IsOfCall es → issued_by_all w es ≤ 2 ^ 63 * c
-    → IsRun (after_all w es) i n a r → IsRun w i n m (run_after es r)
-then_run w i n c a m es ran_out le good calm issues is = tt
-then_run w i n c a m es (ended e values fs) le good calm issues is = record {
+then_run : (w : State) (i n : ℕ) (es : List Effect) (r : Run) → AreGood w es → AllByRecursion IsOfCall es → IsRun (after_all w es) i n r → IsRun w i n (run_after es r)
+then_run w i n es ran_out good calm is = tt
+then_run w i n es (ended e values fs) good calm is = record {
   good = good_both w es fs good is.good;
   calm = calm_both es fs calm is.calm;
-  issues = let both = issued_both w es fs in let all = scaled (2 ^ 63) c a m le in omega (arith, both, issues, is.issues, all);
   ending = subst (λ (x : State). EndingHas (IsKnownTo x i) e) (sym (after_both w es fs)) is.ending;
   kept = subst (λ (x : State). AllHave (IsKnownTo x i) values) (sym (after_both w es fs)) is.kept;
   many = is.many;
 }
 
 module _ (served : AreGoodHostCalls) (start : State) (i n : ℕ) (made : i < length start.tables.instances) (p0 : Play) (asks : Evaluates start i n p0) where
-  pub run_is : (p : Play) (rs : List Reply) (w : State) (m : ℕ) → after p0 rs ≡ p → Fits m p → IsGoodWorld w → Grows start w → RepliesHave (IsKnownTo w i) rs → IsRoomy w.rights.out (2 ^ 63 * m)
-      → IsRun w i n m (run w i p)
-  run_is (Ends e values) rs w m is fits good grown known room =
+  pub run_is : (p : Play) (rs : List Reply) (w : State) → after p0 rs ≡ p → IsGoodWorld w → Grows start w → RepliesHave (IsKnownTo w i) rs → IsRun w i n (run w i p)
+  run_is (Ends e values) rs w is good grown known =
       let next : NextHas (IsKnownTo w i) n (Ends e values) = subst (λ q. NextHas (IsKnownTo w i) n q) is (asks.each w grown rs known) in
-      record { good = tt; calm = tt; issues = omega arith; ending = next.0; kept = next.1.0; many = next.1.1 }
-  run_is Spends rs w m is fits good grown known room = tt
-  run_is (Asks c go) rs w m is fits good grown known room =
+      record { good = tt; calm = tt; ending = next.0; kept = next.1.0; many = next.1.1 }
+  run_is Spends rs w is good grown known = tt
+  run_is (Asks c go) rs w is good grown known =
       let next : CallHas (IsKnownTo w i) c = subst (λ q. NextHas (IsKnownTo w i) n q) is (asks.each w grown rs known) in
       let here : i < length w.tables.instances = omega (arith, made, grown.instances.more) in
-      let split = scaled (2 ^ 63) (cost c) 0 m (omega (arith, fits.0)) in
-      let room_now : IsRoomy w.rights.out (2 ^ 63 * cost c) = record { each = λ b. omega (arith, room.each b, split) } in
-      let work = call_is served w i good here c next room_now in
+      let work = call_is served w i good here c next in
       let es = call_effects w i c in
       let r = call_reply w i c in
-      let left = m - (cost c + reply_size r) in
-      let rest = scaled (2 ^ 63) (cost c) left m (omega (arith, fits.0)) in
-      let room_then : IsRoomy (after_all w es).rights.out (2 ^ 63 * left) = roomy-after_all w es (2 ^ 63 * m) (2 ^ 63 * left) room (omega (arith, work.issues, rest)) in
       let known_then : RepliesHave (IsKnownTo (after_all w es) i) (rs ++ r ∷ []) = have_end (after_all w es) i rs r (replies_so (formed_grows w (after_all w es) (all_grow w es) (Some i)) rs known) work.known in
-      then_run w i n (cost c) left m es (run (after_all w es) i (go r)) (omega (arith, fits.0)) work.good work.calm work.issues
-      (run_is (go r) (rs ++ r ∷ []) (after_all w es) left (after_more p0 rs c go r is) (fits.1 r) (good-after_all w es work.good good) (grows_on start w (after_all w es) grown (all_grow w es)) known_then room_then)
+      then_run w i n es (run (after_all w es) i (go r)) work.good work.calm
+      (run_is (go r) (rs ++ r ∷ []) (after_all w es) (after_more p0 rs c go r is) (good-after_all w es work.good good) (grows_on start w (after_all w es) grown (all_grow w es)) known_then)

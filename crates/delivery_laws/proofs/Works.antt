@@ -2,29 +2,23 @@
 -- handed out.
 use Rattle.std.specs.Prelude.{IfOk, IfSome, cond, is_none, nat_lt, unwrap_or, codes}
 use Rattle.std.specs.List.{AllByRecursion}
-use Rattle.std.specs.Map.{lookup}
-use Rattle.std.specs.Str.{bytes_eq}
-use Rattle.std.proofs.Common.{◌≡◌, ℕ, ◌+◌, ◌*◌, ◌^◌, ◌-◌, ◌≤◌, ◌<◌, Bool, true, false, List, [], ◌∷◌, ◌++◌, Option, Some, None, Result, Ok, Err, length, map, refl, sym, ap, ◌∙◌, subst, arith}
-use Rattle.std.proofs.Math.Nat.{mul-le-mul_left}
+use Rattle.std.proofs.Common.{◌≡◌, ℕ, ◌+◌, ◌-◌, ◌<◌, Bool, true, false, List, [], ◌∷◌, ◌++◌, Option, Some, None, Result, Ok, Err, length, refl, sym, ap, ◌∙◌, subst, arith}
 use Rattle.std.proofs.lemmas.Bool.{ltb-false, ltb-true}
 use Rattle.delivery_turns.specs.actors.Labels.{bound_to}
-use Rattle.rule_laws.specs.call_arguments.Arguments.{arg}
-use Rattle.turn_writer.specs.host_data.Values.{number_tree, object_tree}
-use Rattle.delivery_turns.specs.rules.Obligations.{CanCall, IsRule}
+use Rattle.turn_writer.specs.host_data.Values.{number_tree}
+use Rattle.delivery_turns.specs.rules.Obligations.{IsRule}
 use Rattle.delivery_turns.specs.rules.Outcomes.{Outcome}
 use Rattle.delivery_turns.specs.rules.Traces.{all_open}
 use Rattle.delivery_turns.specs.rules.Words.{has_halted, standing_of}
 use Rattle.rule_laws.proofs.Fields.{FormedAt, formed_here, record_formed}
 use Rattle.rule_laws.proofs.Forms.{null_formed, object_formed}
 use Rattle.rule_laws.proofs.Shown.{handed_held}
-use Rattle.rule_laws.proofs.OpenSeats.{AreAllOpen, all_are_open, others_are_open}
 use Rattle.delivery_turns.specs.actors.Facets.{FacetView, facet_at, no_facet}
-use Rattle.delivery_turns.specs.actors.Tables.{InstanceView, instance_at}
+use Rattle.delivery_turns.specs.actors.Tables.{instance_at}
 use Rattle.rule_laws.specs.jessie_semantics.Keeping.{AllHave, EndingHas}
 use Rattle.rule_laws.specs.jessie_semantics.Play as plays
 use Rattle.rule_laws.specs.jessie_semantics.Play.{Ending}
-use Rattle.rule_laws.proofs.jessie_semantics.Licence.{room_fits}
-use Rattle.rule_laws.specs.jessie_grammar.Syntax.{routines, variable_names}
+use Rattle.rule_laws.specs.jessie_grammar.Syntax.{variable_names}
 use Rattle.rule_laws.specs.jessie_grammar.declared.syntax.Module.{Module}
 use Rattle.turn_writer.specs.host_data.Tree as trees
 use Rattle.turn_writer.proofs.host_data.Nodes.{shallow}
@@ -34,7 +28,6 @@ use Rattle.turn_writer.specs.host_data.declared.data.Obj.{Obj}
 use Rattle.turn_writer.specs.host_data.declared.data.ObjKind.{ObjKind}
 use Rattle.turn_writer.specs.host_data.declared.data.ObjKind.TheVariants as kinds
 use Rattle.delivery_turns.specs.promise_store.States.{SettlementView, broken, ok}
-use Rattle.turn_writer.specs.proposals.declared.allocations.Share.{Share}
 use Rattle.turn_writer.specs.refusals.Codes.{closed, local_only, no_method, refusal_tree}
 use Rattle.turn_writer.specs.refusals.declared.codes.Refusal.{Refusal}
 use Rattle.turn_writer.specs.refusals.declared.codes.Refusal.TheVariants.{Backwards}
@@ -46,13 +39,11 @@ use Rattle.delivery_turns.specs.turn_records.Events.{Answer, given, refused, spe
 use Rattle.delivery_turns.specs.turn_records.Messages.{LineGift}
 use Rattle.delivery_turns.specs.turn_records.Printed.{notice_tree, told_value}
 use Rattle.delivery_turns.specs.turn_rows.Causes as causes
-use Rattle.delivery_turns.specs.turn_rows.Causes.{Cause}
 use Rattle.delivery_turns.specs.world_state.Good.{AreGood, CanKeep, IsFacet, IsGoodWorld, IsSettled, IsSettling, LeavesAnswer}
 use Rattle.delivery_turns.specs.world_state.Known.{Grows, IsHanded, IsKnownTo, made_as, module_of}
 use Rattle.delivery_turns.specs.turn_rows.Form.{times_end}
 use Rattle.delivery_turns.specs.world_state.Promises.{no_promise, settlement_at}
-use Rattle.delivery_turns.specs.world_state.Rights.{IsRoomy, most_issued}
-use Rattle.delivery_turns.specs.world_state.Worlds.{Effect, State, after, after_all, bind_label, end_staging, exit, halt, in_front, issued_by_all, keep_state, note_call, resolve, seat_at, set_time}
+use Rattle.delivery_turns.specs.world_state.Worlds.{Effect, State, after, after_all, bind_label, end_staging, exit, halt, in_front, keep_state, note_call, resolve, seat_at, set_time}
 use Rattle.rule_laws.proofs.world_laws.Forms.{formed_grows, module_stays}
 use Rattle.rule_laws.proofs.world_laws.Fronts.{due_behind, front-after_all, good_behind}
 use Rattle.rule_laws.proofs.world_laws.Growing.{grows-after}
@@ -60,24 +51,18 @@ use Rattle.rule_laws.proofs.world_laws.Kept.{good-after_all}
 use Rattle.rule_laws.proofs.world_laws.Lists.{all_read, all_read_or, length_map}
 use Rattle.delivery_turns.specs.rules.Methods.{serve as serve_call}
 use Rattle.delivery_turns.specs.Functions.{FunctionCall, Run, ended, function_run, module_play, ran_out, run}
-use Rattle.delivery_turns.specs.HostCalls.{answer_of, effects_of}
 use Rattle.delivery_turns.specs.Endings.{ending}
 use Rattle.delivery_turns.specs.Messages.{Addressed, addressed, gift_of, sent_to}
-use Rattle.delivery_turns.specs.Tasks.{Task, Work, answer_of_ending, beginning, call_beginning, do_all, exit_if_open, exits_with, facet_task, function_behind, gift_beginning, halt_with, handler_call, method_task, notice_call, refuse, outcome_work, run_task, run_work, serve, settlement_of, start_call, task_on, task_work, tick_task, wakeup_call}
+use Rattle.delivery_turns.specs.Tasks.{Task, answer_of_ending, beginning, call_beginning, do_all, exit_if_open, exits_with, facet_task, function_behind, gift_beginning, halt_with, handler_call, method_task, notice_call, refuse, outcome_work, run_task, run_work, serve, settlement_of, start_call, task_on, task_work, tick_task, wakeup_call}
 use Rattle.delivery_turns.specs.Turns.{delivery_turn}
 use Rattle.delivery_turns.specs.Tasks as tasks
-use Rattle.delivery_laws.specs.Works.{AreGoodHostCalls, CanPrintNote, IsEnded, IsOfCall, IsOut, IsRun, IsTurnWork, LabelIsFree, most_meter}
+use Rattle.delivery_laws.specs.Works.{AreGoodHostCalls, CanPrintNote, IsEnded, IsOfCall, IsOut, IsRun, IsTurnWork, LabelIsFree}
 use Rattle.delivery_laws.proofs.Asking.{all_have, evaluates, have_all}
 use Rattle.delivery_laws.proofs.Ends.{ending_good, halts_good, open_there}
 use Rattle.delivery_laws.proofs.Knowing.{handed_of}
 use Rattle.delivery_laws.proofs.Replies.{calm_acts, refusal_formed}
 use Rattle.delivery_laws.proofs.Reading.{IsAddressed, IsCalled, IsGift, addressed_there, gift_there, loose_of, sent_there, weaker_ok}
-use Rattle.delivery_laws.proofs.Runs.{after_both, all_grow, calm_both, good_both, grows_itself, issued_both, run_is}
-
--- ---- how much a function issues at most
-
-pub at_most : (meter : ℕ) → meter ≤ most_meter → 2 ^ 63 * meter ≤ most_issued
-at_most meter few = let h = mul-le-mul_left {m = meter} {n = most_meter} (2 ^ 63) few in omega (arith, h)
+use Rattle.delivery_laws.proofs.Runs.{after_both, all_grow, calm_both, good_both, grows_itself, run_is}
 
 -- ---- effects of calls leave labels and the delivery's promise
 
@@ -114,39 +99,37 @@ all_tell : (es : List Effect) → AllByRecursion IsOfCall es → AllByRecursion 
 all_tell [] calm = tt
 all_tell (e ∷ es) calm = (calm_tells e calm.0, all_tell es calm.1)
 
-calm_work : (w : State) (d : Delivery) (a : Answer) (es : List Effect) → IsGoodWorld (in_front d w) → WantsFree w d → AreGood w es → AllByRecursion IsOfCall es → IsOut (after_all w es) a → issued_by_all w es ≤ most_issued
+calm_work : (w : State) (d : Delivery) (a : Answer) (es : List Effect) → IsGoodWorld (in_front d w) → WantsFree w d → AreGood w es → AllByRecursion IsOfCall es → IsOut (after_all w es) a
     → IsTurnWork w d (record { answer = a; effects = es })
-calm_work w d a es good free are calm out issues = record {
+calm_work w d a es good free are calm out = record {
   good = are;
   front = front-after_all w d es are (all_leave d es calm) good;
   out = out;
   free = free_then (after_all w es) w d a (all_labels_stay w es calm) free;
   told = all_tell es calm;
-  issues = issues;
 }
 
 -- ---- the host's own objects
 
 served_work : (w : State) (d : Delivery) (o : Obj) (m : List ℕ) (args : List Tree) (row : Outcome) → IsGoodWorld (in_front d w) → WantsFree w d → IfOk row (λ x. IsRule w None o m args x.0 x.1) → IsTurnWork w d (outcome_work row)
-served_work w d o m args (Err r) good free is = calm_work w d (refused r) [] good free tt tt tt (omega arith)
+served_work w d o m args (Err r) good free is = calm_work w d (refused r) [] good free tt tt tt
 served_work w d o m args (Ok (answer, es)) good free is =
-    calm_work w d (given answer) es good free is.good (calm_acts w None o m es is.acts) is.known (let n = is.issues in omega (arith, n))
+    calm_work w d (given answer) es good free is.good (calm_acts w None o m es is.acts) is.known
 
-pub service_rule : (read : TextReader) (w : State) (d : Delivery) (o : Obj) (m : List ℕ) (args : List Tree) → AreGoodServices (serve_call read) → IsGoodWorld (in_front d w) → IsRoomy w.rights.out most_issued
+pub service_rule : (read : TextReader) (w : State) (d : Delivery) (o : Obj) (m : List ℕ) (args : List Tree) → AreGoodServices (serve_call read) → IsGoodWorld (in_front d w)
     → IsHanded w (trees.object o) → AllByRecursion (IsHanded w) args → IfOk (serve_call read w o m args) (λ x. IsRule w None o m args x.0 x.1)
-service_rule read w d o m args served good room target handed =
+service_rule read w d o m args served good target handed =
     served w o m args (record {
       good = good_behind w d good;
       hosted = tt;
       target = target.objects;
       arguments = λ place. all_read_or (IsHanded w) args (place - 1) trees.null handed (null_formed w None);
-      room = record { each = λ b. omega (arith, room.each b) };
     })
 
-pub service_work : (read : TextReader) (w : State) (d : Delivery) (o : Obj) (m : List ℕ) (args : List Tree) → AreGoodServices (serve_call read) → IsGoodWorld (in_front d w) → WantsFree w d → IsRoomy w.rights.out most_issued
+pub service_work : (read : TextReader) (w : State) (d : Delivery) (o : Obj) (m : List ℕ) (args : List Tree) → AreGoodServices (serve_call read) → IsGoodWorld (in_front d w) → WantsFree w d
     → IsHanded w (trees.object o) → AllByRecursion (IsHanded w) args → IsTurnWork w d (outcome_work (serve_call read w o m args))
-service_work read w d o m args served good free room target handed =
-    served_work w d o m args (serve_call read w o m args) good free (service_rule read w d o m args served good room target handed)
+service_work read w d o m args served good free target handed =
+    served_work w d o m args (serve_call read w o m args) good free (service_rule read w d o m args served good target handed)
 
 -- ---- functions
 
@@ -169,11 +152,11 @@ out_grows u v (threw t) g out = formed_grows u v g None t out
 out_grows u v (refused r) g out = tt
 out_grows u v (spent meter) g out = tt
 
-module _ (w : State) (d : Delivery) (i meter : ℕ) (good : IsGoodWorld (in_front d w)) (free : WantsFree w d) (made : i < length w.tables.instances) (few : meter ≤ most_meter) where
+module _ (w : State) (d : Delivery) (i meter : ℕ) (good : IsGoodWorld (in_front d w)) (free : WantsFree w d) (made : i < length w.tables.instances) where
   whole : IsGoodWorld w
   whole = good_behind w d good
 
-  ended_work : (e : Ending) (values : List Tree) (es : List Effect) → IsEnded w i (length (variable_names (module_of w.tables i))) meter e values es → IsTurnWork w d (run_work meter w i (ended e values es))
+  ended_work : (e : Ending) (values : List Tree) (es : List Effect) → IsEnded w i (length (variable_names (module_of w.tables i))) e values es → IsTurnWork w d (run_work meter w i (ended e values es))
   ended_work e values es is =
       let u = after_all w es in
       let grown : Grows w u = all_grow w es in
@@ -184,12 +167,9 @@ module _ (w : State) (d : Delivery) (i meter : ℕ) (good : IsGoodWorld (in_fron
       let many : length values ≡ length (instance_at u.tables.instances i).state =
       is.many ∙ length_map (λ v. v.name) m.variables ∙ sym (ap (λ (x : Module). length x.variables) stays) ∙ sym (after_good.instances.each i here).whole in
       let can : CanKeep u i values = record { made = here; as_many = many; known = all_have (IsKnownTo u i) values is.kept } in
-      let both = issued_both w es (keep_state i values ∷ []) in
-      let bound = at_most meter few in
       calm_work w d (answer_of_ending e) (es ++ keep_state i values ∷ []) good free (good_both w es (keep_state i values ∷ []) is.good (can, tt)) (calm_both es (keep_state i values ∷ []) is.calm (tt, tt))
       (subst (λ (x : State). IsOut x (answer_of_ending e)) (sym (after_both w es (keep_state i values ∷ [])))
       (out_grows u (after u (keep_state i values)) (answer_of_ending e) (grows-after u (keep_state i values)) (ending_out u i e is.ending)))
-      (let n = is.issues in omega (arith, both, n, bound))
 
   first_good : (v : State) (es fs : List Effect) → AreGood v (es ++ fs) → AreGood v es
   first_good v [] fs are = tt
@@ -199,16 +179,11 @@ module _ (w : State) (d : Delivery) (i meter : ℕ) (good : IsGoodWorld (in_fron
   calm_halts [] = (tt, tt)
   calm_halts (n ∷ ns) = (tt, calm_halts ns)
 
-  none_issued : (v : State) (ns : List ℕ) → issued_by_all v (exits_with causes.spent ns ++ halt i ∷ []) ≡ 0
-  none_issued v [] = refl
-  none_issued v (n ∷ ns) = let rest = none_issued (after v (exit n causes.spent)) ns in omega (arith, rest)
-
   spent_work : IsTurnWork w d (run_work meter w i ran_out)
   spent_work =
       calm_work w d (spent meter) (halt_with causes.spent w i) good free (first_good w (halt_with causes.spent w i) (end_staging ∷ []) (halts_good w i causes.spent made)) (calm_halts (all_open w i)) tt
-      (let none = none_issued w (all_open w i) in omega (arith, none))
 
-  ran_work : (r : Run) → IsRun w i (length (variable_names (module_of w.tables i))) meter r → IsTurnWork w d (run_work meter w i r)
+  ran_work : (r : Run) → IsRun w i (length (variable_names (module_of w.tables i))) r → IsTurnWork w d (run_work meter w i r)
   ran_work (ended e values es) is = ended_work e values es is
   ran_work ran_out is = spent_work
 
@@ -221,7 +196,7 @@ settled_read w (Some s) is = is.handed
 pub settlement_handed : (w : State) → IsGoodWorld w → (p : ℕ) → p < length w.promises.settled → IsSettling w (settlement_of w p)
 settlement_handed w good p made = settled_read w (settlement_at w.promises.settled p) (all_read (IsSettled w) w.promises.settled p no_promise good.settled made)
 
-module _ (read : TextReader) (served : AreGoodServices (serve_call read)) (called : AreGoodHostCalls) (meter : ℕ) (few : meter ≤ most_meter) (w : State) (d : Delivery) (good : IsGoodWorld (in_front d w)) (room : IsRoomy w.rights.out most_issued) where
+module _ (read : TextReader) (served : AreGoodServices (serve_call read)) (called : AreGoodHostCalls) (meter : ℕ) (w : State) (d : Delivery) (good : IsGoodWorld (in_front d w)) where
   abbrev Done : Task → Type 0
   Done task = IsTurnWork w d (task_work read meter w task)
 
@@ -234,7 +209,7 @@ module _ (read : TextReader) (served : AreGoodServices (serve_call read)) (calle
 
   refused_done : (r : Refusal) → Done (refuse r)
   unfolding task_work
-  refused_done r = record { good = tt; front = good; out = tt; free = refused_free d r; told = tt; issues = omega arith }
+  refused_done r = record { good = tt; front = good; out = tt; free = refused_free d r; told = tt }
 
   run_done : (c : FunctionCall) → WantsFree w d → c.instance < length w.tables.instances → AllHave (IsKnownTo w c.instance) c.arguments → Done (tasks.run c)
   unfolding task_work function_run
@@ -244,10 +219,8 @@ module _ (read : TextReader) (served : AreGoodServices (serve_call read)) (calle
       let kept : AllHave (IsKnownTo w c.instance) values = have_all (IsKnownTo w c.instance) values (this_whole.instances.each c.instance made).state in
       let p = module_play m c.function c.arguments values meter in
       let asks = evaluates w c.instance this_whole made c.function c.arguments values meter known kept in
-      let bound = at_most meter few in
-      ran_work w d c.instance meter good free made few (run w c.instance p)
-      (run_is called w c.instance (length (variable_names m)) made p asks p [] w meter refl (room_fits (routines m) (variable_names m) c.function c.arguments values meter meter (omega arith)) this_whole (grows_itself w) tt
-      (record { each = λ b. let r = room.each b in omega (arith, r, bound) }))
+      ran_work w d c.instance meter good free made (run w c.instance p)
+      (run_is called w c.instance (length (variable_names m)) made p asks p [] w refl this_whole (grows_itself w) tt)
 
   task_done : (c : FunctionCall) → WantsFree w d → c.instance < length w.tables.instances → AllHave (IsKnownTo w c.instance) c.arguments → Done (run_task w c)
   task_done c free made known = by (has_halted (standing_of w c.instance))
@@ -275,7 +248,7 @@ module _ (read : TextReader) (served : AreGoodServices (serve_call read)) (calle
 
   serve_done : (o : Obj) (method : List ℕ) (args : List Tree) → WantsFree w d → IsHanded w (trees.object o) → AllByRecursion (IsHanded w) args → Done (serve o method args)
   unfolding task_work
-  serve_done o method args free target handed = service_work read w d o method args served good free room target handed
+  serve_done o method args free target handed = service_work read w d o method args served good free target handed
 
   on_done : (k : ObjKind) (o : Obj) (method : List ℕ) (args : List Tree) → o.kind ≡ k → WantsFree w d → IsHanded w (trees.object o) → AllByRecursion (IsHanded w) args → Done (task_on k w o method args)
   on_done kinds.Facet o method args e free target handed =
@@ -289,13 +262,13 @@ module _ (read : TextReader) (served : AreGoodServices (serve_call read)) (calle
 
   -- ---- what else is delivered
 
-  effects_done : (es : List Effect) → AreGood w es → AllByRecursion (LeavesAnswer d) es → LabelIsFree (after_all w es) d (given null) → AllByRecursion CanPrintNote es → issued_by_all w es ≡ 0 → Done (do_all es)
+  effects_done : (es : List Effect) → AreGood w es → AllByRecursion (LeavesAnswer d) es → LabelIsFree (after_all w es) d (given null) → AllByRecursion CanPrintNote es → Done (do_all es)
   unfolding task_work
-  effects_done es are leave free told none = record { good = are; front = front-after_all w d es are leave good; out = null_formed _ None; free = free; told = told; issues = omega (arith, none) }
+  effects_done es are leave free told = record { good = are; front = front-after_all w d es are leave good; out = null_formed _ None; free = free; told = told }
 
   give_done : (g : LineGift) (r : Result Tree Refusal) → d ≡ deliveries.give g → IfOk r (IsGift w this_whole g) → Done (gift_beginning g r).task
   give_done g (Ok t) e is =
-      effects_done (bind_label g.to g.label t ∷ []) (record { free = is.free; handed = is.handed }, tt) (tt, tt) (gift_free e) (tt, tt) refl
+      effects_done (bind_label g.to g.label t ∷ []) (record { free = is.free; handed = is.handed }, tt) (tt, tt) (gift_free e) (tt, tt)
     where
       gift_free : d ≡ deliveries.give g → LabelIsFree (after_all w (bind_label g.to g.label t ∷ [])) d (given null)
       gift_free e = subst (λ x. LabelIsFree (after_all w (bind_label g.to g.label t ∷ [])) x (given null)) (sym e) tt
@@ -308,14 +281,14 @@ module _ (read : TextReader) (served : AreGoodServices (serve_call read)) (calle
       by true is = refused_done (Backwards w.schedule.time t)
       by false is =
           effects_done (set_time t ∷ []) (record { later = ltb-false t w.schedule.time is; timely = timely }, tt) (tt, tt)
-          (subst (λ x. LabelIsFree (after_all w (set_time t ∷ [])) x (given null)) (sym e) tt) (tt, tt) refl
+          (subst (λ x. LabelIsFree (after_all w (set_time t ∷ [])) x (given null)) (sym e) tt) (tt, tt)
 
   deadline_done : (seat : ℕ) → d ≡ deliveries.deadline seat → Done (do_all (exit_if_open w seat causes.deadline))
   deadline_done seat e = by (is_none (seat_at w.seats seat).last) refl
     where
       by : (b : Bool) → is_none (seat_at w.seats seat).last ≡ b → Done (do_all (cond b (exit seat causes.deadline ∷ []) []))
-      by true is = effects_done (exit seat causes.deadline ∷ []) (open_there (seat_at w.seats seat).last is, tt) (tt, tt) (subst (λ x. LabelIsFree (after_all w (exit seat causes.deadline ∷ [])) x (given null)) (sym e) tt) (tt, tt) refl
-      by false is = effects_done [] tt tt (subst (λ x. LabelIsFree w x (given null)) (sym e) tt) tt refl
+      by true is = effects_done (exit seat causes.deadline ∷ []) (open_there (seat_at w.seats seat).last is, tt) (tt, tt) (subst (λ x. LabelIsFree (after_all w (exit seat causes.deadline ∷ [])) x (given null)) (sym e) tt) (tt, tt)
+      by false is = effects_done [] tt tt (subst (λ x. LabelIsFree w x (given null)) (sym e) tt) tt
 
   -- ---- what functions are called with
 
@@ -351,52 +324,52 @@ module _ (read : TextReader) (served : AreGoodServices (serve_call read)) (calle
 
 -- ---- each delivery
 
-pub work_is : (read : TextReader) (served : AreGoodServices (serve_call read)) (called : AreGoodHostCalls) (meter : ℕ) (few : meter ≤ most_meter) (w : State) (d : Delivery) → IsGoodWorld (in_front d w) → IsRoomy w.rights.out most_issued
+pub work_is : (read : TextReader) (served : AreGoodServices (serve_call read)) (called : AreGoodHostCalls) (meter : ℕ) (w : State) (d : Delivery) → IsGoodWorld (in_front d w)
     → IsTurnWork w d (task_work read meter w (beginning w d).task)
 unfolding beginning
-work_is read served called meter few w (deliveries.call c) good room =
+work_is read served called meter w (deliveries.call c) good =
     let d = deliveries.call c in
-    called_done read served called meter few w d good room c.method (addressed w c)
+    called_done read served called meter w d good c.method (addressed w c)
     (weaker_ok (IsCalled w (good_behind w d good) c) (λ a. WantsFree w d × IsAddressed w (good_behind w d good) a) (addressed w c) (λ a is. (is.free, is.addressed_to)) (addressed_there w (good_behind w d good) c (due_behind w d good)))
-work_is read served called meter few w (deliveries.send s) good room =
+work_is read served called meter w (deliveries.send s) good =
     let d = deliveries.send s in
-    called_done read served called meter few w d good room s.method (sent_to w s)
+    called_done read served called meter w d good s.method (sent_to w s)
     (weaker_ok (IsAddressed w (good_behind w d good)) (λ a. WantsFree w d × IsAddressed w (good_behind w d good) a) (sent_to w s) (λ a is. (tt, is)) (sent_there w (good_behind w d good) s (due_behind w d good)))
-work_is read served called meter few w (deliveries.give g) good room =
+work_is read served called meter w (deliveries.give g) good =
     let d = deliveries.give g in
-    give_done read served called meter few w d good room g (gift_of w g) refl (gift_there w (good_behind w d good) g)
-work_is read served called meter few w (deliveries.tick t) good room = tick_done read served called meter few w (deliveries.tick t) good room t refl (due_behind w (deliveries.tick t) good)
-work_is read served called meter few w (deliveries.bad r) good room = refused_done read served called meter few w (deliveries.bad r) good room r
-work_is read served called meter few w (deliveries.start s) good room =
+    give_done read served called meter w d good g (gift_of w g) refl (gift_there w (good_behind w d good) g)
+work_is read served called meter w (deliveries.tick t) good = tick_done read served called meter w (deliveries.tick t) good t refl (due_behind w (deliveries.tick t) good)
+work_is read served called meter w (deliveries.bad r) good = refused_done read served called meter w (deliveries.bad r) good r
+work_is read served called meter w (deliveries.start s) good =
     let d = deliveries.start s in
     let due = due_behind w d good in
-    task_done read served called meter few w d good room (start_call s) tt due.made
+    task_done read served called meter w d good (start_call s) tt due.made
     (object_formed w (Some s.instance) (record { kind = kinds.Zcf; number = s.instance }) refl, (handed_held w (Some s.instance) s.private_arguments due.arguments, tt))
-work_is read served called meter few w (deliveries.offer o) good room =
+work_is read served called meter w (deliveries.offer o) good =
     let d = deliveries.offer o in
     let due = due_behind w d good in
-    task_done read served called meter few w d good room (handler_call o) tt due.function.made
+    task_done read served called meter w d good (handler_call o) tt due.function.made
     (object_formed w (Some o.instance) (record { kind = kinds.Zseat; number = o.seat }) due.seat, (handed_held w (Some o.instance) o.offer_arguments due.arguments, (due.held, tt)))
-work_is read served called meter few w (deliveries.wake x) good room =
+work_is read served called meter w (deliveries.wake x) good =
     let d = deliveries.wake x in
     let due = due_behind w d good in
-    task_done read served called meter few w d good room (wakeup_call x w.schedule.time) tt due.function.made
-    (due.held, (number_known read served called meter few w d good room x.instance w.schedule.time, tt))
-work_is read served called meter few w (deliveries.notify n) good room =
+    task_done read served called meter w d good (wakeup_call x w.schedule.time) tt due.function.made
+    (due.held, (number_known read served called meter w d good x.instance w.schedule.time, tt))
+work_is read served called meter w (deliveries.notify n) good =
     let d = deliveries.notify n in
     let due = due_behind w d good in
     let s = settlement_of w n.promise in
-    let told : IsHanded w (notice_tree s) = notice_handed read served called meter few w d good room s (settlement_handed w (good_behind w d good) n.promise due.notice.promise) in
-    task_done read served called meter few w d good room (notice_call n s) tt due.notice.function.made
+    let told : IsHanded w (notice_tree s) = notice_handed read served called meter w d good s (settlement_handed w (good_behind w d good) n.promise due.notice.promise) in
+    task_done read served called meter w d good (notice_call n s) tt due.notice.function.made
     (due.notice.held, (handed_held w (Some n.instance) (notice_tree s) told, tt))
-work_is read served called meter few w (deliveries.deadline seat) good room = deadline_done read served called meter few w (deliveries.deadline seat) good room seat refl
+work_is read served called meter w (deliveries.deadline seat) good = deadline_done read served called meter w (deliveries.deadline seat) good seat refl
 
 -- ---- whole turns
 
-pub turn_good : (read : TextReader) (served : AreGoodServices (serve_call read)) (called : AreGoodHostCalls) (meter : ℕ) (few : meter ≤ most_meter) (w : State) (d : Delivery) → IsGoodWorld (in_front d w) → IsRoomy w.rights.out most_issued
+pub turn_good : (read : TextReader) (served : AreGoodServices (serve_call read)) (called : AreGoodHostCalls) (meter : ℕ) (w : State) (d : Delivery) → IsGoodWorld (in_front d w)
     → AreGood w (delivery_turn read meter w d).effects
 unfolding delivery_turn
-turn_good read served called meter few w d good room =
+turn_good read served called meter w d good =
     let work = task_work read meter w (beginning w d).task in
-    let is = work_is read served called meter few w d good room in
+    let is = work_is read served called meter w d good in
     good_both w work.effects (ending d work.answer (after_all w work.effects)) is.good (ending_good (after_all w work.effects) d work.answer is.front is.out is.free)

@@ -1,5 +1,5 @@
 -- What is owed of what is done in a turn.
-use Rattle.std.specs.Prelude.{◌≡◌, ℕ, ◌≤◌, ◌*◌, ◌^◌, List, length, Some, None, IfSome}
+use Rattle.std.specs.Prelude.{◌≡◌, ℕ, List, length, Some, None, IfSome}
 use Rattle.std.specs.List.{AllByRecursion}
 use Rattle.delivery_turns.specs.actors.Labels.{bound_to}
 use Rattle.delivery_turns.specs.rules.Obligations.{CanCall, IsGoodOutcome}
@@ -16,8 +16,7 @@ use Rattle.delivery_turns.specs.HostCalls.{call_effects, call_reply}
 use Rattle.delivery_turns.specs.Tasks.{Work}
 use Rattle.delivery_turns.specs.world_state.Good.{AreGood, IsGoodWorld}
 use Rattle.delivery_turns.specs.world_state.Known.{Grows, IsHanded, IsKnownTo}
-use Rattle.delivery_turns.specs.world_state.Rights.{most_issued}
-use Rattle.delivery_turns.specs.world_state.Worlds.{Effect, State, after_all, bind_label, in_front, issued_by_all}
+use Rattle.delivery_turns.specs.world_state.Worlds.{Effect, State, after_all, bind_label, in_front}
 use Rattle.delivery_turns.specs.world_state.Worlds.{note_call, resolve}
 
 -- each call that a function of an instance makes has a good rule
@@ -37,12 +36,11 @@ IsOfCall (resolve p v) = ⊥
 IsOfCall (bind_label party label value) = ⊥
 IsOfCall e = CanPrintNote e
 
--- what the host does for a call is good; what it answers the instance may know; it issues so much at most
-pub record IsCallWork (w : State) (i n : ℕ) (c : Call) : Type 0 where
+-- what the host does for a call is good; what it answers the instance may know
+pub record IsCallWork (w : State) (i : ℕ) (c : Call) : Type 0 where
   pub good : AreGood w (call_effects w i c)
   pub known : ReplyHas (IsKnownTo (after_all w (call_effects w i c)) i) (call_reply w i c)
   pub calm : AllByRecursion IsOfCall (call_effects w i c)
-  pub issues : issued_by_all w (call_effects w i c) ≤ n
 
 -- ---- answers
 
@@ -66,19 +64,17 @@ pub record Evaluates (w : State) (i n : ℕ) (p : Play) : Type 0 where
   pub each : (v : State) → Grows w v → (rs : List Reply) → RepliesHave (IsKnownTo v i) rs
       → NextHas (IsKnownTo v i) n (after p rs)
 
--- what a function did is good, and issues no more than its meter; the instance may know what it gave or threw, and
--- the values of its state
-pub record IsEnded (w : State) (i n m : ℕ) (e : Ending) (values : List Tree) (es : List Effect) : Type 0 where
+-- what a function did is good; the instance may know what it gave or threw, and the values of its state
+pub record IsEnded (w : State) (i n : ℕ) (e : Ending) (values : List Tree) (es : List Effect) : Type 0 where
   pub good : AreGood w es
   pub calm : AllByRecursion IsOfCall es
-  pub issues : issued_by_all w es ≤ 2 ^ 63 * m
   pub ending : EndingHas (IsKnownTo (after_all w es) i) e
   pub kept : AllHave (IsKnownTo (after_all w es) i) values
   pub many : length values ≡ n
 
-abbrev pub IsRun : State → ℕ → ℕ → ℕ → Run → Type 0
-IsRun w i n m (ended e values es) = IsEnded w i n m e values es
-IsRun w i n m ran_out = Unit {0}
+abbrev pub IsRun : State → ℕ → ℕ → Run → Type 0
+IsRun w i n (ended e values es) = IsEnded w i n e values es
+IsRun w i n ran_out = Unit {0}
 
 -- ---- what is done for a delivery
 
@@ -87,11 +83,10 @@ abbrev pub most_meter : ℕ
 most_meter = 10000000
 
 -- its effects are good; the delivery's promise and the label that is wanted are left to the turn's end; what is
--- answered can be handed out; what is told of calls can be printed; and little is issued
+-- answered can be handed out; and what is told of calls can be printed
 pub record IsTurnWork (w : State) (d : Delivery) (work : Work) : Type 0 where
   pub good : AreGood w work.effects
   pub front : IsGoodWorld (in_front d (after_all w work.effects))
   pub out : IsOut (after_all w work.effects) work.answer
   pub free : LabelIsFree (after_all w work.effects) d work.answer
   pub told : AllByRecursion CanPrintNote work.effects
-  pub issues : issued_by_all w work.effects ≤ most_issued

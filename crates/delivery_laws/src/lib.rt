@@ -7,7 +7,7 @@ pub mod laws;
 
 /// What `turn_writer` gives to those above.
 pub mod turn_writer_lib {
-    pub use turn_writer::{write_close, write_turn};
+    pub use turn_writer::{WRITTEN, write_close, write_turn};
 
     pub mod turn_form {
         pub use turn_writer::turn_form::is_in_form;

@@ -3,13 +3,14 @@ use Rattle.std.specs.Prelude.{cond, slice_index_or, slice_set}
 use Rattle.std.proofs.Common.{◌≡◌, inl, inr, ℕ, ◌<◌, ◌==◌, Bool, true, false, length, refl, sym, ◌∙◌, ap, subst, arith}
 use Rattle.std.proofs.lemmas.Bool.{eq-eqb}
 use Rattle.draft_reads.specs.amount_math.Content.{Content, Contains, Contains-refl, count-difference, count-nothing, difference, nothing, nothing-sum, same_content, sum}
-use Rattle.draft_reads.specs.amount_math.ValueView.{Fits, IsIssueRefusal, IsPutRefusal, IsValue, PassesKeys, ValueView, bound, fits_from_value, passes_not_fits}
+use Rattle.draft_reads.specs.amount_math.ValueView.{IsPutRefusal, IsValue, PassesKeys, ValueView, bound, fits_from_value, passes_not_fits}
 use Rattle.draft_reads.specs.amount_math.declared.Amount.{Amount}
 use Rattle.draft_reads.specs.amount_math.declared.Kind.{Kind}
 use Rattle.draft_reads.specs.amount_math.declared.Kind.TheVariants.{Nat, Set, Bag}
 use Rattle.draft_reads.specs.amount_math.declared.PutFault.{PutFault}
 use Rattle.draft_reads.specs.amount_math.declared.PutFault.TheVariants.{NoMemory, Overlap, TooMuch}
 use Rattle.draft_reads.specs.amount_math.declared.TooMuch.{TooMuch as Over}
+use Rattle.draft_reads.specs.ertp_mint.BrandSupply.{BrandSupply, IsMintRefusal, MayIssue, out_with}
 use Rattle.draft_reads.specs.vault.Together.{only}
 use Rattle.draft_reads.proofs.lemmas.ListEdits.{read_other, read_set}
 use Rattle.draft_reads.specs.rights_model.declared.Holder.{Holder}
@@ -42,10 +43,11 @@ put_memory kind c (TooMuch most) value refused = absurd (elim refused [
 ])
 put_memory kind c NoMemory value refused = refl
 
-pub issue_memory : (kind : Kind) (c : Content) (fault : PutFault) → Fits kind c → IsIssueRefusal kind c fault → fault ≡ NoMemory
-issue_memory kind c (Overlap key) fits refused = absurd (omega (arith, fits.each key, ap bound refused.0, refused.1.passes))
-issue_memory kind c (TooMuch most) fits refused = absurd (passes_not_fits kind c most refused.1 fits)
-issue_memory kind c NoMemory fits refused = refl
+pub issue_memory : (s : BrandSupply) (w : ValueView) (fault : PutFault) → MayIssue s w → IsMintRefusal s w fault → fault ≡ NoMemory
+issue_memory s w (Overlap key) may refused = absurd (omega (arith, may.fits.each key, ap bound refused.0, refused.1.passes))
+issue_memory s w (TooMuch over) may (inl refused) = absurd (passes_not_fits w.kind (out_with s w.content) over refused.1 may.fits)
+issue_memory s w (TooMuch over) may (inr past) = absurd (omega (arith, past.passes, may.minted))
+issue_memory s w NoMemory may refused = refl
 
 pub reach_memory : (s : Lists) (to : Holder) (a : Amount) (fault : PutFault) → MayReach s to a → IsPutFault s to a fault → fault ≡ NoMemory
 reach_memory s (Purse n) a fault may refused = put_memory _ _ fault may.value refused

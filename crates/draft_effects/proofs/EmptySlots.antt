@@ -1,23 +1,23 @@
 -- A slot of nothing is opened by a put of nothing.
 use Rattle.std.specs.Prelude.{Err, IsNone, Ok, OnErr, Result, cond, is_some, slice_set, unwrap_or}
 use Rattle.std.specs.Str.{bytes_eq}
-use Rattle.std.proofs.Common.{◌≡◌, ℕ, ◌+◌, ◌<◌, ◌^◌, Bool, true, false, List, [], ◌∷◌, ◌++◌, None, Option, Some, length, map, refl, sym, ◌∙◌, ap, subst, arith}
+use Rattle.std.proofs.Common.{◌≡◌, ℕ, ◌<◌, ◌≤◌, Bool, true, false, List, [], ◌∷◌, None, Option, Some, length, map, refl, sym, ◌∙◌, ap, subst, arith}
 use Rattle.draft_reads.specs.amount_math.Amount.{holding}
 use Rattle.draft_reads.specs.amount_math.Content.{nothing, sum, sum-nothing}
 use Rattle.draft_reads.specs.amount_math.KindLaws.{nothing_is_value}
 use Rattle.draft_reads.specs.amount_math.Counted.{counted, counted-nothing}
-use Rattle.draft_reads.specs.amount_math.ValueView.{Fits, IsValue, ValueView}
+use Rattle.draft_reads.specs.amount_math.ValueView.{Fits, IsValue, ValueView, minted_bound}
 use Rattle.draft_reads.specs.amount_math.declared.Amount.{Amount}
 use Rattle.draft_reads.specs.amount_math.declared.Kind.{Kind}
-use Rattle.draft_reads.specs.ertp_mint.BrandSupply.{BrandSupply, supply_at}
+use Rattle.draft_reads.specs.ertp_mint.BrandSupply.{BrandSupply, MayIssue, supply_at}
 use Rattle.draft_reads.specs.ertp_mint.Circulating.{CirculationView, circulation_at}
 use Rattle.draft_reads.specs.ertp_mint.Stocks.{empty_amount, no_amount}
-use Rattle.draft_reads.proofs.lemmas.ListEdits.{length_map, read_set, set_same}
+use Rattle.draft_reads.proofs.lemmas.ListEdits.{length_map, set_same}
 use Rattle.draft_reads.specs.proposals.Shares.{amount_under, keyed_share}
 use Rattle.draft_reads.specs.proposals.declared.allocations.Share.{Share}
 use Rattle.draft_reads.specs.rights_model.declared.Holder.{Holder}
 use Rattle.draft_reads.specs.rights_model.declared.Holder.TheVariants.{Outside, Slot}
-use Rattle.draft_reads.specs.vault_model.Lists.{Lists, given, more, slot_of, taken, with_new_slot, with_slot_of}
+use Rattle.draft_reads.specs.vault_model.Lists.{Lists, given, slot_of, taken, with_new_slot, with_slot_of}
 use Rattle.draft_reads.specs.vault_model.Seats.{KeptSeat, amount_at, kept_seat_at, no_kept_seat, with_amount, with_slots}
 use Rattle.draft_reads.specs.world_laws.Views.{put_to, with_slot_for}
 use Rattle.draft_reads.proofs.world_laws.Views.{issued_nothing}
@@ -29,8 +29,7 @@ use Rattle.draft_reads.specs.vault.Asked.{MayOpenSlot}
 use Rattle.draft_reads.specs.vault.Memory.{kept_seat, supply_of}
 use Rattle.draft_reads.proofs.vault.Halves.{supply_read}
 use Rattle.draft_reads.proofs.vault.SeatReads.{slot_told}
-use Rattle.draft_effects.specs.Steps.{IsAfter, IsCarrying, MayReach, moved_amount}
-use Rattle.draft_effects.proofs.TransferSequences.{new_there}
+use Rattle.draft_effects.specs.Steps.{IsAfter, IsCarrying, MayReach}
 
 -- whether a slot is there
 pub slot_is : (s : Lists) (seats : List SeatView) (n : ℕ) (k : List ℕ) (t : Bool) → map kept_seat seats ≡ s.seats → n < length s.seats → (t ≡ true → HasSlot k (seat_at seats n).slots) → (HasSlot k (seat_at seats n).slots → t ≡ true) → is_some (amount_under k (kept_seat_at s.seats n).slots) ≡ t
@@ -119,14 +118,17 @@ module _ (out : List BrandSupply) (l : List CirculationView) (b : ℕ) (listed :
   supply_is : supply_at out b ≡ (circulation_at l b).supply
   supply_is = ap (λ x. supply_at x b) (sym listed) ∙ supply_read l b
 
-  pub small_none : (w : ValueView) (minted : ℕ) → w.content ≡ nothing → minted ≡ (circulation_at l b).supply.minted → minted < 2 ^ 128 → (supply_at out b).minted + counted w.content < 2 ^ 128
-  small_none w minted none is lt = omega (arith, ap (λ (x : BrandSupply). x.minted) supply_is, ap counted none, counted-nothing, is, lt)
-
   pub fits_none : (w : ValueView) → w.content ≡ nothing → (supply_at out b).outstanding.kind ≡ w.kind → Fits (circulation_at l b).supply.outstanding.kind (circulation_at l b).supply.outstanding.content → Fits w.kind (sum (supply_at out b).outstanding.content w.content)
   fits_none w none kind fits =
       subst (λ c. Fits w.kind c) (sym (ap (λ c. sum (supply_at out b).outstanding.content c) none ∙ sum-nothing (supply_at out b).outstanding.content))
       (subst (λ k. Fits k (supply_at out b).outstanding.content) kind
       (subst (λ (x : BrandSupply). Fits x.outstanding.kind x.outstanding.content) (sym supply_is) fits))
+
+  pub may_none : (w : ValueView) (minted : ℕ) → w.content ≡ nothing → minted ≡ (circulation_at l b).supply.minted → minted ≤ minted_bound → Fits w.kind (sum (supply_at out b).outstanding.content w.content) → MayIssue (supply_at out b) w
+  may_none w minted none is few fits = record {
+    fits = fits;
+    minted = omega (arith, ap (λ (x : BrandSupply). x.minted) supply_is, ap counted none, counted-nothing, is, few);
+  }
 
 -- it is as it was where the slot is there
 pub same_after : (d : DraftState) (n : ℕ) (k : List ℕ) (a : Amount) → IsClean d → is_some (amount_under k (kept_seat_at d.now.seats n).slots) ≡ true → IsAfter d d (with_slot_for d.now (Slot n k) a)

@@ -1,6 +1,6 @@
 -- What a draft opens, in the world's words.
 use Rattle.std.specs.Prelude.{is_some, slice_index_or}
-use Rattle.std.proofs.Common.{◌≡◌, inl, inr, ℕ, zero, suc, ◌+◌, ◌<◌, ◌≤◌, ◌⊎◌, true, false, List, [], ◌∷◌, ◌++◌, None, Option, Some, length, map, refl, sym, ◌∙◌, ap, subst, arith}
+use Rattle.std.proofs.Common.{◌≡◌, inl, inr, ℕ, zero, suc, ◌+◌, ◌<◌, ◌≤◌, List, [], ◌∷◌, ◌++◌, None, Option, Some, length, map, refl, sym, ◌∙◌, ap, subst, arith}
 use Rattle.draft_reads.specs.amount_math.Content.{Content, nothing}
 use Rattle.draft_reads.specs.amount_math.ValueView.{ValueView}
 use Rattle.draft_reads.specs.amount_math.declared.Kind.{Kind}
@@ -24,7 +24,7 @@ use Rattle.draft_reads.specs.seats.Staging.{staged_at}
 use Rattle.draft_reads.specs.seats.Store.{AreOpen}
 use Rattle.draft_reads.specs.seats.declared.seats.OpenFault.{OpenFault}
 use Rattle.draft_reads.specs.seats.declared.seats.OpenFault.TheVariants.{Limit, NoMemory}
-use Rattle.draft_reads.specs.vault.Drafts.{DraftState, IsClean, IsOfBrand, IsValid, given_at, opened, with_brand}
+use Rattle.draft_reads.specs.vault.Drafts.{DraftState, IsClean, IsOfBrand, IsValid, opened, with_brand}
 use Rattle.draft_reads.specs.vault.Asked.{IsSeatTooMany}
 use Rattle.draft_reads.specs.vault.Memory.{kept_seat}
 use Rattle.draft_reads.specs.world_state.Good.{open_slots}
@@ -125,8 +125,8 @@ own_now new r seats staging rule now = record { rights = now.rights ∙ ap (with
 pub issue_can : (d : DraftState) (b n : ℕ) (w : ValueView) → IsValid d → n ≡ length d.now.payments → CanMove (rights_in d) no_hand (movement b Outside (Payment n) w) → length (rights_in d).payments + open_slots (seats_in d) (rights_in d).slots < most_made → CanMoveByHand d.now (movement b Outside (Payment n) w)
 issue_can d b n w valid next can room = record {
   brand = record { made = can.brand; kind = can.kind };
-  leaves = record { small = can.from.room };
-  take = record { made = can.brand; kind = can.kind; fits = can.from.fits };
+  leaves = tt;
+  take = record { made = can.brand; kind = can.kind; fits = can.from.fits; minted = can.from.minted };
   arrives = record { put = record { next = next; left = omega (arith, room, owed_now d valid) }; value = tt };
 }
 

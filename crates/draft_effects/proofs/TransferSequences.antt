@@ -1,12 +1,12 @@
 -- Movements that can be made together in the world, each of which stands by itself, can be made one after
 -- another in a draft.
-use Rattle.std.specs.Prelude.{IsNone, MatchOption, cond, is_some, slice_set, unwrap_or}
+use Rattle.std.specs.Prelude.{IsNone, cond, is_some, slice_set, unwrap_or}
 use Rattle.std.specs.List.{AllByRecursion}
-use Rattle.std.proofs.Common.{◌≡◌, ◌≢◌, ℕ, zero, suc, ◌+◌, ◌<◌, ◌≤◌, ◌^◌, Bool, true, false, List, [], ◌∷◌, ◌++◌, None, Option, Some, length, map, refl, sym, ◌∙◌, ap, subst, arith}
+use Rattle.std.proofs.Common.{◌≡◌, ℕ, zero, suc, ◌+◌, ◌<◌, ◌≤◌, Bool, true, false, List, [], ◌∷◌, ◌++◌, None, Option, Some, length, map, refl, sym, ◌∙◌, ap, subst, arith}
 use Rattle.draft_reads.specs.amount_math.Amount.{Meet, holding}
 use Rattle.draft_reads.specs.amount_math.Content.{Content, Contains, Contains-refl, Contains-trans, count-nothing, nothing, nothing-sum, same_content, sum}
 use Rattle.draft_reads.specs.amount_math.Counted.{counted}
-use Rattle.draft_reads.specs.amount_math.ValueView.{Fits, IsValue, ValueView}
+use Rattle.draft_reads.specs.amount_math.ValueView.{Fits, IsValue, ValueView, minted_bound}
 use Rattle.draft_reads.specs.amount_math.declared.Amount.{Amount}
 use Rattle.draft_reads.specs.ertp_mint.BrandSupply.{BrandSupply, issued, new_supply, supply_at}
 use Rattle.draft_reads.specs.amount_math.declared.Kind.TheVariants.{Nat}
@@ -18,28 +18,28 @@ use Rattle.draft_reads.specs.proposals.declared.allocations.Share.{Share}
 use Rattle.draft_reads.specs.rights_model.declared.Holder.{Holder}
 use Rattle.draft_reads.specs.rights_model.declared.Holder.TheVariants.{Purse, Payment, Slot, Hand, Outside}
 use Rattle.draft_reads.specs.rights_model.declared.Movement.{Movement}
-use Rattle.draft_reads.specs.vault_model.Lists.{CanGive, CanTake, Lists, amount_of, kind_of, purse_at, slot_of, with_new_slot}
+use Rattle.draft_reads.specs.vault_model.Lists.{CanGive, CanTake, Lists, amount_of, purse_at, slot_of, with_new_slot}
 use Rattle.draft_reads.specs.vault_model.Lists as lists
-use Rattle.draft_reads.specs.vault_model.Seats.{HasSlotOf, IsOpenSeat, KeptSeat, amount_at, kept_seat_at, no_kept_seat, with_amount, with_slots}
+use Rattle.draft_reads.specs.vault_model.Seats.{IsOpenSeat, KeptSeat, kept_seat_at, no_kept_seat, with_slots}
 use Rattle.draft_reads.specs.vault_model.Tables.{IsSound, hand_minus, hand_plus, no_hand}
 use Rattle.draft_reads.proofs.vault_model.SlotShares.{pushed_there}
 use Rattle.draft_reads.proofs.vault_model.Sound.{hand_is_out, in_and_out, plus_has, sound_alike, sound_given, sound_new_slot, sound_taken}
-use Rattle.draft_reads.specs.world_laws.Views.{CanAllByHand, CanByHand, all_by_hand, by_hand, put_to, rights_of, seat_of, seats_of, slots_held, source_of, taken_by_hand, with_slot_for}
+use Rattle.draft_reads.specs.world_laws.Views.{CanAllByHand, CanByHand, all_by_hand, by_hand, rights_of, seat_of, seats_of, slots_held, source_of, taken_by_hand, with_slot_for}
 use Rattle.draft_reads.specs.world_laws.Views as views
 use Rattle.draft_reads.proofs.world_laws.Together.{one_together, source_views, with_payment_views}
 use Rattle.draft_reads.proofs.world_laws.Views.{slots_read}
 use Rattle.draft_reads.specs.vault.Drafts.{IsOfBrand, MayPut}
-use Rattle.draft_reads.specs.vault.Asked.{MayOpenSlot, TakesIn}
+use Rattle.draft_reads.specs.vault.Asked.{MayOpenSlot}
 use Rattle.draft_reads.specs.world_state.Good.{CanMoveTogether, HasNothing, HoldsNothing, IsAtOpen, IsGoodMove, open_slots}
-use Rattle.draft_reads.specs.world_state.Rights.{CanGive as WorldGives, CanMove, CanMoveAll, CanTake as WorldTakes, Has, HasOrOpens, PaymentHas, Rights, Takes, TakesOrOpens, all_moved, all_spent, given, hand_after, hand_in, hand_out, kind_at, moved, lessened_payment, shares_less, shares_more, slots_at, spent_from, taken}
-use Rattle.draft_reads.specs.world_state.Worlds.{IsOpen, Seat, no_seat, seat_at}
+use Rattle.draft_reads.specs.world_state.Rights.{CanGive as WorldGives, CanMove, CanMoveAll, CanTake as WorldTakes, HasOrOpens, PaymentHas, Rights, TakesOrOpens, all_moved, all_spent, given, hand_after, hand_in, hand_out, kind_at, moved, lessened_payment, shares_less, shares_more, slots_at, spent_from, taken}
+use Rattle.draft_reads.specs.world_state.Worlds.{IsOpen, Seat, seat_at}
 use Rattle.draft_reads.proofs.Undoing.{owed_is}
 use Rattle.draft_reads.specs.world_state.Shapes.{AreMovements, IsNoHand, IsTakenOnce}
 use Rattle.draft_effects.proofs.MovementsApart.{GoesToHolder, StandAlone, made_with}
 use Rattle.draft_effects.proofs.LoneTransfers.{stand_alone}
 use Rattle.draft_effects.specs.Steps.{CanMoveByHand, CanMoveEach, MayArrive, MayLeave, MayReach, SlotLeaves, moved_amount}
-use Rattle.draft_effects.proofs.Measures.{all_grow, given_grows, made_or_owed, open_grows_more, shares_longer, taken_grows}
-use Rattle.draft_effects.proofs.MovedPayments.{NotAt, in_alike, in_before, made_more, moved_long, out_apart, out_long, paid_next, payment_whole, pay_in, pay_out, pays_moved, pays_taken, spent_apart, stays_all, stays_moved}
+use Rattle.draft_effects.proofs.Measures.{all_grow, given_grows, made_or_owed, open_grows_more, shares_longer}
+use Rattle.draft_effects.proofs.MovedPayments.{NotAt, in_alike, in_before, made_more, moved_long, out_apart, out_long, paid_next, payment_whole, pay_in, pay_out, pays_moved, pays_taken, spent_apart, stays_all}
 
 -- ---- seats stay as they were opened
 
@@ -348,8 +348,13 @@ module _ (r : Rights) (s : Lists) (beside : IsBeside r s) where
       source_can (Slot n k) comes takes is whole room = source_slot_can n k takes is room
       source_can Hand comes takes is whole room = absurd comes
       source_can Outside comes takes is whole room = (
-        record { small = subst (λ l. (supply_at l b).minted + counted w.content < 2 ^ 128) same_out takes.room },
-        record { made = brand.made; kind = brand.kind; fits = subst (λ l. Fits w.kind (sum (supply_at l b).outstanding.content w.content)) same_out takes.fits },
+        tt,
+        record {
+          made = brand.made;
+          kind = brand.kind;
+          fits = subst (λ l. Fits w.kind (sum (supply_at l b).outstanding.content w.content)) same_out takes.fits;
+          minted = subst (λ l. (supply_at l b).minted + counted w.content ≤ minted_bound) same_out takes.minted;
+        },
       )
 
       -- ---- and where it goes

@@ -1,11 +1,9 @@
 -- What a draft needs for a movement between holders, which it makes by way of the hand.
-use Rattle.std.specs.Prelude.{◌≡◌, ◌+◌, ◌<◌, ◌^◌, ℕ, List, [], ◌∷◌, IsNone, false, length}
+use Rattle.std.specs.Prelude.{◌≡◌, ◌<◌, ℕ, List, [], ◌∷◌, IsNone, false, length}
 use Rattle.draft_reads.specs.amount_math.Content.{nothing}
-use Rattle.draft_reads.specs.amount_math.Counted.{counted}
 use Rattle.draft_reads.specs.amount_math.ValueView.{ValueView}
 use Rattle.draft_reads.specs.amount_math.declared.Amount.{Amount}
 use Rattle.draft_reads.specs.vault.Together.{only}
-use Rattle.draft_reads.specs.ertp_mint.BrandSupply.{supply_at}
 use Rattle.draft_reads.specs.proposals.Shares.{amount_under}
 use Rattle.draft_reads.specs.rights_model.declared.Holder.{Holder}
 use Rattle.draft_reads.specs.rights_model.declared.Holder.TheVariants.{Purse, Payment, Slot, Hand, Outside}
@@ -30,16 +28,12 @@ pub record SlotLeaves (s : Lists) (n : ℕ) (keyword : List ℕ) (w : ValueView)
   pub opens : IsNone (amount_under keyword (kept_seat_at s.seats n).slots)
       → MayOpenEmpty s n keyword w
 
--- so much was ever issued of a brand as can be told
-pub record IsIssuable (s : Lists) (b : ℕ) (w : ValueView) : Type 0 where
-  pub small : (supply_at s.out b).minted + counted w.content < 2 ^ 128
-
 abbrev pub MayLeave : Lists → Holder → ℕ → ValueView → Type 0
 MayLeave s (Purse n) b w = Unit {0}
 MayLeave s (Payment n) b w = Unit {0}
 MayLeave s (Slot n keyword) b w = SlotLeaves s n keyword w
 MayLeave s Hand b w = ⊥
-MayLeave s Outside b w = IsIssuable s b w
+MayLeave s Outside b w = Unit {0}
 
 -- where it goes, it may be put, and is a value with what is there; or it is retired
 pub record MayReach (s : Lists) (to : Holder) (a : Amount) : Type 0 where

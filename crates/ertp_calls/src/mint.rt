@@ -1,11 +1,10 @@
 //! The methods of mints (ERTP).
 
 ghost use Rattle.refusals.specs.Outcomes.{Gives};
-ghost use Rattle.refusals.specs.amount_math.Content.{sum};
 ghost use Rattle.refusals.specs.host_data.View.{trees};
 ghost use Rattle.rules.specs.Mint.{get_issuer, mint_payment, of_mint};
 ghost use Rattle.rules.specs.ertp_mint.BrandSupply.{supply_at};
-ghost use Rattle.rules.specs.value_tests.Tests.{counts_fit};
+ghost use Rattle.rules.specs.value_tests.Tests.{can_come_out};
 ghost use Rattle.rules.specs.world_state.Good.{IsGoodWorld};
 ghost use Rattle.rules.specs.world_state.Rights.{kind_at};
 ghost use Rattle.std.specs.Prelude.{◌≡◌, ◌<◌, length};
@@ -36,15 +35,15 @@ pub fn get_issuer(brand: u16) -> Result<Data, Stop>
     Ok(object_data(ObjKind::Issuer, u32::from(brand)))
 }
 
-/// That a value may come out of its brand beside what is out of it: else the refusals of what is out (ERTP).
+/// That a value may come out of its brand beside what is out of it: else the refusals of what is out, then of what
+/// was minted (ERTP).
 #[tactic(auto, using(crate::proofs::Supplies::supplies_counted, crate::proofs::Supplies::nothing_stored))]
 fn check_comes_out(draft: &Draft, brand: u16, given: &Value) -> Result<(), Stop>
     requires clean { IsClean draft.now }
     requires made { brand < length draft.now.now.out }
     requires kind { given.now.kind ≡ kind_at draft.now.now.out brand }
     ensures { Gives (λ _. tt) result
-        (counts_fit (supply_at draft.now.now.out brand).outstanding.kind
-        (sum (supply_at draft.now.now.out brand).outstanding.content given.now.content)) }
+        (can_come_out (supply_at draft.now.now.out brand) given.now.content) }
 {
     draft.valid();
     check_out(draft.supply(), brand, given)

@@ -6,6 +6,7 @@ use Rattle.amount_math.specs.Totals.{total-put}
 use Rattle.amount_math.specs.ValueView.{Fits, ValueView, bound}
 use Rattle.amount_math.specs.declared.Kind.{Kind}
 use Rattle.amount_math.specs.declared.Kind.TheVariants.{Nat, Set, Bag}
+use Rattle.ertp_mint.specs.BrandSupply.{MayIssue}
 use Rattle.ertp_mint.specs.Circulating.{CanReturn, CirculationView, Circulates, IsOut, new_circulation, with_forgotten, with_issued, with_retired, with_unissued, with_unretired}
 use Rattle.ertp_mint.specs.Places.{AllowsAll, OutAndKept, most_placed}
 use Rattle.ertp_mint.specs.declared.place.Change.TheVariants.{Issue, UndoIssue, Retire, UndoRetire, Forget}
@@ -45,13 +46,15 @@ pub circulates_new : (kind : Kind) → Circulates (new_circulation kind)
 circulates_new kind = record {
   adds_up = omega (arith, counted-nothing);
   fits = record { each = λ k. omega (arith, count-nothing k) };
+  minted = omega arith;
   kept = omega (arith, counted-nothing);
 }
 
-pub circulates_issued : (s : CirculationView) (c : Content) → Circulates s → Fits s.supply.outstanding.kind (sum s.supply.outstanding.content c) → Circulates (with_issued s c)
-circulates_issued s c h fits = record {
-  adds_up = omega (arith, h.adds_up, counted-sum s.supply.outstanding.content c);
-  fits = fits;
+pub circulates_issued : (s : CirculationView) (w : ValueView) → Circulates s → s.supply.outstanding.kind ≡ w.kind → MayIssue s.supply w → Circulates (with_issued s w.content)
+circulates_issued s w h kind may = record {
+  adds_up = omega (arith, h.adds_up, counted-sum s.supply.outstanding.content w.content);
+  fits = subst (λ k. Fits k (sum s.supply.outstanding.content w.content)) (sym kind) may.fits;
+  minted = may.minted;
   kept = h.kept;
 }
 
@@ -63,6 +66,7 @@ pub circulates_unissued : (s : CirculationView) (c : Content) → Circulates s �
 circulates_unissued s c h has = record {
   adds_up = omega (arith, h.adds_up, counted-difference s.supply.outstanding.content c has);
   fits = fits_less _ _ c h.fits;
+  minted = omega (arith, h.minted);
   kept = h.kept;
 }
 
@@ -70,6 +74,7 @@ pub circulates_retired : (s : CirculationView) (c : Content) → Circulates s �
 circulates_retired s c h has = record {
   adds_up = omega (arith, h.adds_up, counted-difference s.supply.outstanding.content c has);
   fits = fits_less _ _ c h.fits;
+  minted = h.minted;
   kept = omega (arith, h.kept, counted-sum s.kept c);
 }
 
@@ -77,6 +82,7 @@ pub circulates_unretired : (s : CirculationView) (c : Content) → Circulates s 
 circulates_unretired s c h kept fits = record {
   adds_up = omega (arith, h.adds_up, h.kept, counted-sum s.supply.outstanding.content c, counted-difference s.kept c kept);
   fits = fits;
+  minted = h.minted;
   kept = omega (arith, h.kept, counted-difference s.kept c kept);
 }
 
@@ -84,6 +90,7 @@ pub circulates_forgotten : (s : CirculationView) (c : Content) → Circulates s 
 circulates_forgotten s c h kept = record {
   adds_up = h.adds_up;
   fits = h.fits;
+  minted = h.minted;
   kept = omega (arith, h.kept, counted-difference s.kept c kept);
 }
 

@@ -4,7 +4,7 @@ use Rattle.std.proofs.Common.{arith}
 use Rattle.std.specs.Coded.{Coded, code_by, coded×}
 use Rattle.amount_math.specs.Content.{Content, Contains, coded_content, difference, difference-sum, nothing, sum, sum-difference}
 use Rattle.amount_math.specs.Counted.{counted}
-use Rattle.amount_math.specs.ValueView.{ValueView, Fits, with_content}
+use Rattle.amount_math.specs.ValueView.{ValueView, Fits, minted_bound, with_content}
 use Rattle.amount_math.specs.declared.Kind.{Kind}
 use Rattle.amount_math.specs.declared.Kind.TheVariants.{Nat}
 use Rattle.ertp_mint.specs.BrandSupply.{AddsUp, BrandSupply, coded_supply, issued, new_supply, retired}
@@ -54,10 +54,11 @@ with_unretired s c = record { supply = unretired s.supply c; kept = difference s
 abbrev pub with_forgotten : CirculationView → Content → CirculationView
 with_forgotten s c = record { supply = s.supply; kept = difference s.kept c }
 
--- it adds up, no count of what is out passes the kind's bound, and what is kept was burned
+-- it adds up, no count of what is out passes the kind's bound, nor the total of what was minted its own, and what is kept was burned
 pub record Circulates (s : CirculationView) : Type 0 where
   pub adds_up : AddsUp s.supply
   pub fits : Fits s.supply.outstanding.kind s.supply.outstanding.content
+  pub minted : s.supply.minted ≤ minted_bound
   pub kept : counted s.kept ≤ s.supply.burned
 
 -- a value of the brand's kind is out

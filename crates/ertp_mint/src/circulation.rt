@@ -1,14 +1,15 @@
 //! What is out of one brand.
 
-ghost use Rattle.std.specs.Prelude.{◌≡◌, ◌<◌, ◌+◌, ◌^◌, IfErr, IsOk, OnOk, OnErr};
-ghost use Rattle.amount_math.specs.Content.{Contains, sum};
+ghost use Rattle.std.specs.Prelude.{◌≡◌, ◌≤◌, IfErr, IsOk, OnOk, OnErr};
+ghost use Rattle.amount_math.specs.Content.{Contains, count};
 ghost use Rattle.amount_math.specs.Counted.{counted};
-ghost use Rattle.amount_math.specs.ValueView.{Fits, IsIssueRefusal};
+ghost use Rattle.amount_math.specs.ValueView.{minted_bound};
+ghost use Rattle.ertp_mint.specs.BrandSupply.{IsMintRefusal, MayIssue};
 ghost use Rattle.ertp_mint.specs.Circulating.{CanReturn, Circulates, IsOut, new_circulation, with_forgotten, with_issued, with_retired, with_unissued, with_unretired};
 
 use crate::keys_out::KeysOut;
 use crate::place::Change;
-use amount_math::{Kind, PutFault, Value};
+use amount_math::{Kind, MINTED_BOUND, PutFault, TooMuch, Value};
 use std::alloc::Global;
 use std::marker::Model;
 
@@ -61,7 +62,8 @@ impl Circulation {
     }
 
     pub fn minted(&self) -> u128
-        ensures { result ≡ self.now.supply.minted }
+        ensures minted { result ≡ self.now.supply.minted }
+        ensures bounded { result ≤ minted_bound }
     {
         self.minted
     }
@@ -72,28 +74,40 @@ impl Circulation {
         self.burned
     }
 
-    /// That a value may come out too, or why it mayn't.
+    /// How many of a key are out, or how many units, which are those of the empty key.
+    pub fn count_out(&self, key: &str) -> u128
+        ensures { result ≡ count self.now.supply.outstanding.content key.now }
+    {
+        self.keys.count_out(key)
+    }
+
+    /// That a value may come out too, or why it mayn't: counts are tested first, then the minted total.
     pub fn can_issue(&self, value: &Value) -> Result<(), PutFault>
         requires { self.now.supply.outstanding.kind ≡ value.now.kind }
-        ensures ok { IsOk result → Fits value.now.kind (sum self.now.supply.outstanding.content value.now.content) }
-        ensures sure { Fits value.now.kind (sum self.now.supply.outstanding.content value.now.content) → IsOk result }
-        ensures refused { IfErr result (IsIssueRefusal value.now.kind (sum self.now.supply.outstanding.content value.now.content)) }
+        ensures ok { IsOk result → MayIssue self.now.supply value.now }
+        ensures sure { MayIssue self.now.supply value.now → IsOk result }
+        ensures refused { IfErr result (IsMintRefusal self.now.supply value.now) }
     {
-        self.keys.can_issue(value)
+        self.keys.can_issue(value)?;
+        let sum = self.minted + value.total();
+        if sum > MINTED_BOUND {
+            let bound = MINTED_BOUND;
+            return Err(PutFault::TooMuch(TooMuch { sum, bound }));
+        }
+        Ok(())
     }
 
     /// Counts a value as out. Keys of which nothing is out or kept yet take memory.
     pub fn issue(&mut self, value: &Value) -> Result<(), PutFault>
-        requires kind { self.old.supply.outstanding.kind ≡ value.now.kind }
-        requires room { self.old.supply.minted + counted value.now.content < 2 ^ 128 }
+        requires { self.old.supply.outstanding.kind ≡ value.now.kind }
         ensures ok { OnOk result (self.new ≡ with_issued self.old value.now.content) }
-        ensures fits { OnOk result (Fits value.now.kind (sum self.old.supply.outstanding.content value.now.content)) }
+        ensures may { OnOk result (MayIssue self.old.supply value.now) }
         ensures out { OnOk result (IsOut self.new value.now) }
         ensures undone { OnOk result (with_unissued self.new value.now.content ≡ self.old) }
         ensures err { OnErr result (self.new ≡ self.old) }
-        ensures refused { IfErr result (IsIssueRefusal value.now.kind (sum self.old.supply.outstanding.content value.now.content)) }
+        ensures refused { IfErr result (IsMintRefusal self.old.supply value.now) }
     {
-        self.keys.can_issue(value)?;
+        self.can_issue(value)?;
         let Ok(()) = self.keys.issue(value) else {
             return Err(PutFault::NoMemory);
         };

@@ -1,9 +1,10 @@
 //! The supply of each brand, which is changed in place.
 
-ghost use Rattle.std.specs.Prelude.{[], ◌≡◌, ◌<◌, ◌+◌, ◌-◌, ◌^◌, ◌++◌, ◌∷◌, length, slice_set, take, IfOk, IfErr, IsOk, OnOk, OnErr};
-ghost use Rattle.amount_math.specs.Content.{Contains, sum};
+ghost use Rattle.std.specs.Prelude.{[], ◌≡◌, ◌<◌, ◌≤◌, ◌-◌, ◌++◌, ◌∷◌, length, slice_set, take, IfOk, IfErr, IsOk, OnOk, OnErr};
+ghost use Rattle.amount_math.specs.Content.{Contains, count};
 ghost use Rattle.amount_math.specs.Counted.{counted};
-ghost use Rattle.amount_math.specs.ValueView.{Fits, IsIssueRefusal};
+ghost use Rattle.amount_math.specs.ValueView.{minted_bound};
+ghost use Rattle.ertp_mint.specs.BrandSupply.{IsMintRefusal, MayIssue};
 ghost use Rattle.ertp_mint.specs.Circulating.{CanReturn, Circulates, IsOut, circulation_at, new_circulation, with_forgotten, with_issued, with_retired, with_unissued, with_unretired};
 
 use crate::Parcel;
@@ -82,7 +83,8 @@ impl Circulations {
     /// The counts of all that was ever issued of a brand, together.
     pub fn minted(&self, brand: u16) -> u128
         requires { brand < length self.now }
-        ensures { result ≡ (circulation_at self.now brand).supply.minted }
+        ensures minted { result ≡ (circulation_at self.now brand).supply.minted }
+        ensures bounded { result ≤ minted_bound }
     {
         self.brands[brand as usize].minted()
     }
@@ -95,33 +97,40 @@ impl Circulations {
         self.brands[brand as usize].burned()
     }
 
+    /// How many of a key are out of a brand, or how many units, which are those of the empty key.
+    pub fn count_out(&self, brand: u16, key: &str) -> u128
+        requires { brand < length self.now }
+        ensures { result ≡ count (circulation_at self.now brand).supply.outstanding.content key.now }
+    {
+        self.brands[brand as usize].count_out(key)
+    }
+
     /// That a value may come out too, or why it mayn't, as `issue` says it. Nothing changes. To show a key
     /// that is out already takes memory, and nothing else does.
     pub fn can_issue(&self, brand: u16, value: &Value) -> Result<(), PutFault>
         requires made { brand < length self.now }
         requires kind { (circulation_at self.now brand).supply.outstanding.kind ≡ value.now.kind }
-        ensures ok { IsOk result → Fits value.now.kind (sum (circulation_at self.now brand).supply.outstanding.content value.now.content) }
-        ensures sure { Fits value.now.kind (sum (circulation_at self.now brand).supply.outstanding.content value.now.content) → IsOk result }
-        ensures refused { IfErr result (IsIssueRefusal value.now.kind (sum (circulation_at self.now brand).supply.outstanding.content value.now.content)) }
+        ensures ok { IsOk result → MayIssue (circulation_at self.now brand).supply value.now }
+        ensures sure { MayIssue (circulation_at self.now brand).supply value.now → IsOk result }
+        ensures refused { IfErr result (IsMintRefusal (circulation_at self.now brand).supply value.now) }
     {
         self.brands[brand as usize].can_issue(value)
     }
 
     /// Brings a value out as a parcel, or hands it back: `Overlap` where a key of a set is out already,
-    /// `TooMuch` where a count would pass its bound. How many keys are out is not bounded. Keys of which
-    /// nothing is out or kept yet take memory.
+    /// `TooMuch` where a count would pass its bound, or else the minted total its own. How many keys are out
+    /// is not bounded. Keys of which nothing is out or kept yet take memory.
     pub fn issue(&mut self, brand: u16, value: Value) -> Result<Parcel, (Value, PutFault)>
         requires made { brand < length self.old }
         requires kind { (circulation_at self.old brand).supply.outstanding.kind ≡ value.kind }
-        requires room { (circulation_at self.old brand).supply.minted + counted value.content < 2 ^ 128 }
         ensures ok { OnOk result (self.new ≡ slice_set self.old brand (with_issued (circulation_at self.old brand) value.content)) }
         ensures parcel { IfOk result (λ parcel. parcel ≡ record { brand = brand; value = value }) }
-        ensures fits { OnOk result (Fits value.kind (sum (circulation_at self.old brand).supply.outstanding.content value.content)) }
+        ensures may { OnOk result (MayIssue (circulation_at self.old brand).supply value) }
         ensures out { OnOk result (IsOut (circulation_at self.new brand) value) }
         ensures undone { OnOk result (with_unissued (circulation_at self.new brand) value.content ≡ circulation_at self.old brand) }
         ensures back { IfErr result (λ (back, _). back ≡ value) }
         ensures err { OnErr result (self.new ≡ self.old) }
-        ensures refused { IfErr result (λ (_, fault). IsIssueRefusal value.kind (sum (circulation_at self.old brand).supply.outstanding.content value.content) fault) }
+        ensures refused { IfErr result (λ (_, fault). IsMintRefusal (circulation_at self.old brand).supply value fault) }
     {
         match self.brands[brand as usize].issue(&value) {
             Ok(()) => Ok(Parcel::issued(brand, value)),

@@ -2,7 +2,7 @@
 //! memory, in a map that costs its depth for each key. Units are those of the empty key.
 
 ghost use Rattle.std.specs.Prelude.{◌≡◌, ◌≢◌, ◌≤◌, ◌⊎◌, IfErr, IsOk, OnErr, OnOk};
-ghost use Rattle.amount_math.specs.Content.{of_entries, of_nat, sum};
+ghost use Rattle.amount_math.specs.Content.{count, of_entries, of_nat, sum};
 ghost use Rattle.amount_math.specs.Entries.{IsRising};
 ghost use Rattle.amount_math.specs.ValueView.{Fits, IsIssueRefusal, bound, nat_bound};
 ghost use Rattle.ertp_mint.specs.Places.{AllowsAll, nothing_out, seen, with_change};
@@ -39,6 +39,14 @@ impl KeysOut {
             alloc,
             places: BTreeMap::new(alloc),
         }
+    }
+
+    /// How many of a key are out.
+    pub fn count_out(&self, key: &str) -> u128
+        ensures { result ≡ count self.now.out key.now }
+    {
+        let place = place_of(&self.places, key);
+        place.out
     }
 
     /// That a value may come out too, or why it mayn't: the first key, in byte order, of which there would
@@ -95,8 +103,9 @@ fn units_of(value: &Value) -> u128
     units
 }
 
-/// The most of one element that may be out.
+/// The most of one key that may be out.
 fn most_out(kind: Kind) -> u64
+    requires { kind ≢ Kind.Nat }
     ensures { result ≡ bound kind }
 {
     match kind {

@@ -12,7 +12,7 @@ mod places;
 
 /// What `amount_math` gives to those above.
 pub mod amount_math_lib {
-    pub use amount_math::{Amount, Holding, Key, Kind, NAT_BOUND, PutFault, Value};
+    pub use amount_math::{Amount, Holding, Key, Kind, MINTED_BOUND, NAT_BOUND, PutFault, Value};
 
     pub mod shortfall {
         pub use amount_math::shortfall::{LossFault, show_shortfall};

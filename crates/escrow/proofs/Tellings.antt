@@ -1,10 +1,11 @@
 -- When a movement can be counted, and that what is kept running stays the sums from scratch.
-use Rattle.std.specs.Prelude.{◌≡◌, ◌≢◌, ◌⊎◌, ◌≤◌, ◌<◌, ◌^◌, ◌==◌, ℕ, zero, suc, ◌+◌, Bool, true, false, cond, if◌then◌else◌, ◌&&◌, List, [], ◌∷◌, ◌++◌, length, slice_get, refl}
+use Rattle.std.specs.Prelude.{◌≡◌, ◌≢◌, ◌⊎◌, ◌≤◌, ◌<◌, ◌==◌, ℕ, zero, suc, ◌+◌, Bool, true, false, cond, if◌then◌else◌, ◌&&◌, List, [], ◌∷◌, ◌++◌, length, slice_get, refl}
 use Rattle.std.proofs.Common.{inl, inr, sym, ◌∙◌, ap, subst, arith, length-append}
 use Rattle.std.proofs.lemmas.Bool.{cases_eq, eq-eqb}
 use Rattle.std.specs.Option.{option_map_or}
 use Rattle.rights_model.specs.amount_math.Content.{Content, nothing}
 use Rattle.rights_model.specs.amount_math.Counted.{counted}
+use Rattle.rights_model.specs.amount_math.ValueView.{minted_bound}
 use Rattle.rights_model.specs.declared.Holder.{Holder}
 use Rattle.rights_model.specs.declared.Holder.TheVariants.{Purse, Payment, Slot, Hand, Outside}
 use Rattle.rights_model.specs.declared.Movement.{Movement}
@@ -47,15 +48,15 @@ module _ (t : Table) (e : EscrowState) (m : Movement) (sums : AreSums t e) (can 
   share_after : (i : ℕ) → held_over (is_slot_of e.instances i) (moved t m) m.brand + leaving (is_slot_of e.instances i) m m.brand ≡ held_over (is_slot_of e.instances i) t m.brand + coming (is_slot_of e.instances i) m m.brand
   share_after i = held-moved (is_slot_of e.instances i) refl m.brand t m can
 
-  pub can_tell : minted_with e m < 2 ^ 128 → CanTell e m
-  can_tell small = record {
+  pub can_tell : minted_with e m ≤ minted_bound → CanTell e m
+  can_tell within = record {
     totals = record {
       has = has;
       hand = omega (arith, at_brand is_hand m.from m.brand m.value.content, leaving_held is_hand refl m.brand t m can, held-inside m.brand t, sums.purses m.brand, sums.payments m.brand, sums.slots m.brand, sums.whole m.brand);
-      small = omega (arith, small, at_brand is_outside m.from m.brand m.value.content);
+      small = omega (arith, within, at_brand is_outside m.from m.brand m.value.content);
     };
     leaves = λ i. omega (arith, leaving_held (is_slot_of e.instances i) refl m.brand t m can, sums.shares i m.brand);
-    comes = λ i. omega (arith, small, share_after i, sums.shares i m.brand, share_held m.brand e.instances i (moved t m), inside_after, sums.whole m.brand, whole_at m.from m.brand m.value.content, whole_at m.to m.brand m.value.content);
+    comes = λ i. omega (arith, within, share_after i, sums.shares i m.brand, share_held m.brand e.instances i (moved t m), inside_after, sums.whole m.brand, whole_at m.from m.brand m.value.content, whole_at m.to m.brand m.value.content);
   }
 
 -- ---- what a movement that was told makes of the sums
@@ -105,7 +106,7 @@ module _ (e f : EscrowState) (m : Movement) (told : IsTold e f m) where
 
 -- ---- backwards
 
-module _ (e f : EscrowState) (m : Movement) (t : Table) (sums : AreSums t e) (can : CanMove t m) (room : minted_with e m < 2 ^ 128) (told : IsTold e f m) where
+module _ (e f : EscrowState) (m : Movement) (t : Table) (sums : AreSums t e) (can : CanMove t m) (within : minted_with e m ≤ minted_bound) (told : IsTold e f m) where
   pub can_untell : CanUntell f m
   can_untell = record {
     totals = record {
@@ -140,7 +141,7 @@ module _ (e f : EscrowState) (m : Movement) (t : Table) (sums : AreSums t e) (ca
       );
     };
     leaves = λ i. rw told.instances (omega (arith, told.shares i m.brand, leaving_held (is_slot_of e.instances i) refl m.brand t m can, sums.shares i m.brand));
-    comes = λ i. rw told.instances (omega (arith, told.shares i m.brand, sums.shares i m.brand, share_held m.brand e.instances i t, sums.whole m.brand, room));
+    comes = λ i. rw told.instances (omega (arith, told.shares i m.brand, sums.shares i m.brand, share_held m.brand e.instances i t, sums.whole m.brand, within));
   }
 
 -- a movement leads back to one state

@@ -41,7 +41,7 @@ use Rattle.fair_rows.specs.turn_rows.Turns.{KeywordAmount, Turn}
 use Rattle.delivery_laws.proofs.world_laws.Growing.{grows-after}
 use Rattle.delivery_laws.proofs.world_laws.Kept.{good-after, good-after_all}
 use Rattle.delivery_laws.proofs.world_laws.Lists.{all_append, all_read_or, all_under}
-use Rattle.delivery_laws.specs.world_state.Good.{AreGood, AreSharesOf, AreSharesValued, IsGoodWorld, IsInBounds, IsOfKind, IsValued}
+use Rattle.delivery_laws.specs.world_state.Good.{AreGood, AreSharesOf, AreSharesValued, IsGoodWorld, IsInBounds, IsMintedInBounds, IsOfKind, IsValued}
 use Rattle.delivery_laws.specs.world_state.Rights.{kind_at}
 use Rattle.delivery_laws.specs.world_state.Worlds.{Effect, State, after, after_all}
 use Rattle.fair_laws.specs.Steps.{AccountsFor, TellsLog}
@@ -217,6 +217,7 @@ module _ (n : ℕ) (w : State) (es : List Effect) (t : Turn) (good : IsGoodWorld
     minted_is = λ b. is.accounts.minted_is b ∙ sym (ap (λ l. (world_in n w).minted b + size l) (ap (λ l. minted l b) moves_are ∙ minted_plain b ms));
     burned_is = λ b. is.accounts.burned_is b ∙ sym (ap (λ l. (world_in n w).burned b + size l) (ap (λ l. burned l b) moves_are ∙ burned_plain b ms));
     fits = λ b. all_read_or IsInBounds u.rights.out b (new_supply Nat) good_then.bounded (record { each = λ k. omega (arith, count-nothing k) });
+    few_minted = λ b. all_read_or IsMintedInBounds u.rights.out b (new_supply Nat) good_then.minted (omega arith);
     sums = tells.sums
         ∙ ap (λ l. map (sum_of u.rights) (brands_of (moves_in l))) log_is
         ∙ ap (map (sum_of u.rights)) (sym (ap brands_of moves_are ∙ brands_plain ms));

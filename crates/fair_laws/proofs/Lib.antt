@@ -33,6 +33,7 @@ pub mod Whole
 pub mod Fair
 pub use Rattle.delivery_laws.proofs as delivery_laws
 pub use Rattle.fair_rows.proofs as fair_rows
+pub use Rattle.fair_rows.proofs.turn_rows
 pub use Rattle.delivery_laws.proofs.jessie_semantics
 pub use Rattle.delivery_laws.proofs.lemmas
 pub use Rattle.delivery_laws.proofs.rule_laws

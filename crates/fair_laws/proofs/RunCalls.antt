@@ -1,6 +1,6 @@
 -- A call of an instance's function shows what it does: its row shows the causes of the seats that it leaves, an empty
 -- seat stands right behind it, and a facet that is made is named by it.
-use Rattle.std.specs.Prelude.{◌⊎◌, decimal, ◌≡◌, ◌*◌, ◌-◌, ◌^◌, ◌<◌, ◌++◌, ◌&&◌, ◌||◌, ℕ, Bool, true, false, cond, List, [], ◌∷◌, Option, Some, Ok, Err, IfOk, codes, length, map, refl}
+use Rattle.std.specs.Prelude.{◌⊎◌, decimal, ◌≡◌, ◌-◌, ◌^◌, ◌<◌, ◌++◌, ◌&&◌, ◌||◌, ℕ, Bool, true, false, cond, List, [], ◌∷◌, Option, Some, Ok, Err, IfOk, codes, length, map, refl}
 use Rattle.std.specs.List.{AllByRecursion}
 use Rattle.std.specs.Str.{bytes_eq}
 use Rattle.std.proofs.Common.{inl, inr, sym, ◌∙◌, ap, subst, arith}
@@ -39,9 +39,9 @@ use Rattle.fair_rows.specs.rights_model.Table.{Table}
 use Rattle.fair_rows.specs.ExitCauses.{Owners, calls, facets_at, name}
 use Rattle.fair_rows.specs.Rows.{is_offer}
 use Rattle.delivery_laws.specs.jessie_semantics.Keeping.{CallHas}
-use Rattle.delivery_laws.specs.jessie_semantics.Play.{Call, call, cost, far, send, when}
+use Rattle.delivery_laws.specs.jessie_semantics.Play.{Call, call, far, send, when}
 use Rattle.delivery_laws.specs.host_data.Tree as trees
-use Rattle.delivery_laws.specs.host_data.Tree.{Tree, some_local, stays}
+use Rattle.delivery_laws.specs.host_data.Tree.{Tree}
 use Rattle.delivery_laws.specs.host_data.declared.data.Obj.{Obj}
 use Rattle.delivery_laws.specs.host_data.declared.data.ObjKind.{ObjKind}
 use Rattle.delivery_laws.specs.host_data.declared.data.ObjKind.TheVariants as kinds
@@ -58,7 +58,6 @@ use Rattle.delivery_laws.specs.rules.Methods.{serve_own}
 use Rattle.delivery_laws.specs.turn_records.Events as events
 use Rattle.delivery_laws.specs.turn_records.Printed.{named, object, printed_call}
 use Rattle.fair_rows.specs.turn_rows.Causes as causes_of
-use Rattle.fair_rows.specs.turn_rows.Causes.{Cause}
 use Rattle.fair_rows.specs.turn_rows.Kinds as hows
 use Rattle.fair_rows.specs.turn_rows.Turns as rows
 use Rattle.fair_rows.specs.turn_rows.Turns.{Turn}
@@ -67,9 +66,8 @@ use Rattle.delivery_laws.proofs.world_laws.Kept.{good-after}
 use Rattle.delivery_laws.proofs.world_laws.Lists.{all_read, all_read_or}
 use Rattle.delivery_laws.specs.world_state.Good.{AreGood, IsGoodWorld, IsPlaced}
 use Rattle.delivery_laws.specs.world_state.Known.{IsKnownTo, IsSeatOf, known_as}
-use Rattle.delivery_laws.specs.world_state.Rights.{IsRoomy}
 use Rattle.delivery_laws.specs.world_state.Worlds as worlds
-use Rattle.delivery_laws.specs.world_state.Worlds.{Effect, IsOpen, Seat, State, after, after_all, empty_seat, exit, make_facet, moves, no_seat, note_call, offer, promises_made, seat_at}
+use Rattle.delivery_laws.specs.world_state.Worlds.{Effect, Seat, State, after, after_all, empty_seat, exit, make_facet, moves, no_seat, note_call, offer, promises_made}
 use Rattle.fair_laws.specs.Reads.{CallsRead}
 use Rattle.fair_laws.specs.Views.{IsCounted}
 use Rattle.fair_laws.proofs.Counts.{counted_after}
@@ -386,13 +384,12 @@ far_is : (w : State) (i : ℕ) (ms : List (List ℕ × List ℕ)) (held : Tree) 
 unfolding far_rule
 far_is w i ms held = after_next_of (IsFar w i ms held) (length w.facets) most_made _ (λ room. refl)
 
-call_can : (w : State) (i : ℕ) (o : Obj) (m : List ℕ) (args : List Tree) → IsGoodWorld w → i < length w.tables.instances → CallHas (IsKnownTo w i) (call o m args) → IsRoomy w.rights.out (2 ^ 63 * cost (call o m args)) → CanCall w (Some i) o args
-call_can w i o m args good made known room = record {
+call_can : (w : State) (i : ℕ) (o : Obj) (m : List ℕ) (args : List Tree) → IsGoodWorld w → i < length w.tables.instances → CallHas (IsKnownTo w i) (call o m args) → CanCall w (Some i) o args
+call_can w i o m args good made known = record {
   good = good;
   hosted = made;
   target = known.0.objects;
   arguments = λ place. all_read_or (IsKnownTo w i) args (place - 1) trees.null (all_have (IsKnownTo w i) args known.1) (null_formed w (Some i));
-  room = room;
 }
 
 module _ (served : AreGoodHostCalls) (reads : CallsRead) (owners : Owners) (t : Turn) (runs_none : is_offer t ≡ false) (w : State) (i : ℕ) (made : i < length w.tables.instances) (is : Holds none_shown owners (Some (named kinds.Instance i)) w) (owes : Owes w []) where
@@ -423,13 +420,13 @@ module _ (served : AreGoodHostCalls) (reads : CallsRead) (owners : Owners) (t : 
   made_row x ms held (Ok d) so good =
       subst (λ e. Showing (far x ms held) (Ok e)) (sym so) (far_shows owners t ours w is owes x ms held (length w.facets) refl i refl) good
 
-  pub call_shows : (c : Call) → CallHas (IsKnownTo w i) c → IsRoomy w.rights.out (2 ^ 63 * cost c) → Shows owners t none_shown ours w (call_effects w i c)
-  call_shows c known room = by c known room (call_is served w i is.good made c known room).good
+  pub call_shows : (c : Call) → CallHas (IsKnownTo w i) c → Shows owners t none_shown ours w (call_effects w i c)
+  call_shows c known = by c known (call_is served w i is.good made c known).good
     where
-      by : (c : Call) → CallHas (IsKnownTo w i) c → IsRoomy w.rights.out (2 ^ 63 * cost c) → AreGood w (call_effects w i c) → Shows owners t none_shown ours w (call_effects w i c)
-      by (call o m args) known room good =
-          let can = call_can w i o m args is.good made known room in
+      by : (c : Call) → CallHas (IsKnownTo w i) c → AreGood w (call_effects w i c) → Shows owners t none_shown ours w (call_effects w i c)
+      by (call o m args) known good =
+          let can = call_can w i o m args is.good made known in
           called_row o m args can (serve_own w o m args) refl (served w i o m args can) good
-      by (send o m args) known room good = sent_row o m args (send_rule w i o m args) (send_fit w i o m args) good
-      by (when o f held) known room good = asked_row o f held (when_rule w i o f held) (when_fit w i o f held) good
-      by (far x ms held) known room good = made_row x ms held (far_rule w i ms held) (far_is w i ms held) good
+      by (send o m args) known good = sent_row o m args (send_rule w i o m args) (send_fit w i o m args) good
+      by (when o f held) known good = asked_row o f held (when_rule w i o f held) (when_fit w i o f held) good
+      by (far x ms held) known good = made_row x ms held (far_rule w i ms held) (far_is w i ms held) good

@@ -4,9 +4,8 @@ use Rattle.std.specs.List.{AllByRecursion}
 use Rattle.std.proofs.Common.{sym, ◌∙◌, ap, subst, arith}
 use Rattle.std.proofs.lemmas.List.{append-nil}
 use Rattle.delivery_laws.specs.Hosts.{IsGoodHost}
-use Rattle.delivery_laws.specs.Works.{AreGoodHostCalls, IsTurnWork, most_meter}
+use Rattle.delivery_laws.specs.Works.{AreGoodHostCalls, IsTurnWork}
 use Rattle.delivery_laws.proofs.Ends.{ending_good}
-use Rattle.delivery_laws.proofs.Hosts.{one_turn}
 use Rattle.delivery_laws.proofs.Runs.{after_both}
 use Rattle.delivery_laws.proofs.Works.{turn_good, work_is}
 use Rattle.delivery_laws.specs.delivery_turns.Endings.{ending, without_cycle}
@@ -42,9 +41,9 @@ use Rattle.fair_rows.specs.turn_rows.Turns as rows
 use Rattle.fair_rows.specs.turn_rows.Turns.{Turn}
 use Rattle.delivery_laws.proofs.world_laws.Fronts.{begins, good_behind}
 use Rattle.delivery_laws.specs.world_state.Good.{AreGood, IsGoodWorld}
-use Rattle.delivery_laws.specs.world_state.Rights.{IsRoomy, Rights, most_issued, most_turns, slots_at}
+use Rattle.delivery_laws.specs.world_state.Rights.{Rights, slots_at}
 use Rattle.delivery_laws.specs.world_state.Worlds as worlds
-use Rattle.delivery_laws.specs.world_state.Worlds.{Effect, Seat, State, after, after_all, behind, in_front, no_seat, seat_at}
+use Rattle.delivery_laws.specs.world_state.Worlds.{Effect, Seat, State, after_all, behind, in_front, no_seat, seat_at}
 use Rattle.delivery_laws.specs.rules.Methods.{serve as serve_call}
 use Rattle.fair_laws.specs.Reads.{CallsRead, ServicesRead}
 use Rattle.fair_laws.specs.Turns.{IsTurnStep}
@@ -81,7 +80,7 @@ refused_end (deliveries.notify n) e u = resolving_settles n.answer (without_cycl
 
 -- ---- a whole turn
 
-module _ (read : TextReader) (served : AreGoodServices (serve_call read)) (called : AreGoodHostCalls) (reads : CallsRead) (service_reads : ServicesRead read) (meter : ℕ) (few : meter ≤ most_meter) (w : State) (d : Delivery) (good : IsGoodWorld (in_front d w)) (room : IsRoomy w.rights.out most_issued) (steady : IsSteady w) (empty : w.log ≡ []) (k : ℕ) where
+module _ (read : TextReader) (served : AreGoodServices (serve_call read)) (called : AreGoodHostCalls) (reads : CallsRead) (service_reads : ServicesRead read) (meter : ℕ) (w : State) (d : Delivery) (good : IsGoodWorld (in_front d w)) (steady : IsSteady w) (empty : w.log ≡ []) (k : ℕ) where
   abbrev r : Reading
   r = (beginning w d).reading
 
@@ -116,17 +115,17 @@ module _ (read : TextReader) (served : AreGoodServices (serve_call read)) (calle
   i = instance_of os t.kind t
 
   work : IsTurnWork w d (task_work read meter w (beginning w d).task)
-  work = work_is read served called meter few w d good room
+  work = work_is read served called meter w d good
 
   whole : IsGoodWorld w
   whole = good_behind w d good
 
   are : AreGood w (es ++ fs)
   unfolding delivery_turn
-  are = turn_good read served called meter few w d good room
+  are = turn_good read served called meter w d good
 
-  turned : Turns read served called reads service_reads meter few w d good room steady empty (k + 1) z.log sums r a es
-  turned = turns_of read served called reads service_reads meter few w room steady empty (k + 1) z.log sums d good
+  turned : Turns read served called reads service_reads meter w d good steady empty (k + 1) z.log sums r a es
+  turned = turns_of read served called reads service_reads meter w steady empty (k + 1) z.log sums d good
 
   ended : Shows os t row i u fs
   ended = fit_all os t row (λ i n c e. e) i u fs turned.shows.holds turned.shows.owes (ending_good u d a work.front work.out work.free) (ending_fit (k + 1) z.log sums os d r a u)
@@ -202,6 +201,7 @@ module _ (read : TextReader) (served : AreGoodServices (serve_call read)) (calle
     minted_is = accounts.minted_is;
     burned_is = accounts.burned_is;
     fits = accounts.fits;
+    few_minted = accounts.few_minted;
     sums = accounts.sums;
     brands = accounts.brands;
     kinds = accounts.kinds;
@@ -240,25 +240,23 @@ still_steady x y seats tables facets rights is = record {
 }
 
 module _ (read : TextReader) (served : AreGoodServices (serve_call read)) (called : AreGoodHostCalls) (reads : CallsRead) (service_reads : ServicesRead read) where
-  step_is : (s : HostState) (d : Delivery) (ds : List Delivery) → s.world.waiting ≡ d ∷ ds → IsGoodHost s → IsSteady s.world → s.turns < most_turns
+  step_is : (s : HostState) (d : Delivery) (ds : List Delivery) → s.world.waiting ≡ d ∷ ds → IsGoodHost s → IsSteady s.world
       → IsTurnStep s (step_after s d (delivery_turn read s.meter (behind s.world) d))
   unfolding delivery_turn
-  step_is s d ds front host steady before =
+  step_is s d ds front host steady =
       let w = behind s.world in
       let good : IsGoodWorld (in_front d w) = subst IsGoodWorld (begins s.world d ds front) host.world in
-      let split = one_turn (most_turns - s.turns) (omega (arith, before)) in
-      let room : IsRoomy w.rights.out most_issued = record { each = λ b. let x = host.room.each b in omega (arith, x, split) } in
       let now : IsSteady w = still_steady s.world w refl refl refl refl steady in
-      let then = steady_then read served called reads service_reads s.meter host.meter w d good room now host.untold s.turns in
+      let then = steady_then read served called reads service_reads s.meter w d good now host.untold s.turns in
       record {
-        is_step = is_step read served called reads service_reads s.meter host.meter w d good room now host.untold s.turns;
+        is_step = is_step read served called reads service_reads s.meter w d good now host.untold s.turns;
         steady = still_steady (after_all w (delivery_turn read s.meter w d).effects) (step_after s d (delivery_turn read s.meter w d)).next.world refl refl refl refl then;
       }
 
-  from_is : (s : HostState) (ws : List Delivery) → s.world.waiting ≡ ws → IsGoodHost s → IsSteady s.world → s.turns < most_turns → IfSome (step_from read s ws) (IsTurnStep s)
-  from_is s [] front host steady before = tt
-  from_is s (d ∷ ds) front host steady before = step_is s d ds front host steady before
+  from_is : (s : HostState) (ws : List Delivery) → s.world.waiting ≡ ws → IsGoodHost s → IsSteady s.world → IfSome (step_from read s ws) (IsTurnStep s)
+  from_is s [] front host steady = tt
+  from_is s (d ∷ ds) front host steady = step_is s d ds front host steady
 
-  pub steps_are : (s : HostState) → IsGoodHost s → IsSteady s.world → s.turns < most_turns → IfSome (step_of read s) (IsTurnStep s)
+  pub steps_are : (s : HostState) → IsGoodHost s → IsSteady s.world → IfSome (step_of read s) (IsTurnStep s)
   unfolding step_of
-  steps_are s host steady before = from_is s s.world.waiting refl host steady before
+  steps_are s host steady = from_is s s.world.waiting refl host steady

@@ -1,6 +1,6 @@
 -- What is done for each delivery is shown by the rows of its turn, and at the turn's end no seat is open of which the
 -- turn's own row shows a cause.
-use Rattle.std.specs.Prelude.{◌≡◌, ◌≢◌, ◌-◌, ◌+◌, ◌^◌, ◌<◌, ◌≤◌, ◌++◌, ◌&&◌, ◌⊎◌, ℕ, zero, suc, Bool, true, false, cond, List, [], ◌∷◌, Option, Some, None, Result, Ok, Err, IfOk, codes, is_none, length, nat_lt, refl}
+use Rattle.std.specs.Prelude.{◌≡◌, ◌≢◌, ◌-◌, ◌+◌, ◌^◌, ◌<◌, ◌++◌, ◌&&◌, ◌⊎◌, ℕ, zero, suc, Bool, true, false, cond, List, [], ◌∷◌, Option, Some, None, Result, Ok, Err, IfOk, codes, is_none, length, nat_lt, refl}
 use Rattle.std.specs.List.{AllByRecursion}
 use Rattle.std.specs.Str.{bytes_eq}
 use Rattle.std.proofs.Common.{inl, inr, sym, ◌∙◌, ap, subst, arith}
@@ -14,17 +14,17 @@ use Rattle.delivery_laws.specs.rules.Traces.{Departure, all_open, departure, dep
 use Rattle.delivery_laws.specs.rules.Words.{has_halted, standing_of}
 use Rattle.delivery_laws.proofs.rule_laws.OpenSeats.{all_own}
 use Rattle.delivery_laws.specs.turn_records.Names.{object_name}
-use Rattle.delivery_laws.specs.Works.{AreGoodHostCalls, IsTurnWork, most_meter}
+use Rattle.delivery_laws.specs.Works.{AreGoodHostCalls, IsTurnWork}
 use Rattle.delivery_laws.proofs.Asking.{evaluates, have_all}
 use Rattle.delivery_laws.proofs.Ends.{ending_good}
 use Rattle.delivery_laws.proofs.Runs.{after_both, all_grow, grows_itself}
 use Rattle.delivery_laws.proofs.Reading.{IsAddressed, IsCalled, addressed_there, sent_there, weaker_ok}
-use Rattle.delivery_laws.proofs.Works.{at_most, notice_handed, number_known, settlement_handed, work_is}
+use Rattle.delivery_laws.proofs.Works.{notice_handed, number_known, settlement_handed, work_is}
 use Rattle.delivery_laws.specs.delivery_turns.Endings.{ending}
 use Rattle.delivery_laws.specs.delivery_turns.Functions.{FunctionCall, Run, ended, function_run, module_play, ran_out, run}
 use Rattle.delivery_laws.specs.delivery_turns.Tasks as tasks
 use Rattle.delivery_laws.specs.delivery_turns.Messages.{Addressed, addressed, gift_of, sent_to}
-use Rattle.delivery_laws.specs.delivery_turns.Tasks.{Beginning, Task, Work, answer_of_ending, beginning, call_beginning, do_all, exit_if_open, exits_with, facet_task, function_behind, gift_beginning, halt_with, handler_call, method_task, notice_call, refuse, outcome_work, run_task, run_work, serve, settlement_of, start_call, task_on, task_work, tick_task, wakeup_call}
+use Rattle.delivery_laws.specs.delivery_turns.Tasks.{Beginning, Work, answer_of_ending, beginning, call_beginning, do_all, exit_if_open, facet_task, function_behind, gift_beginning, halt_with, handler_call, method_task, notice_call, refuse, outcome_work, run_task, run_work, serve, settlement_of, start_call, task_on, task_work, tick_task, wakeup_call}
 use Rattle.fair_laws.specs.Owed.{Owes}
 use Rattle.fair_laws.proofs.Others.{owes_at_start}
 use Rattle.fair_laws.proofs.Shown.{either_none}
@@ -38,8 +38,7 @@ use Rattle.delivery_laws.specs.actors.Tables.{instance_at}
 use Rattle.delivery_laws.specs.jessie_semantics.Keeping.{AllHave}
 use Rattle.delivery_laws.specs.jessie_semantics.Play as plays
 use Rattle.delivery_laws.specs.jessie_semantics.Play.{Ending}
-use Rattle.delivery_laws.proofs.jessie_semantics.Licence.{room_fits}
-use Rattle.delivery_laws.specs.jessie_grammar.Syntax.{routines, variable_names}
+use Rattle.delivery_laws.specs.jessie_grammar.Syntax.{variable_names}
 use Rattle.delivery_laws.specs.host_data.Tree as trees
 use Rattle.delivery_laws.specs.host_data.Tree.{Tree, is_local, null}
 use Rattle.delivery_laws.specs.host_data.declared.data.Obj.{Obj}
@@ -60,7 +59,6 @@ use Rattle.delivery_laws.specs.turn_records.Events as events
 use Rattle.delivery_laws.specs.turn_records.Events.{Answer, Event, given, refused, spent, threw}
 use Rattle.delivery_laws.specs.turn_records.Printed.{kind_of, kind_on, method_of, named, notice_tree, object, on_of, printed_trees, trees_of}
 use Rattle.fair_rows.specs.turn_rows.Causes as causes
-use Rattle.fair_rows.specs.turn_rows.Causes.{Cause}
 use Rattle.fair_rows.specs.turn_rows.Kinds as turn_kinds
 use Rattle.fair_rows.specs.turn_rows.Kinds.{Kind}
 use Rattle.fair_rows.specs.turn_rows.Rows.{instance_name}
@@ -70,7 +68,6 @@ use Rattle.delivery_laws.proofs.world_laws.Fronts.{due_behind, good_behind}
 use Rattle.delivery_laws.proofs.world_laws.Lists.{all_map, all_read, all_read_or}
 use Rattle.delivery_laws.specs.world_state.Good.{AreGood, IsFacet, IsGoodWorld}
 use Rattle.delivery_laws.specs.world_state.Known.{IsHanded, IsKnownTo, WasLeft, made_as, module_of}
-use Rattle.delivery_laws.specs.world_state.Rights.{IsRoomy, most_issued}
 use Rattle.delivery_laws.specs.world_state.Worlds.{Effect, IsOpen, Seat, State, after, after_all, bind_label, burn_and_escrows, set_time, empty_seat, exit, in_front, keep_state, make_facet, moves, note_call, offer, seat_at}
 use Rattle.delivery_laws.specs.rules.Methods.{serve as serve_call}
 use Rattle.fair_laws.specs.Reads.{CallsRead, ServicesRead}
@@ -222,7 +219,7 @@ function_answer (plays.threw v) = by (is_local v)
     by true = tt
     by false = tt
 
-module _ (read : TextReader) (served : AreGoodServices (serve_call read)) (called : AreGoodHostCalls) (reads : CallsRead) (service_reads : ServicesRead read) (meter : ℕ) (few : meter ≤ most_meter) (w : State) (d : Delivery) (good : IsGoodWorld (in_front d w)) (room : IsRoomy w.rights.out most_issued) (steady : IsSteady w) (empty : w.log ≡ []) (k : ℕ) (l : List Event) (ss : List Sum) where
+module _ (read : TextReader) (served : AreGoodServices (serve_call read)) (called : AreGoodHostCalls) (reads : CallsRead) (service_reads : ServicesRead read) (meter : ℕ) (w : State) (d : Delivery) (good : IsGoodWorld (in_front d w)) (steady : IsSteady w) (empty : w.log ≡ []) (k : ℕ) (l : List Event) (ss : List Sum) where
   abbrev turn : Reading → Answer → Turn
   turn r a = turn_with k l ss d r a
 
@@ -448,11 +445,8 @@ module _ (read : TextReader) (served : AreGoodServices (serve_call read)) (calle
       let kept : AllHave (IsKnownTo w c.instance) values = have_all (IsKnownTo w c.instance) values (whole.instances.each c.instance made).state in
       let p = module_play m c.function c.arguments values meter in
       let asks = evaluates w c.instance whole made c.function c.arguments values meter known kept in
-      let bound = at_most meter few in
       ran_turn r c.instance made running threw_so (run w c.instance p)
-      (λ a. run_shows os (turn r a) c.instance called reads (no_offer (turn r a) running.of) w (length (variable_names m)) made p asks p [] w meter refl
-      (room_fits (routines m) (variable_names m) c.function c.arguments values meter meter (omega arith)) (starts none_shown (Some (named kinds.Instance c.instance))) owes (grows_itself w) tt
-      (record { each = λ b. let x = room.each b in omega (arith, x, bound) }))
+      (λ a. run_shows os (turn r a) c.instance called reads (no_offer (turn r a) running.of) w (length (variable_names m)) made p asks p [] w refl (starts none_shown (Some (named kinds.Instance c.instance))) owes (grows_itself w) tt)
       is
 
   -- an instance that has halted refuses
@@ -521,7 +515,6 @@ module _ (read : TextReader) (served : AreGoodServices (serve_call read)) (calle
         hosted = tt;
         target = target.objects;
         arguments = λ place. all_read_or (IsHanded w) args (place - 1) trees.null handed (null_formed w None);
-        room = record { each = λ b. omega (arith, room.each b) };
       } in
       served_turn m calling o args service target.objects (serve_call read w o m args) can refl (served w o m args can)
 
@@ -573,12 +566,12 @@ zseat_there : (i j : ℕ) → i < 2 ^ 128 → bytes_eq (named kinds.Zseat i) (na
 unfolding object_name
 zseat_there i j wide e = numbers_same i j wide e
 
-module _ (read : TextReader) (served : AreGoodServices (serve_call read)) (called : AreGoodHostCalls) (reads : CallsRead) (service_reads : ServicesRead read) (meter : ℕ) (few : meter ≤ most_meter) (w : State) (room : IsRoomy w.rights.out most_issued) (steady : IsSteady w) (empty : w.log ≡ []) (k : ℕ) (l : List Event) (ss : List Sum) where
+module _ (read : TextReader) (served : AreGoodServices (serve_call read)) (called : AreGoodHostCalls) (reads : CallsRead) (service_reads : ServicesRead read) (meter : ℕ) (w : State) (steady : IsSteady w) (empty : w.log ≡ []) (k : ℕ) (l : List Event) (ss : List Sum) where
   abbrev pub TurnsOf : (d : Delivery) → IsGoodWorld (in_front d w) → Type 0
-  TurnsOf d good = beginning_turn read served called reads service_reads meter few w d good room steady empty k l ss (beginning w d)
+  TurnsOf d good = beginning_turn read served called reads service_reads meter w d good steady empty k l ss (beginning w d)
 
   abbrev work_there : (d : Delivery) → IsGoodWorld (in_front d w) → IsTurnWork w d (task_work read meter w (beginning w d).task)
-  work_there d good = work_is read served called meter few w d good room
+  work_there d good = work_is read served called meter w d good
 
   abbrev at_end : Delivery → Answer → List Effect → State
   at_end d a es = after_all (after_all w es) (ending d a (after_all w es))
@@ -594,9 +587,9 @@ module _ (read : TextReader) (served : AreGoodServices (serve_call read)) (calle
 
   -- the seat whose deadline has come is left
   deadline_turn : (seat : ℕ) (good : IsGoodWorld (in_front (deliveries.deadline seat) w)) → seat < length w.seats → IsTurnWork w (deliveries.deadline seat) (record { answer = given null; effects = left_if seat })
-      → Turns read served called reads service_reads meter few w (deliveries.deadline seat) good room steady empty k l ss deliveries.nothing (given null) (left_if seat)
+      → Turns read served called reads service_reads meter w (deliveries.deadline seat) good steady empty k l ss deliveries.nothing (given null) (left_if seat)
   deadline_turn seat good made is = record {
-    shows = fits read served called reads service_reads meter few w (deliveries.deadline seat) good room steady empty k l ss deliveries.nothing (given null) (left_if seat) is.good
+    shows = fits read served called reads service_reads meter w (deliveries.deadline seat) good steady empty k l ss deliveries.nothing (given null) (left_if seat) is.good
         (if_fit (dated seat) (row_of (owners_told w) (dated seat)) w (is_none (seat_at w.seats seat).last) (exit seat causes.deadline) (ap (λ b. cause_if b causes.deadline) (seat_same seat)));
     stays = λ n opens. by n opens (bytes_eq (named kinds.Seat seat) (name (codes "seat") n)) refl;
     quiet = λ e is. cc;
@@ -614,7 +607,7 @@ module _ (read : TextReader) (served : AreGoodServices (serve_call read)) (calle
   unfolding beginning
   start_turn s good =
       let due = due_behind w (deliveries.start s) good in
-      task_turn read served called reads service_reads meter few w (deliveries.start s) good room steady empty k l ss deliveries.nothing (start_call s) due.made
+      task_turn read served called reads service_reads meter w (deliveries.start s) good steady empty k l ss deliveries.nothing (start_call s) due.made
       (object_formed w (Some s.instance) (record { kind = kinds.Zcf; number = s.instance }) refl, (handed_held w (Some s.instance) s.private_arguments due.arguments, tt))
       (record { of = tt; instance = λ a. refl })
       (λ x es end n opens. by due.made x es end n opens (bytes_eq (named kinds.Instance s.instance) (instance_name (seat_at (at_end (deliveries.start s) (threw x) es).seats n).instance)) refl)
@@ -630,7 +623,7 @@ module _ (read : TextReader) (served : AreGoodServices (serve_call read)) (calle
   unfolding beginning
   offer_turn o good =
       let due = due_behind w (deliveries.offer o) good in
-      task_turn read served called reads service_reads meter few w (deliveries.offer o) good room steady empty k l ss deliveries.nothing (handler_call o) due.function.made
+      task_turn read served called reads service_reads meter w (deliveries.offer o) good steady empty k l ss deliveries.nothing (handler_call o) due.function.made
       (object_formed w (Some o.instance) (record { kind = kinds.Zseat; number = o.seat }) due.seat, (handed_held w (Some o.instance) o.offer_arguments due.arguments, (due.held, tt)))
       (record { of = tt; instance = λ a. refl })
       (λ x es end n opens. by due.seat.made x es n opens (bytes_eq (named kinds.Zseat o.seat) (name (codes "zseat") n)) refl)
@@ -645,7 +638,7 @@ module _ (read : TextReader) (served : AreGoodServices (serve_call read)) (calle
 
   bad_turn : (r : Refusal) (good : IsGoodWorld (in_front (deliveries.bad r) w)) → TurnsOf (deliveries.bad r) good
   unfolding beginning task_work
-  bad_turn r good = refused_turn read served called reads service_reads meter few w (deliveries.bad r) good room steady empty k l ss deliveries.nothing r tt
+  bad_turn r good = refused_turn read served called reads service_reads meter w (deliveries.bad r) good steady empty k l ss deliveries.nothing r tt
 
   end_turn : (seat : ℕ) (good : IsGoodWorld (in_front (deliveries.deadline seat) w)) → TurnsOf (deliveries.deadline seat) good
   unfolding beginning task_work
@@ -655,31 +648,31 @@ module _ (read : TextReader) (served : AreGoodServices (serve_call read)) (calle
   unfolding beginning
   turns_of (deliveries.call c) good =
       let d = deliveries.call c in
-      called_turn read served called reads service_reads meter few w d good room steady empty k l ss c.method (record { kind = λ o args. refl; on = λ o args. refl; method = refl; arguments = λ o args. refl }) tt (addressed w c)
+      called_turn read served called reads service_reads meter w d good steady empty k l ss c.method (record { kind = λ o args. refl; on = λ o args. refl; method = refl; arguments = λ o args. refl }) tt (addressed w c)
       (weaker_ok (IsCalled w (good_behind w d good) c) (IsAddressed w (good_behind w d good)) (addressed w c) (λ a is. is.addressed_to) (addressed_there w (good_behind w d good) c (due_behind w d good)))
       (work_there d good)
   turns_of (deliveries.send s) good =
       let d = deliveries.send s in
-      called_turn read served called reads service_reads meter few w d good room steady empty k l ss s.method (record { kind = λ o args. refl; on = λ o args. refl; method = refl; arguments = λ o args. refl }) tt (sent_to w s)
+      called_turn read served called reads service_reads meter w d good steady empty k l ss s.method (record { kind = λ o args. refl; on = λ o args. refl; method = refl; arguments = λ o args. refl }) tt (sent_to w s)
       (sent_there w (good_behind w d good) s (due_behind w d good))
       (work_there d good)
-  turns_of (deliveries.give g) good = give_turn read served called reads service_reads meter few w (deliveries.give g) good room steady empty k l ss g refl (gift_of w g) (work_there (deliveries.give g) good)
-  turns_of (deliveries.tick t) good = tick_turn read served called reads service_reads meter few w (deliveries.tick t) good room steady empty k l ss t refl (work_there (deliveries.tick t) good)
+  turns_of (deliveries.give g) good = give_turn read served called reads service_reads meter w (deliveries.give g) good steady empty k l ss g refl (gift_of w g) (work_there (deliveries.give g) good)
+  turns_of (deliveries.tick t) good = tick_turn read served called reads service_reads meter w (deliveries.tick t) good steady empty k l ss t refl (work_there (deliveries.tick t) good)
   turns_of (deliveries.bad r) good = bad_turn r good
   turns_of (deliveries.start s) good = start_turn s good
   turns_of (deliveries.offer o) good = offer_turn o good
   turns_of (deliveries.wake x) good =
       let d = deliveries.wake x in
       let due = due_behind w d good in
-      task_turn read served called reads service_reads meter few w d good room steady empty k l ss (deliveries.time w.schedule.time) (wakeup_call x w.schedule.time) due.function.made
-      (due.held, (number_known read served called meter few w d good room x.instance w.schedule.time, tt))
+      task_turn read served called reads service_reads meter w d good steady empty k l ss (deliveries.time w.schedule.time) (wakeup_call x w.schedule.time) due.function.made
+      (due.held, (number_known read served called meter w d good x.instance w.schedule.time, tt))
       (record { of = tt; instance = λ a. refl }) (λ y es end n opens. refl) tt (work_there d good)
   turns_of (deliveries.notify n) good =
       let d = deliveries.notify n in
       let due = due_behind w d good in
       let s = settlement_of w n.promise in
-      let told : IsHanded w (notice_tree s) = notice_handed read served called meter few w d good room s (settlement_handed w (good_behind w d good) n.promise due.notice.promise) in
-      task_turn read served called reads service_reads meter few w d good room steady empty k l ss (deliveries.settlement s) (notice_call n s) due.notice.function.made
+      let told : IsHanded w (notice_tree s) = notice_handed read served called meter w d good s (settlement_handed w (good_behind w d good) n.promise due.notice.promise) in
+      task_turn read served called reads service_reads meter w d good steady empty k l ss (deliveries.settlement s) (notice_call n s) due.notice.function.made
       (due.notice.held, (handed_held w (Some n.instance) (notice_tree s) told, tt))
       (record { of = tt; instance = λ a. refl }) (λ y es end m opens. refl) tt (work_there d good)
   turns_of (deliveries.deadline seat) good = end_turn seat good

@@ -1,6 +1,6 @@
 //! Laws of deliveries' turns. The bodies are empty: what they state is proved of the definitions.
 
-ghost use Rattle.std.specs.Prelude.{◌<◌, ℕ, List, IfSome};
+ghost use Rattle.std.specs.Prelude.{ℕ, List, IfSome};
 ghost use Rattle.delivery_laws.specs.Hosts.{IsGoodHost};
 ghost use Rattle.delivery_laws.specs.delivery_turns.Hosts.{HostState, step_of};
 ghost use Rattle.fair_laws.specs.Turns.{IsTurnStep, StaysFair, new_host};
@@ -10,14 +10,13 @@ ghost use Rattle.fair_rows.specs.Turns.{AreFair};
 ghost use Rattle.fair_laws.specs.Views.{IsSteady, world_of};
 ghost use Rattle.delivery_laws.specs.rules.Zoe.{ReadsModules, TextReader};
 ghost use Rattle.fair_rows.specs.turn_rows.Turns.{Turn};
-ghost use Rattle.delivery_laws.specs.world_state.Rights.{most_turns};
 
 /// The turn of the delivery in front is a step of what makes turns fair, where the host is good and what is read of
 /// texts are modules that can be installed; and the world stays steady: seats, instances, facets and purses have
 /// numbers of 32 bits, and slots of seats that were left keep their names.
 pub fn deliveries_are_steps()
     ensures step { (read : TextReader) (s : HostState)
-        → ReadsModules read → IsGoodHost s → IsSteady s.world → s.turns < most_turns
+        → ReadsModules read → IsGoodHost s → IsSteady s.world
         → IfSome (step_of read s) (IsTurnStep s) }
 {}
 
@@ -31,7 +30,7 @@ pub fn new_hosts_leave_nothing()
 /// front they are fair too, and leave the world of the host after it, which is steady.
 pub fn turns_of_deliveries_stay_fair()
     ensures step { (read : TextReader) (s : HostState) (ts : List Turn)
-        → ReadsModules read → IsGoodHost s → IsSteady s.world → s.turns < most_turns
+        → ReadsModules read → IsGoodHost s → IsSteady s.world
         → AreFair ts → Leaves (so_far_after ts nothing_so_far) (world_of s)
         → IfSome (step_of read s) (StaysFair ts) }
 {}

@@ -4,7 +4,7 @@ use Rattle.std.specs.List.{AllByRecursion, flat_map}
 use Rattle.std.proofs.lemmas.List.Folds.{list_any-append}
 use Rattle.turn_rows.specs.amount_math.Content.{difference, difference-sum, nothing, nothing-sum, sum, sum-assoc, sum-comm}
 use Rattle.turn_rows.specs.amount_math.Counted.{counted as size, counted-sum}
-use Rattle.turn_rows.specs.amount_math.ValueView.{Fits}
+use Rattle.turn_rows.specs.amount_math.ValueView.{Fits, minted_bound}
 use Rattle.turn_rows.specs.amount_math.declared.Kind.{Kind}
 use Rattle.turn_rows.proofs.rights_model.SupplyLaws.{balanced_after}
 use Rattle.turn_rows.specs.rights_model.Supply.{Balanced, burned, is_outside, minted, moved_where, supply}
@@ -88,6 +88,13 @@ pub here_is : (i : InTurn) (es : List Event) → (after_events i es).here ≡ i.
 here_is i [] = sym (append-nil i.here)
 here_is i (e ∷ es) = here_is (after_event i e) es ∙ append_assoc i.here (e ∷ []) es
 
+-- no less is minted with more rows
+no_less_minted : (s : SoFar) (es : List Event) (b : ℕ) → size (minted s.moves b) ≤ size (minted (with_rows s es).moves b)
+no_less_minted s es b =
+    let both : minted (with_rows s es).moves b ≡ sum (minted s.moves b) (minted (movements_in es) b) =
+    ap (λ (xs : List Movement). minted xs b) (moves_told s es) ∙ moved_where-append (λ m. m.from) s.moves (movements_in es) b in
+    omega (arith, ap size both, counted-sum (minted s.moves b) (minted (movements_in es) b))
+
 -- ---- rows in place, of movements that can be made and values of their kinds, are fair
 
 module _ (kind_of : ℕ → Kind) where
@@ -95,36 +102,37 @@ module _ (kind_of : ℕ → Kind) where
       → ((p : ℕ) → takes_from p i.before.moves ≡ true → names p (movements_in es) ≡ false)
       → AreOfKinds kind_of i.now.amounts → AreOfKinds kind_of (flat_map amounts_at es)
       → ((code : List ℕ) (shown : Items) → i.row.answer ≡ refused code shown → AllByRecursion ChangesNothing es)
+      → ((b : ℕ) → size (minted (with_rows i.now es).moves b) ≤ minted_bound)
       → AreFairRows i es
-  rows_are_fair i [] place can live told values refusal = tt
-  rows_are_fair i (called c ∷ es) place can live told values refusal = (
+  rows_are_fair i [] place can live told values refusal few = tt
+  rows_are_fair i (called c ∷ es) place can live told values refusal few = (
     record { place = place.0; moves = tt; kinds = record { kind_of = kind_of; values = told }; refusal = λ code shown is. tt },
-    rows_are_fair (after_event i (called c)) es place.1 can live told values (λ code shown is. (refusal code shown is).1),
+    rows_are_fair (after_event i (called c)) es place.1 can live told values (λ code shown is. (refusal code shown is).1) few,
   )
-  rows_are_fair i (settled p r ∷ es) place can live told values refusal = (
+  rows_are_fair i (settled p r ∷ es) place can live told values refusal few = (
     record { place = place.0; moves = tt; kinds = record { kind_of = kind_of; values = told }; refusal = λ code shown is. tt },
-    rows_are_fair (after_event i (settled p r)) es place.1 can live told values (λ code shown is. (refusal code shown is).1),
+    rows_are_fair (after_event i (settled p r)) es place.1 can live told values (λ code shown is. (refusal code shown is).1) few,
   )
-  rows_are_fair i (exited x ∷ es) place can live told values refusal = (
+  rows_are_fair i (exited x ∷ es) place can live told values refusal few = (
     record { place = place.0; moves = tt; kinds = record { kind_of = kind_of; values = told }; refusal = λ code shown is. (refusal code shown is).0 },
-    rows_are_fair (after_event i (exited x)) es place.1 can live told values (λ code shown is. (refusal code shown is).1),
+    rows_are_fair (after_event i (exited x)) es place.1 can live told values (λ code shown is. (refusal code shown is).1) few,
   )
-  rows_are_fair i (opened o ∷ es) place can live told values refusal =
+  rows_are_fair i (opened o ∷ es) place can live told values refusal few =
       let P = λ (a : Named). IsValueOf (kind_of a.0) a.1 in
       let both = all_both P i.now.amounts (amounts_at (opened o)) told (all_first P (amounts_at (opened o)) (flat_map amounts_at es) values) in (
         record { place = place.0; moves = tt; kinds = record { kind_of = kind_of; values = both }; refusal = λ code shown is. (refusal code shown is).0 },
-        rows_are_fair (after_event i (opened o)) es place.1 can live both (all_second P (amounts_at (opened o)) (flat_map amounts_at es) values) (λ code shown is. (refusal code shown is).1),
+        rows_are_fair (after_event i (opened o)) es place.1 can live both (all_second P (amounts_at (opened o)) (flat_map amounts_at es) values) (λ code shown is. (refusal code shown is).1) few,
       )
-  rows_are_fair i (moved m ∷ es) place can live told values refusal =
+  rows_are_fair i (moved m ∷ es) place can live told values refusal few =
       let P = λ (a : Named). IsValueOf (kind_of a.0) a.1 in
       let both = all_both P i.now.amounts ((m.brand, m.value) ∷ []) told (values.0, tt) in (
         record {
           place = place.0;
-          moves = record { defined = can.0; live = λ p takes. neither_first (is_payment_at p m.from || is_payment_at p m.to) (names p (movements_in es)) (live p takes) };
+          moves = record { defined = can.0; minted = omega (arith, few m.brand, no_less_minted (with_row i.now (moved m)) es m.brand); live = λ p takes. neither_first (is_payment_at p m.from || is_payment_at p m.to) (names p (movements_in es)) (live p takes) };
           kinds = record { kind_of = kind_of; values = both };
           refusal = λ code shown is. (refusal code shown is).0;
         },
-        rows_are_fair (after_event i (moved m)) es place.1 can.1 (λ p takes. neither_second (is_payment_at p m.from || is_payment_at p m.to) (names p (movements_in es)) (live p takes)) both values.1 (λ code shown is. (refusal code shown is).1),
+        rows_are_fair (after_event i (moved m)) es place.1 can.1 (λ p takes. neither_second (is_payment_at p m.from || is_payment_at p m.to) (names p (movements_in es)) (live p takes)) both values.1 (λ code shown is. (refusal code shown is).1) few,
       )
 
 -- ---- a step
@@ -250,7 +258,8 @@ module _ (w next : World) (t : Turn) (s : SoFar) (step : IsStep w t next) (leave
     row = record { number = omega (arith, step.number, leaves.turns); read = subst (λ (p : Table × List Seat). IsReadByTurn p.0 p.1 t) (λ i. (sym leaves.table i, sym leaves.seats i)) step.read };
     events = rows_are_fair next.kind_of start t.events
         (subst (λ (u : SoFar). AreInPlace (after_turn_row u t) t.events) (sym (told_is s w leaves)) (step.rows.place s.moves s.amounts leaves.made))
-        defined_here taken_here (of_kinds s.amounts values_before) (of_kinds (flat_map amounts_at t.events) step.values) step.refusal;
+        defined_here taken_here (of_kinds s.amounts values_before) (of_kinds (flat_map amounts_at t.events) step.values) step.refusal
+        (λ b. subst (λ n. n ≤ minted_bound) (minted_is b) (step.few_minted b));
     end = subst (λ (i : InTurn). IsFairEnd i t.sums) (sym end_is) fair_end;
   }
 

@@ -1,9 +1,10 @@
 -- When a row of a turn is fair after the rows before it. Each row is judged by what those tell, so a reader of a
 -- journal can name the first row that isn't.
-use Rattle.std.specs.Prelude.{◌≡◌, ℕ, List, [], ◌∷◌, ◌++◌, Option, Some, None, is_some, ◌⊎◌, codes, false, length, map, if◌then◌else◌, ◌&&◌, Bool, true, unwrap_or, option_map}
+use Rattle.std.specs.Prelude.{◌≡◌, ℕ, List, [], ◌∷◌, ◌++◌, Option, Some, None, is_some, ◌⊎◌, ◌≤◌, codes, false, length, map, if◌then◌else◌, ◌&&◌, Bool, true, unwrap_or, option_map}
 use Rattle.std.specs.List.{AllByRecursion, slice_get}
 use Rattle.std.specs.Str.{bytes_eq}
 use Rattle.turn_rows.specs.amount_math.Content.{Content, one_of}
+use Rattle.turn_rows.specs.amount_math.ValueView.{minted_bound}
 use Rattle.turn_rows.specs.rights_model.Table.{CanMove, Table, holds}
 use Rattle.turn_rows.specs.rights_model.declared.Holder.TheVariants.{Outside, Payment, Slot}
 use Rattle.turn_rows.specs.rights_model.declared.Movement.{Movement}
@@ -15,7 +16,7 @@ use Rattle.fair_rows.specs.Amounts.{IsReadByCall}
 use Rattle.fair_rows.specs.ExitCauses.{calls, first_cause, name, serves}
 use Rattle.fair_rows.specs.Movements.{movement_of, names, takes_from}
 use Rattle.fair_rows.specs.Seats.{IsOpen, IsSafe, Seat, SlotName, brand_under, new_seat}
-use Rattle.fair_rows.specs.SoFar.{SoFar, with_row}
+use Rattle.fair_rows.specs.SoFar.{SoFar, sum_so_far, with_row}
 use Rattle.fair_rows.specs.Values.{HaveKinds, content_of}
 
 -- ---- movements that have to follow a row at once
@@ -113,9 +114,11 @@ pub record NamesOpenSlots (seats : List Seat) (m : Move) : Type 0 where
   pub from : (seat : ℕ) (keyword : List ℕ) → m.from ≡ Slot seat keyword → IsOpenSlot seats seat keyword m.brand
   pub to : (seat : ℕ) (keyword : List ℕ) → m.to ≡ Slot seat keyword → IsOpenSlot seats seat keyword m.brand
 
--- whatever it is for: it can be made, and names no payment that an earlier turn took from
+-- whatever it is for: it can be made, after it no more of its brand was ever minted than may be, and it names no
+-- payment that an earlier turn took from
 pub record IsFairMove (i : InTurn) (m : Move) : Type 0 where
   pub defined : CanMove i.now.table (movement_of m)
+  pub minted : (sum_so_far (with_row i.now (moved m)) m.brand).minted ≤ minted_bound
   pub live : (p : ℕ) → takes_from p i.before.moves ≡ true → names p (movement_of m ∷ []) ≡ false
 
 -- ---- openings

@@ -3,7 +3,7 @@ use Rattle.std.specs.Prelude.{◌≡◌, ◌<◌, ◌≤◌, ℕ, ◌+◌, Bool,
 use Rattle.std.specs.List.{AllByRecursion, flat_map}
 use Rattle.turn_rows.specs.amount_math.Content.{Content, nothing, sum}
 use Rattle.turn_rows.specs.amount_math.Counted.{counted as size}
-use Rattle.turn_rows.specs.amount_math.ValueView.{Fits}
+use Rattle.turn_rows.specs.amount_math.ValueView.{Fits, minted_bound}
 use Rattle.turn_rows.specs.amount_math.declared.Kind.{Kind}
 use Rattle.turn_rows.specs.rights_model.Supply.{burned, minted}
 use Rattle.turn_rows.specs.rights_model.Table.{CanMoveAll, Table, holds, no_holdings, table_after}
@@ -108,6 +108,7 @@ pub record IsStep (w : World) (t : Turn) (next : World) : Type 0 where
   pub minted_is : (b : ℕ) → next.minted b ≡ w.minted b + size (minted (movements_in t.events) b)
   pub burned_is : (b : ℕ) → next.burned b ≡ w.burned b + size (burned (movements_in t.events) b)
   pub fits : (b : ℕ) → Fits (next.kind_of b) (next.out b)
+  pub few_minted : (b : ℕ) → next.minted b ≤ minted_bound
   pub sums : t.sums ≡ map (sum_in next) (brands_of (movements_in t.events))
   -- brands and values
   pub brands : w.brands ≤ next.brands

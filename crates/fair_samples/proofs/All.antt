@@ -3,7 +3,7 @@ use Rattle.std.proofs.Common.{◌≡◌, ◌≢◌, ℕ, zero, suc, Bool, true, 
 use Rattle.std.proofs.lemmas.Bool.{and_parts, true≢false}
 use Rattle.std.specs.List.{list_all, slice_get}
 use Rattle.fair_rows.specs.turn_rows.Turns.{Turn}
-use Rattle.fair_samples.specs.Sentences.{Sentence, turns_are_numbered, purse_amounts, payment_amounts, final_amounts, movements_are_defined, payments_stay_spent, values_are_of_one_kind, slots_are_of_one_brand, seats_are_in_order, offers_burn, offers_escrow, kits_are_empty, openings_are_called_for, exits_are_of_open_seats, exits_follow_their_cause, causes_are_the_first, causes_are_followed, payouts_follow, payouts_are_named, payouts_are_new, exits_are_covered, seats_stay_covered, refusals_change_nothing, slots_are_of_opened_seats, slots_are_of_no_exited_seat, payments_are_emptied, tables_balance, supplies_are_bounded, sums_are_told, current_amounts, slot_amounts}
+use Rattle.fair_samples.specs.Sentences.{Sentence, turns_are_numbered, purse_amounts, payment_amounts, final_amounts, movements_are_defined, payments_stay_spent, values_are_of_one_kind, slots_are_of_one_brand, seats_are_in_order, offers_burn, offers_escrow, kits_are_empty, openings_are_called_for, exits_are_of_open_seats, exits_follow_their_cause, causes_are_the_first, causes_are_followed, payouts_follow, payouts_are_named, payouts_are_new, exits_are_covered, seats_stay_covered, refusals_change_nothing, slots_are_of_opened_seats, slots_are_of_no_exited_seat, payments_are_emptied, tables_balance, supplies_are_bounded, sums_are_told, current_amounts, slot_amounts, minted_totals_are_bounded}
 use Rattle.fair_samples.specs.Sentences.{Meets}
 use Rattle.fair_samples.proofs.Together.{same_some}
 use Rattle.fair_samples.proofs.Sound.{sound}
@@ -41,10 +41,11 @@ sentence_number supplies_are_bounded = 27
 sentence_number sums_are_told = 28
 sentence_number current_amounts = 29
 sentence_number slot_amounts = 30
+sentence_number minted_totals_are_bounded = 31
 
 abbrev pub sentences : List Sentence
 sentences =
-    turns_are_numbered ∷ purse_amounts ∷ payment_amounts ∷ final_amounts ∷ movements_are_defined ∷ payments_stay_spent ∷ values_are_of_one_kind ∷ slots_are_of_one_brand ∷ seats_are_in_order ∷ offers_burn ∷ offers_escrow ∷ kits_are_empty ∷ openings_are_called_for ∷ exits_are_of_open_seats ∷ exits_follow_their_cause ∷ causes_are_the_first ∷ causes_are_followed ∷ payouts_follow ∷ payouts_are_named ∷ payouts_are_new ∷ exits_are_covered ∷ seats_stay_covered ∷ refusals_change_nothing ∷ slots_are_of_opened_seats ∷ slots_are_of_no_exited_seat ∷ payments_are_emptied ∷ tables_balance ∷ supplies_are_bounded ∷ sums_are_told ∷ current_amounts ∷ slot_amounts ∷ []
+    turns_are_numbered ∷ purse_amounts ∷ payment_amounts ∷ final_amounts ∷ movements_are_defined ∷ payments_stay_spent ∷ values_are_of_one_kind ∷ slots_are_of_one_brand ∷ seats_are_in_order ∷ offers_burn ∷ offers_escrow ∷ kits_are_empty ∷ openings_are_called_for ∷ exits_are_of_open_seats ∷ exits_follow_their_cause ∷ causes_are_the_first ∷ causes_are_followed ∷ payouts_follow ∷ payouts_are_named ∷ payouts_are_new ∷ exits_are_covered ∷ seats_stay_covered ∷ refusals_change_nothing ∷ slots_are_of_opened_seats ∷ slots_are_of_no_exited_seat ∷ payments_are_emptied ∷ tables_balance ∷ supplies_are_bounded ∷ sums_are_told ∷ current_amounts ∷ slot_amounts ∷ minted_totals_are_bounded ∷ []
 
 in_place : (y : Sentence) → slice_get sentences (sentence_number y) ≡ Some y
 in_place turns_are_numbered = refl
@@ -78,6 +79,7 @@ in_place supplies_are_bounded = refl
 in_place sums_are_told = refl
 in_place current_amounts = refl
 in_place slot_amounts = refl
+in_place minted_totals_are_bounded = refl
 
 pub same_sentence : (y x : Sentence) → sentence_number y ≡ sentence_number x → y ≡ x
 same_sentence y x e = same_some y x (sym (in_place y) ∙ ap (slice_get sentences) e ∙ in_place x)

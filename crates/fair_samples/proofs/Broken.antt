@@ -1,6 +1,7 @@
 -- Each list breaks its own sentence.
-use Rattle.fair_rows.specs.amount_math.ValueView.{bound}
-use Rattle.std.proofs.Common.{◌≡◌, ◌≢◌, ◌≤◌, ◌⊎◌, ◌+◌, ℕ, Bool, true, false, cond, List, [], ◌∷◌, ◌++◌, map, length, is_some, codes, Option, Some, None, refl, sym, ap, subst, ◌∙◌, inl, inr, arith}
+use Rattle.fair_rows.specs.amount_math.Counted.{counted as size}
+use Rattle.fair_rows.specs.amount_math.ValueView.{bound, minted_bound}
+use Rattle.std.proofs.Common.{◌≡◌, ◌≢◌, ◌≤◌, ◌⊎◌, ◌+◌, ◌-◌, ◌^◌, ℕ, zero, suc, Bool, true, false, cond, List, [], ◌∷◌, ◌++◌, map, length, is_some, codes, Option, Some, None, refl, sym, ap, subst, ◌∙◌, inl, inr, arith}
 use Rattle.std.proofs.lemmas.Bool.{cases_Bool, cases_eq, true≢false}
 use Rattle.std.specs.Fmt.{digits}
 use Rattle.fair_rows.specs.amount_math.Content.{Contains, Content, count, count-difference, count-nothing, count-of_nat_unit, entries, nothing, of_nat, unit}
@@ -18,16 +19,19 @@ use Rattle.fair_rows.specs.turn_rows.Causes.{Cause}
 use Rattle.fair_rows.specs.turn_rows.Rows.{amount_json, amounts_json}
 use Rattle.fair_rows.specs.turn_rows.Turns.{Answer, Call, Event, KeywordAmount, Move, Value, called, counted, elements, key, number, ok, threw}
 use Rattle.fair_rows.specs.Amounts.{IsAllocation, IsAmountOf}
+use Rattle.fair_rows.specs.Rows.{InTurn, after_event}
 use Rattle.fair_rows.specs.Seats.{Seat, SlotName}
+use Rattle.fair_rows.specs.SoFar.{nothing_so_far}
+use Rattle.fair_rows.specs.Turns.{after_events, after_turn_row}
 use Rattle.fair_rows.specs.Values.{IsValueOf, value_of, HaveKinds}
 use Rattle.fair_rows.specs.ExitCauses.{first_cause}
-use Rattle.fair_samples.specs.Samples.{exit, exit_call, handler_turn, sample}
-use Rattle.fair_samples.specs.Sentences.{Sentence, turns_are_numbered, purse_amounts, payment_amounts, final_amounts, movements_are_defined, payments_stay_spent, values_are_of_one_kind, slots_are_of_one_brand, seats_are_in_order, offers_burn, offers_escrow, kits_are_empty, openings_are_called_for, exits_are_of_open_seats, exits_follow_their_cause, causes_are_the_first, causes_are_followed, payouts_follow, payouts_are_named, payouts_are_new, exits_are_covered, seats_stay_covered, refusals_change_nothing, slots_are_of_opened_seats, slots_are_of_no_exited_seat, payments_are_emptied, tables_balance, supplies_are_bounded, sums_are_told, current_amounts, slot_amounts}
-use Rattle.fair_samples.specs.Sentences.{Meets}
+use Rattle.fair_samples.specs.Samples.{exit, exit_call, handler_turn, minted_and_burned, move, often_minted, sample}
+use Rattle.fair_samples.specs.Sentences.{Sentence, turns_are_numbered, purse_amounts, payment_amounts, final_amounts, movements_are_defined, payments_stay_spent, values_are_of_one_kind, slots_are_of_one_brand, seats_are_in_order, offers_burn, offers_escrow, kits_are_empty, openings_are_called_for, exits_are_of_open_seats, exits_follow_their_cause, causes_are_the_first, causes_are_followed, payouts_follow, payouts_are_named, payouts_are_new, exits_are_covered, seats_stay_covered, refusals_change_nothing, slots_are_of_opened_seats, slots_are_of_no_exited_seat, payments_are_emptied, tables_balance, supplies_are_bounded, sums_are_told, current_amounts, slot_amounts, minted_totals_are_bounded}
+use Rattle.fair_samples.specs.Sentences.{AtRow, Meets, MeetsRows}
 use Rattle.fair_samples.proofs.Together.{same_some}
 use Rattle.fair_samples.proofs.Held.{held, held_is, is_at, moves_of, table_of}
 use Rattle.fair_samples.proofs.Printed.{kind_at, of_kinds}
-use Rattle.fair_samples.proofs.Sized.{count_where_is}
+use Rattle.fair_samples.proofs.Sized.{count_where_is, size_where_is}
 use Rattle.fair_samples.proofs.Sound.{no_kinds}
 use Rattle.fair_samples.proofs.Tests.{cause_number, is_nil}
 
@@ -259,6 +263,30 @@ breaks_supplies_are_bounded h =
     let few : count (supply (moves_of twice) 3) (codes "a") ≤ bound Set = subst (λ k. count (supply (moves_of twice) 3) (codes "a") ≤ bound k) (set_alone (b.kind_of 3) b.values.0) ((b.fits 3).each (codes "a")) in
     omega (arith, few, two_out)
 
+-- what holds of the last row of a turn's
+last_row : (y : Sentence) (i : InTurn) (es : List Event) (e : Event) → MeetsRows y i (es ++ e ∷ []) → AtRow y (after_events i es) e
+last_row y i [] e h = h.0
+last_row y i (x ∷ es) e h = last_row y (after_event i x) es e h.1
+
+-- the movements of that sample, the newest first
+abbrev often : ℕ → List Move
+often zero = []
+often (suc n) =
+    record { brand = 1; from = Purse 0; to = Outside; value = number (2 ^ 120 - 1) } ∷ record { brand = 1; from = Outside; to = Purse 0; value = number (2 ^ 120 - 1) } ∷ often n
+
+abbrev too_often : List Move
+too_often = record { brand = 1; from = Outside; to = Purse 0; value = number 64 } ∷ often 64
+
+all_minted : size (minted (moves_of too_often) 1) ≡ 2 ^ 126
+all_minted = size_where_is (λ (m : Movement). m.from) (λ (m : Move). m.from) (λ m. refl) 1 too_often refl
+
+past_bound : (n : ℕ) → n ≤ minted_bound → n ≡ 2 ^ 126 → ⊥
+past_bound n few is = omega (arith, few, is)
+
+breaks_minted_totals_are_bounded : ¬ Meets minted_totals_are_bounded (sample minted_totals_are_bounded)
+breaks_minted_totals_are_bounded h =
+    past_bound (size (minted (moves_of too_often) 1)) (last_row minted_totals_are_bounded (after_turn_row nothing_so_far often_minted) (minted_and_burned 64) (move 1 Outside (Purse 0) (number 64)) h.0.1) all_minted
+
 breaks_sums_are_told : ¬ Meets sums_are_told (sample sums_are_told)
 unfolding brands_of
 breaks_sums_are_told h = true≢false (ap is_nil h.0.2)
@@ -294,4 +322,5 @@ breaks slots_are_of_no_exited_seat = breaks_slots_are_of_no_exited_seat
 breaks payments_are_emptied = breaks_payments_are_emptied
 breaks tables_balance = breaks_tables_balance
 breaks supplies_are_bounded = breaks_supplies_are_bounded
+breaks minted_totals_are_bounded = breaks_minted_totals_are_bounded
 breaks sums_are_told = breaks_sums_are_told

@@ -49,9 +49,9 @@ numbers_alone Set is = absurd (true≢false (ap is_number is.is))
 numbers_alone Bag is = absurd (true≢false (ap is_number is.is))
 
 abbrev much : List Move
-much = record { brand = 1; from = Outside; to = Payment 1; value = number 1 } ∷ record { brand = 1; from = Outside; to = Payment 0; value = number (2 ^ 63 - 1) } ∷ []
+much = record { brand = 1; from = Outside; to = Payment 1; value = number 1 } ∷ record { brand = 1; from = Outside; to = Payment 0; value = number (2 ^ 120 - 1) } ∷ []
 
-much_out : count (supply (moves_of much) 1) unit ≡ 2 ^ 63
+much_out : count (supply (moves_of much) 1) unit ≡ 2 ^ 120
 much_out = count-difference (minted (moves_of much) 1) (burned (moves_of much) 1) unit ∙ omega (arith, count_where_is (λ (m : Movement). m.from) (λ (m : Move). m.from) (λ m. refl) 1 much unit, count_where_is (λ (m : Movement). m.to) (λ (m : Move). m.to) (λ m. refl) 1 much unit)
 
 breaks_asked_to_exit : ¬ Meets causes_are_followed asked_to_exit
@@ -101,7 +101,7 @@ breaks_opened_twice h = omega (arith, h.0.1.1.1.1.0)
 
 breaks_too_much : ¬ Meets supplies_are_bounded too_much
 breaks_too_much h =
-    let of_numbers : HaveKinds ((1, number (2 ^ 63 - 1)) ∷ (1, number 1) ∷ []) = record { kind_of = kind_at; values = of_kinds ((1, number (2 ^ 63 - 1)) ∷ (1, number 1) ∷ []) refl } in
+    let of_numbers : HaveKinds ((1, number (2 ^ 120 - 1)) ∷ (1, number 1) ∷ []) = record { kind_of = kind_at; values = of_kinds ((1, number (2 ^ 120 - 1)) ∷ (1, number 1) ∷ []) refl } in
     let b = h.0.2 of_numbers in
     let few : count (supply (moves_of much) 1) unit ≤ bound Nat = subst (λ k. count (supply (moves_of much) 1) unit ≤ bound k) (numbers_alone (b.kind_of 1) b.values.1.0) ((b.fits 1).each unit) in
     omega (arith, few, much_out)

@@ -6,7 +6,7 @@ use Rattle.fair_rows.specs.amount_math.Content.{Contains, Content, count, count-
 use Rattle.fair_rows.specs.amount_math.Counted.{counted as size, counted-difference, counted-nothing, counted-of_nat, counted-sum}
 use Rattle.fair_rows.specs.amount_math.Entries.{Entries}
 use Rattle.fair_rows.specs.amount_math.Totals.{total, total-empty, total-put, weighed}
-use Rattle.fair_rows.specs.amount_math.ValueView.{Fits, bound}
+use Rattle.fair_rows.specs.amount_math.ValueView.{Fits, bound, minted_bound}
 use Rattle.fair_rows.specs.amount_math.declared.Kind.{Kind}
 use Rattle.fair_rows.proofs.amount_math.Listed.{entries-of_entries}
 use Rattle.fair_rows.specs.rights_model.Place.{Place, place}
@@ -165,6 +165,15 @@ minted_size ms b = size_where (λ (m : Movement). m.from) (λ (m : Move). m.from
 
 abbrev pub burned_size : List Move → ℕ → ℕ
 burned_size ms b = size_where (λ (m : Movement). m.to) (λ (m : Move). m.to) (λ m. refl) b ms
+
+-- no more was minted of a brand than may be
+abbrev pub mints_few : List Move → ℕ → Bool
+mints_few ms b = list_all (λ (m : Move). is_sized m.value) ms && nat_le (minted_size ms b) minted_bound
+
+pub few_minted : (ms : List Move) (b : ℕ) → mints_few ms b ≡ true → size (minted (moves_of ms) b) ≤ minted_bound
+few_minted ms b test =
+    let parts = and_parts (list_all (λ (m : Move). is_sized m.value) ms) (nat_le (minted_size ms b) minted_bound) test in
+    subst (λ n. n ≤ minted_bound) (sym (size_where_is (λ (m : Movement). m.from) (λ (m : Move). m.from) (λ m. refl) b ms parts.0)) (leb-true (minted_size ms b) minted_bound parts.1)
 
 -- ---- sums
 

@@ -1,14 +1,15 @@
 -- Where the test of a sentence passes, the list of turns meets the sentence.
-use Rattle.fair_rows.specs.amount_math.ValueView.{Fits}
+use Rattle.fair_rows.specs.amount_math.Counted.{counted as size}
+use Rattle.fair_rows.specs.amount_math.ValueView.{Fits, minted_bound}
 use Rattle.fair_rows.specs.rights_model.declared.Movement.{Movement}
-use Rattle.std.proofs.Common.{◌≡◌, ◌⊎◌, ◌+◌, ℕ, zero, suc, Bool, true, false, not, ◌&&◌, ◌||◌, ◌==◌, List, [], ◌∷◌, ◌++◌, map, length, is_some, codes, bytes_eq, Option, Some, None, refl, sym, ap, subst, ◌∙◌, inl, inr, ⊎_elim, eqb-true, arith, cond}
+use Rattle.std.proofs.Common.{◌≡◌, ◌⊎◌, ◌≤◌, ◌+◌, ℕ, zero, suc, Bool, true, false, not, ◌&&◌, ◌||◌, ◌==◌, List, [], ◌∷◌, ◌++◌, map, length, is_some, codes, bytes_eq, Option, Some, None, refl, sym, ap, subst, ◌∙◌, inl, inr, ⊎_elim, eqb-true, arith, cond}
 use Rattle.std.proofs.lemmas.Bool.{and_parts, cases_Bool, true≢false, and_from, false_from_ne_true, or_from}
 use Rattle.std.specs.Cmp.Lexicographic.{bytes_decides}
 use Rattle.std.specs.List.{AllByRecursion, list_all, slice_get}
 use Rattle.fair_rows.specs.amount_math.Content.{Content, count-nothing, nothing, of_entries-one, same_content, one_of}
 use Rattle.fair_rows.specs.amount_math.declared.Kind.{Kind}
 use Rattle.fair_rows.specs.amount_math.declared.Kind.TheVariants.{Bag, Nat, Set}
-use Rattle.fair_rows.specs.rights_model.Supply.{is_outside, supply}
+use Rattle.fair_rows.specs.rights_model.Supply.{is_outside, minted, supply}
 use Rattle.fair_rows.specs.rights_model.Table.{moved as table_moved, CanMove, Table, holds}
 use Rattle.fair_rows.specs.rights_model.Totals.{brands_of, is_payment}
 use Rattle.fair_rows.specs.rights_model.declared.Holder.{Holder}
@@ -28,12 +29,12 @@ use Rattle.fair_rows.specs.SoFar.{SoFar, nothing_so_far, sum_so_far, with_row, w
 use Rattle.fair_rows.specs.Turns.{IsCaused, after_events, after_turn_row}
 use Rattle.fair_rows.specs.Values.{HaveKinds, Named, content_of, IsValueOf}
 use Rattle.fair_rows.proofs.Steps.{now_is}
-use Rattle.fair_samples.specs.Sentences.{Sentence, turns_are_numbered, purse_amounts, payment_amounts, final_amounts, movements_are_defined, payments_stay_spent, values_are_of_one_kind, slots_are_of_one_brand, seats_are_in_order, offers_burn, offers_escrow, kits_are_empty, openings_are_called_for, exits_are_of_open_seats, exits_follow_their_cause, causes_are_the_first, causes_are_followed, payouts_follow, payouts_are_named, payouts_are_new, exits_are_covered, seats_stay_covered, refusals_change_nothing, slots_are_of_opened_seats, slots_are_of_no_exited_seat, payments_are_emptied, tables_balance, supplies_are_bounded, sums_are_told, current_amounts, slot_amounts}
+use Rattle.fair_samples.specs.Sentences.{Sentence, turns_are_numbered, purse_amounts, payment_amounts, final_amounts, movements_are_defined, payments_stay_spent, values_are_of_one_kind, slots_are_of_one_brand, seats_are_in_order, offers_burn, offers_escrow, kits_are_empty, openings_are_called_for, exits_are_of_open_seats, exits_follow_their_cause, causes_are_the_first, causes_are_followed, payouts_follow, payouts_are_named, payouts_are_new, exits_are_covered, seats_stay_covered, refusals_change_nothing, slots_are_of_opened_seats, slots_are_of_no_exited_seat, payments_are_emptied, tables_balance, supplies_are_bounded, sums_are_told, current_amounts, slot_amounts, minted_totals_are_bounded}
 use Rattle.fair_samples.specs.Sentences.{AtEnd, AtRow, AtTurnRow, IfNoneDue, IsAfterKit, IsBounded, IsNewPayout, IsNoBurn, IsNoEscrow, IsNoPayout, IsOfSlots, Meets, MeetsBurn, MeetsEscrow, MeetsFrom, MeetsPayout, MeetsRows, NamesSlot, OfCall, OfExit, OfMove, OfOpening}
 use Rattle.fair_samples.proofs.Together.{same_some}
 use Rattle.fair_samples.proofs.Held.{all_held, can_move, contains, everywhere, has, has_just, held, held_is, just, moves, moves_of, table_of, can_move_all}
 use Rattle.fair_samples.proofs.Printed.{are_of_kinds, each_so, every, kind_at, of_kinds}
-use Rattle.fair_samples.proofs.Sized.{adds_up, are_bounded, bounded_is, can_sum, sum_in, sum_is}
+use Rattle.fair_samples.proofs.Sized.{adds_up, are_bounded, bounded_is, can_sum, few_minted, mints_few, sum_in, sum_is}
 use Rattle.fair_samples.proofs.Tests.{Read, burn_test, cause_number, clash, covers, end_test, escrow_test, event_test, fresh, if_first, if_some, is_brand, is_burn, is_call_of, is_cause, is_emptied, is_escrow, is_first, is_new, is_nil, is_not_exited, is_numbers, is_of_brand, is_opened, is_quiet, is_read, is_safe, is_single, is_slot_of, last_is, new_test, no_burn, no_escrow, no_payout, of_call, of_exit, of_move, of_opening, open_seats, opens_of_brand, passes, payout_test, pays, read_event, read_events, refusal_test, rows_test, same_element, same_elements, same_sum, same_sums, same_value, some_and, stays, turn_row_test, turn_test, turns_test, unless_due}
 
 same_bytes : (s t : List ℕ) → bytes_eq s t ≡ true → s ≡ t
@@ -361,6 +362,7 @@ no_call method on c other was_called =
 
 event_sound : (y : Sentence) (r : Read) (i : InTurn) (e : Event) → Agrees r i → event_test y r i e ≡ true → AtRow y i e
 event_sound movements_are_defined r i e a h = move_sound (λ m. CanMove i.now.table (movement_of m)) (can_move r.now) (λ m t. subst (λ u. CanMove u (movement_of m)) (sym a.table) (moves r.now m t)) e h
+event_sound minted_totals_are_bounded r i e a h = move_sound (λ m. (sum_so_far (with_row i.now (moved m)) m.brand).minted ≤ minted_bound) (λ m. mints_few (m ∷ r.now) m.brand) (λ m t. subst (λ ms. size (minted (ms ++ movement_of m ∷ []) m.brand) ≤ minted_bound) (sym a.moves) (few_minted (m ∷ r.now) m.brand t)) e h
 event_sound payments_stay_spent r i e a h = move_sound (λ m. (p : ℕ) → takes_from p i.before.moves ≡ true → names p (movement_of m ∷ []) ≡ false) (λ m. stays r m.from && stays r m.to) (stays_sound r i a) e h
 event_sound values_are_of_one_kind r i e a h = record { kind_of = kind_at; values = of_kinds (with_row i.now e).amounts h }
 event_sound slots_are_of_one_brand r i e a h =

@@ -16,10 +16,10 @@ use Rattle.fair_rows.specs.Seats.{Seat, SlotName, brand_under, new_seat}
 use Rattle.fair_rows.specs.SoFar.{SoFar, nothing_so_far, with_row, with_turn}
 use Rattle.fair_rows.specs.Turns.{after_events, after_turn_row}
 use Rattle.fair_rows.specs.Values.{Named}
-use Rattle.fair_samples.specs.Sentences.{Sentence, turns_are_numbered, purse_amounts, payment_amounts, final_amounts, movements_are_defined, payments_stay_spent, values_are_of_one_kind, slots_are_of_one_brand, seats_are_in_order, offers_burn, offers_escrow, kits_are_empty, openings_are_called_for, exits_are_of_open_seats, exits_follow_their_cause, causes_are_the_first, causes_are_followed, payouts_follow, payouts_are_named, payouts_are_new, exits_are_covered, seats_stay_covered, refusals_change_nothing, slots_are_of_opened_seats, slots_are_of_no_exited_seat, payments_are_emptied, tables_balance, supplies_are_bounded, sums_are_told, current_amounts, slot_amounts}
+use Rattle.fair_samples.specs.Sentences.{Sentence, turns_are_numbered, purse_amounts, payment_amounts, final_amounts, movements_are_defined, payments_stay_spent, values_are_of_one_kind, slots_are_of_one_brand, seats_are_in_order, offers_burn, offers_escrow, kits_are_empty, openings_are_called_for, exits_are_of_open_seats, exits_follow_their_cause, causes_are_the_first, causes_are_followed, payouts_follow, payouts_are_named, payouts_are_new, exits_are_covered, seats_stay_covered, refusals_change_nothing, slots_are_of_opened_seats, slots_are_of_no_exited_seat, payments_are_emptied, tables_balance, supplies_are_bounded, sums_are_told, current_amounts, slot_amounts, minted_totals_are_bounded}
 use Rattle.fair_samples.proofs.Held.{all_held, can_move, can_move_all, has, has_just, moves_of}
 use Rattle.fair_samples.proofs.Printed.{are_of_kinds, kind_at}
-use Rattle.fair_samples.proofs.Sized.{are_bounded, can_sum, is_hand_empty, sum_in}
+use Rattle.fair_samples.proofs.Sized.{are_bounded, can_sum, is_hand_empty, mints_few, sum_in}
 
 -- the movements of the turns before, of all rows so far, and as they were at the last exit row; the newest first
 pub record Read : Type 0 where
@@ -221,6 +221,7 @@ is_call_of method c = is_call c.how && (is_ok c.answer && bytes_eq c.method meth
 
 abbrev pub event_test : Sentence → Read → InTurn → Event → Bool
 event_test movements_are_defined r i e = of_move e (can_move r.now)
+event_test minted_totals_are_bounded r i e = of_move e (λ m. mints_few (m ∷ r.now) m.brand)
 event_test payments_stay_spent r i e = of_move e (λ m. stays r m.from && stays r m.to)
 event_test values_are_of_one_kind r i e = are_of_kinds (with_row i.now e).amounts
 event_test slots_are_of_one_brand r i e = of_move e (λ m. unless_due i.due (is_of_brand i.now.seats m.brand m.from && is_of_brand i.now.seats m.brand m.to)) && of_opening e opens_of_brand

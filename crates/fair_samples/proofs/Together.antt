@@ -16,7 +16,7 @@ use Rattle.fair_rows.specs.SoFar.{SoFar, nothing_so_far, with_turn}
 use Rattle.fair_rows.specs.Turns.{AreFair, AreFairFrom, AreFairRows, IsFairEnd, IsFairTurnRow, after_events, after_turn_row}
 use Rattle.fair_rows.specs.Values.{HaveKinds}
 use Rattle.fair_rows.proofs.Steps.{now_is}
-use Rattle.fair_samples.specs.Sentences.{Sentence, turns_are_numbered, purse_amounts, payment_amounts, final_amounts, movements_are_defined, payments_stay_spent, values_are_of_one_kind, slots_are_of_one_brand, seats_are_in_order, offers_burn, offers_escrow, kits_are_empty, openings_are_called_for, exits_are_of_open_seats, exits_follow_their_cause, causes_are_the_first, causes_are_followed, payouts_follow, payouts_are_named, payouts_are_new, exits_are_covered, seats_stay_covered, refusals_change_nothing, slots_are_of_opened_seats, slots_are_of_no_exited_seat, payments_are_emptied, tables_balance, supplies_are_bounded, sums_are_told, current_amounts, slot_amounts}
+use Rattle.fair_samples.specs.Sentences.{Sentence, turns_are_numbered, purse_amounts, payment_amounts, final_amounts, movements_are_defined, payments_stay_spent, values_are_of_one_kind, slots_are_of_one_brand, seats_are_in_order, offers_burn, offers_escrow, kits_are_empty, openings_are_called_for, exits_are_of_open_seats, exits_follow_their_cause, causes_are_the_first, causes_are_followed, payouts_follow, payouts_are_named, payouts_are_new, exits_are_covered, seats_stay_covered, refusals_change_nothing, slots_are_of_opened_seats, slots_are_of_no_exited_seat, payments_are_emptied, tables_balance, supplies_are_bounded, sums_are_told, current_amounts, slot_amounts, minted_totals_are_bounded}
 use Rattle.fair_samples.specs.Sentences.{AtTurnRow, AtRow, AtEnd, IfNoneDue, IsAfterKit, IsNewPayout, IsNoBurn, IsNoEscrow, IsNoPayout, IsOfSlots, MeetsBurn, MeetsEscrow, MeetsPayout, Meets, MeetsFrom, MeetsRows, NamesSlot}
 
 pub same_some : {A : Type 0} (x y : A) → Some x ≡ Some y → x ≡ y
@@ -101,6 +101,7 @@ row_each s t h _ = tt
 
 move_each : (i : InTurn) (m : Move) → IsFairRow i (moved m) → (y : Sentence) → AtRow y i (moved m)
 move_each i m h movements_are_defined = h.moves.defined
+move_each i m h minted_totals_are_bounded = h.moves.minted
 move_each i m h payments_stay_spent = h.moves.live
 move_each i m h values_are_of_one_kind = h.kinds
 move_each i m h slots_are_of_one_brand = (if_none i.due (λ n. record { each = λ seat keyword is s found b has. (let o = named_slot i m n seat keyword is in o.of_brand b (subst (λ z. brand_under keyword z.slots ≡ Some b) (same_some s o.is_open.seat (sym found ∙ o.is_open.was_opened)) has)) }) (move_place i.due i m h.place), tt)
@@ -263,7 +264,7 @@ free_from i (settled p r) h = none_due i.due tt
 free_from i (moved m) h = if_none i.due (λ p. (let slot = open_slot i m p.0 p.1.0 p.1.1 in record { from = λ seat keyword is. slot seat keyword (inl is); to = λ seat keyword is. slot seat keyword (inr is) })) (if_both _ _ i.due (h slots_are_of_one_brand).0 (if_both _ _ i.due (h slots_are_of_opened_seats) (h slots_are_of_no_exited_seat)))
 
 moves_from : (i : InTurn) (e : Event) → ((y : Sentence) → AtRow y i e) → AreFairMoves i e
-moves_from i (moved m) h = record { defined = h movements_are_defined; live = h payments_stay_spent }
+moves_from i (moved m) h = record { defined = h movements_are_defined; minted = h minted_totals_are_bounded; live = h payments_stay_spent }
 moves_from i _ h = tt
 
 event_from : (i : InTurn) (e : Event) → ((y : Sentence) → AtRow y i e) → IsFairRow i e

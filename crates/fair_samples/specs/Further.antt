@@ -58,9 +58,9 @@ two_brands = trade (amount (codes "A") 2 7 ∷ [])
 abbrev pub opened_twice : List Turn
 opened_twice = start_turn 1 (kit ∷ open_row 0 [] [] ∷ kit ∷ open_row 0 [] [] ∷ []) [] ∷ []
 
--- 2^63 are minted
+-- 2^120 are minted
 abbrev pub too_much : List Turn
-too_much = service 1 (codes "mint1") (codes "mintPayment") none (ok json.null) (move 1 Outside (Payment 0) (number (2 ^ 63 - 1)) ∷ move 1 Outside (Payment 1) (number 1) ∷ []) (total 1 (2 ^ 63) 0 0 (2 ^ 63) 0 ∷ []) ∷ []
+too_much = service 1 (codes "mint1") (codes "mintPayment") none (ok json.null) (move 1 Outside (Payment 0) (number (2 ^ 120 - 1)) ∷ move 1 Outside (Payment 1) (number 1) ∷ []) (total 1 (2 ^ 120) 0 0 (2 ^ 120) 0 ∷ []) ∷ []
 
 -- the invitation goes to a purse
 abbrev pub burned_elsewhere : List Turn

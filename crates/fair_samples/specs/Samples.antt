@@ -1,5 +1,5 @@
 -- For each sentence of fairness a short list of turns that breaks it and meets all others.
-use Rattle.std.specs.Prelude.{ℕ, List, [], ◌∷◌, codes}
+use Rattle.std.specs.Prelude.{◌++◌, ◌-◌, ◌^◌, ℕ, zero, suc, List, [], ◌∷◌, codes}
 use Rattle.fair_rows.specs.rights_model.declared.Holder.{Holder}
 use Rattle.fair_rows.specs.rights_model.declared.Holder.TheVariants.{Hand, Outside, Payment, Purse, Slot}
 use Rattle.fair_rows.specs.rights_model.declared.Sum.{Sum}
@@ -9,7 +9,7 @@ use Rattle.fair_rows.specs.turn_rows.Causes as causes
 use Rattle.fair_rows.specs.turn_rows.Kinds as kinds
 use Rattle.fair_rows.specs.turn_rows.Rows.{amount_json, amounts_json, only, whole}
 use Rattle.fair_rows.specs.turn_rows.Turns.{Answer, Event, KeywordAmount, Payout, Turn, Value, called, elements, exited, key, moved, number, ok, on_demand, opened, refused, threw}
-use Rattle.fair_samples.specs.Sentences.{Sentence, turns_are_numbered, purse_amounts, payment_amounts, final_amounts, movements_are_defined, payments_stay_spent, values_are_of_one_kind, slots_are_of_one_brand, seats_are_in_order, offers_burn, offers_escrow, kits_are_empty, openings_are_called_for, exits_are_of_open_seats, exits_follow_their_cause, causes_are_the_first, causes_are_followed, payouts_follow, payouts_are_named, payouts_are_new, exits_are_covered, seats_stay_covered, refusals_change_nothing, slots_are_of_opened_seats, slots_are_of_no_exited_seat, payments_are_emptied, tables_balance, supplies_are_bounded, sums_are_told, current_amounts, slot_amounts}
+use Rattle.fair_samples.specs.Sentences.{Sentence, turns_are_numbered, purse_amounts, payment_amounts, final_amounts, movements_are_defined, payments_stay_spent, values_are_of_one_kind, slots_are_of_one_brand, seats_are_in_order, offers_burn, offers_escrow, kits_are_empty, openings_are_called_for, exits_are_of_open_seats, exits_follow_their_cause, causes_are_the_first, causes_are_followed, payouts_follow, payouts_are_named, payouts_are_new, exits_are_covered, seats_stay_covered, refusals_change_nothing, slots_are_of_opened_seats, slots_are_of_no_exited_seat, payments_are_emptied, tables_balance, supplies_are_bounded, sums_are_told, current_amounts, slot_amounts, minted_totals_are_bounded}
 
 -- ---- parts of turns
 
@@ -70,6 +70,11 @@ invitation = elements (key (codes "inv:0000000000") ∷ [])
 abbrev pub mint_turn : ℕ → ℕ → ℕ → Sum → Turn
 mint_turn turn p n sum = service turn (codes "mint1") (codes "mintPayment") (one (amount_json 1 (number n))) (ok json.null) (move 1 Outside (Payment p) (number n) ∷ []) (sum ∷ [])
 
+-- 2^120 - 1 of brand 1 come to a purse and are burned, so many times
+abbrev pub minted_and_burned : ℕ → List Event
+minted_and_burned zero = []
+minted_and_burned (suc n) = move 1 Outside (Purse 0) (number (2 ^ 120 - 1)) ∷ move 1 (Purse 0) Outside (number (2 ^ 120 - 1)) ∷ minted_and_burned n
+
 abbrev pub deposit_turn : ℕ → Turn
 deposit_turn turn = service turn (codes "purse0") (codes "deposit") (one (object (codes "payment0"))) (ok (amount_json 1 (number 5))) (move 1 (Payment 0) (Purse 0) (number 5) ∷ []) (total 1 5 0 5 0 0 ∷ [])
 
@@ -106,6 +111,10 @@ exit_turn turn events sums = service turn (codes "seat0") (codes "tryExit") none
 abbrev pub then_turns : List Turn → List Turn → List Turn
 then_turns [] us = us
 then_turns (t ∷ ts) us = t ∷ then_turns ts us
+
+-- 64 times 2^120 - 1 come and are burned, then 64 come
+abbrev pub often_minted : Turn
+often_minted = service 1 (codes "mint1") (codes "mintPayment") none (ok json.null) (minted_and_burned 64 ++ move 1 Outside (Purse 0) (number 64) ∷ []) (total 1 (2 ^ 126) (2 ^ 126 - 64) 64 0 0 ∷ [])
 
 -- ---- the lists
 
@@ -150,6 +159,7 @@ sample payments_are_emptied = mint_turn 1 0 5 (total 1 5 0 0 5 0) ∷ service 2 
 sample tables_balance = mint_turn 1 0 5 (total 1 5 0 0 5 0) ∷ handler_turn 2 (ok json.null) (move 1 (Payment 0) Hand (number 5) ∷ []) (total 1 5 0 0 0 0 ∷ []) ∷ []
 -- one key of a set brand is minted twice
 sample supplies_are_bounded = service 1 (codes "mint3") (codes "mintPayment") none (ok json.null) (move 3 Outside (Payment 0) (elements (key (codes "a") ∷ [])) ∷ move 3 Outside (Payment 1) (elements (key (codes "a") ∷ [])) ∷ []) (total 3 2 0 0 2 0 ∷ []) ∷ []
+sample minted_totals_are_bounded = often_minted ∷ []
 sample sums_are_told = service 1 (codes "mint1") (codes "mintPayment") none (ok json.null) (move 1 Outside (Payment 0) (number 5) ∷ []) [] ∷ []
 sample current_amounts = start_turn 1 (kit ∷ open_row 0 [] [] ∷ call (codes "zseat0") (codes "getCurrentAllocation") none (json.object (amounts_json (amount (codes "A") 1 4 ∷ []))) ∷ []) [] ∷ []
 sample slot_amounts = start_turn 1 (kit ∷ open_row 0 [] [] ∷ call (codes "zseat0") (codes "getAmountAllocated") (json.item (json.string (codes "A")) (one (object (codes "brand1")))) (amount_json 1 (number 4)) ∷ []) [] ∷ []

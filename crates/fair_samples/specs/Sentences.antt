@@ -1,9 +1,9 @@
 -- The sentences of fairness, each by itself: where it speaks of the turn row, of a row of events, or of a turn's end,
 -- and what it asks there. A list of turns is fair where it meets each of them.
-use Rattle.std.specs.Prelude.{◌≡◌, ◌⊎◌, ℕ, ◌+◌, true, false, List, [], ◌∷◌, ◌++◌, Some, None, is_some, length, codes}
+use Rattle.std.specs.Prelude.{◌≡◌, ◌≤◌, ◌⊎◌, ℕ, ◌+◌, true, false, List, [], ◌∷◌, ◌++◌, Some, None, is_some, length, codes}
 use Rattle.std.specs.List.{AllByRecursion, slice_get}
 use Rattle.fair_rows.specs.amount_math.Content.{Content, count, nothing}
-use Rattle.fair_rows.specs.amount_math.ValueView.{Fits}
+use Rattle.fair_rows.specs.amount_math.ValueView.{Fits, minted_bound}
 use Rattle.fair_rows.specs.amount_math.declared.Kind.{Kind}
 use Rattle.fair_rows.specs.rights_model.Supply.{is_store, supply, total_of}
 use Rattle.fair_rows.specs.rights_model.Table.{CanMove, holds}
@@ -17,7 +17,7 @@ use Rattle.fair_rows.specs.ExitCauses.{calls, first_cause, name, serves}
 use Rattle.fair_rows.specs.Movements.{movement_of, movements_in, names, takes_from}
 use Rattle.fair_rows.specs.Rows.{ChangesNothing, Due, InTurn, IsBurn, IsEscrow, after_event, burn, escrow, is_offer, payment_under, payout}
 use Rattle.fair_rows.specs.Seats.{IsOpen, IsSafe, Seat, SlotName, brand_under, new_seat}
-use Rattle.fair_rows.specs.SoFar.{SoFar, nothing_so_far, with_row, with_turn}
+use Rattle.fair_rows.specs.SoFar.{SoFar, nothing_so_far, sum_so_far, with_row, with_turn}
 use Rattle.fair_rows.specs.Turns.{IsCaused, after_events, after_turn_row, sums_due}
 use Rattle.fair_rows.specs.Values.{AreOfKinds, HaveKinds, content_of}
 
@@ -30,6 +30,8 @@ pub data Sentence : Type 0 where
   final_amounts : Sentence
   -- all movements, in order, are defined
   movements_are_defined : Sentence
+  -- after each movement its brand's minted total is at most 2^126 - 1
+  minted_totals_are_bounded : Sentence
   -- a payment that a turn takes from is named by no later turn's movement
   payments_stay_spent : Sentence
   -- a brand's values are all of one kind
@@ -73,7 +75,7 @@ pub data Sentence : Type 0 where
   payments_are_emptied : Sentence
   -- after each turn the counts over all purses, payments and slots add up to the supply's, and the hand is empty
   tables_balance : Sentence
-  -- in a set brand no supply count is over 1, in any brand none is over 2^63 - 1
+  -- in a set brand no supply count is over 1, in a bag brand none over 2^63 - 1, in any brand none over 2^120 - 1
   supplies_are_bounded : Sentence
   -- the turn has one sum row for each brand that its movements name, by number, with that brand's totals
   sums_are_told : Sentence
@@ -155,6 +157,7 @@ pub record IsAfterKit (here : List Event) (o : Opening) : Type 0 where
 
 abbrev pub AtRow : Sentence → InTurn → Event → Type 0
 AtRow movements_are_defined i e = OfMove e (λ m. CanMove i.now.table (movement_of m))
+AtRow minted_totals_are_bounded i e = OfMove e (λ m. (sum_so_far (with_row i.now (moved m)) m.brand).minted ≤ minted_bound)
 AtRow payments_stay_spent i e = OfMove e (λ m. (p : ℕ) → takes_from p i.before.moves ≡ true → names p (movement_of m ∷ []) ≡ false)
 AtRow values_are_of_one_kind i e = HaveKinds (with_row i.now e).amounts
 AtRow slots_are_of_one_brand i e = OfMove e (λ m. IfNoneDue i.due (IsOfSlots i.now.seats m)) × OfOpening e (λ o. AllByRecursion (λ (a : KeywordAmount). brand_under a.keyword (new_seat o).slots ≡ Some a.brand) (o.give ++ o.want))

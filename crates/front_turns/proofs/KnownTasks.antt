@@ -27,27 +27,26 @@ use Rattle.contract_powers.proofs.world_laws.Fronts.{due_behind, good_behind}
 use Rattle.contract_powers.proofs.world_laws.Lists.{all_read}
 use Rattle.contract_powers.specs.world_state.Good.{IsFacet, IsGoodWorld, IsSettling}
 use Rattle.contract_powers.specs.world_state.Known.{IsHanded, IsKnownTo, made_as}
-use Rattle.contract_powers.specs.world_state.Rights.{IsRoomy, most_issued}
 use Rattle.contract_powers.specs.world_state.Worlds.{State, exit, in_front, seat_at, set_time}
 use Rattle.delivery_tasks.specs.delivery_turns.Functions.{FunctionCall}
 use Rattle.delivery_tasks.specs.delivery_turns.Messages.{Addressed, addressed, gift_of, sent_to}
 use Rattle.delivery_tasks.specs.delivery_turns.Tasks.{Task, beginning, call_beginning, do_all, exit_if_open, facet_task, function_behind, gift_beginning, handler_call, method_task, notice_call, refuse, run_task, settlement_of, start_call, task_on, task_work, tick_task, wakeup_call}
 use Rattle.delivery_tasks.specs.delivery_turns.Tasks as tasks
-use Rattle.fair_laws.specs.delivery_laws.Works.{IsTurnWork, most_meter}
+use Rattle.fair_laws.specs.delivery_laws.Works.{IsTurnWork}
 use Rattle.fair_laws.proofs.delivery_laws.Reading.{IsAddressed, IsCalled, addressed_there, sent_there, weaker_ok}
 use Rattle.fair_laws.proofs.delivery_laws.Works.{notice_handed, settlement_handed, work_is}
 use Rattle.front_turns.specs.KnownTasks.{IsThere}
 
-module _ (meter : ℕ) (few : meter ≤ most_meter) (w : State) (d : Delivery) (good : IsGoodWorld (in_front d w)) (room : IsRoomy w.rights.out most_issued) where
+module _ (meter : ℕ) (w : State) (d : Delivery) (good : IsGoodWorld (in_front d w)) where
   -- what is done is good, and leaves the delivery's promise to the turn's end
   pub tasked_work : IsTurnWork w d (task_work reader meter w (beginning w d).task)
-  tasked_work = work_is reader (services_are reader reads_modules) calls_are meter few w d good room
+  tasked_work = work_is reader (services_are reader reads_modules) calls_are meter w d good
 
   whole : IsGoodWorld w
   whole = good_behind w d good
 
   told_handed : (n : ℕ) → IsSettling w (settlement_of w n) → IsHanded w (notice_tree (settlement_of w n))
-  told_handed n is = notice_handed reader (services_are reader reads_modules) calls_are meter few w d good room (settlement_of w n) is
+  told_handed n is = notice_handed reader (services_are reader reads_modules) calls_are meter w d good (settlement_of w n) is
 
 module _ (w : State) where
   run_there : (c : FunctionCall) → c.instance < length w.tables.instances → AllHave (IsKnownTo w c.instance) c.arguments → IsThere w (run_task w c)
@@ -108,34 +107,34 @@ module _ (w : State) where
       by true = (tt, tt)
       by false = tt
 
-pub tasked_there : (meter : ℕ) (few : meter ≤ most_meter) (w : State) (d : Delivery) → IsGoodWorld (in_front d w) → IsRoomy w.rights.out most_issued → IsThere w (beginning w d).task
+pub tasked_there : (meter : ℕ) (w : State) (d : Delivery) → IsGoodWorld (in_front d w) → IsThere w (beginning w d).task
 unfolding beginning
-tasked_there meter few w (deliveries.call c) good room =
+tasked_there meter w (deliveries.call c) good =
     let d = deliveries.call c in
     let here = good_behind w d good in
     called_there w here c.method (addressed w c) (weaker_ok (IsCalled w here c) (IsAddressed w here) (addressed w c) (λ a is. is.addressed_to) (addressed_there w here c (due_behind w d good)))
-tasked_there meter few w (deliveries.send s) good room =
+tasked_there meter w (deliveries.send s) good =
     let d = deliveries.send s in
     let here = good_behind w d good in
     called_there w here s.method (sent_to w s) (sent_there w here s (due_behind w d good))
-tasked_there meter few w (deliveries.give g) good room = gift_there w g (gift_of w g)
-tasked_there meter few w (deliveries.tick t) good room = tick_there w w.schedule.time t
-tasked_there meter few w (deliveries.bad r) good room = tt
-tasked_there meter few w (deliveries.start s) good room =
+tasked_there meter w (deliveries.give g) good = gift_there w g (gift_of w g)
+tasked_there meter w (deliveries.tick t) good = tick_there w w.schedule.time t
+tasked_there meter w (deliveries.bad r) good = tt
+tasked_there meter w (deliveries.start s) good =
     let due = due_behind w (deliveries.start s) good in
     run_there w (start_call s) due.made
     (object_formed w (Some s.instance) (record { kind = kinds.Zcf; number = s.instance }) refl, (handed_held w (Some s.instance) s.private_arguments due.arguments, tt))
-tasked_there meter few w (deliveries.offer o) good room =
+tasked_there meter w (deliveries.offer o) good =
     let due = due_behind w (deliveries.offer o) good in
     run_there w (handler_call o) due.function.made
     (object_formed w (Some o.instance) (record { kind = kinds.Zseat; number = o.seat }) due.seat, (handed_held w (Some o.instance) o.offer_arguments due.arguments, (due.held, tt)))
-tasked_there meter few w (deliveries.wake x) good room =
+tasked_there meter w (deliveries.wake x) good =
     let due = due_behind w (deliveries.wake x) good in
     run_there w (wakeup_call x w.schedule.time) due.function.made (due.held, (number_known w x.instance w.schedule.time, tt))
-tasked_there meter few w (deliveries.notify n) good room =
+tasked_there meter w (deliveries.notify n) good =
     let d = deliveries.notify n in
     let due = due_behind w d good in
-    let told = told_handed meter few w d good room n.promise (settlement_handed w (good_behind w d good) n.promise due.notice.promise) in
+    let told = told_handed meter w d good n.promise (settlement_handed w (good_behind w d good) n.promise due.notice.promise) in
     run_there w (notice_call n (settlement_of w n.promise)) due.notice.function.made
     (due.notice.held, (handed_held w (Some n.instance) (notice_tree (settlement_of w n.promise)) told, tt))
-tasked_there meter few w (deliveries.deadline seat) good room = deadline_there w seat
+tasked_there meter w (deliveries.deadline seat) good = deadline_there w seat

@@ -21,7 +21,6 @@ use Rattle.contract_powers.specs.host_world.Worlds.{IsUndoable, world_of}
 use Rattle.contract_powers.specs.host_world.declared.World.{World}
 use Rattle.contract_powers.specs.actors.Tables.{instance_at}
 use Rattle.jessie_interpreter.specs.declared.evaluation.Outcome.{Outcome}
-use Rattle.jessie_interpreter.proofs.jessie_semantics.Licence.{room_fits}
 use Rattle.jessie_interpreter.specs.jessie_semantics.Keeping.{AllHave}
 use Rattle.jessie_interpreter.specs.jessie_semantics.Play.{Asks, Ending, Ends, Play, Spends}
 use Rattle.jessie_interpreter.specs.jessie_grammar.Syntax.{routines, variable_names}
@@ -32,7 +31,6 @@ use Rattle.contract_powers.proofs.world_laws.Kept.{good-after_all}
 use Rattle.contract_powers.proofs.world_laws.Lists.{length_map}
 use Rattle.contract_powers.specs.world_state.Good.{CanKeep, IsGoodWorld}
 use Rattle.contract_powers.specs.world_state.Known.{Grows, IsKnownTo, module_of}
-use Rattle.contract_powers.specs.world_state.Rights.{IsRoomy}
 use Rattle.contract_powers.specs.world_state.Worlds.{Effect, State, after_all, keep_state}
 
 -- the values of an instance's state, and what its function may do
@@ -50,12 +48,12 @@ module _ (w : State) (c : FunctionCall) (meter : ℕ) (good : IsGoodWorld w) (ma
   pub asks : Evaluates w c.instance (length (variable_names (module_of w.tables c.instance))) (play_of meter w c)
   asks = evaluates w c.instance good made c.function c.arguments (values_of w c.instance) meter known (have_all (IsKnownTo w c.instance) (values_of w c.instance) (good.instances.each c.instance made).state)
 
-  is_run : IsRoomy w.rights.out (2 ^ 63 * meter) → IsRun w c.instance (length (variable_names (module_of w.tables c.instance))) meter (run w c.instance (play_of meter w c))
-  is_run room =
+  is_run : IsRun w c.instance (length (variable_names (module_of w.tables c.instance))) (run w c.instance (play_of meter w c))
+  is_run =
       let m = module_of w.tables c.instance in
-      run_is calls_are w c.instance (length (variable_names m)) made (play_of meter w c) asks (play_of meter w c) [] w meter refl (room_fits (routines m) (variable_names m) c.function c.arguments (values_of w c.instance) meter meter (omega arith)) good (grows_itself w) tt room
+      run_is calls_are w c.instance (length (variable_names m)) made (play_of meter w c) asks (play_of meter w c) [] w refl good (grows_itself w) tt
 
-  keeps : (e : Ending) (values : List Tree) (es : List Effect) → IsEnded w c.instance (length (variable_names (module_of w.tables c.instance))) meter e values es → CanKeep (after_all w es) c.instance values
+  keeps : (e : Ending) (values : List Tree) (es : List Effect) → IsEnded w c.instance (length (variable_names (module_of w.tables c.instance))) e values es → CanKeep (after_all w es) c.instance values
   keeps e values es is =
       let i = c.instance in
       let u = after_all w es in
@@ -72,13 +70,13 @@ module _ (old new : World) (c : FunctionCall) (meter : ℕ) where
   ends_so : (e : Ending) (values : List Tree) (went : WentOn c.instance (play_of meter (world_of old) c) old new (Ends e values)) → run (world_of old) c.instance (play_of meter (world_of old) c) ≡ ended e values went.effects
   ends_so e values went = went.is ∙ ap (λ (es : List Effect). ended e values es) (append-nil went.effects)
 
-  pub can_end : IsGoodWorld (world_of old) → c.instance < length (world_of old).tables.instances → AllHave (IsKnownTo (world_of old) c.instance) c.arguments → IsRoomy (world_of old).rights.out (2 ^ 63 * meter)
+  pub can_end : IsGoodWorld (world_of old) → c.instance < length (world_of old).tables.instances → AllHave (IsKnownTo (world_of old) c.instance) c.arguments
       → (p : Play) → WentOn c.instance (play_of meter (world_of old) c) old new p → CanEnd (world_of new) c.instance p
-  can_end good made known room Spends went = tt
-  can_end good made known room (Asks x go) went = tt
-  can_end good made known room (Ends e values) went =
+  can_end good made known Spends went = tt
+  can_end good made known (Asks x go) went = tt
+  can_end good made known (Ends e values) went =
       let w = world_of old in
-      let is = subst (λ (r : Run). IsRun w c.instance (length (variable_names (module_of w.tables c.instance))) meter r) (ends_so e values went) (is_run w c meter good made known room) in
+      let is = subst (λ (r : Run). IsRun w c.instance (length (variable_names (module_of w.tables c.instance))) r) (ends_so e values went) (is_run w c meter good made known) in
       subst (λ (u : State). CanKeep u c.instance values) (sym went.carried.world) (keeps w c meter good made known e values went.effects is)
 
 pub came_to : (old mid new : World) (c : FunctionCall) (meter : ℕ) (p : Play) (ran : Ran) → WentOn c.instance (play_of meter (world_of old) c) old mid p → HasEnded mid new c.instance p ran → CameTo meter c old new ran

@@ -1,7 +1,7 @@
 -- All that a turn moves goes to or comes from where things are kept; and the end of a turn issues nothing.
 use Rattle.std.specs.Prelude.{IfOk, not}
 use Rattle.std.specs.List.{AllByRecursion}
-use Rattle.std.proofs.Common.{◌≡◌, ℕ, ◌+◌, ◌*◌, ◌^◌, ◌-◌, ◌≤◌, ◌<◌, ◌||◌, List, [], ◌∷◌, ◌++◌, Option, Some, None, Ok, Err, length, refl, subst, arith}
+use Rattle.std.proofs.Common.{◌≡◌, ℕ, ◌+◌, ◌-◌, ◌<◌, ◌||◌, List, [], ◌∷◌, ◌++◌, Option, Some, None, Ok, Err, length, refl, subst, arith}
 use Rattle.fair_laws.proofs.rule_laws.Forms.{null_formed}
 use Rattle.fair_laws.proofs.rule_laws.Next.{after_next_of}
 use Rattle.contract_powers.specs.rules.Licence.{IsStored}
@@ -14,10 +14,9 @@ use Rattle.contract_powers.proofs.contract_texts.Modules.{reads_modules}
 use Rattle.contract_powers.specs.ertp_mint.Stocks.{most_made}
 use Rattle.fair_laws.specs.Accounts.{AreStoredEffects, IsStoredEffect}
 use Rattle.contract_powers.specs.actors.Tables.{instance_at}
-use Rattle.jessie_interpreter.specs.jessie_semantics.Keeping.{AllHave, CallHas, Fits, NextHas, RepliesHave}
-use Rattle.jessie_interpreter.specs.jessie_semantics.Play.{Asks, Call, Ends, Play, Reply, Spends, after, call, cost, far, reply_size, send, when}
-use Rattle.jessie_interpreter.proofs.jessie_semantics.Licence.{room_fits}
-use Rattle.jessie_interpreter.specs.jessie_grammar.Syntax.{routines, variable_names}
+use Rattle.jessie_interpreter.specs.jessie_semantics.Keeping.{AllHave, CallHas, NextHas, RepliesHave}
+use Rattle.jessie_interpreter.specs.jessie_semantics.Play.{Asks, Call, Ends, Play, Reply, Spends, after, call, far, send, when}
+use Rattle.jessie_interpreter.specs.jessie_grammar.Syntax.{variable_names}
 use Rattle.delivery_tasks.specs.host_data.Tree.{Tree, null, some_local, stays}
 use Rattle.delivery_tasks.specs.host_data.View.{items_of}
 use Rattle.delivery_tasks.specs.host_data.declared.data.Obj.{Obj}
@@ -29,38 +28,25 @@ use Rattle.contract_powers.specs.turn_records.Deliveries.{Delivery}
 use Rattle.contract_powers.proofs.world_laws.Forms.{formed_grows}
 use Rattle.contract_powers.proofs.world_laws.Kept.{good-after_all}
 use Rattle.contract_powers.proofs.world_laws.Lists.{all_read_or}
-use Rattle.contract_powers.proofs.world_laws.Roomy.{roomy-after_all}
 use Rattle.contract_powers.specs.world_state.Good.{IsGoodWorld}
 use Rattle.contract_powers.specs.world_state.Known.{Grows, IsKnownTo, module_of}
-use Rattle.contract_powers.specs.world_state.Rights.{IsRoomy, most_issued}
 use Rattle.contract_powers.specs.world_state.Worlds as worlds
-use Rattle.contract_powers.specs.world_state.Worlds.{Effect, State, after_all, halt, in_front, invite, issued_by, issued_by_all, keep_state, moves, note_call, offer, promises_made}
+use Rattle.contract_powers.specs.world_state.Worlds.{Effect, State, after_all, halt, in_front, keep_state, moves, offer, promises_made}
 use Rattle.delivery_tasks.specs.delivery_turns.Functions.{FunctionCall, Run, ended, function_run, module_play, ran_out, run, run_after}
 use Rattle.delivery_tasks.specs.delivery_turns.HostCalls.{call_effects, call_reply, effects_of}
 use Rattle.contract_powers.specs.rules.PromisesAndFacets.{call_rule, far_rule, send_rule, when_rule}
 use Rattle.delivery_tasks.specs.delivery_turns.Tasks as tasks
 use Rattle.delivery_tasks.specs.delivery_turns.Tasks.{Task, halt_with, run_work, task_work}
-use Rattle.fair_laws.specs.delivery_laws.Works.{Evaluates, most_meter}
+use Rattle.fair_laws.specs.delivery_laws.Works.{Evaluates}
 use Rattle.fair_laws.proofs.delivery_laws.Asking.{all_have, evaluates, have_all, replies_so}
 use Rattle.fair_laws.proofs.delivery_laws.Hosts.{IsQuiet, quiet_both, quiet_exits}
 use Rattle.fair_laws.proofs.delivery_laws.Replies.{call_is}
-use Rattle.fair_laws.proofs.delivery_laws.Runs.{after_more, all_grow, grows_itself, grows_on, have_end, scaled}
-use Rattle.fair_laws.proofs.delivery_laws.Works.{at_most, service_rule}
+use Rattle.fair_laws.proofs.delivery_laws.Runs.{after_more, all_grow, grows_itself, grows_on, have_end}
+use Rattle.fair_laws.proofs.delivery_laws.Works.{service_rule}
 use Rattle.front_turns.specs.KnownTasks.{IsThere}
 use Rattle.front_turns.proofs.EffectLists.{all_both}
 
 -- ---- effects that move nothing of their own
-
-quiet_one : (w : State) (e : Effect) → IsQuiet e → issued_by w e ≡ 0
-quiet_one w (moves ms) q = absurd q
-quiet_one w (offer o) q = absurd q
-quiet_one w (invite d) q = absurd q
-quiet_one w (note_call c) q = absurd q
-quiet_one w e q = refl
-
-pub none_issued : (w : State) (es : List Effect) → AllByRecursion IsQuiet es → issued_by_all w es ≡ 0
-none_issued w [] q = refl
-none_issued w (e ∷ es) q = let here = quiet_one w e q.0 in let rest = none_issued (worlds.after w e) es q.1 in omega (arith, here, rest)
 
 quiet_stored_one : (e : Effect) → IsQuiet e → IsStoredEffect e
 quiet_stored_one (moves ms) q = absurd q
@@ -112,18 +98,17 @@ unfolding far_rule
 far_stored w i ms held = after_next_of (λ x. AreStoredEffects x.1) (length w.facets) most_made _ (λ room. (tt, tt))
 
 module _ (w : State) (i : ℕ) (good : IsGoodWorld w) (made : i < length w.tables.instances) where
-  call_stored : (c : Call) → CallHas (IsKnownTo w i) c → IsRoomy w.rights.out (2 ^ 63 * cost c) → AreStoredEffects (effects_of (call_rule w i c))
-  call_stored (call o m args) known room =
+  call_stored : (c : Call) → CallHas (IsKnownTo w i) c → AreStoredEffects (effects_of (call_rule w i c))
+  call_stored (call o m args) known =
       row_stored w (Some i) o m args (serve_own w o m args) (calls_are w i o m args (record {
         good = good;
         hosted = made;
         target = known.0.objects;
         arguments = λ place. all_read_or (IsKnownTo w i) args (place - 1) null (all_have (IsKnownTo w i) args known.1) (null_formed w (Some i));
-        room = room;
       }))
-  call_stored (send o m args) known room = stored_row (send_rule w i o m args) (send_stored w i o m args)
-  call_stored (when o f held) known room = stored_row (when_rule w i o f held) (when_stored w i o f held)
-  call_stored (far x ms held) known room = stored_row (far_rule w i ms held) (far_stored w i ms held)
+  call_stored (send o m args) known = stored_row (send_rule w i o m args) (send_stored w i o m args)
+  call_stored (when o f held) known = stored_row (when_rule w i o f held) (when_stored w i o f held)
+  call_stored (far x ms held) known = stored_row (far_rule w i ms held) (far_stored w i ms held)
 
 -- ---- functions
 
@@ -136,24 +121,19 @@ then_stored es (ended e values fs) one two = all_both IsStoredEffect es fs one t
 then_stored es ran_out one two = tt
 
 module _ (start : State) (i n : ℕ) (made : i < length start.tables.instances) (p0 : Play) (asks : Evaluates start i n p0) where
-  run_stored : (p : Play) (rs : List Reply) (w : State) (m : ℕ) → after p0 rs ≡ p → Fits m p → IsGoodWorld w → Grows start w → RepliesHave (IsKnownTo w i) rs → IsRoomy w.rights.out (2 ^ 63 * m)
+  run_stored : (p : Play) (rs : List Reply) (w : State) → after p0 rs ≡ p → IsGoodWorld w → Grows start w → RepliesHave (IsKnownTo w i) rs
       → IsStoredRun (run w i p)
-  run_stored (Ends e values) rs w m is fits good grown known room = tt
-  run_stored Spends rs w m is fits good grown known room = tt
-  run_stored (Asks c go) rs w m is fits good grown known room =
+  run_stored (Ends e values) rs w is good grown known = tt
+  run_stored Spends rs w is good grown known = tt
+  run_stored (Asks c go) rs w is good grown known =
       let next : CallHas (IsKnownTo w i) c = subst (λ q. NextHas (IsKnownTo w i) n q) is (asks.each w grown rs known) in
       let here : i < length w.tables.instances = omega (arith, made, grown.instances.more) in
-      let split = scaled (2 ^ 63) (cost c) 0 m (omega (arith, fits.0)) in
-      let room_now : IsRoomy w.rights.out (2 ^ 63 * cost c) = record { each = λ b. omega (arith, room.each b, split) } in
-      let work = call_is calls_are w i good here c next room_now in
+      let work = call_is calls_are w i good here c next in
       let es = call_effects w i c in
       let r = call_reply w i c in
-      let left = m - (cost c + reply_size r) in
-      let rest = scaled (2 ^ 63) (cost c) left m (omega (arith, fits.0)) in
-      let room_then : IsRoomy (after_all w es).rights.out (2 ^ 63 * left) = roomy-after_all w es (2 ^ 63 * m) (2 ^ 63 * left) room (omega (arith, work.issues, rest)) in
       let known_then : RepliesHave (IsKnownTo (after_all w es) i) (rs ++ r ∷ []) = have_end (after_all w es) i rs r (replies_so (formed_grows w (after_all w es) (all_grow w es) (Some i)) rs known) work.known in
-      then_stored es (run (after_all w es) i (go r)) (tt, call_stored w i good here c next room_now)
-      (run_stored (go r) (rs ++ r ∷ []) (after_all w es) left (after_more p0 rs c go r is) (fits.1 r) (good-after_all w es work.good good) (grows_on start w (after_all w es) grown (all_grow w es)) known_then room_then)
+      then_stored es (run (after_all w es) i (go r)) (tt, call_stored w i good here c next)
+      (run_stored (go r) (rs ++ r ∷ []) (after_all w es) (after_more p0 rs c go r is) (good-after_all w es work.good good) (grows_on start w (after_all w es) grown (all_grow w es)) known_then)
 
 halts_stored : (w : State) (i : ℕ) → AreStoredEffects (halt_with causes.spent w i)
 halts_stored w i = quiet_stored (halt_with causes.spent w i) (quiet_both _ (halt i ∷ []) (quiet_exits causes.spent (all_open w i)) (tt, tt))
@@ -162,26 +142,24 @@ work_stored : (meter : ℕ) (w : State) (i : ℕ) (r : Run) → IsStoredRun r �
 work_stored meter w i (ended e values es) is = all_both IsStoredEffect es (keep_state i values ∷ []) is (tt, tt)
 work_stored meter w i ran_out is = halts_stored w i
 
-function_stored : (meter : ℕ) (few : meter ≤ most_meter) (w : State) (c : FunctionCall) → IsGoodWorld w → IsRoomy w.rights.out most_issued → c.instance < length w.tables.instances → AllHave (IsKnownTo w c.instance) c.arguments → IsStoredRun (function_run meter w c)
+function_stored : (meter : ℕ) (w : State) (c : FunctionCall) → IsGoodWorld w → c.instance < length w.tables.instances → AllHave (IsKnownTo w c.instance) c.arguments → IsStoredRun (function_run meter w c)
 unfolding function_run
-function_stored meter few w c good room made known =
+function_stored meter w c good made known =
     let m = module_of w.tables c.instance in
     let values = (instance_at w.tables.instances c.instance).state in
     let kept : AllHave (IsKnownTo w c.instance) values = have_all (IsKnownTo w c.instance) values (good.instances.each c.instance made).state in
     let p = module_play m c.function c.arguments values meter in
     let asks = evaluates w c.instance good made c.function c.arguments values meter known kept in
-    let bound = at_most meter few in
-    run_stored w c.instance (length (variable_names m)) made p asks p [] w meter refl (room_fits (routines m) (variable_names m) c.function c.arguments values meter meter (omega arith)) good (grows_itself w) tt
-    (record { each = λ b. let r = room.each b in omega (arith, r, bound) })
+    run_stored w c.instance (length (variable_names m)) made p asks p [] w refl good (grows_itself w) tt
 
 -- ---- tasks
 
-module _ (meter : ℕ) (few : meter ≤ most_meter) (w : State) (d : Delivery) (good : IsGoodWorld (in_front d w)) (here : IsGoodWorld w) (room : IsRoomy w.rights.out most_issued) where
+module _ (meter : ℕ) (w : State) (d : Delivery) (good : IsGoodWorld (in_front d w)) (here : IsGoodWorld w) where
   pub tasked_stored : (task : Task) → IsThere w task → AreStoredEffects (task_work reader meter w task).effects
   unfolding task_work
   tasked_stored (tasks.refuse r) is = tt
   tasked_stored (tasks.do_all es) is = is
   tasked_stored (tasks.serve o method args) is =
       row_stored w None o method args (serve_call reader w o method args)
-      (service_rule reader w d o method args (services_are reader reads_modules) good room is.target is.arguments)
-  tasked_stored (tasks.run c) is = work_stored meter w c.instance (function_run meter w c) (function_stored meter few w c here room is.made is.arguments)
+      (service_rule reader w d o method args (services_are reader reads_modules) good is.target is.arguments)
+  tasked_stored (tasks.run c) is = work_stored meter w c.instance (function_run meter w c) (function_stored meter w c here is.made is.arguments)

@@ -20,9 +20,7 @@ use Rattle.contract_powers.specs.turn_records.declared.events.Answer.{Answer}
 use Rattle.contract_powers.specs.turn_records.declared.events.Answer.TheVariants as answers
 use Rattle.contract_powers.specs.turn_records.Events.{given}
 use Rattle.contract_powers.specs.turn_rows.Causes as causes
-use Rattle.fair_laws.proofs.delivery_laws.Works.{at_most}
 use Rattle.contract_powers.specs.world_state.Good.{AreGood}
-use Rattle.contract_powers.specs.world_state.Rights.{IsRoomy, most_issued}
 use Rattle.contract_powers.specs.world_state.Worlds.{Effect}
 use Rattle.contract_powers.specs.rules.Methods.{serve}
 use Rattle.front_turns.specs.FunctionRuns.{CameTo}
@@ -32,13 +30,6 @@ use Rattle.front_turns.specs.declared.function_runs.Ran.TheVariants.{Ended, Spen
 use Rattle.front_turns.proofs.TurnEffects.{carried_by, carried_nothing}
 
 -- ---- functions
-
--- the meter leaves room for what the function may issue
-pub room_for : (meter most : ℕ) (w : World) → IsBegun meter w → most ≡ meter → IsRoomy (world_of w).rights.out (2 ^ 63 * most)
-room_for meter most w begun same =
-    let here : IsRoomy (world_of w).rights.out most_issued = begun.room in
-    let bound = at_most meter begun.few in
-    subst (λ (n : ℕ). IsRoomy (world_of w).rights.out (2 ^ 63 * n)) (sym same) (record { each = λ b. let r = here.each b in omega (arith, r, bound) })
 
 -- the meter is the same as a longer number
 came_ok : (meter most : ℕ) (old new : World) (c : FunctionCall) (r : Result Ran AllocError) (ran : Ran) → most ≡ meter → IfOk r (CameTo most c old new) → r ≡ Ok ran → CameTo meter c old new ran

@@ -32,7 +32,7 @@ done_by meter w mid b r a same done is =
     subst (λ (x : Beginning). IsDone w mid a (work_of meter w x.task)) same
     (subst (λ (x : Result Answer AllocError). IfOk x (λ y. IsDone w mid y (work_of meter w b.task))) is done)
 
-module _ (meter : ℕ) (w : World) (begun : IsBegun meter w) where
+module _ (meter : ℕ) (w : World) (begun : IsBegun w) where
   -- what the delivery's task is
   abbrev task : Task
   task = (beginning (world_of w) (front w)).task
@@ -44,13 +44,13 @@ module _ (meter : ℕ) (w : World) (begun : IsBegun meter w) where
   good_front = subst IsGoodWorld (fronted (world_now w) begun.turn.waits) begun.good
 
   pub turn_work : IsTurnWork (world_of w) (front w) work
-  turn_work = tasked_work meter begun.few (world_of w) (front w) good_front begun.room
+  turn_work = tasked_work meter (world_of w) (front w) good_front
 
   pub task_there : IsThere (world_of w) task
-  task_there = tasked_there meter begun.few (world_of w) (front w) good_front begun.room
+  task_there = tasked_there meter (world_of w) (front w) good_front
 
   work_stored : AreStoredEffects work.effects
-  work_stored = tasked_stored meter begun.few (world_of w) (front w) good_front begun.turn.good begun.room task task_there
+  work_stored = tasked_stored meter (world_of w) (front w) good_front begun.turn.good task task_there
 
   pub stored_all : AreStoredEffects (turn_in meter w).effects
   unfolding delivery_turn

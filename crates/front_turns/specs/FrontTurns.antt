@@ -2,7 +2,6 @@
 use Rattle.std.specs.Prelude.{◌≡◌, ℕ, ◌≤◌}
 use Rattle.contract_powers.specs.world_effects.CarriedEffects.{AreCarried, IsInTurn}
 use Rattle.contract_powers.specs.contract_texts.Reader.{reader}
-use Rattle.fair_laws.specs.delivery_laws.Works.{most_meter}
 use Rattle.delivery_tasks.specs.delivery_turns.Tasks.{Task, Work, task_work}
 use Rattle.delivery_tasks.specs.delivery_turns.Turns.{DeliveryTurn, delivery_turn}
 use Rattle.fair_laws.specs.Accounts.{AreStoredEffects}
@@ -13,21 +12,17 @@ use Rattle.contract_powers.specs.turn_records.Views.{answer_view, reading_view}
 use Rattle.contract_powers.specs.turn_records.declared.events.Answer.{Answer}
 use Rattle.contract_powers.specs.turn_records.Deliveries.{Delivery}
 use Rattle.contract_powers.specs.world_state.Good.{IsGoodWorld}
-use Rattle.contract_powers.specs.world_state.Rights.{IsRoomy, most_issued}
 use Rattle.front_turns.specs.declared.turns.Delivered.{Delivered}
 
 -- the delivery that a turn is about
 abbrev pub front : World → Delivery
 front w = front_of (world_now w).waiting
 
--- nothing was done yet in the turn, whose delivery is in front of a good world; this has room for all that a turn may
--- issue, and functions may cost so much at most
-pub record IsBegun (meter : ℕ) (w : World) : Type 0 where
+-- nothing was done yet in the turn, whose delivery is in front of a good world
+pub record IsBegun (w : World) : Type 0 where
   pub turn : IsInTurn w
   pub same : world_at_start w ≡ world_now w
   pub good : IsGoodWorld (world_now w)
-  pub room : IsRoomy (world_now w).rights.out most_issued
-  pub few : meter ≤ most_meter
 
 -- what was done is answered so, and its effects were carried out
 pub record IsDone (old new : World) (a : Answer) (work : Work) : Type 0 where

@@ -9,7 +9,6 @@ ghost use Rattle.contract_powers.specs.host_world.Worlds.{IsUndoable, world_of};
 ghost use Rattle.jessie_interpreter.specs.jessie_semantics.Keeping.{AllHave};
 ghost use Rattle.delivery_tasks.specs.host_data.View.{trees};
 ghost use Rattle.contract_powers.specs.world_state.Known.{IsKnownTo};
-ghost use Rattle.contract_powers.specs.world_state.Rights.{IsRoomy};
 
 mod endings;
 mod running;
@@ -47,7 +46,6 @@ pub fn run_function<P: Planner>(
     requires turn { IsInTurn world }
     requires made { instance < length (world_of world).tables.instances }
     requires known { AllHave (IsKnownTo (world_of world) instance) (trees arguments.items) }
-    requires room { IsRoomy (world_of world).rights.out (2 ^ 63 * meter) }
     ensures came { IfOk result.1 (CameTo meter (record {
       instance = instance;
       function = function.now;

@@ -163,7 +163,7 @@ fn run_task<P: Planner>(
     meter: u32,
     call: FunctionCall,
 ) -> (World, Result<Answer, AllocError>)
-    requires begun { IsBegun meter world }
+    requires begun { IsBegun world }
     requires there { IsCallable (world_of world) (function_call_view call) }
     ensures done { IfOk result.1 (λ a. IsDone world result.0 a
         (work_of meter world (run (function_call_view call)))) }
@@ -193,7 +193,7 @@ pub(crate) fn work_task<P: Planner>(
     meter: u32,
     task: Task,
 ) -> (World, Result<Answer, AllocError>)
-    requires begun { IsBegun meter world }
+    requires begun { IsBegun world }
     requires shaped { IsTaskShaped task }
     requires there { IsThere (world_of world) (task_view task) }
     requires good { AreGood (world_of world) (work_of meter world (task_view task)).effects }

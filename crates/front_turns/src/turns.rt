@@ -41,7 +41,7 @@ fn work_delivery<P: Planner>(
     meter: u32,
     begun: Beginning,
 ) -> (World, Option<Delivered>)
-    requires begun { IsBegun meter world }
+    requires begun { IsBegun world }
     requires begins { beginning_view begun ≡ beginning (world_of world) (front world) }
     requires shaped { IsTaskShaped begun.task }
     ensures done { IfSome result.1 (IsDelivered meter world result.0) }
@@ -67,7 +67,7 @@ fn work_delivery<P: Planner>(
 /// comes back, since what runs functions holds it while they run. For want of memory, where nothing is answered, some of
 /// the turn may have been worked, and it is to be undone.
 pub fn deliver<P: Planner>(alloc: Global, world: World, meter: u32) -> (World, Option<Delivered>)
-    requires { IsBegun meter world }
+    requires { IsBegun world }
     ensures done { IfSome result.1 (IsDelivered meter world result.0) }
     ensures back { IsUndoable world result.0 }
 {

@@ -10,7 +10,7 @@ use crate::data::{Data, ObjKind};
 use amount_math::{AmountKind, BagKind, Key, Kind, MakeFault, NatKind, SetKind, Value};
 use std::alloc::Global;
 
-/// A value of the kind (ERTP): a whole number from 0 to 2^63 - 1, for a set an array of texts, for a bag
+/// A value of the kind (ERTP): a whole number from 0 to 2^120 - 1, for a set an array of texts, for a bag
 /// an array of arrays, each of a text and a count from 1 to 2^63 - 1. Texts come in any order, none twice,
 /// each of 1 to 64 bytes, at most 4,096 of them (own). Else `BadValue`.
 #[tactic(auto, unfolding(crate::specs::Amounts::value_in))]

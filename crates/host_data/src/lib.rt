@@ -11,8 +11,8 @@ pub mod values;
 /// What `amount_math` gives to those above.
 pub mod amount_math_lib {
     pub use amount_math::{
-        Amount, AmountKind, BagKind, COUNT_BOUND, Entry, Holding, Key, Kind, MakeFault,
-        Outstanding, PutFault, SetKind, TooMuch, Value,
+        Amount, AmountKind, BagKind, COUNT_BOUND, Entry, Holding, Key, Kind, MINTED_BOUND,
+        MakeFault, NAT_BOUND, Outstanding, PutFault, SetKind, TooMuch, Value,
     };
 
     pub mod shortfall {

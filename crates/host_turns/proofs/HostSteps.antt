@@ -20,7 +20,6 @@ use Rattle.front_turns.specs.turn_records.Views.{turn_view}
 use Rattle.front_turns.specs.turn_records.declared.turns.TurnRecord.{TurnRecord}
 use Rattle.front_turns.specs.turn_records.Deliveries.{Delivery}
 use Rattle.front_turns.specs.turn_rows.Turns.{Turn}
-use Rattle.front_turns.specs.world_state.Rights.{most_turns}
 use Rattle.host_turns.specs.HostStates.{HostParts, IsKept, host_of}
 use Rattle.host_turns.specs.TurnSteps.{IsMade, IsTurned}
 
@@ -36,33 +35,33 @@ none_waits s is = none_of s s.world.waiting is
 pub none_waits_in : (p q : HostParts) → p ≡ q → length (host_of p).world.waiting ≡ 0 → step_of reader (host_of q) ≡ None
 none_waits_in p q seen is = subst (λ x. step_of reader (host_of x) ≡ None) seen (none_waits (host_of p) is)
 
-pub stays_fair : (p : HostParts) (x : Step) (ts : List Turn) → IsKept p → p.turns < most_turns → step_of reader (host_of p) ≡ Some x
+pub stays_fair : (p : HostParts) (x : Step) (ts : List Turn) → IsKept p → step_of reader (host_of p) ≡ Some x
     → AreFair ts → Leaves (so_far_after ts nothing_so_far) (world_of (host_of p)) → StaysFair ts x
-stays_fair p x ts is early made fair leaves =
+stays_fair p x ts is made fair leaves =
     let P : Option Step → Type 0 = λ o. IfSome o (StaysFair ts) in
-    let step = steps_are reader (services_are reader reads_modules) calls_are calls_read (services_read reader) (host_of p) is.good is.steady early in
+    let step = steps_are reader (services_are reader reads_modules) calls_are calls_read (services_read reader) (host_of p) is.good is.steady in
     subst P made (stay_fair reader (host_of p) ts fair leaves step)
 
 -- the turn that was made
-pub turned_fair : (p q : HostParts) → p ≡ q → (new : Option Ledger) (o : Option TurnRecord) (t : TurnRecord) → o ≡ Some t → IsTurned p.meter p.turns p.world new o → IsKept p → p.turns < most_turns
+pub turned_fair : (p q : HostParts) → p ≡ q → (new : Option Ledger) (o : Option TurnRecord) (t : TurnRecord) → o ≡ Some t → IsTurned p.meter p.turns p.world new o → IsKept p
     → (ts : List Turn) → AreFair ts → Leaves (so_far_after ts nothing_so_far) (world_of (host_of q)) → StaysFair ts (record { next = host_of (record { meter = p.meter; world = new; turns = p.turns + 1 }); turn = turn_view t })
-turned_fair p q seen new o t is turned kept early ts fair leaves =
+turned_fair p q seen new o t is turned kept ts fair leaves =
     let P : Option TurnRecord → Type 0 = λ x. IsTurned p.meter p.turns p.world new x in
     let made : IsMade p.meter p.turns p.world new t = subst P is turned in
-    stays_fair p (record { next = host_of (record { meter = p.meter; world = new; turns = p.turns + 1 }); turn = turn_view t }) ts kept early made.step fair (subst (λ x. Leaves (so_far_after ts nothing_so_far) (world_of (host_of x))) (sym seen) leaves)
+    stays_fair p (record { next = host_of (record { meter = p.meter; world = new; turns = p.turns + 1 }); turn = turn_view t }) ts kept made.step fair (subst (λ x. Leaves (so_far_after ts nothing_so_far) (world_of (host_of x))) (sym seen) leaves)
 
 -- ---- what a turn mints and withdraws
 
-called_for : (p : HostParts) (x : Step) → IsKept p → p.turns < most_turns → step_of reader (host_of p) ≡ Some x → IsCalledFor (host_of p) x
-called_for p x is early made =
+called_for : (p : HostParts) (x : Step) → IsKept p → step_of reader (host_of p) ≡ Some x → IsCalledFor (host_of p) x
+called_for p x is made =
     let P : Option Step → Type 0 = λ o. IfSome o (IsCalledFor (host_of p)) in
-    subst P made (steps_mint reader (host_of p) reads_modules is.good early)
+    subst P made (steps_mint reader (host_of p) reads_modules is.good)
 
 -- in the turn that was made
-pub turned_called_for : (p q : HostParts) → p ≡ q → (new : Option Ledger) (o : Option TurnRecord) (t : TurnRecord) → o ≡ Some t → IsTurned p.meter p.turns p.world new o → IsKept p → p.turns < most_turns
+pub turned_called_for : (p q : HostParts) → p ≡ q → (new : Option Ledger) (o : Option TurnRecord) (t : TurnRecord) → o ≡ Some t → IsTurned p.meter p.turns p.world new o → IsKept p
     → IsCalledFor (host_of q) (record { next = host_of (record { meter = p.meter; world = new; turns = p.turns + 1 }); turn = turn_view t })
-turned_called_for p q seen new o t is turned kept early =
+turned_called_for p q seen new o t is turned kept =
     let P : Option TurnRecord → Type 0 = λ x. IsTurned p.meter p.turns p.world new x in
     let made : IsMade p.meter p.turns p.world new t = subst P is turned in
     let after : Step = record { next = host_of (record { meter = p.meter; world = new; turns = p.turns + 1 }); turn = turn_view t } in
-    subst (λ x. IsCalledFor (host_of x) after) seen (called_for p after kept early made.step)
+    subst (λ x. IsCalledFor (host_of x) after) seen (called_for p after kept made.step)

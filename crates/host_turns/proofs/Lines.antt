@@ -19,7 +19,7 @@ use Rattle.host_turns.specs.Totals.{TellsWorld}
 use Rattle.host_turns.proofs.SeatNumbers.{first_told}
 use Rattle.front_turns.specs.escrow.Told.{nothing_told}
 use Rattle.front_turns.specs.world_laws.First.{first_world}
-use Rattle.front_turns.proofs.world_laws.First.{first_is_good, first_is_roomy}
+use Rattle.front_turns.proofs.world_laws.First.{first_is_good}
 use Rattle.front_turns.proofs.world_laws.Kept.{good-after}
 use Rattle.front_turns.specs.world_state.Worlds.{State, arrive}
 use Rattle.host_turns.specs.HostStates.{HostParts, IsArrived, IsKept, IsRested, host_of, world_kept}
@@ -30,7 +30,7 @@ use Rattle.host_turns.specs.LineSteps.{IsTaken}
 
 pub first_kept : (meter : ℕ) (k : Ledger) → meter ≤ most_meter → kept_state k ≡ first_world → IsBetween k → k.sums ≡ nothing_told → IsKept (parts meter (Some k) 0)
 first_kept meter k few is between sums = record {
-  good = subst (λ v. IsGoodHost (record { meter = meter; world = v; turns = 0 })) (sym is) (record { meter = few; world = first_is_good; room = first_is_roomy; untold = refl });
+  good = subst (λ v. IsGoodHost (record { meter = meter; world = v; turns = 0 })) (sym is) (record { meter = few; world = first_is_good; untold = refl });
   steady = subst IsSteady (sym is) steady_first;
   rests = record { between = between; sums = subst (λ e. TellsWorld (kept_state k) e) (sym sums) (subst (λ v. TellsWorld v nothing_told) (sym is) first_told) };
 }
@@ -56,7 +56,7 @@ module _ (p : HostParts) (world : Option Ledger) (rests : IsSomeAnd world IsRest
       let w = world_kept p.world in
       record {
         good = subst (λ v. IsGoodHost (record { meter = p.meter; world = v; turns = p.turns })) (sym came)
-            (record { meter = is.good.meter; world = good-after w (arrive d) (line_is_line line d (sym means)) is.good.world; room = is.good.room; untold = is.good.untold });
+            (record { meter = is.good.meter; world = good-after w (arrive d) (line_is_line line d (sym means)) is.good.world; untold = is.good.untold });
         steady = subst IsSteady (sym came) (steady_more w d is.steady);
         rests = rests;
       }

@@ -2,7 +2,7 @@
 use Rattle.std.specs.List.{AllByRecursion}
 use Rattle.std.proofs.Common.{◌≡◌, ℕ, zero, suc, ◌+◌, ◌<◌, List, [], ◌∷◌, ◌++◌, append_assoc, length, map, refl, sym, ◌∙◌, ap, subst, arith}
 use Rattle.std.proofs.lemmas.List.{append-nil, length-append, map-append}
-use Rattle.front_turns.specs.amount_math.declared.Kind.TheVariants.{Set}
+use Rattle.front_turns.specs.amount_math.declared.Kind.TheVariants.{Nat, Set}
 use Rattle.front_turns.specs.ertp_mint.BrandSupply.{new_supply, supply_at}
 use Rattle.front_turns.proofs.escrow.Tellings.{sums_started}
 use Rattle.front_turns.specs.escrow.Told.{EscrowState, nothing_told}
@@ -20,9 +20,11 @@ use Rattle.front_turns.specs.host_data.Tree.{null}
 use Rattle.front_turns.specs.turn_records.Events as events
 use Rattle.front_turns.specs.turn_records.Events.{Event, called, exited, moved, moves_in, opened, settled}
 use Rattle.front_turns.proofs.world_laws.Instances.{open_made}
+use Rattle.front_turns.proofs.world_laws.Kept.{good-after_all}
+use Rattle.front_turns.proofs.world_laws.Lists.{all_read_or}
 use Rattle.front_turns.specs.world_laws.First.{first_world}
-use Rattle.front_turns.specs.world_state.Good.{AreGood, IsAtOpen, IsGoodEffect, IsGoodMove, IsGoodWorld, seats_for}
-use Rattle.front_turns.specs.world_state.Rights.{IsRoomy, slots_at}
+use Rattle.front_turns.specs.world_state.Good.{AreGood, IsAtOpen, IsGoodEffect, IsGoodMove, IsGoodWorld, IsMintedInBounds, seats_for}
+use Rattle.front_turns.specs.world_state.Rights.{slots_at}
 use Rattle.front_turns.specs.world_state.Worlds.{Effect, Offering, Seat, State, after, after_all, burn_and_escrows, empty_seat, exit, invitation_move, invite, leaving_events, left_seat, moves, moves_out, new_seat, note_call, of_own, offer, offer_events, offered_by, opening_of, payout_moves, payouts_tree, promises_made, resolve, seat_at, seats_left}
 use Rattle.front_turns.specs.actors.SeatPromises.{pair_at}
 use Rattle.std.specs.Prelude.{slice_set}
@@ -178,9 +180,9 @@ effects_seated w (e ∷ es) can = more_seats w (after w e) (after_all (after w e
 
 -- ---- a turn
 
-pub log_told : (w : State) (es : List Effect) (e : EscrowState) → IsGoodWorld w → AreGood w es → AreStoredEffects es → w.log ≡ [] → TellsWorld w e → IsRoomy (after_all w es).rights.out 0
+pub log_told : (w : State) (es : List Effect) (e : EscrowState) → IsGoodWorld w → AreGood w es → AreStoredEffects es → w.log ≡ [] → TellsWorld w e
     → IsTurn w.rights (after_all w es).rights (instances_of w.seats) e (after_all w es).log
-log_told w es e good can stored none tells room =
+log_told w es e good can stored none tells =
     let next = after_all w es in
     let accounted = effects_accounted w es good can stored in
     let seats = effects_seated w es can in
@@ -189,7 +191,7 @@ log_told w es e good can stored none tells room =
       told = tells;
       accounts = subst (λ (l : List Event). Accounts w.rights next.rights (moves_in l)) (sym (accounted.told ∙ ap (λ l. l ++ accounted.events) none)) accounted.accounts;
       seated = subst (λ (n : ℕ). AreSeated n next.log) (sym long) (subst (λ (l : List Event). AreSeated (length w.seats) l) (sym (seats.told ∙ ap (λ l. l ++ seats.events) none)) seats.seated);
-      room = λ b. omega (arith, room.each b);
+      minted = λ b. all_read_or IsMintedInBounds next.rights.out b (new_supply Nat) (good-after_all w es can good).minted (omega arith);
     }
 
 pub seats_told : (w : State) (es : List Effect) → AreGood w es → w.log ≡ [] → instances_of w.seats ++ instances_in (after_all w es).log ≡ instances_of (after_all w es).seats

@@ -31,7 +31,6 @@ use Rattle.front_turns.specs.turn_records.declared.turns.TurnRecord.{TurnRecord}
 use Rattle.front_turns.specs.turn_records.Deliveries.{Delivery, Reading, promise_of}
 use Rattle.front_turns.specs.turn_records.Events.{Answer, moves_in}
 use Rattle.host_turns.specs.Totals.{TellsWorld}
-use Rattle.front_turns.specs.world_state.Rights.{most_turns}
 use Rattle.front_turns.specs.world_state.Worlds.{Effect, State, after, after_all, behind, end_staging, in_front, no_shares}
 use Rattle.front_turns.specs.FrontTurns.{turn_in}
 use Rattle.host_turns.specs.HostStates.{IsKept, host_of}
@@ -81,7 +80,7 @@ pub record IsDone (meter : ℕ) (old new : World) (r : Reading) (a : Answer) (ss
   pub sums : ss ≡ sums_of (world_of new).rights (moves_in (world_of new).log)
   pub tells : TellsWorld (world_of new) new.sums
 
-module _ (meter turns : ℕ) (k : Ledger) (is : IsKept (parts meter (Some k) turns)) (early : turns < most_turns) (waits : 0 < length (kept_state k).waiting)
+module _ (meter turns : ℕ) (k : Ledger) (is : IsKept (parts meter (Some k) turns)) (waits : 0 < length (kept_state k).waiting)
     (w : World) (now : world_now w ≡ kept_state k) (m : World) (reading : Reading) (answer : Answer) (ss : List Sum) (made : IsDone meter w m reading answer ss) where
   abbrev s : State
   s = kept_state k
@@ -143,9 +142,9 @@ module _ (meter turns : ℕ) (k : Ledger) (is : IsKept (parts meter (Some k) tur
         let served = services_are reader reads_modules in
         let P : Option Step → Type 0 = λ o. IfSome o (λ x. IsGoodHost x.next) in
         let Q : Option Step → Type 0 = λ o. IfSome o (IsTurnStep h) in
-        let steady = subst Q step_is (steps_are reader served calls_are calls_read (services_read reader) h is.good is.steady early) in
+        let steady = subst Q step_is (steps_are reader served calls_are calls_read (services_read reader) h is.good is.steady) in
         record {
-          good = subst P step_is (steps_good reader served calls_are h is.good early);
+          good = subst P step_is (steps_good reader served calls_are h is.good);
           steady = steady.steady;
           rests = record {
             between = between;

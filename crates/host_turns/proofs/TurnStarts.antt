@@ -1,7 +1,6 @@
 -- A turn begins in a world that is ready for it, and is told to the running totals at its end.
 use Rattle.std.specs.Prelude.{IfSome, Option, Some}
 use Rattle.std.proofs.Common.{◌≡◌, ℕ, ◌<◌, List, [], ◌++◌, length, sym, ap, subst, ◌∙◌}
-use Rattle.run_laws.proofs.delivery_laws.Hosts.{host_room}
 use Rattle.front_turns.proofs.draft_reads.Undoing.{clean_goes}
 use Rattle.front_turns.specs.host_world.Worlds.{IsUndoable, kept_state, world_at_start, world_now, world_of}
 use Rattle.front_turns.specs.host_world.declared.Ledger.{Ledger}
@@ -14,7 +13,6 @@ use Rattle.host_turns.proofs.SeatNumbers.{seats_told}
 use Rattle.front_turns.specs.escrow.Told.{EscrowState}
 use Rattle.front_turns.specs.vault.Drafts.{IsClean, IsValid}
 use Rattle.front_turns.specs.world_state.Good.{IsGoodWorld}
-use Rattle.front_turns.specs.world_state.Rights.{IsRoomy, most_issued, most_turns}
 use Rattle.front_turns.specs.world_state.Worlds.{State, after_all, behind, in_front}
 use Rattle.front_turns.proofs.TurnEffects.{turn_begins}
 use Rattle.front_turns.proofs.EffectLists.{fronted}
@@ -27,14 +25,14 @@ use Rattle.host_turns.proofs.StoredTurns.{effects_good, effects_told}
 -- ---- the beginning
 
 -- a turn has begun, in which nothing has happened, and the running totals are those of its world
-pub record IsReady (meter : ℕ) (w : World) : Type 0 where
-  pub begun : IsBegun meter w
+pub record IsReady (w : World) : Type 0 where
+  pub begun : IsBegun w
   pub untold : (world_of w).log ≡ []
   pub sums : TellsWorld (world_of w) w.sums
 
-module _ (meter turns : ℕ) (k : Ledger) (is : IsKept (parts meter (Some k) turns)) (early : turns < most_turns) (waits : 0 < length (kept_state k).waiting)
+module _ (meter turns : ℕ) (k : Ledger) (is : IsKept (parts meter (Some k) turns)) (waits : 0 < length (kept_state k).waiting)
     (w : World) (now : world_now w ≡ kept_state k) (start : world_at_start w ≡ kept_state k) (clean : IsClean w.draft) (valid : IsValid w.draft) (sums : w.sums ≡ k.sums) where
-  pub ready : IsReady meter w
+  pub ready : IsReady w
   ready =
       let s = kept_state k in
       record {
@@ -42,8 +40,6 @@ module _ (meter turns : ℕ) (k : Ledger) (is : IsKept (parts meter (Some k) tur
           turn = turn_begins w s now clean (clean_goes w.draft valid clean) is.good.world waits;
           same = start ∙ sym now;
           good = subst IsGoodWorld (sym now) is.good.world;
-          room = subst (λ (v : State). IsRoomy v.rights.out most_issued) (sym now) (host_room (host_of (parts meter (Some k) turns)) is.good early);
-          few = is.good.meter;
         };
         untold = ap (λ (v : State). v.log) now ∙ is.good.untold;
         sums = subst (λ v. TellsWorld (behind v) w.sums) (sym now) (subst (λ e. TellsWorld s e) (sym sums) is.rests.sums);
@@ -51,7 +47,7 @@ module _ (meter turns : ℕ) (k : Ledger) (is : IsKept (parts meter (Some k) tur
 
 -- ---- what was delivered is told
 
-module _ (meter : ℕ) (old mid : World) (is : IsReady meter old) (t : Delivered) (done : IsDelivered meter old mid t) (back : IsUndoable old mid) where
+module _ (meter : ℕ) (old mid : World) (is : IsReady old) (t : Delivered) (done : IsDelivered meter old mid t) (back : IsUndoable old mid) where
   abbrev d : Delivery
   d = front_of (world_now old).waiting
 
@@ -59,7 +55,7 @@ module _ (meter : ℕ) (old mid : World) (is : IsReady meter old) (t : Delivered
   good = subst IsGoodWorld (fronted (world_now old) is.begun.turn.waits) is.begun.good
 
   told_after : IsTurn (world_of old).rights (after_all (world_of old) (turn_in meter old).effects).rights (instances_of (world_of old).seats) old.sums (after_all (world_of old) (turn_in meter old).effects).log
-  told_after = effects_told meter is.begun.few (world_of old) d good is.begun.room done.stored is.untold old.sums is.sums
+  told_after = effects_told meter (world_of old) d good done.stored is.untold old.sums is.sums
 
   pub is_turn : (vs : List Event) → vs ≡ (world_now mid).log → IsTurn (world_of old).rights (world_of mid).rights (instances_of (world_of old).seats) mid.sums vs
   is_turn vs same =
@@ -74,14 +70,14 @@ module _ (meter : ℕ) (old mid : World) (is : IsReady meter old) (t : Delivered
   pub told_now : (vs : List Event) → vs ≡ (world_now mid).log → (e : EscrowState) → Tells (world_of mid).rights (instances_of (world_of old).seats ++ instances_in vs) e → TellsWorld (world_of mid) e
   told_now vs same e tells =
       let es = (turn_in meter old).effects in
-      let good_all = effects_good meter is.begun.few (world_of old) d good is.begun.room in
+      let good_all = effects_good meter (world_of old) d good in
       let seats : instances_of (world_of old).seats ++ instances_in (world_of mid).log ≡ instances_of (world_of mid).seats =
       subst (λ (v : State). instances_of (world_of old).seats ++ instances_in v.log ≡ instances_of v.seats) (sym done.effects.world) (seats_told (world_of old) es good_all is.untold) in
       subst (λ ns. Tells (world_of mid).rights ns e) (ap (λ l. instances_of (world_of old).seats ++ instances_in l) same ∙ seats) tells
 
 -- what the totals told before a turn they still tell, where they are as before
-pub still_tells : (meter : ℕ) (old mid : World) → IsReady meter old → mid.sums ≡ old.sums → TellsWorld (world_of old) mid.sums
-still_tells meter old mid is same = subst (λ e. TellsWorld (world_of old) e) (sym same) is.sums
+pub still_tells : (old mid : World) → IsReady old → mid.sums ≡ old.sums → TellsWorld (world_of old) mid.sums
+still_tells old mid is same = subst (λ e. TellsWorld (world_of old) e) (sym same) is.sums
 
 pub delivered_is : (meter : ℕ) (old new : World) (o : Option Delivered) (t : Delivered) → o ≡ Some t → IfSome o (IsDelivered meter old new) → IsDelivered meter old new t
 delivered_is meter old new o t is h = let P : Option Delivered → Type 0 = λ x. IfSome x (IsDelivered meter old new) in subst P is h

@@ -1,8 +1,9 @@
 -- A turn's events can be told, and what is then told is told of the rights after them.
 use Rattle.std.specs.Prelude.{◌&&◌}
-use Rattle.std.proofs.Common.{◌≡◌, ℕ, suc, ◌+◌, ◌<◌, ◌≤◌, ◌^◌, ◌==◌, Bool, true, false, cond, List, [], ◌∷◌, ◌++◌, length, map, Err, Ok, OnErr, Result, refl, sym, ◌∙◌, ap, subst, arith}
+use Rattle.std.proofs.Common.{◌≡◌, ℕ, suc, ◌+◌, ◌<◌, ◌≤◌, ◌==◌, Bool, true, false, cond, List, [], ◌∷◌, ◌++◌, length, map, Err, Ok, OnErr, Result, refl, sym, ◌∙◌, ap, subst, arith}
 use Rattle.front_turns.specs.amount_math.Content.{Content, sum}
 use Rattle.front_turns.specs.amount_math.Counted.{counted, counted-nothing, counted-sum}
+use Rattle.front_turns.specs.amount_math.ValueView.{minted_bound}
 use Rattle.front_turns.proofs.lemmas.ListEdits.{length_push}
 use Rattle.front_turns.specs.escrow.Sums.{AreSums, HasNoSlots}
 use Rattle.front_turns.specs.escrow.Told as told
@@ -33,35 +34,35 @@ opened_of l Outside below = tt
 
 -- events from a table can be told where the totals are its own, and none brings too much out
 can_tell : (vs : List Event) (e : EscrowState) (t : Table) → AreSums t e → table.CanMoveAll t (moves_in vs) → AreSeated (length e.instances) vs
-    → ((b : ℕ) → (totals_of e b).minted + counted (minted (moves_in vs) b) < 2 ^ 128) → CanTellAll e vs
-can_tell [] e t sums can seated room = tt
-can_tell (moved m ∷ vs) e t sums can seated room =
+    → ((b : ℕ) → (totals_of e b).minted + counted (minted (moves_in vs) b) ≤ minted_bound) → CanTellAll e vs
+can_tell [] e t sums can seated few = tt
+can_tell (moved m ∷ vs) e t sums can seated few =
     let more : (b : ℕ) → counted (minted (m ∷ moves_in vs) b) ≡ cond (is_outside m.from && (m.brand == b)) (counted m.value.content) 0 + counted (minted (moves_in vs) b) = λ b. counted_more (is_outside m.from && (m.brand == b)) m.value.content (minted (moves_in vs) b) in (
       record {
         before = t;
         sums = sums;
         defined = can.0;
         opened = record { from = opened_of e.instances m.from seated.0.from; to = opened_of e.instances m.to seated.0.to };
-        room = omega (arith, room m.brand, more m.brand);
+        minted = omega (arith, few m.brand, more m.brand);
       },
-      λ mid step. can_tell vs mid (table.moved t m) (step.sums t sums can.0) can.1 (subst (λ (l : List ℕ). AreSeated (length l) vs) (sym step.told.instances) seated.1) (λ b. omega (arith, room b, more b, (step.told.totals b).minted)),
+      λ mid step. can_tell vs mid (table.moved t m) (step.sums t sums can.0) can.1 (subst (λ (l : List ℕ). AreSeated (length l) vs) (sym step.told.instances) seated.1) (λ b. omega (arith, few b, more b, (step.told.totals b).minted)),
     )
-can_tell (opened o ∷ vs) e t sums can seated room = (
+can_tell (opened o ∷ vs) e t sums can seated few = (
   seated.0,
   λ mid step.
       let longer : suc (length e.instances) ≡ length mid.instances = omega (arith, ap (λ l. length l) step.instances, length_push e.instances o.instance) in
       can_tell vs mid t (step.sums t sums) can
       (subst (λ (n : ℕ). AreSeated n vs) longer seated.1)
-      (λ b. subst (λ (n : ℕ). n + counted (minted (moves_in vs) b) < 2 ^ 128) (sym (ap (λ x. x.minted) (step.totals b))) (room b)),
+      (λ b. subst (λ (n : ℕ). n + counted (minted (moves_in vs) b) ≤ minted_bound) (sym (ap (λ x. x.minted) (step.totals b))) (few b)),
 )
-can_tell (called c ∷ vs) e t sums can seated room = (tt, λ mid step. subst (λ (x : EscrowState). CanTellAll x vs) (sym step) (can_tell vs e t sums can seated room))
-can_tell (exited x ∷ vs) e t sums can seated room = (tt, λ mid step. subst (λ (y : EscrowState). CanTellAll y vs) (sym step) (can_tell vs e t sums can seated room))
-can_tell (settled p s ∷ vs) e t sums can seated room = (tt, λ mid step. subst (λ (x : EscrowState). CanTellAll x vs) (sym step) (can_tell vs e t sums can seated room))
+can_tell (called c ∷ vs) e t sums can seated few = (tt, λ mid step. subst (λ (x : EscrowState). CanTellAll x vs) (sym step) (can_tell vs e t sums can seated few))
+can_tell (exited x ∷ vs) e t sums can seated few = (tt, λ mid step. subst (λ (y : EscrowState). CanTellAll y vs) (sym step) (can_tell vs e t sums can seated few))
+can_tell (settled p s ∷ vs) e t sums can seated few = (tt, λ mid step. subst (λ (x : EscrowState). CanTellAll x vs) (sym step) (can_tell vs e t sums can seated few))
 
 pub turn_can : (start after : Rights) (instances : List ℕ) (e : EscrowState) (vs : List Event) → IsTurn start after instances e vs → CanTellAll e vs
 turn_can start after instances e vs turn = can_tell vs e (table_of start) turn.told.sums turn.accounts.defined
     (subst (λ (l : List ℕ). AreSeated (length l) vs) (sym turn.told.seats) turn.seated)
-    (λ b. omega (arith, turn.room b, turn.accounts.minted_is b, turn.told.minted b))
+    (λ b. omega (arith, turn.minted b, turn.accounts.minted_is b, turn.told.minted b))
 
 -- ---- what they come to
 

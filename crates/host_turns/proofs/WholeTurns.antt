@@ -13,7 +13,7 @@ use Rattle.front_turns.specs.turn_records.declared.turns.TurnRecord.{TurnRecord}
 use Rattle.front_turns.specs.turn_records.Events.{Event, moves_in}
 use Rattle.host_turns.specs.Totals.{IsTurn, Tells, instances_in, instances_of}
 use Rattle.front_turns.specs.escrow.Told.{EscrowState}
-use Rattle.front_turns.specs.world_state.Rights.{Rights, most_turns}
+use Rattle.front_turns.specs.world_state.Rights.{Rights}
 use Rattle.front_turns.specs.FrontTurns.{IsDelivered}
 use Rattle.host_turns.specs.TurnEnds.{IsEnded, IsEnding}
 use Rattle.host_turns.specs.HostStates.{IsKept}
@@ -42,18 +42,18 @@ module _ (number : ℕ) (w : World) (d : Delivered) (k : Ledger) (t : TurnRecord
 
 -- ---- the whole turn
 
-module _ (meter turns : ℕ) (k : Ledger) (is : IsKept (parts meter (Some k) turns)) (early : turns < most_turns) (waits : 0 < length (kept_state k).waiting)
-    (w : World) (now : world_now w ≡ kept_state k) (start : world_at_start w ≡ kept_state k) (ready : IsReady meter w)
+module _ (meter turns : ℕ) (k : Ledger) (is : IsKept (parts meter (Some k) turns)) (waits : 0 < length (kept_state k).waiting)
+    (w : World) (now : world_now w ≡ kept_state k) (start : world_at_start w ≡ kept_state k) (ready : IsReady w)
     (m : World) (d : Delivered) (done : IsDelivered meter w m d) (back : IsUndoable w m) (new : Ledger) where
   turn_is : IsTurn (world_of w).rights (world_of m).rights (instances_of (world_of w).seats) m.sums (world_now m).log
   turn_is = is_turn meter w m ready d done back (world_now m).log refl
 
   pub turned : (o : Option TurnRecord) → IsEnded (turns + 1) m d new o → IsTurned meter turns (Some k) (Some new) o
   turned None undone =
-      as_before meter turns k is w now start (record m { sums = new.sums }) back.rights.kept back.registers (undone.sums _ _ (still_tells meter w m ready back.sums)) new undone.world undone.between refl
+      as_before meter turns k is w now start (record m { sums = new.sums }) back.rights.kept back.registers (undone.sums _ _ (still_tells w m ready back.sums)) new undone.world undone.between refl
   turned (Some t) ending =
       let tells = told_now meter w m ready d done back (world_now m).log refl new.sums (ending.tells _ _ _ turn_is) in
       let there : World = record m { sums = new.sums } in
-      turn_made meter turns k is early waits w now there (reading_view d.reading) (answer_view d.answer) (sums_of (world_of m).rights (moves_in (world_of m).log))
+      turn_made meter turns k is waits w now there (reading_view d.reading) (answer_view d.answer) (sums_of (world_of m).rights (moves_in (world_of m).log))
       (record { reading = done.reading; answer = done.answer; effects = record { now = done.effects.now; world = done.effects.world; turn = record { clean = done.effects.turn.clean; goes = done.effects.turn.goes; good = done.effects.turn.good; waits = done.effects.turn.waits } }; sums = refl; tells = tells })
       new t ending.world ending.between (ending.turn _ _ _ turn_is) refl

@@ -1,5 +1,6 @@
 -- What it is that running totals are told of rights, and of the events of a turn, one after another.
-use Rattle.std.specs.Prelude.{◌≡◌, ℕ, suc, ◌+◌, ◌<◌, ◌^◌, List, [], ◌∷◌, ◌++◌, length, map}
+use Rattle.std.specs.Prelude.{◌≡◌, ℕ, suc, ◌+◌, ◌<◌, ◌≤◌, List, [], ◌∷◌, ◌++◌, length, map}
+use Rattle.front_turns.specs.amount_math.ValueView.{minted_bound}
 use Rattle.front_turns.specs.ertp_mint.BrandSupply.{supply_at}
 use Rattle.front_turns.specs.escrow.Sums.{AreSums}
 use Rattle.front_turns.specs.escrow.Told.{AreOpened, EscrowState, HasRows, IsSame, IsTold, KeepsRows}
@@ -30,7 +31,7 @@ pub record CanTellMove (e : EscrowState) (m : Movement) : Type 0 where
   pub sums : AreSums before e
   pub defined : table.CanMove before m
   pub opened : AreOpened e m
-  pub room : minted_with e m < 2 ^ 128
+  pub minted : minted_with e m ≤ minted_bound
 
 abbrev pub CanTell : EscrowState → Event → Type 0
 CanTell e (moved m) = CanTellMove e m
@@ -118,7 +119,7 @@ pub record IsTurn (start after : Rights) (instances : List ℕ) (e : EscrowState
   pub told : Tells start instances e
   pub accounts : Accounts start after (moves_in vs)
   pub seated : AreSeated (length instances) vs
-  pub room : (b : ℕ) → minted_of after b < 2 ^ 128
+  pub minted : (b : ℕ) → minted_of after b ≤ minted_bound
 
 -- from some rights they lead to some
 pub record TurnOf (e : EscrowState) (vs : List Event) : Type 0 where

@@ -1,5 +1,5 @@
 -- The codes of refusals, each with what it shows: numbers, texts and values, never objects. And a refusal as data.
-use Rattle.std.specs.Prelude.{ℕ, ℤ, pos, List, [], ◌∷◌, map, codes}
+use Rattle.std.specs.Prelude.{ℕ, ◌-◌, ◌^◌, ℤ, min, pos, List, [], ◌∷◌, map, codes}
 use Rattle.host_data.specs.amount_math.ValueView.{ValueView}
 use Rattle.host_data.specs.Tree.{Tree, array, fields, field, no_fields}
 use Rattle.host_data.specs.Tree as trees
@@ -191,8 +191,15 @@ not_enough held asked = NotEnough (record { held = held; asked = asked })
 abbrev pub wrong_amount : ValueView → ValueView → Refusal
 wrong_amount held named = WrongAmount (record { held = held; named = named })
 
+-- a sum as it is shown: one that passes the greatest number that data can hold is shown as that
+abbrev pub most_shown : ℕ
+most_shown = 2 ^ 127 - 1
+
+abbrev pub capped : ℕ → ℕ
+capped sum = min sum most_shown
+
 abbrev pub too_much : ℕ → ℕ → Refusal
-too_much sum bound = TooMuch (pos sum) (pos bound)
+too_much sum bound = TooMuch (pos (capped sum)) (pos (capped bound))
 
 -- ---- as data
 

@@ -1,5 +1,4 @@
 -- Faults of values, sums and parts as the refusals that they are told by.
-use Rattle.std.specs.Prelude.{ℕ, ◌^◌, ◌<◌}
 use Rattle.host_data.specs.amount_math.declared.PutFault.{PutFault}
 use Rattle.host_data.specs.amount_math.declared.PutFault.TheVariants as put_fault
 use Rattle.host_data.specs.amount_math.declared.kinds.MakeFault.{MakeFault}
@@ -14,17 +13,8 @@ abbrev pub make_told : MakeFault → Stop
 make_told make_fault.BadValue = Refused bad_value
 make_told make_fault.NoMemory = NoMemory
 
--- numbers that data can hold
-pub record CanShow (sum bound : ℕ) : Type 0 where
-  pub sum_fits : sum < 2 ^ 127
-  pub bound_fits : bound < 2 ^ 127
-
 -- why a value isn't added to another
 abbrev pub put_told : PutFault → Stop
 put_told (put_fault.Overlap key) = Refused (Overlap key)
 put_told (put_fault.TooMuch over) = Refused (too_much over.sum over.bound)
 put_told put_fault.NoMemory = NoMemory
-
-abbrev pub PutCanShow : PutFault → Type 0
-PutCanShow (put_fault.TooMuch over) = CanShow over.sum over.bound
-PutCanShow _ = Unit {0}

@@ -1,12 +1,15 @@
 //! Faults of values, sums and parts as the refusals that they are told by.
 
-ghost use Rattle.std.specs.Prelude.{◌≡◌};
-ghost use Rattle.refusals.specs.Codes.{too_much};
-ghost use Rattle.refusals.specs.Told.{CanShow, PutCanShow, make_told, put_told};
+ghost use Rattle.std.specs.Prelude.{◌≡◌, pos};
+ghost use Rattle.refusals.specs.Codes.{capped, too_much};
+ghost use Rattle.refusals.specs.Told.{make_told, put_told};
 
 use crate::codes::{BareCode, Refusal};
 use crate::stops::Stop;
 use host_data::amount_math_lib::{MakeFault, PutFault, TooMuch};
+
+/// The greatest number that is shown of a sum.
+const MOST_SHOWN: u128 = (1 << 127) - 1;
 
 impl From<MakeFault> for Stop {
     ghost from_gives = { λ fault e. e ≡ make_told fault };
@@ -19,18 +22,23 @@ impl From<MakeFault> for Stop {
     }
 }
 
+/// A sum as it is shown: one that passes the greatest number that data can hold is shown as that.
+pub fn capped(sum: u128) -> i128
+    ensures { result ≡ pos (capped sum) }
+{
+    sum.min(MOST_SHOWN) as i128
+}
+
 /// A sum passes its bound.
 pub fn too_much(over: TooMuch) -> Refusal
-    requires { CanShow over.sum over.bound }
     ensures { result ≡ too_much over.sum over.bound }
 {
-    Refusal::TooMuch(over.sum as i128, over.bound as i128)
+    Refusal::TooMuch(capped(over.sum), capped(over.bound))
 }
 
 impl Stop {
     /// Why a value isn't added to another.
     pub fn of_put(fault: PutFault) -> Stop
-        requires { PutCanShow fault }
         ensures { result ≡ put_told fault }
     {
         match fault {

@@ -53,7 +53,7 @@ share_of who b k (h, e) c = if who h && (e == b) then count c k else 0
 abbrev pub total_of : (Holder → Bool) → Table → ℕ → List ℕ → ℕ
 total_of who t b k = total (share_of who b k) holdings t
 
--- for each brand and element, the counts over all purses, payments and slots add up to the supply's count, the hand is empty, and no supply's count passes the bound of the brand's kind: 1 in a set brand, 2^63 - 1 in any
+-- for each brand and element, the counts over all purses, payments and slots add up to the supply's count, the hand is empty, and no supply's count passes the bound of the brand's kind
 pub record Balanced (t : Table) (kind_of : ℕ → Kind) (supply : ℕ → Content) : Type 0 where
   pub adds_up : (b : ℕ) (k : List ℕ) → total_of is_store t b k ≡ count (supply b) k
   pub hand_empty : (b : ℕ) → holds t Hand b ≡ nothing

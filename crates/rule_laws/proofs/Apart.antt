@@ -23,7 +23,7 @@ use Rattle.world_laws.specs.rights_model.declared.Holder.TheVariants.{Payment}
 use Rattle.world_laws.specs.rights_model.declared.Movement.{Movement}
 use Rattle.rules.specs.value_tests.Totals.{total_of}
 use Rattle.world_laws.specs.world_state.Good.{AreGood, HasNothing, HoldsNothing, IsFresh, IsGoodMove, IsGoodWorld, open_slots}
-use Rattle.world_laws.specs.world_state.Rights.{CanMove, CanMoveAll, Has, IsNextOr, PaymentTakes, Rights, all_moved, kind_at, moved, lessened_payment, slots_at, taken, value_less, issued_in}
+use Rattle.world_laws.specs.world_state.Rights.{CanMove, CanMoveAll, Has, IsNextOr, PaymentTakes, Rights, all_moved, kind_at, moved, lessened_payment, slots_at, taken, value_less}
 use Rattle.world_laws.specs.world_state.Worlds.{Seat, State, moves}
 use Rattle.rule_laws.proofs.Spending.{spent_length}
 use Rattle.rule_laws.proofs.PaymentViews.{fresh_from, fresh_length, value_with}
@@ -120,10 +120,6 @@ licensed_apart w o m args p b n (v ∷ vs) named = (named, licensed_apart w o m 
 pub stored_apart : (p b n : ℕ) (vs : List ValueView) → AllByRecursion IsStored (moves_apart b p n vs ++ [])
 stored_apart p b n [] = tt
 stored_apart p b n (v ∷ vs) = (inl tt, stored_apart p b (suc n) vs)
-
-pub issued_apart : (p b n : ℕ) (vs : List ValueView) → issued_in (moves_apart b p n vs) ≡ 0
-issued_apart p b n [] = refl
-issued_apart p b n (v ∷ vs) = omega (arith, issued_apart p b (suc n) vs)
 
 -- ---- the effect
 

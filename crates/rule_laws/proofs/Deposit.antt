@@ -41,7 +41,6 @@ module _ (w : State) (n : ℕ) (args : List Tree) (can : CanCall w None (numbere
         licensed = (given.named, tt);
         stored = (inl tt, tt);
         acts = (tt, tt);
-        issues = omega arith;
         calls = omega arith;
       })))
 

@@ -44,7 +44,6 @@ module _ (w : State) (n : ℕ) (args : List Tree) (can : CanCall w None (numbere
         licensed = tt;
         stored = tt;
         acts = (refl, tt);
-        issues = omega arith;
         calls = omega arith;
       })))
 

@@ -30,13 +30,13 @@ use Rattle.rule_laws.proofs.Records.{fields_in, fields_ordered}
 use Rattle.rule_laws.proofs.SharesRead.{IsReadShare, Rising, read_of_kinds, rising_apart, rising_names, share_names}
 use Rattle.rule_laws.proofs.Shown.{handed_held}
 use Rattle.rule_laws.proofs.SlotLists.{can_add_all, can_take_all, each_of_all, still_safe, with_less, with_less_many, with_more, with_more_grows, with_more_many}
-use Rattle.rule_laws.proofs.SlotMoves.{Pay, escrows_can, escrows_emptied, escrows_fresh, escrows_good, escrows_issued, escrows_payments, escrows_slots, escrows_stored}
+use Rattle.rule_laws.proofs.SlotMoves.{Pay, escrows_can, escrows_emptied, escrows_fresh, escrows_good, escrows_payments, escrows_slots, escrows_stored}
 use Rattle.rule_laws.proofs.Spending.{spent_length}
 use Rattle.rules.specs.States.{allocation_of, seat_of}
 use Rattle.rule_laws.specs.GoodContracts.{IsGoodCall, numbered}
 use Rattle.rule_laws.proofs.GivenShares.{AreGiven, IsOwn, OfBrand, all_add, all_take, gains_many, losses_many, neither, of_slot, own_is, record_at_is, room_is, shares_given, seat_slots}
 use Rattle.rule_laws.proofs.Losses.{safe_less}
-use Rattle.rule_laws.proofs.SeatMoves.{changes_here, payouts_can, payouts_emptied, payouts_fresh, payouts_good, payouts_issued, payouts_payments, payouts_slots, payouts_stored}
+use Rattle.rule_laws.proofs.SeatMoves.{changes_here, payouts_can, payouts_emptied, payouts_fresh, payouts_good, payouts_payments, payouts_slots, payouts_stored}
 
 fitting : (w : State) (i seat : ℕ) (r : ShareData) → is_misfit (issuers_of w i) (allocation_of w seat) r ≡ false → OfBrand (allocation_of w seat) r.keyword r.amount.brand
 fitting w i seat r is = of_slot (allocation_of w seat) r (neither _ (is_other (allocation_of w seat) r) is).1
@@ -94,7 +94,6 @@ deposit_is w i n args can = after_check _ _ _ (after_step _ _ _ (λ seat at. aft
       acts = (own.own, (tt, tt));
       licensed = licensed_escrows w i n seat args own shares ps paid.named;
       stored = escrows_stored seat shares ps;
-      issues = omega (arith, escrows_issued seat shares ps);
       calls = omega arith;
     })))))))
 
@@ -141,6 +140,5 @@ withdraw_is w i n args can = after_check _ _ _ (after_step _ _ _ (λ seat at. af
       acts = (own.own, (tt, tt));
       licensed = licensed_payouts w i n seat args own shares first (omega arith);
       stored = payouts_stored seat shares first;
-      issues = omega (arith, payouts_issued seat shares first);
       calls = omega arith;
     }))))))

@@ -1,5 +1,5 @@
 -- What the readers of a contract's arguments give: seats of the instance, shares that fit, room for changes.
-use Rattle.std.specs.Prelude.{IfSome, filter, map, nat_le, not, ◌==◌, ◌||◌, ◌*◌, ◌-◌, ◌^◌}
+use Rattle.std.specs.Prelude.{IfSome, filter, map, nat_le, not, ◌==◌, ◌||◌, ◌-◌}
 use Rattle.std.specs.List.{AllByRecursion}
 use Rattle.std.specs.Option.{option_map_or}
 use Rattle.std.specs.Str.{bytes_eq}
@@ -19,8 +19,7 @@ use Rattle.world_laws.specs.host_data.Amounts.{read_all}
 use Rattle.world_laws.specs.host_data.Nodes.{EachNode, ObjectIs}
 use Rattle.world_laws.specs.ertp_mint.Stocks.{most_made}
 use Rattle.world_laws.specs.host_data.Tree as trees
-use Rattle.world_laws.specs.host_data.Tree.{Tree, fields_size, items_size, paired, pairs_of, size}
-use Rattle.world_laws.specs.host_data.View.{items_of}
+use Rattle.world_laws.specs.host_data.Tree.{Tree, paired, pairs_of}
 use Rattle.world_laws.specs.host_data.declared.data.Obj.{Obj}
 use Rattle.world_laws.specs.host_data.declared.data.ObjKind.{ObjKind}
 use Rattle.world_laws.specs.host_data.declared.data.ObjKind.TheVariants as kinds
@@ -44,7 +43,6 @@ use Rattle.world_laws.specs.world_state.Worlds.{IsOpen, State}
 use Rattle.rule_laws.proofs.Records.{fields_each, fields_in, fields_ordered}
 use Rattle.rule_laws.proofs.SharesRead.{AreRead, IsReadShare, record_read, values_there}
 use Rattle.rule_laws.proofs.SlotLists.{CanAddTo, CanTakeFrom, fresh_in, further_many}
-use Rattle.rule_laws.proofs.Sizes.{argument_size, counted_in, record_counts}
 use Rattle.rule_laws.proofs.Read.{open_there}
 
 pub if_given : {A : Type 0} (P : A → Type 0) (r : Result A Refusal) → ((x : A) → r ≡ Ok x → P x) → IfOk r P
@@ -120,7 +118,6 @@ none_misfits misfits (r ∷ rs) is = by (misfits r) refl (none_misfits misfits r
 pub record AreGiven (w : State) (args : List Tree) (Q : List ℕ → ℕ → Type 0) (shares : List Share) : Type 0 where
   pub names_of : List (List ℕ)
   pub read : AreRead w shares names_of
-  pub counts : counted_in shares ≤ 2 ^ 63 * (1 + items_size (items_of args))
   pub fit : AllByRecursion (λ (r : Share). Q r.keyword r.amount.brand) shares
 
 valued_fit : (Q : List ℕ → ℕ → Type 0) (give : List ShareData) (values : List ValueView) → AllByRecursion (λ (r : ShareData). Q r.keyword r.amount.brand) give → AllByRecursion (λ (r : Share). Q r.keyword r.amount.brand) (with_values give values)
@@ -140,10 +137,6 @@ pub record_at_is : (place : ℕ) (args : List Tree) (given : List (List ℕ × T
 unfolding record_at
 record_at_is place args given is = pairs_are (arg place args) given (wanted_there (pairs_of (arg place args)) _ given is)
 
-fields_within : (t : Tree) → fields_size (fields_in t) ≤ size t
-fields_within (trees.fields fs) = omega arith
-fields_within _ = omega arith
-
 pub shares_given : (w : State) (h : Option ℕ) (misfits : ShareData → Bool) (Q : List ℕ → ℕ → Type 0) → ((r : ShareData) → misfits r ≡ false → Q r.keyword r.amount.brand) → (place : ℕ) (args : List Tree) → IsFormed w h (arg place args) → IfOk (shares_at misfits place args) (AreGiven w args Q)
 unfolding shares_at
 shares_given w h misfits Q to place args formed = after_step _ _ _ (λ given at. after_step _ _ _ (λ read reads. after_none_such _ _ _ _ (λ none. if_given (AreGiven w args Q) (valued read) (λ shares is.
@@ -154,7 +147,6 @@ shares_given w h misfits Q to place args formed = after_step _ _ _ (λ given at.
     record {
       names_of = names (paired (fields_in t));
       read = record_read w h (fields_in t) read shares (fields_each (ObjectIs (ObjectKnown h w)) t formed.objects) (fields_ordered t formed.ordered) reads_all both.1 is;
-      counts = values_there read shares (λ rs. counted_in rs ≤ 2 ^ 63 * (1 + items_size (items_of args))) is (λ values there. omega (arith, record_counts (fields_in t) read values reads_all there, fields_within t, argument_size place args));
       fit = values_there read shares (λ rs. AllByRecursion (λ (r : Share). Q r.keyword r.amount.brand) rs) is (λ values there. valued_fit Q read values (turned misfits Q to read (none_misfits misfits read none)));
     }))))
 

@@ -65,7 +65,6 @@ make_mint_is w i n args can =
       licensed = tt;
       stored = tt;
       acts = (ap of_instance can.target, (ap Some (sym can.target), tt));
-      issues = omega arith;
       calls = omega arith;
     }))))))
 
@@ -100,7 +99,6 @@ save_is w i n args can =
       licensed = tt;
       stored = tt;
       acts = (ap Some (sym can.target), tt);
-      issues = omega arith;
       calls = omega arith;
     })))))
 

@@ -40,10 +40,10 @@ use Rattle.world_laws.specs.world_state.Good.{open_slots}
 use Rattle.world_laws.specs.world_state.Rights.{all_moved, kind_at}
 use Rattle.rules.specs.GivenPayments.{LivePayment}
 use Rattle.rules.specs.Lists.{combined, moves_apart, moves_to, parted, payments_from, values_of}
-use Rattle.rule_laws.proofs.Apart.{issued_apart, licensed_apart, parted_can, payments_apart, stored_apart}
+use Rattle.rule_laws.proofs.Apart.{licensed_apart, parted_can, payments_apart, stored_apart}
 use Rattle.rule_laws.proofs.Lists.{AreGiven, after_next_payments, listed_are, parts_are, sum_is, summed_value}
 use Rattle.rule_laws.proofs.Spending.{spent_length}
-use Rattle.rule_laws.proofs.Together.{gathered_can, gathered_length, issued_to, licensed_to, stored_to}
+use Rattle.rule_laws.proofs.Together.{gathered_can, gathered_length, licensed_to, stored_to}
 
 -- ---- what an issuer tells
 
@@ -74,7 +74,6 @@ module _ (w : State) (n : ℕ) (args : List Tree) (can : CanCall w None (numbere
     licensed = tt;
     stored = tt;
     acts = (refl, tt);
-    issues = omega arith;
     calls = omega arith;
   })
 
@@ -90,7 +89,6 @@ module _ (w : State) (n : ℕ) (args : List Tree) (can : CanCall w None (numbere
         licensed = (given.named, tt);
         stored = (inl tt, tt);
         acts = (tt, tt);
-        issues = omega arith;
         calls = omega arith;
       }))
 
@@ -139,7 +137,6 @@ module _ (w : State) (n : ℕ) (args : List Tree) (can : CanCall w None (numbere
         licensed = (given.named, tt);
         stored = (inl tt, tt);
         acts = (tt, tt);
-        issues = omega arith;
         calls = omega arith;
       })))
 
@@ -156,7 +153,6 @@ module _ (w : State) (n : ℕ) (args : List Tree) (can : CanCall w None (numbere
         licensed = licensed_apart w (numbered kinds.Issuer n) m args g.number n next vs given.named;
         stored = stored_apart g.number n next vs;
         acts = (tt, tt);
-        issues = omega (arith, issued_apart g.number n next vs);
         calls = omega arith;
       }
 
@@ -217,7 +213,6 @@ module _ (w : State) (n : ℕ) (args : List Tree) (can : CanCall w None (numbere
     licensed = tt;
     stored = tt;
     acts = (refl, tt);
-    issues = omega arith;
     calls = omega arith;
   }
   combined_is (g ∷ gs) are value room =
@@ -231,7 +226,6 @@ module _ (w : State) (n : ℕ) (args : List Tree) (can : CanCall w None (numbere
         licensed = licensed_to w (numbered kinds.Issuer n) (codes "combine") args next n (g ∷ gs) (names_all (g ∷ gs) are.given);
         stored = stored_to next n (g ∷ gs);
         acts = (tt, tt);
-        issues = omega (arith, issued_to next n (g ∷ gs));
         calls = omega arith;
       }
 

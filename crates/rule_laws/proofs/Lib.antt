@@ -39,8 +39,8 @@ pub mod Own
 pub mod InstanceIssuers
 pub mod OpenSeats
 pub mod Shutdowns
-pub mod Sizes
 pub mod GivenShares
+pub mod ComingOut
 pub mod SeatMoves
 pub mod Losses
 pub mod Changed

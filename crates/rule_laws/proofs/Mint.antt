@@ -1,11 +1,7 @@
 -- The rules of mints are good.
-use Rattle.std.proofs.Common.{ℕ, ◌≤◌, ◌^◌, List, None, codes, inr, refl, arith, IfOk}
-use Rattle.world_laws.specs.amount_math.Counted.{counted}
-use Rattle.world_laws.specs.amount_math.KindLaws.{counted_value}
-use Rattle.world_laws.specs.amount_math.ValueView.{ValueView, most_counted}
-use Rattle.world_laws.specs.amount_math.declared.Kind.{Kind}
-use Rattle.world_laws.specs.amount_math.declared.Kind.TheVariants.{Bag, Nat, Set}
+use Rattle.std.proofs.Common.{ℕ, List, None, codes, inr, refl, arith, IfOk}
 use Rattle.rules.specs.call_arguments.Arguments.{arg}
+use Rattle.world_laws.specs.ertp_mint.BrandSupply.{supply_at}
 use Rattle.world_laws.specs.host_data.Amounts.{IsValueOf}
 use Rattle.world_laws.specs.host_data.Tree.{Tree}
 use Rattle.world_laws.specs.host_data.declared.data.ObjKind.TheVariants as kinds
@@ -20,7 +16,7 @@ use Rattle.rule_laws.proofs.GivenData.{amount_is}
 use Rattle.rule_laws.proofs.Moving.{outside_to_payment, paid_next}
 use Rattle.rule_laws.proofs.Next.{after_next_payment}
 use Rattle.rule_laws.proofs.Reading.{by_method, reads}
-use Rattle.rule_laws.proofs.Sums.{fits_if}
+use Rattle.rule_laws.proofs.ComingOut.{comes_out}
 use Rattle.rules.specs.Mint.{get_issuer, mint_payment, of_mint}
 use Rattle.rule_laws.specs.GoodServices.{AreGoodRules, numbered}
 use Rattle.world_laws.specs.world_state.Known.{IsFormed, IsMadeBy}
@@ -31,34 +27,21 @@ issuer_formed w n args can =
     let by : IsMadeBy w.makers of_kit n = can.target in
     object_formed w None _ (omega (arith, by.made, can.good.brands.made_by))
 
--- a value counts no more than a call from outside instances may issue
-abbrev most_valued : ℕ
-most_valued = 2 ^ 75
-
-kind_counts : (kind : Kind) → most_counted kind ≤ most_valued
-kind_counts Nat = omega arith
-kind_counts Set = omega arith
-kind_counts Bag = omega arith
-
-value_counts : (kind : Kind) (v : ValueView) → IsValueOf kind v → counted v.content ≤ most_valued
-value_counts kind v is = omega (arith, counted_value kind v.content is.value, kind_counts kind)
-
 module _ (w : State) (n : ℕ) (args : List Tree) where
   module _ (can : CanCall w None (numbered kinds.Mint n) args) where
     mint_is : IsGoodOutcome w None (numbered kinds.Mint n) (codes "mintPayment") args (mint_payment w n args)
     unfolding mint_payment
     mint_is = after_step _ _ _ (λ v reads. after_known _ _ _ (λ fits. after_next_payment _ _ _ (λ room.
         let value : IsValueOf (kind_at w.rights.out n) v = ok_has _ _ v reads (amount_is n (kind_at w.rights.out n) 1 (arg 1 args)) in
-        let few = value_counts (kind_at w.rights.out n) v value in
+        let comes = comes_out (supply_at w.rights.out n) v.content fits in
         record {
-          good = outside_to_payment w can.good n v can.target value (fits_if (kind_at w.rights.out n) _ tt fits) (omega (arith, can.room.each n, few)) room;
+          good = outside_to_payment w can.good n v can.target value comes.fits comes.minted room;
           known = object_formed _ None _ (omega (arith, paid_next w.rights.payments (amount_of n v)));
           leaves = refl;
           opens = refl;
           licensed = (record { target = record { kind_is = refl; number_is = refl }; method_is = refl }, tt);
           stored = (inr tt, tt);
           acts = (tt, tt);
-          issues = omega (arith, few);
           calls = omega arith;
         })))
 

@@ -1,11 +1,11 @@
 -- Single movements between purses, payments and outside that can be made in a good world.
 use Rattle.std.specs.Prelude.{IfSome, IsSomeAnd, slice_index_or, slice_set}
 use Rattle.std.specs.Option.{option_map}
-use Rattle.std.proofs.Common.{◌≡◌, ℕ, zero, suc, ◌+◌, ◌<◌, ◌≤◌, ◌^◌, cond, List, [], ◌∷◌, ◌++◌, length, map, Option, Some, inl, refl, sym, ap, subst, ◌∙◌, arith, if◌then◌else◌}
+use Rattle.std.proofs.Common.{◌≡◌, ℕ, zero, suc, ◌+◌, ◌<◌, ◌≤◌, cond, List, [], ◌∷◌, ◌++◌, length, map, Option, Some, inl, refl, sym, ap, subst, ◌∙◌, arith, if◌then◌else◌}
 use Rattle.std.proofs.lemmas.Bool.{eq-eqb}
 use Rattle.world_laws.specs.amount_math.Content.{Content, Contains, count, count-difference, count-nothing, difference, nothing, sum}
 use Rattle.world_laws.specs.amount_math.Counted.{counted}
-use Rattle.world_laws.specs.amount_math.ValueView.{Fits, IsValue, ValueView}
+use Rattle.world_laws.specs.amount_math.ValueView.{Fits, IsValue, ValueView, minted_bound}
 use Rattle.world_laws.specs.amount_math.declared.Amount.{Amount}
 use Rattle.world_laws.specs.host_data.Amounts.{IsValueOf}
 use Rattle.world_laws.specs.ertp_mint.BrandSupply.{supply_at}
@@ -114,14 +114,14 @@ module _ (w : State) (good : IsGoodWorld w) where
       )
 
   -- from outside to the next payment, in a brand of a mint that a party has
-  pub outside_to_payment : (b : ℕ) (v : ValueView) → IsMadeBy w.makers of_kit b → IsValueOf (kind_at w.rights.out b) v → Fits (kind_at w.rights.out b) (sum (supply_at w.rights.out b).outstanding.content v.content) → (supply_at w.rights.out b).minted + counted v.content < 2 ^ 128 → length w.rights.payments + open_slots w.seats w.rights.slots < most_made → AreGood w (one_move b Outside (Payment (length w.rights.payments)) v)
-  outside_to_payment b v by value fits room left = (
+  pub outside_to_payment : (b : ℕ) (v : ValueView) → IsMadeBy w.makers of_kit b → IsValueOf (kind_at w.rights.out b) v → Fits (kind_at w.rights.out b) (sum (supply_at w.rights.out b).outstanding.content v.content) → (supply_at w.rights.out b).minted + counted v.content ≤ minted_bound → length w.rights.payments + open_slots w.seats w.rights.slots < most_made → AreGood w (one_move b Outside (Payment (length w.rights.payments)) v)
+  outside_to_payment b v by value fits minted left = (
     record {
       can = (
         record {
           brand = omega (arith, by.made, good.brands.made_by, good.brands.supplies);
           kind = sym value.kind_is;
-          from = record { fits = subst (λ k. Fits k (sum (supply_at w.rights.out b).outstanding.content v.content)) (sym value.kind_is) fits; room = room };
+          from = record { fits = subst (λ k. Fits k (sum (supply_at w.rights.out b).outstanding.content v.content)) (sym value.kind_is) fits; minted = minted };
           to = next_takes (taken w.rights Outside b v) b v (own_value (kind_at w.rights.out b) v value);
         },
         record { each = λ e k. count-nothing k },

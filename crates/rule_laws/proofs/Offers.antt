@@ -1,54 +1,50 @@
 -- The rule of an offer is good.
-use Rattle.std.specs.Prelude.{IsSomeAnd, is_none, map, slice_set, unwrap_or}
+use Rattle.std.specs.Prelude.{IsSomeAnd, is_none, map, slice_set}
 use Rattle.std.specs.List.{AllByRecursion}
 use Rattle.std.specs.Str.{bytes_eq}
-use Rattle.std.proofs.Common.{◌≡◌, ◌≢◌, ℕ, suc, ◌+◌, ◌<◌, ◌≤◌, nat_le, Bool, true, false, cond, List, [], ◌∷◌, ◌++◌, length, Option, Some, None, Result, Ok, IfOk, codes, inr, inl, refl, sym, ap, subst, ◌∙◌, arith}
+use Rattle.std.proofs.Common.{◌≡◌, ℕ, suc, ◌+◌, ◌≤◌, Bool, true, false, cond, List, [], ◌∷◌, ◌++◌, length, Option, Some, None, Result, Ok, IfOk, codes, inr, inl, refl, sym, ap, subst, ◌∙◌, arith}
 use Rattle.std.proofs.lemmas.Bool.{leb-true}
 use Rattle.world_laws.specs.amount_math.Amount.{Meet}
-use Rattle.world_laws.specs.amount_math.Content.{Contains, nothing, nothing-sum, sum}
+use Rattle.world_laws.specs.amount_math.Content.{nothing, nothing-sum, sum}
 use Rattle.world_laws.specs.amount_math.ValueView.{IsValue, ValueView}
 use Rattle.world_laws.specs.amount_math.declared.Amount.{Amount}
 use Rattle.rules.proofs.call_arguments.ArgumentLists.{none_twice}
 use Rattle.rules.specs.call_arguments.Arguments.{arg}
-use Rattle.rules.specs.call_arguments.Numbers.{AreApart, IsNoneOf, first_repeated, least_failing}
-use Rattle.world_laws.specs.host_data.Values.{object_tree}
+use Rattle.rules.specs.call_arguments.Numbers.{AreApart}
 use Rattle.world_laws.specs.ertp_mint.Stocks.{most_made}
-use Rattle.world_laws.specs.host_data.Tree.{Tree, paired}
+use Rattle.world_laws.specs.host_data.Tree.{Tree}
 use Rattle.world_laws.specs.host_data.declared.data.ObjKind.TheVariants as kinds
 use Rattle.world_laws.proofs.lemmas.ListEdits.{length_map, length_push, length_set, read_past, read_pushed, read_set}
-use Rattle.rules.specs.holders.PaymentViews.{PaymentView, payment_view_at}
+use Rattle.rules.specs.holders.PaymentViews.{payment_view_at}
 use Rattle.rules.specs.proposals.OfferSafety.{IsCovered, IsOfferSafe}
 use Rattle.rules.specs.proposals.Shares.{amount_under, most_shares}
-use Rattle.rules.specs.proposals.Slots.{FitsSeat, emptied, in_byte_order, slots_of}
+use Rattle.rules.specs.proposals.Slots.{emptied, in_byte_order, slots_of}
 use Rattle.rules.specs.proposals.declared.allocations.Share.{Share}
 use Rattle.rules.specs.proposals.declared.offers.Proposal.{Proposal}
 use Rattle.rules.specs.call_arguments.Records.{names, objects_under}
 use Rattle.world_laws.proofs.refusals.Steps.{after_known, after_none_such, after_step, need_holds, ok_has}
-use Rattle.world_laws.specs.refusals.Codes.{limit}
 use Rattle.world_laws.specs.refusals.Outcomes.{◌>>◌, bind, need}
 use Rattle.world_laws.specs.refusals.declared.codes.Refusal.{Refusal}
-use Rattle.world_laws.specs.rights_model.Table.{movement}
-use Rattle.world_laws.specs.rights_model.declared.Holder.TheVariants.{Outside, Payment}
+use Rattle.world_laws.specs.rights_model.declared.Holder.TheVariants.{Payment}
 use Rattle.world_laws.specs.rights_model.declared.Movement.{Movement}
 use Rattle.world_laws.specs.vault_model.Lists.{amount_of}
 use Rattle.world_laws.specs.vault_model.Tables.{no_hand}
-use Rattle.world_laws.proofs.Lists.{all_map, length_append}
+use Rattle.world_laws.proofs.Lists.{length_append}
 use Rattle.world_laws.proofs.OfKinds.{shares_stay, same_moved, stay_same}
 use Rattle.world_laws.proofs.Proposed.{opened_slots}
 use Rattle.world_laws.proofs.Rooms.{open-push}
 use Rattle.world_laws.proofs.Seated.{empty_slots_are}
-use Rattle.world_laws.specs.world_state.Good.{AreEscrows, AreSharesOf, CanMoveTogether, CanOffer, HasNothing, HasSlot, HoldsNothing, IsBurn, IsGoodMove, IsGoodWorld, IsProposal, IsValued, TakeApart, open_slots, rights_for, seats_for}
+use Rattle.world_laws.specs.world_state.Good.{AreEscrows, AreSharesOf, CanMoveTogether, CanOffer, HasSlot, HoldsNothing, IsGoodWorld, IsProposal, IsValued, open_slots, rights_for, seats_for}
 use Rattle.world_laws.specs.world_state.Known.{IsHanded}
-use Rattle.world_laws.specs.world_state.Rights.{CanMove, CanMoveAll, Has, Rights, all_moved, issued_in, moved, lessened_payment, slots_at, with_slots}
-use Rattle.world_laws.specs.world_state.Worlds.{IsOpen, Offering, Seat, State, burn_and_escrows, empty_slots, invitation_value, new_seat, no_seat, offered_by, promises_made, seat_at, staged_at}
+use Rattle.world_laws.specs.world_state.Rights.{CanMove, CanMoveAll, Has, Rights, all_moved, moved, lessened_payment, slots_at, with_slots}
+use Rattle.world_laws.specs.world_state.Worlds.{IsOpen, Offering, Seat, State, burn_and_escrows, empty_slots, new_seat, no_seat, offered_by, promises_made, seat_at}
 use Rattle.world_laws.specs.world_state.Worlds as worlds
 use Rattle.rules.specs.Licence.{AreLicensed, NamesPayment}
-use Rattle.rules.specs.Obligations.{CanCall}
 use Rattle.rule_laws.proofs.Forms.{object_formed}
 use Rattle.rule_laws.proofs.Moving.{Holds, contains_itself, emptied_payment, held_kind, is_out}
-use Rattle.rule_laws.proofs.SharesRead.{AreRead, IsReadShare, read_of_kinds, read_valued, rising_apart, rising_ordered}
+use Rattle.rule_laws.proofs.SharesRead.{IsReadShare, read_of_kinds, read_valued, rising_apart, rising_ordered}
 use Rattle.rule_laws.proofs.SlotLists.{CanAddAll, CanAddTo, added_covered, all_of_each, can_add_all, fresh_in, with_more, with_more_many}
-use Rattle.rule_laws.proofs.SlotMoves.{Pay, can_change, escrows_apart, escrows_are, escrows_can, escrows_emptied, escrows_fresh, escrows_good, escrows_issued, escrows_payments, escrows_slots, escrows_stored, escrows_take_apart, escrows_untouched, pays_still}
+use Rattle.rule_laws.proofs.SlotMoves.{Pay, can_change, escrows_apart, escrows_are, escrows_can, escrows_emptied, escrows_fresh, escrows_good, escrows_payments, escrows_slots, escrows_stored, escrows_take_apart, escrows_untouched, pays_still}
 use Rattle.rules.specs.Zoe.{Invited, has_room, keywords_of, offer, offering, paid}
 use Rattle.rules.specs.GivenPayments.{escrows_of, held_by, is_live_in}
 use Rattle.rules.specs.Proposals.{Proposed}
@@ -310,6 +306,5 @@ offer_is w n args can = after_step _ _ _ (λ by invites. after_step _ _ _ (λ re
       acts = (refl, tt);
       licensed = (invited.named, licensed_escrows w args n (length w.seats) p.give ps paying.named);
       stored = (inl tt, escrows_stored (length w.seats) p.give ps);
-      issues = omega (arith, escrows_issued (length w.seats) p.give ps);
       calls = omega arith;
     }))))

@@ -45,7 +45,6 @@ woken w i n args can = after_check _ _ _ (after_step _ _ _ (λ timer at. after_s
   licensed = tt;
   stored = tt;
   acts = (refl, tt);
-  issues = omega arith;
   calls = omega arith;
 }))))
 
@@ -100,7 +99,6 @@ seat_is w i n args can = after_known _ _ _ (λ running. after_step _ _ _ (λ rul
   licensed = tt;
   stored = tt;
   acts = (ap Some (sym can.target), tt);
-  issues = omega arith;
   calls = omega arith;
 }))))
 

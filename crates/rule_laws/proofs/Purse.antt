@@ -58,7 +58,6 @@ module _ (w : State) (n : ℕ) (args : List Tree) (can : CanCall w None (numbere
         licensed = (record { target = record { kind_is = refl; number_is = refl }; method_is = refl }, tt);
         stored = (inl tt, tt);
         acts = (tt, tt);
-        issues = omega arith;
         calls = omega arith;
       })))
 
@@ -77,7 +76,6 @@ module _ (w : State) (n : ℕ) (args : List Tree) (can : CanCall w None (numbere
         licensed = (given.named, tt);
         stored = (inl tt, tt);
         acts = (tt, tt);
-        issues = omega arith;
         calls = omega arith;
       })))
 

@@ -1,7 +1,7 @@
 -- Rules that only read, the dispatch by methods, and what a rule leaves as it was.
 use Rattle.std.specs.List.{AllByRecursion}
 use Rattle.std.specs.Str.{bytes_eq}
-use Rattle.std.proofs.Common.{◌≡◌, ℕ, ◌+◌, ◌≤◌, Bool, true, false, List, [], ◌∷◌, Option, Result, Ok, Err, IfOk, if◌then◌else◌, refl, sym, ap, subst, arith}
+use Rattle.std.proofs.Common.{◌≡◌, ℕ, Bool, true, false, List, [], ◌∷◌, Option, Result, Ok, Err, IfOk, if◌then◌else◌, refl, sym, subst, arith}
 use Rattle.std.proofs.lemmas.Slice.Eq.{bytes_eq-Decides}
 use Rattle.world_laws.specs.host_data.Tree.{Tree}
 use Rattle.world_laws.specs.host_data.declared.data.Obj.{Obj}
@@ -10,18 +10,12 @@ use Rattle.world_laws.specs.refusals.declared.codes.Refusal.{Refusal}
 use Rattle.world_laws.specs.turn_records.Deliveries.{Delivery}
 use Rattle.world_laws.proofs.Fronts.{front-after_all}
 use Rattle.world_laws.proofs.Kept.{good-after_all}
-use Rattle.world_laws.proofs.Roomy.{roomy-after_all}
 use Rattle.world_laws.specs.world_state.Good.{IsGoodWorld, LeavesAnswer}
 use Rattle.world_laws.specs.world_state.Known.{IsFormed}
-use Rattle.world_laws.specs.world_state.Rights.{IsRoomy}
 use Rattle.world_laws.specs.world_state.Worlds.{Effect, State, after_all, in_front, resolve}
 use Rattle.rules.specs.Acts.{MayAct}
-use Rattle.rules.specs.Obligations.{IsGoodOutcome, IsRule, most_issued_by}
-use Rattle.rules.specs.Outcomes.{Outcome}
+use Rattle.rules.specs.Obligations.{IsGoodOutcome, IsRule}
 use Rattle.rules.specs.Traces.{departures_by, openings_by}
-
-zero_le : (n : ℕ) → 0 ≤ n
-zero_le n = omega arith
 
 -- a rule that only reads has no effects: it owes an answer that the caller may hold
 pub reads : (w : State) (caller : Option ℕ) (o : Obj) (m : List ℕ) (args : List Tree) (r : Result Tree Refusal) → departures_by w o m ≡ [] → openings_by o m ≡ 0 → IfOk r (IsFormed w caller) → IsGoodOutcome w caller o m args (reading r)
@@ -34,7 +28,6 @@ reads w caller o m args (Ok t) leaves opens known = record {
   acts = tt;
   licensed = tt;
   stored = tt;
-  issues = zero_le (most_issued_by caller args);
   calls = omega arith;
 }
 reads w caller o m args (Err e) leaves opens known = tt
@@ -50,7 +43,7 @@ by_method P m name x y here there = by (bytes_eq m name) refl
 pub kept_rule : (w : State) (caller : Option ℕ) (o : Obj) (m : List ℕ) (args : List Tree) (answer : Tree) (effects : List Effect) → IsRule w caller o m args answer effects → IsGoodWorld w → IsGoodWorld (after_all w effects)
 kept_rule w caller o m args answer effects is good = good-after_all w effects is.good good
 
--- ---- the turn's own delivery, and room
+-- ---- the turn's own delivery
 
 leaves_answer : (w : State) (caller : Option ℕ) (o : Obj) (m : List ℕ) (d : Delivery) (e : Effect) → MayAct w caller o m e → LeavesAnswer d e
 leaves_answer w caller o m d (resolve p v) may = absurd may
@@ -62,6 +55,3 @@ all_leave w caller o m d (e ∷ es) all = (leaves_answer w caller o m d e all.0,
 
 pub kept_front : (w : State) (d : Delivery) (caller : Option ℕ) (o : Obj) (m : List ℕ) (args : List Tree) (answer : Tree) (effects : List Effect) → IsRule w caller o m args answer effects → IsGoodWorld (in_front d w) → IsGoodWorld (in_front d (after_all w effects))
 kept_front w d caller o m args answer effects is good = front-after_all w d effects is.good (all_leave w caller o m d effects is.acts) good
-
-pub kept_room : (w : State) (caller : Option ℕ) (o : Obj) (m : List ℕ) (args : List Tree) (answer : Tree) (effects : List Effect) (n : ℕ) → IsRule w caller o m args answer effects → IsRoomy w.rights.out (most_issued_by caller args + n) → IsRoomy (after_all w effects).rights.out n
-kept_room w caller o m args answer effects n is room = roomy-after_all w effects (most_issued_by caller args + n) n room (omega (arith, is.issues))

@@ -32,8 +32,7 @@ use Rattle.rules.specs.States.{allocation_of, changing, has_room, last_allocatio
 use Rattle.world_laws.proofs.Lists.{all_append, all_map}
 use Rattle.world_laws.specs.world_state.Good.{AreGood, CanMoveTogether, IsGoodWorld, open_slots}
 use Rattle.world_laws.specs.world_state.Known.{IsSeatOf}
-use Rattle.world_laws.specs.world_state.Rights.{issued_from, issued_in}
-use Rattle.world_laws.specs.world_state.Worlds.{IsOpen, State, after, issued_by_all, staged_at, unstage}
+use Rattle.world_laws.specs.world_state.Worlds.{IsOpen, State, after, staged_at}
 use Rattle.rules.specs.Acts.{MayAct}
 use Rattle.rules.specs.Licence.{IsContractMove, IsStored}
 use Rattle.rules.specs.Obligations.{IsRule}
@@ -204,10 +203,6 @@ module _ (ms : List Movement) where
   called_by [] = refl
   called_by (n ∷ ns) = called_by ns
 
-  issued_by_them : (w : State) (ns : List ℕ) → issued_by_all w (changing ns ms) ≡ issued_in ms
-  issued_by_them w [] = omega arith
-  issued_by_them w (n ∷ ns) = omega (arith, issued_by_them (after w (unstage n)) ns)
-
   acts_by : (w : State) (i : ℕ) (o : Obj) (m : List ℕ) (ns : List ℕ) → AllByRecursion (IsSeatOf w.seats i) ns → AllByRecursion (MayAct w (Some i) o m) (changing ns ms)
   acts_by w i o m [] own = (tt, tt)
   acts_by w i o m (n ∷ ns) own = (own.0, acts_by w i o m ns own.1)
@@ -217,15 +212,15 @@ module _ (ms : List Movement) where
 module _ (w : State) (i : ℕ) (o : Obj) (m : List ℕ) (args : List Tree) where
   -- between slots of the instance and the hand
   abbrev IsInside : Movement → Type 0
-  IsInside move = (IsContractMove w i o m args move × IsStored move) × (issued_from move.from move.value.content ≡ 0)
+  IsInside move = IsContractMove w i o m args move × IsStored move
 
   outs_inside : (s : ℕ) (shares : List Share) → IsSeatOf w.seats i s → AllByRecursion IsInside (map (out_move s) shares)
   outs_inside s [] own = tt
-  outs_inside s (x ∷ xs) own = (((record { takes = own; gives = tt }, inl tt), refl), outs_inside s xs own)
+  outs_inside s (x ∷ xs) own = ((record { takes = own; gives = tt }, inl tt), outs_inside s xs own)
 
   ins_inside : (s : ℕ) (shares : List Share) → IsSeatOf w.seats i s → AllByRecursion IsInside (map (in_move s) shares)
   ins_inside s [] own = tt
-  ins_inside s (x ∷ xs) own = (((record { takes = tt; gives = own }, inr tt), refl), ins_inside s xs own)
+  ins_inside s (x ∷ xs) own = ((record { takes = tt; gives = own }, inr tt), ins_inside s xs own)
 
   all_outs_inside : (ts : List Touched) → AllByRecursion (λ (t : Touched). IsSeatOf w.seats i t.seat) ts → AllByRecursion IsInside (flat_map outs ts)
   all_outs_inside [] own = tt
@@ -237,14 +232,6 @@ module _ (w : State) (i : ℕ) (o : Obj) (m : List ℕ) (args : List Tree) where
 
   carried_inside : (ts : List Touched) → AllByRecursion (λ (t : Touched). IsSeatOf w.seats i t.seat) ts → AllByRecursion IsInside (carried ts)
   carried_inside ts own = all_append IsInside (flat_map outs ts) (flat_map ins ts) (all_outs_inside ts own) (all_ins_inside ts own)
-
-  none_issued : (ms : List Movement) → AllByRecursion IsInside ms → issued_in ms ≡ 0
-  none_issued [] all = refl
-  none_issued (x ∷ xs) all = omega (arith, all.0.1, none_issued xs all.1)
-
-issued_end : (ms : List Movement) → issued_in (ms ++ []) ≡ issued_in ms
-issued_end [] = refl
-issued_end (x ∷ xs) = omega (arith, issued_end xs)
 
 -- ---- the rule
 
@@ -298,8 +285,7 @@ module _ (w : State) (good : IsGoodWorld w) (i : ℕ) (has : ℕ → List Share)
           leaves = left_by ms seats ∙ sym leaves;
           opens = opened_none ms seats ∙ sym opens;
           acts = acts_by ms w i zcf m seats own;
-          licensed = all_map (IsInside w i zcf m args) (IsContractMove w i zcf m args) (λ move is. is.0.0) (movements_in (carried_out touched)) moves_inside;
-          stored = all_map (IsInside w i zcf m args) IsStored (λ move is. is.0.1) (movements_in (carried_out touched)) moves_inside;
-          issues = omega (arith, issued_by_them ms w seats, none_issued w i zcf m args (ms ++ []) inside, issued_end ms);
+          licensed = all_map (IsInside w i zcf m args) (IsContractMove w i zcf m args) (λ move is. is.0) (movements_in (carried_out touched)) moves_inside;
+          stored = all_map (IsInside w i zcf m args) IsStored (λ move is. is.1) (movements_in (carried_out touched)) moves_inside;
           calls = subst (λ k. k ≤ 1) (sym (called_by ms seats)) (omega arith);
         }

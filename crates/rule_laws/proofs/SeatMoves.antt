@@ -1,10 +1,11 @@
 -- Movements between the slots of one seat and outside, and from its slots to payments that they make.
 use Rattle.std.specs.Prelude.{map, slice_set}
 use Rattle.std.specs.List.{AllByRecursion}
-use Rattle.std.proofs.Common.{◌≡◌, ℕ, suc, ◌+◌, ◌<◌, ◌≤◌, ◌^◌, cond, List, [], ◌∷◌, length, None, inl, inr, ◌++◌, refl, sym, ap, subst, ◌∙◌, arith}
+use Rattle.std.proofs.Common.{◌≡◌, ℕ, suc, ◌+◌, ◌<◌, ◌≤◌, cond, List, [], ◌∷◌, length, None, inl, inr, ◌++◌, refl, sym, ap, subst, ◌∙◌, arith}
 use Rattle.std.proofs.lemmas.Bool.{eq-eqb}
 use Rattle.world_laws.specs.amount_math.Content.{Content, Contains, count, count-nothing, count-sum, nothing, sum}
-use Rattle.world_laws.specs.amount_math.ValueView.{Fits, IsValue, ValueView, bound}
+use Rattle.world_laws.specs.amount_math.Counted.{counted-sum}
+use Rattle.world_laws.specs.amount_math.ValueView.{IsValue, ValueView, bound}
 use Rattle.world_laws.specs.amount_math.declared.Kind.{Kind}
 use Rattle.world_laws.specs.amount_math.declared.Kind.TheVariants.{Nat}
 use Rattle.world_laws.specs.ertp_mint.BrandSupply.{BrandSupply, issued, new_supply, supply_at}
@@ -24,14 +25,14 @@ use Rattle.rules.specs.value_tests.Totals.{total_of}
 use Rattle.world_laws.proofs.Balanced.{WithHand, taken_with, with-moved}
 use Rattle.world_laws.proofs.OfKinds.{shares_stay, same_moved, stay_same}
 use Rattle.world_laws.specs.world_state.Good.{AreGood, AreNamed, AreSharesOf, HasNothing, IsFresh, IsGoodMove, IsGoodWorld, open_slots}
-use Rattle.world_laws.specs.world_state.Rights.{CanMove, CanMoveAll, CanTake, HasOrOpens, IsNextOr, MayCome, Rights, TakesOrOpens, all_moved, given, issued_in, kind_at, paid, shares_less, shares_more, slots_at, taken}
+use Rattle.world_laws.specs.world_state.Rights.{CanMove, CanMoveAll, CanTake, HasOrOpens, IsNextOr, MayCome, Rights, TakesOrOpens, all_moved, given, kind_at, paid, shares_less, shares_more, slots_at, taken}
 use Rattle.world_laws.specs.world_state.Worlds.{IsOpen, Seat, State, payout_moves, seat_at}
 use Rattle.rules.specs.Licence.{IsStored}
 use Rattle.rule_laws.proofs.Moving.{paid_next}
 use Rattle.rule_laws.proofs.SlotLists.{CanAddAll, CanTakeAll, moved_amount, with_less, with_more}
 use Rattle.rule_laws.proofs.SlotMoves.{at_seat, can_change}
+use Rattle.rule_laws.proofs.ComingOut.{ComesOut}
 use Rattle.rule_laws.proofs.GivenShares.{IsOwn}
-use Rattle.rule_laws.proofs.Sizes.{counted_in}
 
 -- ---- the slots of an own seat change, of which nothing is staged any more
 
@@ -52,9 +53,8 @@ balanced_hand w good = record { each = λ e k. omega (arith, good.balanced.each 
 -- ---- from outside
 
 -- so much may come out of a brand
-pub record MayComeAll (r : Rights) (b : ℕ) (shares : List Share) : Type 0 where
-  pub fits : Fits (kind_at r.out b) (sum (supply_at r.out b).outstanding.content (total_of (values_of shares)))
-  pub room : (supply_at r.out b).minted + counted_in shares < 2 ^ 128
+abbrev pub MayComeAll : Rights → ℕ → List Share → Type 0
+MayComeAll r b shares = ComesOut (supply_at r.out b) (total_of (values_of shares))
 
 abbrev gain_step : Rights → ℕ → Share → Rights
 gain_step r s x = given (taken r Outside x.amount.brand x.amount.value) (Slot s x.keyword) x.amount.brand x.amount.value
@@ -66,7 +66,7 @@ module _ (s : ℕ) where
   may_come_first : (r : Rights) (b : ℕ) (x : Share) (xs : List Share) → kind_at r.out b ≡ x.amount.value.kind → MayComeAll r b (x ∷ xs) → MayCome r b x.amount.value
   may_come_first r b x xs kind may = record {
     fits = record { each = λ k. subst (λ (q : Kind). count (sum (supply_at r.out b).outstanding.content x.amount.value.content) k ≤ bound q) kind (omega (arith, may.fits.each k, count-sum (supply_at r.out b).outstanding.content x.amount.value.content k, count-sum (supply_at r.out b).outstanding.content (total_of (values_of (x ∷ xs))) k, count-sum x.amount.value.content (total_of (values_of xs)) k)) };
-    room = omega (arith, may.room);
+    minted = omega (arith, may.minted, counted-sum x.amount.value.content (total_of (values_of xs)));
   }
 
   may_come_rest : (r : Rights) (b : ℕ) (x : Share) (xs : List Share) → x.amount.brand ≡ b → b < length r.out → MayComeAll r b (x ∷ xs) → MayComeAll (gain_step r s x) b xs
@@ -78,7 +78,7 @@ module _ (s : ℕ) where
           each = λ k. subst (λ (y : BrandSupply). count (sum y.outstanding.content (total_of (values_of xs))) k ≤ bound y.outstanding.kind) (sym next)
               (omega (arith, may.fits.each k, count-sum (sum (supply_at r.out b).outstanding.content v) (total_of (values_of xs)) k, count-sum (supply_at r.out b).outstanding.content v k, count-sum (supply_at r.out b).outstanding.content (total_of (values_of (x ∷ xs))) k, count-sum v (total_of (values_of xs)) k));
         };
-        room = omega (arith, may.room, ap (λ (y : BrandSupply). y.minted) next);
+        minted = omega (arith, may.minted, counted-sum v (total_of (values_of xs)), ap (λ (y : BrandSupply). y.minted) next);
       }
 
   pub gains_can : (r : Rights) (cur shares : List Share) (b : ℕ) → s < length r.slots → slots_at r.slots s ≡ cur → CanAddAll cur shares → AllByRecursion (λ (x : Share). x.amount.brand ≡ b) shares → AreSharesOf r.out shares → MayComeAll r b shares → CanMoveAll r no_hand (map (gain s) shares)
@@ -120,10 +120,6 @@ module _ (s : ℕ) where
   pub gains_fresh : (made : ℕ) (shares : List Share) → AllByRecursion (λ (m : Movement). IsFresh made m.to) (map (gain s) shares)
   gains_fresh made [] = tt
   gains_fresh made (x ∷ xs) = (tt, gains_fresh made xs)
-
-  pub gains_issued : (shares : List Share) → issued_in (map (gain s) shares) ≡ counted_in shares
-  gains_issued [] = refl
-  gains_issued (x ∷ xs) = omega (arith, gains_issued xs)
 
   pub gains_stored : (shares : List Share) → AllByRecursion IsStored (map (gain s) shares ++ [])
   gains_stored [] = tt
@@ -185,10 +181,6 @@ module _ (s : ℕ) where
   losses_fresh made [] = tt
   losses_fresh made (x ∷ xs) = (tt, losses_fresh made xs)
 
-  pub losses_issued : (shares : List Share) → issued_in (map (loss s) shares) ≡ 0
-  losses_issued [] = refl
-  losses_issued (x ∷ xs) = omega (arith, losses_issued xs)
-
   pub losses_stored : (shares : List Share) → AllByRecursion IsStored (map (loss s) shares ++ [])
   losses_stored [] = tt
   losses_stored (x ∷ xs) = (inl tt, losses_stored xs)
@@ -237,10 +229,6 @@ module _ (s : ℕ) where
   pub payouts_fresh : (made : ℕ) (shares : List Share) (n : ℕ) → made ≤ n → AllByRecursion (λ (m : Movement). IsFresh made m.to) (payout_moves s n shares)
   payouts_fresh made [] n le = tt
   payouts_fresh made (x ∷ xs) n le = (le, payouts_fresh made xs (suc n) (omega (arith, le)))
-
-  pub payouts_issued : (shares : List Share) (n : ℕ) → issued_in (payout_moves s n shares) ≡ 0
-  payouts_issued [] n = refl
-  payouts_issued (x ∷ xs) n = omega (arith, payouts_issued xs (suc n))
 
   pub payouts_stored : (shares : List Share) (n : ℕ) → AllByRecursion IsStored (payout_moves s n shares ++ [])
   payouts_stored [] n = tt

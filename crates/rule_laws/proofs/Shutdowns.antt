@@ -9,7 +9,7 @@ use Rattle.world_laws.specs.turn_rows.Causes.{halted}
 use Rattle.world_laws.specs.world_state.Good.{AreGood}
 use Rattle.world_laws.specs.world_state.Known.{IsSeatOf}
 use Rattle.world_laws.specs.world_state.Rights.{slots_at}
-use Rattle.world_laws.specs.world_state.Worlds.{State, after, exit, halt, issued_by_all}
+use Rattle.world_laws.specs.world_state.Worlds.{State, after, exit, halt}
 use Rattle.rules.specs.Acts.{MayAct}
 use Rattle.rules.specs.Licence.{AreLicensed, IsStored}
 use Rattle.rules.specs.Obligations.{IsGoodOutcome}
@@ -42,10 +42,6 @@ module _ (i : ℕ) where
   moved_by [] = refl
   moved_by (n ∷ ns) = moved_by ns
 
-  issued_by_none : (w : State) (ns : List ℕ) → issued_by_all w (exits_of ns ++ halt i ∷ []) ≡ 0
-  issued_by_none w [] = refl
-  issued_by_none w (n ∷ ns) = omega (arith, issued_by_none (after w (exit n halted)) ns)
-
   acts_by : (w : State) (o : Obj) (m : List ℕ) (ns : List ℕ) → AllByRecursion (IsSeatOf w.seats i) ns → AllByRecursion (MayAct w (Some i) o m) (exits_of ns ++ halt i ∷ [])
   acts_by w o m [] own = (refl, tt)
   acts_by w o m (n ∷ ns) own = (own.0, acts_by w o m ns own.1)
@@ -67,7 +63,6 @@ module _ (w : State) (i : ℕ) (args : List Tree) (made : i < length w.tables.in
     acts = acts_by i w (numbered kinds.Zcf i) m (all_open w i) (all_own i w.seats);
     licensed = subst (λ ms. AreLicensed w (Some i) (numbered kinds.Zcf i) m args ms) (sym (moved_by i (all_open w i))) tt;
     stored = subst (λ ms. AllByRecursion IsStored ms) (sym (moved_by i (all_open w i))) tt;
-    issues = omega (arith, issued_by_none i w (all_open w i));
     calls = subst (λ k. k ≤ 1) (sym (called_by i (all_open w i))) (omega arith);
   }))
 

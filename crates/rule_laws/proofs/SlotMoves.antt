@@ -2,27 +2,25 @@
 -- be made together.
 use Rattle.std.specs.Prelude.{IsSome, IsSomeAnd, is_none, slice_set}
 use Rattle.std.specs.List.{AllByRecursion}
-use Rattle.std.proofs.Common.{◌≡◌, ◌≢◌, ℕ, zero, suc, ◌+◌, ◌<◌, ◌≤◌, ◌^◌, List, [], ◌∷◌, Some, None, Option, length, map, inl, inr, ◌++◌, refl, sym, ◌∙◌, ap, subst, arith, if◌then◌else◌}
+use Rattle.std.proofs.Common.{◌≡◌, ◌≢◌, ℕ, zero, suc, ◌+◌, ◌<◌, ◌≤◌, List, [], ◌∷◌, Some, None, Option, length, inl, inr, ◌++◌, refl, sym, ◌∙◌, ap, subst, arith, if◌then◌else◌}
 use Rattle.std.proofs.lemmas.Bool.{cases_eq, false≢true}
-use Rattle.world_laws.specs.amount_math.Content.{Content, Contains, count, count-nothing, count-sum, sum}
-use Rattle.world_laws.specs.amount_math.Counted.{counted}
-use Rattle.world_laws.specs.amount_math.ValueView.{Fits, IsValue, ValueView}
+use Rattle.world_laws.specs.amount_math.Content.{count-nothing}
+use Rattle.world_laws.specs.amount_math.ValueView.{ValueView}
 use Rattle.rules.specs.call_arguments.Numbers.{AreApart, IsNoneOf}
-use Rattle.world_laws.specs.ertp_mint.BrandSupply.{BrandSupply, issued, new_supply, supply_at}
 use Rattle.world_laws.specs.ertp_mint.Stocks.{most_made}
 use Rattle.world_laws.proofs.lemmas.ListEdits.{length_set, read_other, read_set, set_same, set_set}
 use Rattle.rules.specs.holders.PaymentViews.{PaymentView, payment_view_at, spent_payment}
 use Rattle.rules.specs.proposals.OfferSafety.{IsOfferSafe}
 use Rattle.rules.specs.proposals.Shares.{amount_under}
 use Rattle.rules.specs.proposals.declared.allocations.Share.{Share}
-use Rattle.world_laws.specs.rights_model.declared.Holder.TheVariants.{Outside, Payment, Slot}
+use Rattle.world_laws.specs.rights_model.declared.Holder.TheVariants.{Payment, Slot}
 use Rattle.world_laws.specs.rights_model.declared.Movement.{Movement}
 use Rattle.world_laws.specs.vault_model.Lists.{amount_of}
 use Rattle.world_laws.specs.vault_model.Tables.{no_hand}
 use Rattle.rules.specs.GivenPayments.{escrows_of}
-use Rattle.world_laws.specs.world_state.Good.{AreEscrows, AreNamed, AreSharesOf, CanMoveTogether, HasNothing, HasRoom, HoldsNothing, IsFresh, IsGoodMove, LeavesSafe, LeavesSlots, TakeApart, open_slots}
-use Rattle.world_laws.specs.world_state.Rights.{CanMoveAll, Has, Rights, TakesOrOpens, all_moved, given, issued_in, lessened_payment, shares_more, slots_at, taken}
-use Rattle.world_laws.specs.world_state.Worlds.{IsOpen, Seat, no_seat, seat_at, staged_at}
+use Rattle.world_laws.specs.world_state.Good.{AreEscrows, AreNamed, AreSharesOf, CanMoveTogether, HasNothing, HoldsNothing, IsFresh, IsGoodMove, LeavesSafe, LeavesSlots, TakeApart, open_slots}
+use Rattle.world_laws.specs.world_state.Rights.{CanMoveAll, Has, Rights, TakesOrOpens, all_moved, given, lessened_payment, shares_more, slots_at, taken}
+use Rattle.world_laws.specs.world_state.Worlds.{IsOpen, Seat, seat_at, staged_at}
 use Rattle.rules.specs.Licence.{IsStored}
 use Rattle.rule_laws.proofs.Moving.{Holds, contains_itself, emptied_payment}
 use Rattle.rule_laws.proofs.SlotLists.{CanAddAll, moved_amount, with_more}
@@ -168,11 +166,6 @@ module _ (s : ℕ) where
   escrows_are held [] (p ∷ ps) pay = absurd pay
   escrows_are held (x ∷ xs) [] pay = absurd pay
   escrows_are held (x ∷ xs) (p ∷ ps) pay = (record { payment = p; brand = refl; from = refl; to = refl; value = refl }, escrows_are held xs ps pay.1)
-
-  pub escrows_issued : (shares : List Share) (ps : List ℕ) → issued_in (escrows_of s shares ps) ≡ 0
-  escrows_issued [] ps = refl
-  escrows_issued (x ∷ xs) [] = refl
-  escrows_issued (x ∷ xs) (p ∷ ps) = omega (arith, escrows_issued xs ps)
 
   pub escrows_stored : (shares : List Share) (ps : List ℕ) → AllByRecursion IsStored (escrows_of s shares ps ++ [])
   escrows_stored [] ps = tt

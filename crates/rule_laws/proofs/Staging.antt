@@ -88,7 +88,6 @@ module _ (w : State) (i n : ℕ) (args : List Tree) (can : CanCall w (Some i) (n
     acts = (can.target, tt);
     licensed = tt;
     stored = tt;
-    issues = omega arith;
     calls = omega arith;
   }
 

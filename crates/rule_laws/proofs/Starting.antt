@@ -37,7 +37,6 @@ install_is read gives w n args can = after_step _ _ _ (λ bytes given. after_ste
   licensed = tt;
   stored = tt;
   acts = (refl, tt);
-  issues = omega arith;
   calls = omega arith;
 })))
 
@@ -77,6 +76,5 @@ start_is w n args can = after_step _ _ _ (λ installation is. after_step _ _ _ (
       licensed = tt;
       stored = tt;
       acts = (refl, tt);
-      issues = omega arith;
       calls = omega arith;
     }))))))

@@ -25,7 +25,7 @@ use Rattle.world_laws.specs.rights_model.declared.Movement.{Movement}
 use Rattle.rules.specs.GivenPayments.{LivePayment}
 use Rattle.rules.specs.value_tests.Totals.{total_of}
 use Rattle.world_laws.specs.world_state.Good.{AreGood, HasNothing, HoldsNothing, IsFresh, IsGoodMove, IsGoodWorld, open_slots}
-use Rattle.world_laws.specs.world_state.Rights.{CanMove, CanMoveAll, Has, IsNextOr, Rights, Takes, all_moved, kind_at, moved, lessened_payment, slots_at, taken, value_less, value_more, issued_in}
+use Rattle.world_laws.specs.world_state.Rights.{CanMove, CanMoveAll, Has, IsNextOr, Rights, Takes, all_moved, kind_at, moved, lessened_payment, slots_at, taken, value_less, value_more}
 use Rattle.world_laws.specs.world_state.Worlds.{Seat, State, moves}
 use Rattle.rule_laws.proofs.Apart.{Left, part_can}
 use Rattle.rule_laws.proofs.Spending.{spent_length}
@@ -181,10 +181,6 @@ licensed_to w o m args n b (g ∷ gs) named = (named.0, licensed_to w o m args n
 pub stored_to : (n b : ℕ) (gs : List LivePayment) → AllByRecursion IsStored (moves_to b n gs ++ [])
 stored_to n b [] = tt
 stored_to n b (g ∷ gs) = (inl tt, stored_to n b gs)
-
-pub issued_to : (n b : ℕ) (gs : List LivePayment) → issued_in (moves_to b n gs) ≡ 0
-issued_to n b [] = refl
-issued_to n b (g ∷ gs) = omega (arith, issued_to n b gs)
 
 -- ---- the first, which makes the payment
 

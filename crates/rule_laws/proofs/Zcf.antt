@@ -1,10 +1,6 @@
 -- The rules of the zcf are good: those that make invitations, tell or end what an instance is; the others are shown
 -- beside.
-use Rattle.std.proofs.Common.{◌≡◌, ℕ, List, length, Some, IfOk, codes, refl, sym, ap, arith}
-use Rattle.world_laws.specs.amount_math.Content.{count-nothing, counts, nothing, one_of}
-use Rattle.world_laws.specs.amount_math.Counted.{counted, counted-nothing}
-use Rattle.world_laws.specs.amount_math.Totals.{total-put}
-use Rattle.world_laws.specs.turn_stores.Elements.{element}
+use Rattle.std.proofs.Common.{ℕ, List, length, Some, IfOk, codes, refl, sym, ap, arith}
 use Rattle.world_laws.specs.host_data.Tree.{Tree}
 use Rattle.world_laws.specs.host_data.declared.data.ObjKind.TheVariants as kinds
 use Rattle.world_laws.proofs.refusals.Steps.{after_check, after_step}
@@ -30,14 +26,6 @@ use Rattle.rule_laws.proofs.Reallocating.{reallocate_is}
 use Rattle.rule_laws.proofs.Shutdowns.{failure_is, shutdown_is}
 use Rattle.rule_laws.proofs.Transferring.{rearrange_is}
 
--- an invitation is one count
-abbrev as_counted : List ℕ → ℕ → ℕ
-as_counted k n = n
-
-counted_one : (k : List ℕ) → counted (one_of k) ≡ 1
-unfolding one_of
-counted_one k = omega (arith, total-put as_counted counts (λ _. refl) nothing k 1, count-nothing k, counted-nothing)
-
 invited : (w : State) (i n : ℕ) (args : List Tree) → CanCall w (Some i) (numbered kinds.Zcf n) args → IsGoodOutcome w (Some i) (numbered kinds.Zcf i) (codes "makeInvitation") args (make_invitation w i args)
 unfolding make_invitation
 invited w i n args can = after_check _ _ _ (after_step _ _ _ (λ f is. after_step _ _ _ (λ description read. after_next_of _ _ _ _ (λ few. after_next_payment _ _ _ (λ room. record {
@@ -55,7 +43,6 @@ invited w i n args can = after_check _ _ _ (after_step _ _ _ (λ f is. after_ste
   licensed = tt;
   stored = tt;
   acts = (record { by = refl; target = record { kind_is = refl; number_is = refl }; method = refl }, tt);
-  issues = omega (arith, counted_one (element (length w.invitations)));
   calls = omega arith;
 })))))
 
@@ -93,7 +80,6 @@ stop_is w i n args can = record {
   licensed = tt;
   stored = tt;
   acts = (ap Some (sym can.target), tt);
-  issues = omega arith;
   calls = omega arith;
 }
 

@@ -5,7 +5,6 @@ use Rattle.std.proofs.Common.{◌≡◌, ℕ, ◌<◌, Bool, true, false, List, 
 use Rattle.std.proofs.lemmas.Bool.{eqb-true}
 use Rattle.rules.specs.proposals.Gains.{with_gains}
 use Rattle.rules.specs.proposals.Losses.{with_losses}
-use Rattle.world_laws.specs.amount_math.Content.{sum}
 use Rattle.world_laws.specs.ertp_mint.BrandSupply.{supply_at}
 use Rattle.world_laws.specs.host_data.Tree.{Tree}
 use Rattle.world_laws.specs.host_data.declared.data.ObjKind.TheVariants as kinds
@@ -22,19 +21,19 @@ use Rattle.world_laws.proofs.Forms.{formed_grows}
 use Rattle.world_laws.proofs.Growing.{grows-after}
 use Rattle.world_laws.specs.world_state.Good.{IsGoodWorld}
 use Rattle.world_laws.specs.world_state.Known.{IsMadeBy}
-use Rattle.world_laws.specs.world_state.Rights.{all_moved, kind_at}
+use Rattle.world_laws.specs.world_state.Rights.{all_moved}
 use Rattle.world_laws.specs.world_state.Worlds.{State, after, maker_at, moves, of_host, of_instance, unstage}
 use Rattle.rules.specs.Licence.{AreLicensed}
 use Rattle.rules.specs.call_arguments.Arguments.{arg}
 use Rattle.rule_laws.proofs.Forms.{null_formed}
 use Rattle.rule_laws.proofs.SharesRead.{read_of_kinds, rising_apart}
 use Rattle.rule_laws.proofs.SlotLists.{can_add_all, can_take_all, each_of_all, still_safe, with_less, with_less_many, with_more, with_more_grows, with_more_many}
-use Rattle.rule_laws.proofs.Sums.{fits_if}
+use Rattle.rule_laws.proofs.ComingOut.{comes_out}
 use Rattle.rules.specs.States.{allocation_of, seat_of}
 use Rattle.rule_laws.specs.GoodContracts.{IsGoodCall, numbered}
 use Rattle.rule_laws.proofs.GivenShares.{AreGiven, IsOwn, OfBrand, all_add, all_take, gains_many, losses_many, neither, of_slot, own_is, passed, room_is, shares_given, seat_slots}
 use Rattle.rule_laws.proofs.Losses.{safe_less}
-use Rattle.rule_laws.proofs.SeatMoves.{balanced_hand, changes_here, gains_can, gains_emptied, gains_fresh, gains_good, gains_issued, gains_payments, gains_slots, gains_stored, losses_can, losses_emptied, losses_fresh, losses_good, losses_issued, losses_payments, losses_slots, losses_stored}
+use Rattle.rule_laws.proofs.SeatMoves.{balanced_hand, changes_here, gains_can, gains_emptied, gains_fresh, gains_good, gains_payments, gains_slots, gains_stored, losses_can, losses_emptied, losses_fresh, losses_good, losses_payments, losses_slots, losses_stored}
 use Rattle.rules.specs.Obligations.{CanCall, IsGoodOutcome}
 use Rattle.rules.specs.Outcomes.{Outcome}
 use Rattle.rule_laws.proofs.Reading.{by_method}
@@ -110,10 +109,7 @@ gains_are w i n args can = after_check _ _ _ (after_step _ _ _ (λ seat at. afte
     let made_seat : seat < length w.rights.slots = omega (arith, own.own.made, good.seats.slotted) in
     record {
       good = changes_here w good i seat own (map (gain seat) shares) (with_more slots shares)
-          (gains_can seat w.rights slots shares n made_seat refl can_add brands (read_of_kinds w good shares given.read.each) (record {
-            fits = fits_if (kind_at w.rights.out n) (sum (supply_at w.rights.out n).outstanding.content (total_of (values_of shares))) tt fits;
-            room = omega (arith, can.room.each n, given.counts);
-          }))
+          (gains_can seat w.rights slots shares n made_seat refl can_add brands (read_of_kinds w good shares given.read.each) (comes_out (supply_at w.rights.out n) (total_of (values_of shares)) fits))
           (gains_good seat w.seats shares n own.is_open given.read.named brands (not_first w i n good can.target))
           (gains_emptied seat (all_moved w.rights (map (gain seat) shares)).payments shares)
           (gains_fresh seat (length w.rights.payments) shares)
@@ -126,7 +122,6 @@ gains_are w i n args can = after_check _ _ _ (after_step _ _ _ (λ seat at. afte
       acts = (own.own, (tt, tt));
       licensed = licensed_gains w i n seat args can.target own shares brands;
       stored = gains_stored seat shares;
-      issues = omega (arith, gains_issued seat shares, given.counts);
       calls = omega arith;
     }))))))
 
@@ -161,7 +156,6 @@ burn_is w i n args can = after_check _ _ _ (after_step _ _ _ (λ seat at. after_
       acts = (own.own, (tt, tt));
       licensed = licensed_losses w i n seat args can.target own shares brands;
       stored = losses_stored seat shares;
-      issues = omega (arith, losses_issued seat shares);
       calls = omega arith;
     }))))))
 

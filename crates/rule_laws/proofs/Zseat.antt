@@ -44,7 +44,6 @@ leave_is w i n args can = after_known _ _ _ (λ stays. record {
   licensed = tt;
   stored = tt;
   acts = (can.target, tt);
-  issues = omega arith;
   calls = omega arith;
 })
 
@@ -58,7 +57,6 @@ fail_is w i n args can = after_known _ _ _ (λ stays. after_check _ _ _ (record 
   licensed = tt;
   stored = tt;
   acts = (can.target, tt);
-  issues = omega arith;
   calls = omega arith;
 }))
 
@@ -76,7 +74,6 @@ clear_is w i n args can = after_check _ _ _ (record {
   licensed = tt;
   stored = tt;
   acts = (can.target, tt);
-  issues = omega arith;
   calls = omega arith;
 })
 

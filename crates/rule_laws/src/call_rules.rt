@@ -1,7 +1,7 @@
 //! The laws. The bodies are empty: what they state is proved of the definitions.
 
-ghost use Rattle.std.specs.Prelude.{◌≡◌, ◌+◌, ℕ, List, [], Option, Result, IfOk};
-ghost use Rattle.rules.specs.Obligations.{IsGoodOutcome, IsRule, most_issued_by};
+ghost use Rattle.std.specs.Prelude.{◌≡◌, ℕ, List, [], Option, Result, IfOk};
+ghost use Rattle.rules.specs.Obligations.{IsGoodOutcome, IsRule};
 ghost use Rattle.rules.specs.Traces.{departures_by, openings_by};
 ghost use Rattle.world_laws.specs.host_data.Tree.{Tree};
 ghost use Rattle.world_laws.specs.host_data.declared.data.Obj.{Obj};
@@ -10,7 +10,6 @@ ghost use Rattle.world_laws.specs.refusals.declared.codes.Refusal.{Refusal};
 ghost use Rattle.world_laws.specs.turn_records.Deliveries.{Delivery};
 ghost use Rattle.world_laws.specs.world_state.Good.{IsGoodWorld};
 ghost use Rattle.world_laws.specs.world_state.Known.{IsFormed};
-ghost use Rattle.world_laws.specs.world_state.Rights.{IsRoomy};
 ghost use Rattle.world_laws.specs.world_state.Worlds.{Effect, State, after_all, in_front};
 
 /// What a rule has its effects do keeps the world good.
@@ -27,15 +26,6 @@ pub fn rules_keep_the_turns_delivery()
         (args : List Tree) (answer : Tree) (effects : List Effect) →
         IsRule w caller o m args answer effects → IsGoodWorld (in_front d w) →
         IsGoodWorld (in_front d (after_all w effects)) }
-{}
-
-/// A rule issues no more than its call may, so what further calls may issue can still be issued.
-pub fn rules_leave_room()
-    ensures room { (w : State) (caller : Option ℕ) (o : Obj) (m : List ℕ) (args : List Tree)
-        (answer : Tree) (effects : List Effect) (n : ℕ) →
-        IsRule w caller o m args answer effects →
-        IsRoomy w.rights.out (most_issued_by caller args + n) →
-        IsRoomy (after_all w effects).rights.out n }
 {}
 
 /// A rule that only reads owes an answer that its caller may hold, and nothing else.

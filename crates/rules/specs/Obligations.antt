@@ -1,38 +1,23 @@
 -- What the rule of each call owes, as one record; and what it may count on.
-use Rattle.std.specs.Prelude.{◌≡◌, ◌≤◌, ◌<◌, ◌+◌, ◌*◌, ◌^◌, ℕ, List, length, Option, Some, None, IfOk, IfSome}
+use Rattle.std.specs.Prelude.{◌≡◌, ◌≤◌, ◌<◌, ℕ, List, length, Option, IfOk, IfSome}
 use Rattle.std.specs.List.{AllByRecursion}
 use Rattle.call_arguments.specs.Arguments.{arg}
-use Rattle.call_arguments.specs.host_data.Tree.{Tree, items_size}
-use Rattle.call_arguments.specs.host_data.View.{items_of}
+use Rattle.call_arguments.specs.host_data.Tree.{Tree}
 use Rattle.call_arguments.specs.host_data.declared.data.Obj.{Obj}
 use Rattle.world_state.specs.Good.{AreGood, IsGoodWorld}
 use Rattle.world_state.specs.Known.{IsFormed, ObjectKnown}
-use Rattle.world_state.specs.Rights.{IsRoomy}
-use Rattle.world_state.specs.Worlds.{Effect, State, after_all, issued_by_all}
+use Rattle.world_state.specs.Worlds.{Effect, State, after_all}
 use Rattle.rules.specs.Acts.{MayAct}
 use Rattle.rules.specs.Licence.{AreLicensed, IsStored}
 use Rattle.rules.specs.Outcomes.{Outcome}
 use Rattle.rules.specs.Traces.{calls_in, departures_by, departures_in, movements_in, openings_by, openings_in}
-
--- ---- how much a call may issue
-
--- what an instance is charged for a call, before its answer
-abbrev pub charge_of : List Tree → ℕ
-charge_of args = 100 + items_size (items_of args)
-
--- The most that a call issues, of all brands and elements together: one value where it comes from a party or was
--- sent; where a function of an instance calls, one count for each part of the charge. So a turn issues no more
--- than its meter times that count.
-abbrev pub most_issued_by : Option ℕ → List Tree → ℕ
-most_issued_by None args = 2 ^ 75
-most_issued_by (Some i) args = 2 ^ 63 * charge_of args
 
 -- ---- what is owed
 
 -- The effects are good, each after those before it. The answer names only what the caller may hold then, is in
 -- order and not too deep. Seats are left as the call's target and method say, and opened likewise. The effects are
 -- such as calls have, on what is the caller's. Movements take from and go to where they may, and each goes to or
--- comes from where things are kept; little is issued; and at most one function more is to be called.
+-- comes from where things are kept; and at most one function more is to be called.
 pub record IsRule (w : State) (caller : Option ℕ) (o : Obj) (m : List ℕ) (args : List Tree) (answer : Tree)
     (effects : List Effect) : Type 0 where
   pub good : AreGood w effects
@@ -42,7 +27,6 @@ pub record IsRule (w : State) (caller : Option ℕ) (o : Obj) (m : List ℕ) (ar
   pub acts : AllByRecursion (MayAct w caller o m) effects
   pub licensed : AreLicensed w caller o m args (movements_in effects)
   pub stored : AllByRecursion IsStored (movements_in effects)
-  pub issues : issued_by_all w effects ≤ most_issued_by caller args
   pub calls : calls_in effects ≤ 1
 
 -- an outcome that isn't a refusal is so
@@ -51,11 +35,10 @@ IsGoodOutcome w caller o m args outcome = IfOk outcome (λ d. IsRule w caller o 
 
 -- ---- what a rule may count on
 
--- a call may be made: the world is good, an instance that calls was made, the caller may name the target and all
--- that the arguments name, and of each brand so much may still be issued
+-- a call may be made: the world is good, an instance that calls was made, and the caller may name the target and all
+-- that the arguments name
 pub record CanCall (w : State) (caller : Option ℕ) (o : Obj) (args : List Tree) : Type 0 where
   pub good : IsGoodWorld w
   pub hosted : IfSome caller (λ i. i < length w.tables.instances)
   pub target : ObjectKnown caller w o
   pub arguments : (place : ℕ) → IsFormed w caller (arg place args)
-  pub room : IsRoomy w.rights.out (most_issued_by caller args)

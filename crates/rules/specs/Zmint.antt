@@ -17,7 +17,8 @@ use Rattle.rearrange.specs.ertp_mint.BrandSupply.{supply_at}
 use Rattle.rearrange.specs.rights_model.Table.{movement}
 use Rattle.rearrange.specs.rights_model.declared.Holder.TheVariants.{Outside, Slot}
 use Rattle.rearrange.specs.rights_model.declared.Movement.{Movement}
-use Rattle.rearrange.specs.value_tests.Tests.{all_fit_out}
+use Rattle.rearrange.specs.value_tests.Tests.{can_come_out}
+use Rattle.rearrange.specs.value_tests.Totals.{total_of}
 use Rattle.world_state.specs.Worlds.{Maker, State, maker_at, of_host, of_instance, of_kit}
 use Rattle.rules.specs.Given.{is_other, own_seat, shares_at}
 use Rattle.rules.specs.Outcomes.{Outcome}
@@ -58,7 +59,7 @@ mint_gains w brand args = do
   seat ← own_seat w (minting w brand) 2 args
   let slots = allocation_of w seat
   shares ← shares_at (is_not_of brand slots) 1 args
-  all_fit_out (supply_at w.rights.out brand).outstanding (values_of shares)
+  can_come_out (supply_at w.rights.out brand) (total_of (values_of shares))
   can_give slots shares
   has_room w (touched_seat seat slots (with_gains slots shares) ∷ []) 0
   Ok (arg 2 args, changing (seat ∷ []) (map (gain seat) shares))

@@ -40,7 +40,7 @@ fn supply(rt: &impl Abort, alloc: Global) -> Circulations
     supply
 }
 
-/// Issues the set of these keys, none of which is out, of the first brand, of which not many were minted.
+/// Issues the set of these keys, none of which is out, of the first brand.
 fn issue(rt: &impl Abort, alloc: Global, supply: &mut Circulations, texts: &[&str]) -> Parcel
     requires made { 0 < length supply.old }
     requires kind { (circulation_at supply.old 0).supply.outstanding.kind ≡ Kind.Set }
@@ -50,8 +50,6 @@ fn issue(rt: &impl Abort, alloc: Global, supply: &mut Circulations, texts: &[&st
     ensures brand { result.brand ≡ 0 }
 {
     let value = set(rt, alloc, texts);
-    assert!(rt; supply.minted(0) <= 4096);
-    assert!(rt; value.total() <= 4096);
     supply.issue(0, value).ok().expect(rt, "none is out")
 }
 

@@ -21,8 +21,6 @@ fn parcel(rt: &impl Abort, alloc: Global, value: Value) -> Parcel
     supply
         .add_brand(value.kind())
         .expect(rt, "memory for a brand");
-    assert!(rt; supply.minted(0) == 0);
-    assert!(rt; value.total() <= 4096);
     supply.issue(0, value).ok().expect(rt, "within the bound")
 }
 

@@ -1,18 +1,26 @@
 -- The calls of the two parts: what they ask for, and what they make of the whole.
 use Rattle.std.proofs.Common.{◌≡◌, ℕ, ◌+◌, ◌-◌, ◌<◌, List, [], ◌∷◌, ◌++◌, length, take, sym, ◌∙◌, ap, subst, arith}
-use Rattle.std.specs.Prelude.{slice_set, ◌^◌, ◌≤◌}
-use Rattle.ertp_mint.specs.amount_math.Content.{Contains, count-difference, difference, difference-nothing, nothing, sum, sum-nothing}
+use Rattle.std.specs.Prelude.{slice_set, ◌≤◌}
+use Rattle.ertp_mint.specs.amount_math.Content.{Contains, count, count-difference, difference, difference-nothing, nothing, sum, sum-nothing}
 use Rattle.ertp_mint.specs.amount_math.Counted.{counted, counted-difference, counted-nothing}
 use Rattle.ertp_mint.specs.amount_math.Held.{Held, GoesIn, ComesOut, HasRoom, with_less, with_more}
-use Rattle.ertp_mint.specs.amount_math.ValueView.{ValueView, Fits, IsIssueRefusal, keys_of}
+use Rattle.ertp_mint.specs.amount_math.ValueView.{ValueView, Fits, keys_of, with_content}
 use Rattle.ertp_mint.specs.amount_math.declared.PutFault.{PutFault}
 use Rattle.ertp_mint.specs.amount_math.declared.Kind.{Kind}
 use Rattle.ertp_mint.specs.amount_math.declared.Kind.TheVariants.{Nat}
-use Rattle.ertp_mint.specs.Circulating.{CanReturn, IsOut, CirculationView, circulation_at, new_circulation, with_forgotten, with_issued, with_retired, with_unissued, with_unretired}
+use Rattle.ertp_mint.specs.BrandSupply.{BrandSupply, IsMintRefusal, MayIssue}
+use Rattle.ertp_mint.specs.Circulating.{CanReturn, IsOut, CirculationView, circulation_at, new_circulation, unretired, with_forgotten, with_issued, with_retired, with_unissued, with_unretired}
 use Rattle.lemmas.proofs.ListEdits.{length_set, read_set}
 use Rattle.transit.specs.Transit.{AreKept, CanHold, IsInStore, IsKept, IsOnItsWay, TransitView, empty_hand, held_at, whole_of, wholes, with_hand, with_out}
 use Rattle.transit.proofs.Wholes.{forgotten_circulation, held_circulation, issued_circulation, let_go_circulation, retired_circulation, unissued_circulation, unretired_circulation, wholes-kept, wholes-length, wholes-push, wholes-read, wholes-take, wholes-roomed, wholes-set_out}
 use Rattle.transit.proofs.Keeping.{can_let_go, can_return, can_return_part, fits_hand, kept_forgotten, kept_held, kept_issued, kept_let_go, kept_push, kept_retired, kept_take, kept_set, kept_set_hand, kept_set_out, kept_unissued, kept_unretired, on_its_way}
+
+-- what is worked backwards of nothing leaves all as it was
+unretired_none : (s : BrandSupply) → unretired s nothing ≡ s
+unretired_none s = λ i. record { outstanding = with_content s.outstanding (sum-nothing s.outstanding.content i); minted = s.minted; burned = none i }
+  where
+    none : s.burned - counted nothing ≡ s.burned
+    none = omega (arith, counted-nothing)
 
 module _ (out : List CirculationView) (hand : List Held) (are : AreKept out hand) where
   abbrev pub view : TransitView
@@ -165,19 +173,24 @@ module _ (out : List CirculationView) (hand : List Held) (are : AreKept out hand
           (subst (λ k. HasRoom k (keys_of h.value.content + keys) z.room) (sym (ap (λ (s : CirculationView). s.supply.outstanding.kind) reads ∙ is.kind))
           (subst (λ (v : Held). HasRoom v.value.kind (keys_of v.value.content + keys) z.room) at has))
 
-    -- an issue, where the hand's store has nothing
+    -- where the hand's store has nothing
+    module _ (empty : h.value.content ≡ nothing) where
+      same_supply : whole.supply ≡ x.supply
+      same_supply = ap (λ (y : CirculationView). y.supply) reads ∙ ap (unretired x.supply) empty ∙ unretired_none x.supply
+
+      pub out_counted : (k : List ℕ) → count x.supply.outstanding.content k ≡ count whole.supply.outstanding.content k
+      out_counted k = ap (λ (s : BrandSupply). count s.outstanding.content k) (sym same_supply)
+
+    -- an issue then
     module _ (w : ValueView) (empty : h.value.content ≡ nothing) where
-      pub out_same : whole.supply.outstanding.content ≡ x.supply.outstanding.content
-      out_same = ap (λ (y : CirculationView). y.supply.outstanding.content) reads ∙ ap (sum x.supply.outstanding.content) empty ∙ sum-nothing x.supply.outstanding.content
+      pub refused_so : (fault : PutFault) → IsMintRefusal x.supply w fault → IsMintRefusal whole.supply w fault
+      refused_so fault is = subst (λ s. IsMintRefusal s w fault) (sym (same_supply empty)) is
 
-      pub small_there : whole.supply.minted + counted w.content < 2 ^ 128 → x.supply.minted + counted w.content < 2 ^ 128
-      small_there small = omega (arith, small, ap (λ (y : CirculationView). y.supply.minted) reads)
+      pub may_so : MayIssue x.supply w → MayIssue whole.supply w
+      may_so may = subst (λ s. MayIssue s w) (sym (same_supply empty)) may
 
-      pub refused_so : (fault : PutFault) → IsIssueRefusal w.kind (sum x.supply.outstanding.content w.content) fault → IsIssueRefusal w.kind (sum whole.supply.outstanding.content w.content) fault
-      refused_so fault is = subst (λ c. IsIssueRefusal w.kind (sum c w.content) fault) (sym out_same) is
-
-      pub fits_so : Fits w.kind (sum x.supply.outstanding.content w.content) → Fits w.kind (sum whole.supply.outstanding.content w.content)
-      fits_so fits = subst (λ c. Fits w.kind (sum c w.content)) (sym out_same) fits
+      pub may_there : MayIssue whole.supply w → MayIssue x.supply w
+      may_there may = subst (λ s. MayIssue s w) (same_supply empty) may
 
       module _ (same : whole.supply.outstanding.kind ≡ w.kind) (fits : Fits w.kind (sum x.supply.outstanding.content w.content)) (l : List CirculationView) (new : l ≡ slice_set out b (with_issued x w.content)) where
         pub issue_keeps : AreKept l hand

@@ -7,12 +7,12 @@ pub mod ertp_mint_lib {
     pub use ertp_mint::{Balance, Circulations, Parcel};
 }
 
-ghost use Rattle.std.specs.Prelude.{◌≡◌, ◌<◌, ◌≤◌, ◌+◌, ◌-◌, ◌^◌, ◌++◌, ◌∷◌, [], length, take, IfErr, IfOk, IsOk, OnErr, OnOk};
-ghost use Rattle.ertp_mint.specs.amount_math.Content.{Contains, nothing, sum};
+ghost use Rattle.std.specs.Prelude.{◌≡◌, ◌<◌, ◌≤◌, ◌+◌, ◌-◌, ◌++◌, ◌∷◌, [], length, take, IfErr, IfOk, IsOk, OnErr, OnOk};
+ghost use Rattle.ertp_mint.specs.amount_math.Content.{Contains, count, nothing};
 ghost use Rattle.ertp_mint.specs.amount_math.Counted.{counted};
 ghost use Rattle.ertp_mint.specs.amount_math.Held.{HasRoom, with_less, with_more};
-ghost use Rattle.ertp_mint.specs.amount_math.ValueView.{Fits, IsIssueRefusal, keys_of};
-ghost use Rattle.ertp_mint.specs.BrandSupply.{AddsUp};
+ghost use Rattle.ertp_mint.specs.amount_math.ValueView.{Fits, keys_of, minted_bound};
+ghost use Rattle.ertp_mint.specs.BrandSupply.{AddsUp, IsMintRefusal, MayIssue};
 ghost use Rattle.ertp_mint.specs.Circulating.{CanReturn, circulation_at, new_circulation, with_forgotten, with_issued, with_retired, with_unissued, with_unretired};
 ghost use Rattle.transit.specs.Transit.{CanHold, IsInStore, IsOnItsWay, empty_hand, held_at, in_store, kind_in, supply_in, with_hand, with_out};
 
@@ -80,7 +80,8 @@ impl Transit {
     /// The counts of all that was ever issued of a brand, together.
     pub fn minted(&self, brand: u16) -> u128
         requires { brand < length self.now.out }
-        ensures { result ≡ (supply_in self.now brand).minted }
+        ensures minted { result ≡ (supply_in self.now brand).minted }
+        ensures bounded { result ≤ minted_bound }
     {
         let _ = &self.hand;
         self.out.minted(brand)
@@ -114,6 +115,17 @@ impl Transit {
         self.out.kind(brand)
     }
 
+    /// How many of a key are out of a brand of which the hand's store has nothing, or how many units, which are
+    /// those of the empty key.
+    pub fn count_out(&self, brand: u16, key: &str) -> u128
+        requires made { brand < length self.now.out }
+        requires empty { in_store self.now brand ≡ nothing }
+        ensures { result ≡ count (supply_in self.now brand).outstanding.content key.now }
+    {
+        let _ = &self.hand;
+        self.out.count_out(brand, key)
+    }
+
     /// That a value may come out too of a brand of which the hand's store has nothing, or why it mayn't, as
     /// `issue` says it. Nothing changes. To show a key that is out already takes memory, and nothing else
     /// does.
@@ -121,9 +133,9 @@ impl Transit {
         requires made { brand < length self.now.out }
         requires kind { kind_in self.now brand ≡ value.now.kind }
         requires empty { in_store self.now brand ≡ nothing }
-        ensures ok { IsOk result → Fits value.now.kind (sum (supply_in self.now brand).outstanding.content value.now.content) }
-        ensures sure { Fits value.now.kind (sum (supply_in self.now brand).outstanding.content value.now.content) → IsOk result }
-        ensures refused { IfErr result (IsIssueRefusal value.now.kind (sum (supply_in self.now brand).outstanding.content value.now.content)) }
+        ensures ok { IsOk result → MayIssue (supply_in self.now brand) value.now }
+        ensures sure { MayIssue (supply_in self.now brand) value.now → IsOk result }
+        ensures refused { IfErr result (IsMintRefusal (supply_in self.now brand) value.now) }
     {
         let _ = &self.hand;
         self.out.can_issue(brand, value)
@@ -145,14 +157,13 @@ impl Transit {
     pub fn issue(&mut self, brand: u16, value: Value) -> Result<Parcel, (Value, PutFault)>
         requires made { brand < length self.old.out }
         requires kind { kind_in self.old brand ≡ value.kind }
-        requires small { (supply_in self.old brand).minted + counted value.content < 2 ^ 128 }
         requires empty { in_store self.old brand ≡ nothing }
         ensures ok { OnOk result (self.new ≡ with_out self.old brand (with_issued (circulation_at self.old.out brand) value.content)) }
         ensures parcel { IfOk result (λ parcel. parcel ≡ record { brand = brand; value = value }) }
-        ensures fits { OnOk result (Fits value.kind (sum (supply_in self.old brand).outstanding.content value.content)) }
+        ensures may { OnOk result (MayIssue (supply_in self.old brand) value) }
         ensures back { IfErr result (λ (back, _). back ≡ value) }
         ensures err { OnErr result (self.new ≡ self.old) }
-        ensures refused { IfErr result (λ (_, fault). IsIssueRefusal value.kind (sum (supply_in self.old brand).outstanding.content value.content) fault) }
+        ensures refused { IfErr result (λ (_, fault). IsMintRefusal (supply_in self.old brand) value fault) }
     {
         let _ = &self.hand;
         match self.out.issue(brand, value) {

@@ -1,8 +1,10 @@
 -- The tests fail exactly where the rules of amounts do: what follows of each outcome.
-use Rattle.std.proofs.Common.{◌≡◌, ◌≢◌, ℕ, ◌<◌, Bool, true, false, Option, Some, None, Result, Ok, Err, List, refl, sym, ap, ◌∙◌, inl, inr}
+use Rattle.std.proofs.Common.{◌≡◌, ◌≢◌, ℕ, ◌+◌, ◌<◌, ◌≤◌, Bool, true, false, Option, Some, None, Result, Ok, Err, List, refl, sym, ap, ◌∙◌, inl, inr}
+use Rattle.std.specs.Prelude.{nat_le}
 use Rattle.std.proofs.lemmas.Bool.{false≢true, le-leb, leb-false, leb-true}
 use Rattle.refusals.specs.amount_math.Content.{Content, count}
-use Rattle.refusals.specs.amount_math.ValueView.{Fits, HasFew, bound, keys_of, most_keys}
+use Rattle.refusals.specs.amount_math.Counted.{counted}
+use Rattle.refusals.specs.amount_math.ValueView.{Fits, HasFew, bound, keys_of, minted_bound, most_keys, with_content}
 use Rattle.refusals.specs.amount_math.declared.Kind.{Kind}
 use Rattle.refusals.specs.amount_math.declared.Kind.TheVariants.{Nat, Set, Bag}
 use Rattle.refusals.specs.amount_math.declared.PutFault.TheVariants as put_fault
@@ -14,9 +16,10 @@ use Rattle.refusals.specs.declared.codes.Refusal.{Refusal}
 use Rattle.refusals.specs.declared.codes.Refusal.TheVariants.{Overlap}
 use Rattle.refusals.specs.declared.stops.Stop.TheVariants.{Refused}
 use Rattle.refusals.proofs.Steps.{none_is}
-use Rattle.value_tests.specs.Causes.{IsIssueCause, IsOverlapCause, IsPutCause}
-use Rattle.value_tests.specs.Tests.{counts_fit, counts_then_keys, has_few, keys_fit, overlap_free, past_refusal, value_fits}
-use Rattle.value_tests.proofs.Sums.{counts_pass, out_refused, overlap_there, refused}
+use Rattle.transit.specs.ertp_mint.BrandSupply.{BrandSupply, MayIssue, out_with}
+use Rattle.value_tests.specs.Causes.{IsIssueCause, IsMintCause, IsOverlapCause, IsPutCause}
+use Rattle.value_tests.specs.Tests.{can_come_out, counts_fit, counts_then_keys, has_few, keys_fit, minted_fits, overlap_free, past_refusal, value_fits}
+use Rattle.value_tests.proofs.Sums.{comes_out, counts_pass, mint_refused, out_refused, overlap_there, refused}
 
 some_is : {A : Type 0} (o : Option A) (refusal : A → Refusal) (r : Refusal) → none_such o refusal ≡ Err r → (x : A) × (o ≡ Some x) × (refusal x ≡ r)
 unfolding none_such
@@ -107,6 +110,58 @@ pub cause_value : (kind : Kind) (c : Content) (r : Refusal) → IsPutCause kind 
 cause_value kind c r (put_fault.NoMemory, cause, told) = cc
 cause_value kind c r (put_fault.Overlap key, cause, told) = refused kind c (put_fault.Overlap key) cause ∙ ap Err (same_refusal _ r told)
 cause_value kind c r (put_fault.TooMuch over, cause, told) = refused kind c (put_fault.TooMuch over) cause ∙ ap Err (same_refusal _ r told)
+
+-- ---- counts, then what was minted
+
+minted_passed : (s : BrandSupply) (c : Content) → minted_fits s c ≡ Ok tt → s.minted + counted c ≤ minted_bound
+unfolding minted_fits need
+minted_passed s c e = by (nat_le (s.minted + counted c) minted_bound) refl e
+  where
+    by : (b : Bool) → nat_le (s.minted + counted c) minted_bound ≡ b → need b (too_much (s.minted + counted c) minted_bound) ≡ Ok tt → s.minted + counted c ≤ minted_bound
+    by true le h = leb-true (s.minted + counted c) minted_bound le
+    by false le h = cc
+
+minted_cause : (s : BrandSupply) (c : Content) (r : Refusal) → minted_fits s c ≡ Err r → (minted_bound < s.minted + counted c) × (too_much (s.minted + counted c) minted_bound ≡ r)
+unfolding minted_fits need
+minted_cause s c r e = by (nat_le (s.minted + counted c) minted_bound) refl e
+  where
+    same : (q : Refusal) → ◌≡◌ {A = Result (Unit {0}) Refusal} (Err q) (Err r) → q ≡ r
+    same q h = cc
+
+    by : (b : Bool) → nat_le (s.minted + counted c) minted_bound ≡ b → need b (too_much (s.minted + counted c) minted_bound) ≡ Err r → (minted_bound < s.minted + counted c) × (too_much (s.minted + counted c) minted_bound ≡ r)
+    by true le h = cc
+    by false le h = (leb-false (s.minted + counted c) minted_bound le, same _ h)
+
+pub out_passed : (s : BrandSupply) (c : Content) → can_come_out s c ≡ Ok tt → MayIssue s (with_content s.outstanding c)
+unfolding can_come_out bind
+out_passed s c e = by (counts_fit s.outstanding.kind (out_with s c)) refl e
+  where
+    by : (d : Result (Unit {0}) Refusal) → counts_fit s.outstanding.kind (out_with s c) ≡ d → bind d (λ _. minted_fits s c) ≡ Ok tt → MayIssue s (with_content s.outstanding c)
+    by (Ok x) counts h = record { fits = counts_fits s.outstanding.kind (out_with s c) counts; minted = minted_passed s c h }
+    by (Err q) counts h = cc
+
+pub passes_out : (s : BrandSupply) (c : Content) → MayIssue s (with_content s.outstanding c) → can_come_out s c ≡ Ok tt
+passes_out s c may = comes_out s c may.fits may.minted
+
+issued_for : (s : BrandSupply) (c : Content) (r : Refusal) → IsIssueCause s.outstanding.kind (out_with s c) r → IsMintCause s c r
+issued_for s c r (put_fault.NoMemory, cause, told) = cc
+issued_for s c r (put_fault.Overlap key, cause, told) = (put_fault.Overlap key, cause, told)
+issued_for s c r (put_fault.TooMuch over, cause, told) = (put_fault.TooMuch over, inl cause, told)
+
+pub out_cause : (s : BrandSupply) (c : Content) (r : Refusal) → can_come_out s c ≡ Err r → IsMintCause s c r
+unfolding can_come_out bind
+out_cause s c r e = by (counts_fit s.outstanding.kind (out_with s c)) refl e
+  where
+    by : (d : Result (Unit {0}) Refusal) → counts_fit s.outstanding.kind (out_with s c) ≡ d → bind d (λ _. minted_fits s c) ≡ Err r → IsMintCause s c r
+    by (Ok x) counts h =
+        let past = minted_cause s c r h in
+        (put_fault.TooMuch (record { sum = s.minted + counted c; bound = minted_bound }), inr (record { fits = counts_fits s.outstanding.kind (out_with s c) counts; shown = refl; bounded = refl; passes = past.0 }), ap Refused past.1)
+    by (Err q) counts h = issued_for s c r (counts_cause s.outstanding.kind (out_with s c) r (counts ∙ h))
+
+pub cause_out : (s : BrandSupply) (c : Content) (r : Refusal) → IsMintCause s c r → can_come_out s c ≡ Err r
+cause_out s c r (put_fault.NoMemory, cause, told) = cc
+cause_out s c r (put_fault.Overlap key, cause, told) = mint_refused s (with_content s.outstanding c) refl (put_fault.Overlap key) cause ∙ ap Err (same_refusal _ r told)
+cause_out s c r (put_fault.TooMuch over, cause, told) = mint_refused s (with_content s.outstanding c) refl (put_fault.TooMuch over) cause ∙ ap Err (same_refusal _ r told)
 
 -- ---- a key that is in both
 

@@ -1,8 +1,8 @@
 -- A total beside the map that it is kept in: what the map has at an element, and what putting a count there makes of it.
-use Rattle.std.proofs.Common.{◌≡◌, ◌≢◌, ℕ, zero, suc, ◌+◌, ◌<◌, ◌≤◌, Bool, true, false, cond, Some, Result, Ok, Err, List, [], ◌∷◌, length, map, drop, get_or, refl, sym, ap, subst, ◌∙◌, arith}
-use Rattle.std.specs.Prelude.{nat_lt, OnOk}
+use Rattle.std.proofs.Common.{◌≡◌, ℕ, zero, suc, ◌+◌, ◌<◌, ◌≤◌, Bool, true, false, cond, Some, Result, Ok, Err, List, [], ◌∷◌, length, map, drop, get_or, refl, sym, ap, subst, ◌∙◌, inl, inr, arith}
+use Rattle.std.specs.Prelude.{nat_lt, ◌↔◌, IsTrue, OnOk}
 use Rattle.std.specs.List.{find, slice_get}
-use Rattle.std.proofs.lemmas.Bool.{le-ltb, lt-ltb}
+use Rattle.std.proofs.lemmas.Bool.{cases_lt, false≢true, le-ltb, lt-ltb}
 use Rattle.std.proofs.lemmas.Option.{same_Some}
 use Rattle.std.specs.Borrow.{Bor}
 use Rattle.std.specs.BTreeMap.{insert_entry}
@@ -15,14 +15,15 @@ use Rattle.std.specs.Ordering.{eq_by_cmp, is_eq, match_ordering, nat_cmp}
 use Rattle.std.specs.declared.cmp.Ordering.{Ordering}
 use Rattle.std.specs.declared.cmp.Ordering.TheVariants.{Less, Equal, Greater}
 use Rattle.std.proofs.lemmas.List.{drop_all, drop_more}
-use Rattle.refusals.specs.amount_math.Content.{Content, count, count-nothing, count-sum, count_listed, counts, entries, key_cmp, listed, nothing, of_entries, of_entries-entries, of_entries-nil, same_content, unit}
+use Rattle.refusals.specs.amount_math.Content.{Content, count, count-nothing, count-sum, count_listed, counts, entries, key_cmp, listed, nothing, of_entries, of_entries-entries, of_entries-nil, same_content}
 use Rattle.refusals.specs.amount_math.Entries.{Entries, IsRising, at_key, entry_at, tally}
 use Rattle.refusals.specs.amount_math.Sparse.{at-put, put, put_by}
-use Rattle.refusals.specs.amount_math.ValueView.{IsValue, ValueView, bound, fits_from_value, keys_of, nat_bound}
+use Rattle.refusals.specs.amount_math.Counted.{counted, counted-nothing, counted-sum}
+use Rattle.refusals.specs.amount_math.ValueView.{IsValue, ValueView, bound, fits_from_value, keys_of, most_counted, nat_bound}
 use Rattle.refusals.specs.amount_math.declared.Kind.{Kind}
 use Rattle.refusals.specs.amount_math.declared.Kind.TheVariants.{Nat, Set, Bag}
 use Rattle.refusals.proofs.amount_math.Listed.{at_own_key, listed-tally, listed_at, no_entries, same_key}
-use Rattle.value_tests.specs.Listing.{IsTotal, listing, most_shown}
+use Rattle.value_tests.specs.Listing.{IsTotal, listing, most_added}
 use Rattle.value_tests.specs.Totals.{HasMore, total_of}
 
 abbrev Pairs : Type 0
@@ -60,13 +61,13 @@ module _ (es fs : Pairs) (k : Bor (List ℕ)) (n : ℕ) (is : IsTotal es) (some 
   still_listed : entries (held_in fs) ≡ listing fs
   still_listed = ap entries after_put ∙ sym listed_after
 
-  pub put_total : n < most_shown → IsTotal fs
+  pub put_total : n < most_added → IsTotal fs
   put_total small = record {
     listed = still_listed;
-    small = λ q. subst (λ m. m < most_shown) (sym (ap (λ c. count c q) after_put ∙ at-put counts (held_in es) k.now n q)) (either (eq_by_cmp key_cmp q k.now) q);
+    small = λ q. subst (λ m. m < most_added) (sym (ap (λ c. count c q) after_put ∙ at-put counts (held_in es) k.now n q)) (either (eq_by_cmp key_cmp q k.now) q);
   }
     where
-      either : (b : Bool) (q : List ℕ) → cond b n (count (held_in es) q) < most_shown
+      either : (b : Bool) (q : List ℕ) → cond b n (count (held_in es) q) < most_added
       either true q = small
       either false q = is.small q
 
@@ -152,6 +153,13 @@ module _ (most : ℕ) (c : Content) (ks : List (List ℕ)) (k : List ℕ) (n : �
   pub not_past_here : n ≤ most → find (λ q. nat_lt most (count c q)) (k ∷ ks) ≡ find (λ q. nat_lt most (count c q)) ks
   not_past_here fine = ap (λ b. cond b (Some k) (find (λ q. nat_lt most (count c q)) ks)) (le-ltb most (count c k) (omega (arith, fine, is)))
 
+-- a sum that was tested and doesn't pass the most
+pub not_passing : (b : Bool) (most n : ℕ) → IsTrue b ↔ (most < n) → b ≡ false → n ≤ most
+not_passing b most n iff is = elim (cases_lt most n) [
+  | inl over ↦ absurd (false≢true (sym is ∙ iff.1 over))
+  | inr fine ↦ fine
+]
+
 -- ---- value by value
 
 abbrev Lent : Type 0
@@ -167,9 +175,14 @@ module _ (vs : Lent) (i : ℕ) (v : Bor ValueView) (lt : i < length vs) (at : v 
 pub total_ends : (vs : Lent) (i : ℕ) (c : Content) → length vs ≤ i → ((k : List ℕ) → count c k + count (total_of (values_now (drop i vs))) k ≡ count (total_of (values_now vs)) k) → c ≡ total_of (values_now vs)
 total_ends vs i c past each = same_content c _ (λ k. omega (arith, each k, ap (λ us. count (total_of (values_now us)) k) (drop_all i vs past), count-nothing k))
 
--- of units the one element is the empty text
-pub no_units : (k : List ℕ) (n : ℕ) → k ≢ [] → at_key k unit n ≡ 0
-no_units k n ne = elim (eq_by_cmp key_cmp k unit) as (λ b. eq_by_cmp key_cmp k unit ≡ b → cond b n 0 ≡ 0) [
-  | true ↦ λ t. absurd (ne (same_key k unit t))
-  | false ↦ λ t. refl
-] refl
+module _ (vs : Lent) (i : ℕ) (v : Bor ValueView) (lt : i < length vs) (at : v ≡ get_or vs i v) where
+  pub counted_next : counted (total_of (values_now (drop i vs))) ≡ counted v.now.content + counted (total_of (values_now (drop (i + 1) vs)))
+  counted_next = ap (λ us. counted (total_of (values_now us))) (drop_more vs i v lt ∙ ap (λ u. u ∷ drop (i + 1) vs) (sym at)) ∙ counted-sum v.now.content (total_of (values_now (drop (i + 1) vs)))
+
+pub counted_ends : (vs : Lent) (i : ℕ) → length vs ≤ i → counted (total_of (values_now (drop i vs))) ≡ 0
+counted_ends vs i past = ap (λ us. counted (total_of (values_now us))) (drop_all i vs past) ∙ counted-nothing
+
+pub most_small : (kind : Kind) → most_counted kind ≤ nat_bound
+most_small Nat = omega arith
+most_small Set = omega arith
+most_small Bag = omega arith

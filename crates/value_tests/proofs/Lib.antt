@@ -5,8 +5,5 @@ pub mod Contents
 pub mod Exact
 pub mod Sums
 pub mod SumParts
-pub mod Alike
-pub mod SupplyParts
-pub mod Probes
 pub mod Read
 pub use Rattle.transit.proofs.lemmas

@@ -1,9 +1,9 @@
 -- When a sum is a value, and what it is refused for else; and when a value may come out.
-use Rattle.std.proofs.Common.{◌≡◌, ◌≢◌, ℕ, ◌<◌, ◌≤◌, ◌^◌, List, true, false, Option, Ok, Err, refl, sym, ap, ◌∙◌, inl, inr, arith}
+use Rattle.std.proofs.Common.{◌≡◌, ◌≢◌, ℕ, ◌+◌, ◌<◌, ◌≤◌, List, Bool, true, false, Option, Result, Ok, Err, refl, sym, ap, subst, ◌∙◌, inl, inr}
 use Rattle.std.proofs.lemmas.Bool.{le-leb, lt-leb}
-use Rattle.refusals.specs.amount_math.Content.{Content, count-sum, sum}
-use Rattle.refusals.specs.amount_math.Held.{keys_of-sum}
-use Rattle.refusals.specs.amount_math.ValueView.{Fits, IsFirstPast, IsIssueRefusal, IsPutRefusal, IsValue, PassesBound, PassesKeys, bag_bound, bound, fits_from_value, keys_of, most_keys, nat_bound}
+use Rattle.refusals.specs.amount_math.Content.{Content}
+use Rattle.refusals.specs.amount_math.Counted.{counted}
+use Rattle.refusals.specs.amount_math.ValueView.{Fits, IsFirstPast, IsIssueRefusal, IsPutRefusal, IsValue, PassesBound, PassesKeys, ValueView, bag_bound, bound, fits_from_value, keys_of, minted_bound, most_keys, nat_bound}
 use Rattle.refusals.specs.amount_math.declared.Kind.{Kind}
 use Rattle.refusals.specs.amount_math.declared.Kind.TheVariants.{Nat, Set, Bag}
 use Rattle.refusals.specs.amount_math.declared.PutFault.{PutFault}
@@ -11,10 +11,12 @@ use Rattle.refusals.specs.amount_math.declared.PutFault.TheVariants as put_fault
 use Rattle.refusals.specs.amount_math.declared.TooMuch.{TooMuch}
 use Rattle.refusals.specs.Codes.{too_much}
 use Rattle.refusals.specs.Outcomes.{Fails, bind, need, none_such}
-use Rattle.refusals.specs.Told.{CanShow, PutCanShow, put_told}
+use Rattle.refusals.specs.Told.{put_told}
+use Rattle.refusals.specs.declared.codes.Refusal.{Refusal}
 use Rattle.refusals.specs.declared.codes.Refusal.TheVariants.{Overlap}
+use Rattle.transit.specs.ertp_mint.BrandSupply.{BrandSupply, IsMintRefusal, PassesMinted, out_with}
 use Rattle.value_tests.proofs.Firsts.{find_first, none_past}
-use Rattle.value_tests.specs.Tests.{counts_fit, counts_then_keys, from_first, has_few, keys_fit, overlap_free, value_fits}
+use Rattle.value_tests.specs.Tests.{can_come_out, counts_fit, counts_then_keys, from_first, has_few, keys_fit, minted_fits, overlap_free, value_fits}
 
 -- ---- what passes
 
@@ -102,35 +104,46 @@ overlap_else Set c over h = elim h as (λ _. overlap_free Set c ≡ Ok tt) [
 ]
 overlap_else Bag c over h = refl
 
--- ---- what is shown has less than 128 bits
+-- ---- what comes out of a brand
 
-bounded : (kind : Kind) → bound kind ≤ 2 ^ 63
-bounded Nat = omega arith
-bounded Set = omega arith
-bounded Bag = omega arith
+minted_pass : (s : BrandSupply) (c : Content) → s.minted + counted c ≤ minted_bound → minted_fits s c ≡ Ok tt
+unfolding minted_fits need
+minted_pass s c h = ap (λ (b : Bool). need b (too_much (s.minted + counted c) minted_bound)) (le-leb (s.minted + counted c) minted_bound h)
 
-few_keys : (kind : Kind) (c : Content) → kind ≢ Nat → IsValue kind c → keys_of c ≤ most_keys
-few_keys Nat c ne v = absurd (ne refl)
-few_keys Set c ne v = v.keyed.few
-few_keys Bag c ne v = v.keyed.few
+minted_past : (s : BrandSupply) (c : Content) → minted_bound < s.minted + counted c → minted_fits s c ≡ Err (too_much (s.minted + counted c) minted_bound)
+unfolding minted_fits need
+minted_past s c h = ap (λ (b : Bool). need b (too_much (s.minted + counted c) minted_bound)) (lt-leb (s.minted + counted c) minted_bound h)
 
-counts_small : (kind : Kind) (a b : Content) (over : TooMuch) → Fits kind a → Fits kind b → PassesBound kind (sum a b) over → CanShow over.sum over.bound
-counts_small kind a b over v w q =
-    let x = v.each q.element in
-    let y = w.each q.element in
-    record { sum_fits = omega (arith, q.counted, count-sum a b q.element, x, y, bounded kind); bound_fits = omega (arith, q.bounded, bounded kind) }
+after_counts : (s : BrandSupply) (c : Content) (r : Result (Unit {0}) Refusal) → counts_fit s.outstanding.kind (out_with s c) ≡ r → can_come_out s c ≡ bind r (λ _. minted_fits s c)
+unfolding can_come_out
+after_counts s c r e = ap (λ (x : Result (Unit {0}) Refusal). bind x (λ _. minted_fits s c)) e
 
-pub out_small : (kind : Kind) (a b : Content) (fault : PutFault) → Fits kind a → Fits kind b → IsIssueRefusal kind (sum a b) fault → PutCanShow fault
-out_small kind a b (put_fault.Overlap key) v w h = tt
-out_small kind a b (put_fault.TooMuch over) v w h = counts_small kind a b over v w h.1
-out_small kind a b put_fault.NoMemory v w h = tt
+pub comes_out : (s : BrandSupply) (c : Content) → Fits s.outstanding.kind (out_with s c) → s.minted + counted c ≤ minted_bound → can_come_out s c ≡ Ok tt
+unfolding bind
+comes_out s c fits minted = after_counts s c (Ok tt) (counts_pass s.outstanding.kind (out_with s c) fits) ∙ minted_pass s c minted
 
-pub small : (kind : Kind) (a b : Content) (fault : PutFault) → IsValue kind a → IsValue kind b → IsPutRefusal kind (sum a b) fault → PutCanShow fault
-small kind a b (put_fault.Overlap key) v w h = tt
-small kind a b (put_fault.TooMuch over) v w h = elim h as (λ _. CanShow over.sum over.bound) [
-  | inl p ↦ counts_small kind a b over (fits_from_value kind a v) (fits_from_value kind b w) p.1
-  | inr p ↦
-      let q = p.1 in
-      record { sum_fits = omega (arith, q.counted, keys_of-sum a b, few_keys kind a p.0 v, few_keys kind b p.0 w); bound_fits = omega (arith, q.bounded) }
-]
-small kind a b put_fault.NoMemory v w h = tt
+by_counts : (s : BrandSupply) (c : Content) (r : Refusal) → counts_fit s.outstanding.kind (out_with s c) ≡ Err r → can_come_out s c ≡ Err r
+unfolding bind
+by_counts s c r e = after_counts s c (Err r) e
+
+by_minted : (s : BrandSupply) (c : Content) → Fits s.outstanding.kind (out_with s c) → minted_bound < s.minted + counted c → can_come_out s c ≡ Err (too_much (s.minted + counted c) minted_bound)
+unfolding bind
+by_minted s c fits past = after_counts s c (Ok tt) (counts_pass s.outstanding.kind (out_with s c) fits) ∙ minted_past s c past
+
+-- why a value isn't issued is why its content can't come out
+module _ (s : BrandSupply) (w : ValueView) (kind : s.outstanding.kind ≡ w.kind) where
+  by_issue : (fault : PutFault) → IsIssueRefusal w.kind (out_with s w.content) fault → Fails (put_told fault) (counts_fit s.outstanding.kind (out_with s w.content))
+  by_issue fault h = out_refused s.outstanding.kind (out_with s w.content) fault (subst (λ (k : Kind). IsIssueRefusal k (out_with s w.content) fault) (sym kind) h)
+
+  past : (over : TooMuch) → PassesMinted s w over → can_come_out s w.content ≡ Err (too_much over.sum over.bound)
+  past over p =
+      by_minted s w.content (subst (λ (k : Kind). Fits k (out_with s w.content)) (sym kind) p.fits) p.passes
+      ∙ ap (λ n. Err (too_much n minted_bound)) (sym p.shown) ∙ ap (λ n. Err (too_much over.sum n)) (sym p.bounded)
+
+  pub mint_refused : (fault : PutFault) → IsMintRefusal s w fault → Fails (put_told fault) (can_come_out s w.content)
+  mint_refused (put_fault.Overlap key) h = by_counts s w.content (Overlap key) (by_issue (put_fault.Overlap key) h)
+  mint_refused (put_fault.TooMuch over) h = elim h as (λ _. can_come_out s w.content ≡ Err (too_much over.sum over.bound)) [
+    | inl p ↦ by_counts s w.content (too_much over.sum over.bound) (by_issue (put_fault.TooMuch over) p)
+    | inr p ↦ past over p
+  ]
+  mint_refused put_fault.NoMemory h = tt

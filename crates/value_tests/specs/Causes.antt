@@ -1,11 +1,12 @@
 -- Why a test of a sum is refused, by the faults that a sum has.
 use Rattle.std.specs.Prelude.{◌≡◌, ◌≢◌, ◌↔◌, ℕ, List, Result, Ok, Err}
 use Rattle.refusals.specs.amount_math.Content.{Content}
-use Rattle.refusals.specs.amount_math.ValueView.{IsFirstPast, IsIssueRefusal, IsPutRefusal}
+use Rattle.refusals.specs.amount_math.ValueView.{IsFirstPast, IsIssueRefusal, IsPutRefusal, with_content}
 use Rattle.refusals.specs.amount_math.declared.Kind.{Kind}
 use Rattle.refusals.specs.amount_math.declared.Kind.TheVariants.{Set}
 use Rattle.refusals.specs.amount_math.declared.PutFault.{PutFault}
 use Rattle.refusals.specs.Told.{put_told}
+use Rattle.transit.specs.ertp_mint.BrandSupply.{BrandSupply, IsMintRefusal}
 use Rattle.refusals.specs.declared.codes.Refusal.{Refusal}
 use Rattle.refusals.specs.declared.codes.Refusal.TheVariants.{Overlap}
 use Rattle.refusals.specs.declared.stops.Stop.TheVariants.{Refused}
@@ -17,6 +18,11 @@ IsPutCause kind c r = (fault : PutFault) × IsPutRefusal kind c fault × (put_to
 -- the refusal tells a fault that keeps values from being out together
 abbrev pub IsIssueCause : Kind → Content → Refusal → Type 0
 IsIssueCause kind c r = (fault : PutFault) × IsIssueRefusal kind c fault × (put_told fault ≡ Refused r)
+
+-- the refusal tells a fault that keeps a content from being issued
+abbrev pub IsMintCause : BrandSupply → Content → Refusal → Type 0
+IsMintCause s c r =
+    (fault : PutFault) × IsMintRefusal s (with_content s.outstanding c) fault × (put_told fault ≡ Refused r)
 
 -- the refusal tells the first key that two sets have in common
 abbrev pub IsOverlapCause : Kind → Content → Refusal → Type 0

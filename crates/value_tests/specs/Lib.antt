@@ -5,6 +5,6 @@ pub mod Totals
 pub mod Causes
 pub mod Tests
 pub mod Sums
-pub mod Beside
 pub mod Supplies
+pub mod Wide
 pub use Rattle.transit.specs.ertp_mint

@@ -1,5 +1,5 @@
 -- How a total is kept: its elements with their counts, as a map lists them.
-use Rattle.std.specs.Prelude.{◌≡◌, ℕ, ◌<◌, ◌^◌, ◌-◌, List, map}
+use Rattle.std.specs.Prelude.{◌≡◌, ℕ, ◌<◌, ◌^◌, List, map}
 use Rattle.std.specs.Borrow.{Bor}
 use Rattle.refusals.specs.amount_math.Content.{count, entries, of_entries}
 use Rattle.refusals.specs.amount_math.Entries.{Entries}
@@ -8,11 +8,11 @@ use Rattle.refusals.specs.amount_math.Entries.{Entries}
 abbrev pub listing : List (Bor (List ℕ) × ℕ) → Entries
 listing es = map (λ e. (e.0.now, e.1)) es
 
--- so many and those that are out of a brand are still a number that data can show
-abbrev pub most_shown : ℕ
-most_shown = 2 ^ 127 - 2 ^ 64
+-- so many with one count more are still a sum that is kept whole
+abbrev pub most_added : ℕ
+most_added = 2 ^ 191
 
--- what is listed is what the content has, and each count can be shown
+-- what is listed is what the content has, and to each count one more can be added
 pub record IsTotal (es : List (Bor (List ℕ) × ℕ)) : Type 0 where
   pub listed : entries (of_entries (listing es)) ≡ listing es
-  pub small : (k : List ℕ) → count (of_entries (listing es)) k < most_shown
+  pub small : (k : List ℕ) → count (of_entries (listing es)) k < most_added

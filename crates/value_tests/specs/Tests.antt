@@ -1,13 +1,15 @@
 -- Tests of values, as functions that can be computed, each with what it shows where it fails.
-use Rattle.std.specs.Prelude.{ℕ, List, [], ◌∷◌, Bool, true, false, nat_le, Option, Result, Ok}
+use Rattle.std.specs.Prelude.{ℕ, ◌+◌, List, [], ◌∷◌, Bool, true, false, nat_le, Option, Result, Ok}
 use Rattle.refusals.specs.amount_math.Content.{Content, count, difference, sum}
-use Rattle.refusals.specs.amount_math.ValueView.{ValueView, bag_bound, bound, keys_of, most_keys, nat_bound}
+use Rattle.refusals.specs.amount_math.Counted.{counted}
+use Rattle.refusals.specs.amount_math.ValueView.{ValueView, bag_bound, bound, keys_of, minted_bound, most_keys, nat_bound}
 use Rattle.refusals.specs.amount_math.declared.Kind.{Kind}
 use Rattle.refusals.specs.amount_math.declared.Kind.TheVariants.{Nat, Set, Bag}
+use Rattle.transit.specs.ertp_mint.BrandSupply.{BrandSupply}
 use Rattle.value_tests.specs.Firsts.{elements, first_past}
 use Rattle.value_tests.specs.Totals.{total_of}
 use Rattle.refusals.specs.Codes.{too_much}
-use Rattle.refusals.specs.Outcomes.{bind, need, none_such}
+use Rattle.refusals.specs.Outcomes.{◌>>◌, bind, need, none_such}
 use Rattle.refusals.specs.declared.codes.Refusal.{Refusal}
 use Rattle.refusals.specs.declared.codes.Refusal.TheVariants.{Overlap}
 
@@ -65,6 +67,15 @@ overlap_free Bag c = Ok tt
 abbrev pub total_fits : Kind → List ValueView → Result (Unit {0}) Refusal
 total_fits kind ws = value_fits kind (total_of ws)
 
--- values that come out together, beside what is out of their brand
-abbrev pub all_fit_out : ValueView → List ValueView → Result (Unit {0}) Refusal
-all_fit_out out ws = counts_fit out.kind (sum out.content (total_of ws))
+-- ---- what comes out of a brand
+
+-- the total of what was ever minted of it, with what comes, doesn't pass its bound
+unfoldable pub minted_fits : BrandSupply → Content → Result (Unit {0}) Refusal
+minted_fits supply c =
+    let total = supply.minted + counted c in
+    need (nat_le total minted_bound) (too_much total minted_bound)
+
+-- a content may come out beside what is out: counts are tested first, then what was minted
+unfoldable pub can_come_out : BrandSupply → Content → Result (Unit {0}) Refusal
+can_come_out supply c =
+    counts_fit supply.outstanding.kind (sum supply.outstanding.content c) >> minted_fits supply c

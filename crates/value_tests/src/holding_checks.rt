@@ -5,12 +5,13 @@
 
 ghost use Rattle.std.specs.Prelude.{◌≡◌, ◌<◌, true, length, OnOk};
 ghost use Rattle.refusals.specs.amount_math.Content.{Contains, nothing, sum};
-ghost use Rattle.refusals.specs.amount_math.ValueView.{Fits, IsValue};
+ghost use Rattle.refusals.specs.amount_math.ValueView.{IsValue};
 ghost use Rattle.refusals.specs.Codes.{not_enough};
 ghost use Rattle.refusals.specs.Outcomes.{Gives, Refuses, need};
 ghost use Rattle.transit.specs.Transit.{in_store};
-ghost use Rattle.value_tests.specs.Tests.{counts_fit, has, sum_fits};
-ghost use Rattle.value_tests.specs.Supplies.{outstanding_in};
+ghost use Rattle.transit.specs.ertp_mint.BrandSupply.{MayIssue};
+ghost use Rattle.value_tests.specs.Tests.{can_come_out, has, sum_fits};
+ghost use Rattle.value_tests.specs.Supplies.{listed_supply};
 
 use refusals::amount_math_lib::{Holding, Value};
 use refusals::stops::{Stop, not_enough};
@@ -69,19 +70,16 @@ pub fn check_sum(held: &Holding, given: &Value) -> Result<(), Stop>
 }
 
 /// That a value may come out of its brand beside what is out of it, where the hand's store has nothing of the
-/// brand: else `Overlap` with the least key of a set that is out already, or `TooMuch` with the count that
-/// would be out and its bound (ERTP).
+/// brand: else `Overlap` with the least key of a set that is out already, `TooMuch` with the count that would be
+/// out and its bound, or `TooMuch` with what would be minted in all and its bound (ERTP).
 pub fn check_out(supply: &Transit, brand: u16, given: &Value) -> Result<(), Stop>
     requires made { brand < length supply.now.out }
-    requires kind { (outstanding_in supply.now brand).kind ≡ given.now.kind }
+    requires kind { (listed_supply supply.now brand).outstanding.kind ≡ given.now.kind }
     requires empty { in_store supply.now brand ≡ nothing }
-    ensures gives { Gives (λ _. tt) result (counts_fit (outstanding_in supply.now brand).kind
-        (sum (outstanding_in supply.now brand).content given.now.content)) }
-    ensures fits { OnOk result
-        (Fits given.now.kind (sum (outstanding_in supply.now brand).content given.now.content)) }
+    ensures gives { Gives (λ _. tt) result
+        (can_come_out (listed_supply supply.now brand) given.now.content) }
+    ensures may { OnOk result (MayIssue (listed_supply supply.now brand) given.now) }
 {
-    let _kind = supply.kind(brand);
-    let _other = given.kind();
     match supply.can_issue(brand, given) {
         Ok(()) => Ok(()),
         Err(fault) => Err(Stop::of_put(fault)),

@@ -2,8 +2,6 @@
 //! each fails exactly where its definition does, and that where the rules of amounts do.
 #![tactic(auto)]
 
-pub mod beside;
-pub mod counts;
 pub mod holding_checks;
 pub mod laws;
 pub mod pairs;
@@ -12,5 +10,6 @@ pub mod value_differences;
 pub mod value_sums;
 pub mod value_totals;
 pub mod wholes;
+pub mod wide_sums;
 
 pub use transit::ertp_mint_lib;

@@ -1,6 +1,6 @@
 //! What a call is refused for where a total passes a bound.
 
-ghost use Rattle.std.specs.Prelude.{◌≡◌, ◌<◌, ◌^◌};
+ghost use Rattle.std.specs.Prelude.{◌≡◌};
 ghost use Rattle.refusals.specs.amount_math.Content.{Content, count};
 ghost use Rattle.refusals.specs.amount_math.ValueView.{bound, keys_of};
 ghost use Rattle.refusals.specs.Codes.{too_much};
@@ -8,8 +8,10 @@ ghost use Rattle.refusals.specs.Outcomes.{Gives, Refuses};
 ghost use Rattle.refusals.specs.declared.codes.Refusal.TheVariants as refusals;
 ghost use Rattle.value_tests.specs.Tests.{has_few, keys_fit, past_refusal};
 
-use refusals::amount_math_lib::{COUNT_BOUND, Key, Kind};
+use crate::wide_sums::WideSum;
+use refusals::amount_math_lib::{COUNT_BOUND, Key, Kind, NAT_BOUND};
 use refusals::codes::Refusal;
+use refusals::faults::capped;
 use refusals::stops::Stop;
 use std::alloc::Global;
 
@@ -17,12 +19,13 @@ use std::alloc::Global;
 const MOST_KEYS: usize = 4096;
 
 /// How many of an element a value of the kind may have.
-pub(crate) fn most(kind: Kind) -> u64
+pub(crate) fn most(kind: Kind) -> u128
     ensures { result ≡ bound kind }
 {
     match kind {
-        Kind::Nat | Kind::Bag => COUNT_BOUND,
+        Kind::Nat => NAT_BOUND,
         Kind::Set => 1,
+        Kind::Bag => u128::from(COUNT_BOUND),
     }
 }
 
@@ -37,13 +40,13 @@ fn overlap(alloc: Global, element: &str) -> Stop
 }
 
 /// There are too many of an element.
-pub(crate) fn too_many(alloc: Global, kind: Kind, element: &str, number: u128) -> Stop
-    requires { number < 2 ^ 127 }
-    ensures { (c : Content) → number ≡ count c element.now → Refuses result (past_refusal kind c element.now) }
+pub(crate) fn too_many(alloc: Global, kind: Kind, element: &str, number: &WideSum) -> Stop
+    ensures { (c : Content) → number.now ≡ count c element.now
+        → Refuses result (past_refusal kind c element.now) }
 {
     match kind {
         Kind::Nat | Kind::Bag => {
-            Stop::Refused(Refusal::TooMuch(number as i128, i128::from(COUNT_BOUND)))
+            Stop::Refused(Refusal::TooMuch(number.shown(), capped(most(kind))))
         }
         Kind::Set => overlap(alloc, element),
     }
@@ -59,7 +62,8 @@ pub(crate) fn check_keys(kind: Kind, keys: usize) -> Result<(), Stop>
         Kind::Set | Kind::Bag => true,
     };
     if is_keyed && keys > MOST_KEYS {
-        Err(Stop::Refused(Refusal::TooMuch(keys as i128, MOST_KEYS as i128)))
+        let sum = capped(keys as u128);
+        Err(Stop::Refused(Refusal::TooMuch(sum, capped(MOST_KEYS as u128))))
     } else {
         Ok(())
     }

@@ -1,10 +1,10 @@
 -- Takes and puts as the code makes them, with what it pushed.
 use Rattle.std.proofs.Common.{◌≡◌, ℕ, ◌+◌, Bool, false, List, [], ◌∷◌, ◌++◌, sym, ◌∙◌, ap, subst, arith}
-use Rattle.vault_model.specs.amount_math.Content.{nothing, sum}
+use Rattle.vault_model.specs.amount_math.Content.{nothing}
 use Rattle.vault_model.specs.amount_math.Held.{HasRoom, keys_in}
-use Rattle.vault_model.specs.amount_math.ValueView.{Fits, ValueView, keys_of}
+use Rattle.vault_model.specs.amount_math.ValueView.{ValueView, keys_of}
 use Rattle.vault_model.specs.amount_math.declared.Amount.{Amount}
-use Rattle.vault_model.specs.ertp_mint.BrandSupply.{BrandSupply, supply_at}
+use Rattle.vault_model.specs.ertp_mint.BrandSupply.{MayIssue, supply_at}
 use Rattle.vault_model.specs.declared.Undo.{Undo}
 use Rattle.vault_model.specs.declared.Undo.TheVariants.{Moves}
 use Rattle.vault_model.specs.Lists.{CanGive, CanTake, Lists, MayCome, kind_of}
@@ -68,9 +68,16 @@ module _ (p r : Stores) (ks : List Undo) (ms : List Movement) (keys : ℕ) (spoi
   pub none_in_store : given_at (draft_of p ks ms spoiled) b ≡ nothing → in_store r.transit b ≡ nothing
   none_in_store none = same_store p r roomed.given_up b ∙ sym (given_there p b (omega (arith, brand.made, brands_there p))) ∙ none
 
-  pub may_come : Fits w.kind (sum (supply_in r.transit b).outstanding.content w.content) → MayCome (lists_of p) b w
-  may_come fits = record {
+  same_supply : supply_in r.transit b ≡ supply_at (lists_of p).out b
+  same_supply = sym (supply_read r.transit.out b) ∙ ap (λ (s : Lists). supply_at s.out b) roomed.lists
+
+  pub may_there : MayIssue (supply_in r.transit b) w → MayIssue (supply_at (lists_of p).out b) w
+  may_there may = subst (λ s. MayIssue s w) same_supply may
+
+  pub may_come : MayIssue (supply_in r.transit b) w → MayCome (lists_of p) b w
+  may_come may = record {
     made = brand.made;
     kind = brand.kind;
-    fits = subst (λ (x : BrandSupply). Fits w.kind (sum x.outstanding.content w.content)) (sym (supply_read r.transit.out b) ∙ ap (λ (s : Lists). supply_at s.out b) roomed.lists) fits;
+    fits = (may_there may).fits;
+    minted = (may_there may).minted;
   }

@@ -1,12 +1,11 @@
 //! The vault, and a turn's draft of it.
 
-ghost use Rattle.std.specs.Prelude.{◌≡◌, ◌<◌, ◌≤◌, ◌+◌, ◌^◌, ◌==◌, ◌↔◌, ℕ, [], ◌∷◌, List, None, false, if◌then◌else◌, length, map, reverse, IfErr, IfOk, IsErr, IsOk, IsSome, OnErr, OnOk};
+ghost use Rattle.std.specs.Prelude.{◌≡◌, ◌<◌, ◌≤◌, ◌+◌, ◌==◌, ◌↔◌, ℕ, [], ◌∷◌, List, None, false, if◌then◌else◌, length, map, reverse, IfErr, IfOk, IsErr, IsOk, IsSome, OnErr, OnOk};
 ghost use Rattle.std.specs.Vec.{vec_capacity, vec_len};
-ghost use Rattle.vault_model.specs.amount_math.Content.{Contains, nothing, sum};
-ghost use Rattle.vault_model.specs.amount_math.Counted.{counted};
+ghost use Rattle.vault_model.specs.amount_math.Content.{Contains, nothing};
 ghost use Rattle.vault_model.specs.amount_math.Held.{HasRoom, keys_in};
-ghost use Rattle.vault_model.specs.amount_math.ValueView.{Fits, IsIssueRefusal, IsTakeRefusal, keys_of};
-ghost use Rattle.vault_model.specs.ertp_mint.BrandSupply.{supply_at};
+ghost use Rattle.vault_model.specs.amount_math.ValueView.{IsTakeRefusal, keys_of};
+ghost use Rattle.vault_model.specs.ertp_mint.BrandSupply.{IsMintRefusal, MayIssue, supply_at};
 ghost use Rattle.vault_model.specs.ertp_mint.Stocks.{most_made};
 ghost use Rattle.vault_model.specs.proposals.Slots.{FitsSeat};
 ghost use Rattle.seats.specs.Staging.{staged_at, with_staged, without_staged};
@@ -410,14 +409,13 @@ impl Draft {
     pub fn issue(&mut self, brand: u16, value: Value) -> Result<Parcel, (Value, PutFault)>
         requires sound { self.old.is_spoiled ≡ false }
         requires brand { IsOfBrand self.old.now brand value }
-        requires small { (supply_at self.old.now.out brand).minted + counted value.content < 2 ^ 128 }
         requires empty { given_at self.old brand ≡ nothing }
         ensures ok { OnOk result (self.new ≡ after self.old (movement brand Holder.Outside Holder.Hand value)) }
         ensures parcel { IfOk result (λ parcel. parcel ≡ amount_of brand value) }
-        ensures fits { OnOk result (Fits value.kind (sum (supply_at self.old.now.out brand).outstanding.content value.content)) }
+        ensures may { OnOk result (MayIssue (supply_at self.old.now.out brand) value) }
         ensures back { IfErr result (λ (back, _). back ≡ value) }
         ensures err { OnErr result (self.new ≡ self.old) }
-        ensures refused { IfErr result (λ (_, fault). IsIssueRefusal value.kind (sum (supply_at self.old.now.out brand).outstanding.content value.content) fault) }
+        ensures refused { IfErr result (λ (_, fault). IsMintRefusal (supply_at self.old.now.out brand) value fault) }
     {
         let Ok(noted) = note_take(
             &mut self.stores,

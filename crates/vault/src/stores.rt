@@ -1,9 +1,9 @@
 //! The stores of a vault, and the halves of a movement on them.
 
-ghost use Rattle.std.specs.Prelude.{◌≡◌, ◌<◌, ◌+◌, ◌^◌, ◌∷◌, [], List, is_some, length, IfErr, IsTrue, IfOk, OnErr, OnOk, ◌↔◌};
+ghost use Rattle.std.specs.Prelude.{◌≡◌, ◌<◌, ◌+◌, ◌∷◌, [], List, is_some, length, IfErr, IsTrue, IfOk, OnErr, OnOk, ◌↔◌};
 ghost use Rattle.vault_model.specs.amount_math.Content.{Contains, nothing, sum};
-ghost use Rattle.vault_model.specs.amount_math.Counted.{counted};
-ghost use Rattle.vault_model.specs.amount_math.ValueView.{Fits, IsIssueRefusal, IsValue, ValueView};
+ghost use Rattle.vault_model.specs.amount_math.ValueView.{IsValue, ValueView};
+ghost use Rattle.vault_model.specs.ertp_mint.BrandSupply.{IsMintRefusal, MayIssue};
 ghost use Rattle.vault_model.specs.ertp_mint.Balances.{HasRoomFor};
 ghost use Rattle.vault_model.specs.ertp_mint.Stocks.{most_made};
 ghost use Rattle.vault_model.specs.holders.PaymentViews.{IsKept};
@@ -236,14 +236,13 @@ impl Stores {
     pub fn issue(&mut self, brand: u16, value: Value) -> Result<Parcel, (Value, PutFault)>
         requires made { brand < length self.old.transit.out }
         requires kind { kind_in self.old.transit brand ≡ value.kind }
-        requires small { (supply_in self.old.transit brand).minted + counted value.content < 2 ^ 128 }
         requires empty { in_store self.old.transit brand ≡ nothing }
         ensures ok { OnOk result (IsTaken self.old self.new Holder.Outside brand value) }
         ensures parcel { IfOk result (λ parcel. parcel ≡ record { brand = brand; value = value }) }
-        ensures fits { OnOk result (Fits value.kind (sum (supply_in self.old.transit brand).outstanding.content value.content)) }
+        ensures may { OnOk result (MayIssue (supply_in self.old.transit brand) value) }
         ensures back { IfErr result (λ (back, _). back ≡ value) }
         ensures err { OnErr result (self.new ≡ self.old) }
-        ensures refused { IfErr result (λ (_, fault). IsIssueRefusal value.kind (sum (supply_in self.old.transit brand).outstanding.content value.content) fault) }
+        ensures refused { IfErr result (λ (_, fault). IsMintRefusal (supply_in self.old.transit brand) value fault) }
     {
         self.transit.issue(brand, value)
     }

@@ -1,9 +1,10 @@
 -- What a vault has, as lists, and what the halves of a movement make of them.
-use Rattle.std.specs.Prelude.{◌≡◌, ℕ, ◌+◌, ◌-◌, ◌<◌, List, [], ◌∷◌, ◌++◌, None, Some, length, slice_index_or, slice_set, take, refl}
+use Rattle.std.specs.Prelude.{◌≡◌, ℕ, ◌+◌, ◌-◌, ◌<◌, ◌≤◌, List, [], ◌∷◌, ◌++◌, None, Some, length, slice_index_or, slice_set, take, refl}
 use Rattle.std.specs.Coded.{Coded, code_by, coded×, coded_list, coded_ℕ}
 use Rattle.rights_model.specs.amount_math.Amount.{Meet, coded_amount, holding}
 use Rattle.rights_model.specs.amount_math.Content.{Content, Contains, sum, difference}
-use Rattle.rights_model.specs.amount_math.ValueView.{ValueView, Fits, IsValue}
+use Rattle.rights_model.specs.amount_math.Counted.{counted}
+use Rattle.rights_model.specs.amount_math.ValueView.{ValueView, Fits, IsValue, minted_bound}
 use Rattle.rights_model.specs.amount_math.declared.Amount.{Amount}
 use Rattle.rights_model.specs.amount_math.declared.Kind.{Kind}
 use Rattle.holders.specs.ertp_mint.BrandSupply.{BrandSupply, coded_supply, issued, new_supply, retired, supply_at}
@@ -187,11 +188,12 @@ pub record IsWhole (s : Lists) (n b : ℕ) (w : ValueView) : Type 0 where
   pub made : n < length s.payments
   pub is : payment_view_at s.payments n ≡ live_payment (amount_of b w)
 
--- a value may come out of a brand, and it is out
+-- a value may come out of a brand: no count of what is out then passes its bound, nor the minted total its own; and it is out
 pub record MayCome (s : Lists) (b : ℕ) (w : ValueView) : Type 0 where
   pub made : b < length s.out
   pub kind : kind_of s b ≡ w.kind
   pub fits : Fits w.kind (sum (supply_at s.out b).outstanding.content w.content)
+  pub minted : (supply_at s.out b).minted + counted w.content ≤ minted_bound
 
 pub record IsOutOf (s : Lists) (b : ℕ) (w : ValueView) : Type 0 where
   pub made : b < length s.out

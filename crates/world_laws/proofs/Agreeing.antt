@@ -1,8 +1,8 @@
 -- The table agrees with the rights: what movements make of the rights, they make of the table.
-use Rattle.std.specs.Prelude.{◌≡◌, ◌≢◌, ◌==◌, ◌<◌, ℕ, zero, suc, Bool, true, false, cond, List, [], ◌∷◌, Option, Some, None, IfSome, length, slice_index_or, slice_set, refl}
+use Rattle.std.specs.Prelude.{◌≡◌, ◌≢◌, ◌==◌, ℕ, zero, suc, cond, List, [], ◌∷◌, Option, Some, None, IfSome, slice_index_or, slice_set, refl}
 use Rattle.std.specs.List.{AllByRecursion}
 use Rattle.std.proofs.Common.{inl, inr, sym, ◌∙◌, ap, subst, arith}
-use Rattle.std.proofs.lemmas.Bool.{cases_eq, eq-eqb, ne_eqb}
+use Rattle.std.proofs.lemmas.Bool.{eq-eqb, ne_eqb}
 use Rattle.world_state.specs.amount_math.Content.{Content, Contains, count, count-nothing, difference, nothing, same_content, sum}
 use Rattle.world_state.specs.amount_math.ValueView.{ValueView}
 use Rattle.world_state.specs.amount_math.declared.Amount.{Amount}
@@ -20,7 +20,7 @@ use Rattle.world_state.specs.vault_model.Tables.{content_held, hand_minus, hand_
 use Rattle.world_state.specs.Good.{HasNothing, HoldsNothing}
 use Rattle.world_state.specs.Rights.{CanGive, CanMove, CanMoveAll, CanTake, HasOrOpens, IsEmptyHand, IsPaymentWith, Has, Rights, all_moved, all_spent, given, hand_after, hand_in, hand_out, moved, moved_together, slots_at, spent_from, taken}
 use Rattle.world_laws.specs.Tables.{Agrees, content_at, in_slot}
-use Rattle.world_laws.proofs.Changes.{Change, IsStore, given_here, given_others, none_either, of_brand, taken_here, taken_others}
+use Rattle.world_laws.proofs.Changes.{Change, IsStore, given_here, given_others, of_brand, taken_here, taken_others}
 
 store_inside : (h : Holder) → IsStore h → h ≢ Outside
 store_inside (Purse n) is e = cc

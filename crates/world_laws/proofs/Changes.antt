@@ -1,24 +1,23 @@
 -- What a half of a movement changes of what is held: of one holder one brand's content, and nothing else.
-use Rattle.std.specs.Prelude.{◌≡◌, ◌≢◌, ◌⊎◌, ◌==◌, ◌<◌, ℕ, zero, suc, Bool, true, false, cond, List, [], ◌∷◌, ◌++◌, Option, Some, None, IsSomeAnd, length, slice_index_or, slice_set, refl}
+use Rattle.std.specs.Prelude.{◌≡◌, ◌≢◌, ◌==◌, ℕ, zero, suc, Bool, true, false, cond, List, [], ◌∷◌, ◌++◌, Option, Some, None, length, slice_set, refl}
 use Rattle.std.specs.Option.{option_map, option_map_or}
 use Rattle.std.specs.Str.{bytes_eq}
 use Rattle.std.proofs.Common.{inl, inr, sym, ◌∙◌, ap, subst, arith}
 use Rattle.std.proofs.lemmas.Bool.{cases_eq, eq-eqb, ne_eqb}
 use Rattle.std.proofs.lemmas.Slice.Eq.{bytes_eq-Decides}
 use Rattle.world_state.specs.amount_math.Amount.{holding}
-use Rattle.world_state.specs.amount_math.Content.{Content, Contains, Contains-refl, nothing, sum, difference, nothing-difference, nothing-sum}
+use Rattle.world_state.specs.amount_math.Content.{Content, nothing, sum, difference, nothing-difference, nothing-sum}
 use Rattle.world_state.specs.amount_math.ValueView.{ValueView}
 use Rattle.world_state.specs.amount_math.declared.Amount.{Amount}
 use Rattle.world_state.specs.ertp_mint.Stocks.{no_amount}
 use Rattle.world_state.proofs.lemmas.ListEdits.{read_before, read_other, read_past, read_pushed, read_set}
 use Rattle.world_state.specs.holders.PaymentViews.{PaymentView, live_payment, payment_view_at, spent_payment}
-use Rattle.world_state.specs.proposals.Shares.{amount_under, keyed_share}
+use Rattle.world_state.specs.proposals.Shares.{amount_under}
 use Rattle.world_state.specs.proposals.declared.allocations.Share.{Share}
 use Rattle.world_state.specs.rights_model.declared.Holder.{Holder}
 use Rattle.world_state.specs.rights_model.declared.Holder.TheVariants.{Purse, Payment, Slot, Hand, Outside}
 use Rattle.world_state.specs.vault_model.Lists.{amount_of, less, more, purse_at}
 use Rattle.world_state.specs.vault_model.Tables.{Right, in_brand, right_in, right_on}
-use Rattle.world_state.proofs.vault_model.SlotShares.{keyword_cases}
 use Rattle.world_state.specs.Rights.{CanGive, CanTake, Has, HasOrOpens, IsNextOr, IsPaymentWith, PaymentMore, Rights, Takes, TakesOrOpens, changed_share, given, paid, lessened_payment, raised_payment, paid_payment, shares_less, shares_more, shares_with, slots_at, taken, value_less, value_more}
 use Rattle.world_laws.specs.Tables.{content_at, in_slot}
 

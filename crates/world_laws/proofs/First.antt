@@ -1,12 +1,12 @@
 -- The world of a new host is good.
-use Rattle.std.proofs.Common.{◌≡◌, ◌*◌, ℕ, zero, suc, List, [], ◌∷◌, Some, None, refl, arith}
+use Rattle.std.proofs.Common.{◌≡◌, ℕ, zero, suc, List, [], ◌∷◌, Some, None, refl, arith}
 use Rattle.world_state.specs.amount_math.Content.{count, count-nothing}
 use Rattle.world_state.specs.amount_math.declared.Kind.TheVariants.{Set}
 use Rattle.world_state.specs.brands.Brands.{brand_at, started}
 use Rattle.world_state.specs.ertp_mint.BrandSupply.{new_supply, supply_at}
 use Rattle.world_state.specs.proposals.declared.allocations.Share.{Share}
 use Rattle.world_state.specs.Good.{IsGoodWorld}
-use Rattle.world_state.specs.Rights.{IsRoomy, kind_at, most_issued, most_turns}
+use Rattle.world_state.specs.Rights.{kind_at}
 use Rattle.world_laws.specs.First.{first_world}
 
 none_out : (b : ℕ) (k : List ℕ) → count (supply_at (new_supply Set ∷ []) b).outstanding.content k ≡ 0
@@ -34,6 +34,7 @@ first_is_good = record {
   slot_kinds = tt;
   valued = record { purses = tt; payments = tt; slots = tt };
   bounded = (record { each = λ k. omega (arith, count-nothing k) }, tt);
+  minted = (omega arith, tt);
   brands = record { some = omega arith; few = omega arith; supplies = refl; made_by = refl; kinds = same_kinds; first = refl; host = refl };
   invited = record { once = omega arith; made = λ k none. count-nothing k };
   seats = record { staged = refl; slotted = refl; paired = refl; shares = tt; named = tt };
@@ -59,10 +60,3 @@ first_is_good = record {
   timely = record { time = omega arith; waiting = tt };
   waiting = tt;
 }
-
-minted_none : (b : ℕ) → (supply_at (new_supply Set ∷ []) b).minted ≡ 0
-minted_none zero = refl
-minted_none (suc b) = refl
-
-pub first_is_roomy : IsRoomy first_world.rights.out (most_turns * most_issued)
-first_is_roomy = record { each = λ b. omega (arith, minted_none b) }

@@ -89,6 +89,7 @@ module _ (w : State) (d : Delivery) where
         slot_kinds = good.slot_kinds;
         valued = good.valued;
         bounded = good.bounded;
+        minted = good.minted;
         brands = good.brands;
         invited = good.invited;
         seats = good.seats;

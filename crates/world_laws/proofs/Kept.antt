@@ -14,7 +14,7 @@ use Rattle.world_laws.proofs.Instances.{at_work-after, instances-after, placed-a
 use Rattle.world_laws.proofs.Owing.{owed-after}
 use Rattle.world_laws.proofs.Rooms.{room-after, staged-after}
 use Rattle.world_laws.proofs.Seated.{covered-after, seats-after}
-use Rattle.world_laws.proofs.Supplies.{bounded-after, brands-after, invited-after}
+use Rattle.world_laws.proofs.Supplies.{bounded-after, brands-after, invited-after, minted-after}
 
 pub good-after : (w : State) (e : Effect) → IsGoodEffect w e → IsGoodWorld w → IsGoodWorld (after w e)
 good-after w e can good =
@@ -27,6 +27,7 @@ good-after w e can good =
       slot_kinds = kinds.slots;
       valued = valued-after w e can good;
       bounded = bounded-after w e can good;
+      minted = minted-after w e can good;
       brands = brands-after w e can good;
       invited = invited-after w e can good;
       seats = seats-after w e can good;

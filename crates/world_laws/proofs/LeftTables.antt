@@ -1,5 +1,5 @@
 -- A seat that is left is its slots paid out, one after another.
-use Rattle.std.specs.Prelude.{◌≡◌, ◌==◌, ◌<◌, ◌+◌, ℕ, suc, Bool, true, false, cond, List, [], ◌∷◌, ◌++◌, Option, Some, None, length, map, slice_set, refl}
+use Rattle.std.specs.Prelude.{◌≡◌, ◌<◌, ℕ, suc, Bool, true, false, cond, List, [], ◌∷◌, ◌++◌, Some, None, length, map, slice_set, refl}
 use Rattle.std.specs.List.{AllByRecursion}
 use Rattle.std.specs.Str.{bytes_eq}
 use Rattle.std.proofs.Common.{append_assoc, sym, ◌∙◌, ap, subst, arith}
@@ -10,14 +10,14 @@ use Rattle.world_state.specs.amount_math.Amount.{holding}
 use Rattle.world_state.specs.amount_math.Content.{Content, Contains-refl, count-difference, count-nothing, difference, nothing, same_content}
 use Rattle.world_state.specs.amount_math.declared.Amount.{Amount}
 use Rattle.world_state.proofs.lemmas.ListEdits.{length_push, length_set, read_set, set_same, set_set}
-use Rattle.world_state.specs.holders.PaymentViews.{PaymentView, live_payment}
+use Rattle.world_state.specs.holders.PaymentViews.{PaymentView}
 use Rattle.world_state.specs.proposals.Shares.{AreApart, amount_under, keyed_share}
 use Rattle.world_state.specs.proposals.Slots.{emptied}
 use Rattle.world_state.specs.proposals.declared.allocations.Share.{Share}
 use Rattle.world_state.specs.rights_model.declared.Holder.TheVariants.{Payment, Slot}
 use Rattle.world_state.specs.rights_model.declared.Movement.{Movement}
 use Rattle.world_state.specs.rights_model.Table.{movement, table_after}
-use Rattle.world_state.specs.vault_model.Lists.{amount_of, less}
+use Rattle.world_state.specs.vault_model.Lists.{less}
 use Rattle.world_state.specs.vault_model.Tables.{no_hand}
 use Rattle.world_state.specs.Good.{AreSharesOf, AreSharesValued, IsAmountValued, IsOfKind}
 use Rattle.world_state.specs.Rights.{CanMove, CanMoveAll, HasOrOpens, IsNextOr, Rights, all_moved, changed_share, moved, paid_payment, shares_less, shares_with, slots_at, taken}

@@ -21,7 +21,6 @@ pub mod PaidOut
 pub mod Valued
 pub mod Kept
 pub mod First
-pub mod Roomy
 pub mod Fronts
 pub mod Agreed
 pub mod Printables

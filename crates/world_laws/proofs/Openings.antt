@@ -1,24 +1,22 @@
 -- What is opened or made with nothing leaves who holds what as it was.
-use Rattle.std.specs.Prelude.{◌≡◌, ◌==◌, ℕ, Bool, true, false, cond, List, [], ◌∷◌, ◌++◌, Option, Some, None, length, map, slice_index_or, refl}
+use Rattle.std.specs.Prelude.{◌≡◌, ◌==◌, ℕ, Bool, true, false, cond, List, [], ◌∷◌, Some, length, map, refl}
 use Rattle.std.specs.Str.{bytes_eq}
-use Rattle.std.proofs.Common.{inl, inr, sym, ◌∙◌, ap, subst, arith}
+use Rattle.std.proofs.Common.{inl, inr, sym, ◌∙◌, ap, arith}
 use Rattle.std.proofs.lemmas.Bool.{cases_eq}
-use Rattle.world_state.specs.amount_math.Amount.{holding}
 use Rattle.world_state.specs.amount_math.Content.{nothing}
 use Rattle.world_state.specs.amount_math.declared.Amount.{Amount}
 use Rattle.world_state.specs.ertp_mint.BrandSupply.{BrandSupply}
 use Rattle.world_state.specs.ertp_mint.Stocks.{no_amount}
 use Rattle.world_state.proofs.lemmas.ListEdits.{read_before, read_past, read_pushed}
-use Rattle.world_state.specs.holders.PaymentViews.{PaymentView, live_payment, payment_view_at, spent_payment}
+use Rattle.world_state.specs.holders.PaymentViews.{PaymentView, live_payment, spent_payment}
 use Rattle.world_state.specs.proposals.Shares.{amount_under}
 use Rattle.world_state.specs.proposals.Slots.{emptied}
 use Rattle.world_state.specs.proposals.declared.allocations.Share.{Share}
 use Rattle.world_state.specs.rights_model.declared.Holder.{Holder}
 use Rattle.world_state.specs.rights_model.declared.Holder.TheVariants.{Purse, Payment, Slot, Hand, Outside}
-use Rattle.world_state.specs.vault_model.Lists.{purse_at}
 use Rattle.world_state.specs.vault_model.Tables.{in_brand, no_hand, right_in, right_on}
-use Rattle.world_state.specs.Rights.{Rights, slots_at, with_payment, with_purse, with_slots, with_supply}
-use Rattle.world_laws.specs.Tables.{Agrees, content_at, in_slot, table_of}
+use Rattle.world_state.specs.Rights.{Rights, with_payment, with_purse, with_slots, with_supply}
+use Rattle.world_laws.specs.Tables.{content_at, in_slot, table_of}
 use Rattle.world_laws.proofs.Changes.{none_either}
 use Rattle.world_laws.proofs.Tabled.{table_agrees, table_is}
 

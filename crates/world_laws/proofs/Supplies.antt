@@ -20,7 +20,7 @@ use Rattle.world_state.specs.rights_model.declared.Holder.{Holder}
 use Rattle.world_state.specs.rights_model.declared.Holder.TheVariants.{Purse, Payment, Slot, Hand, Outside}
 use Rattle.world_state.specs.rights_model.declared.Movement.{Movement}
 use Rattle.world_state.specs.vault_model.Tables.{no_hand}
-use Rattle.world_state.specs.Good.{AreBrands, AreInvitations, IsGoodEffect, IsGoodMove, IsGoodWorld, IsInBounds}
+use Rattle.world_state.specs.Good.{AreBrands, AreInvitations, IsGoodEffect, IsGoodMove, IsGoodWorld, IsInBounds, IsMintedInBounds}
 use Rattle.world_state.specs.Rights.{CanMoveAll, CanTake, Rights, all_moved, given, hand_after, kind_at, moved, taken, with_slots, IsNextOr}
 use Rattle.world_state.specs.Worlds.{Effect, Maker, Seat, State, after, burn_and_escrows, empty_slots, invitation_move, invitation_value, of_host, invite, moves, new_brand, offer}
 use Rattle.world_laws.proofs.Elements.{counted-one_of, element_is_key, elements_apart, none_other}
@@ -46,6 +46,21 @@ bounded_moved : (r : Rights) (hand : ℕ → Content) (ms : List Movement) → C
 bounded_moved r hand [] can all = all
 bounded_moved r hand (m ∷ ms) can all =
     bounded_moved (moved r m) (hand_after hand m) ms can.1 (bounded_given (taken r m.from m.brand m.value) m.to m.brand m.value (bounded_taken r hand m.from m.brand m.value can.0.kind can.0.from all))
+
+-- ---- what was minted
+
+minted_taken : (r : Rights) (hand : ℕ → Content) (h : Holder) (b : ℕ) (w : ValueView) → CanTake r hand h b w → AllByRecursion IsMintedInBounds r.out → AllByRecursion IsMintedInBounds (taken r h b w).out
+minted_taken r hand Outside b w can all = all_set IsMintedInBounds r.out b (issued (supply_at r.out b) w.content) all can.minted
+minted_taken r hand _ b w can all = all
+
+minted_given : (r : Rights) (h : Holder) (b : ℕ) (w : ValueView) → AllByRecursion IsMintedInBounds r.out → AllByRecursion IsMintedInBounds (given r h b w).out
+minted_given r Outside b w all = all_set IsMintedInBounds r.out b (retired (supply_at r.out b) w.content) all (all_read_or IsMintedInBounds r.out b (new_supply Nat) all (omega arith))
+minted_given r _ b w all = all
+
+minted_moved : (r : Rights) (hand : ℕ → Content) (ms : List Movement) → CanMoveAll r hand ms → AllByRecursion IsMintedInBounds r.out → AllByRecursion IsMintedInBounds (all_moved r ms).out
+minted_moved r hand [] can all = all
+minted_moved r hand (m ∷ ms) can all =
+    minted_moved (moved r m) (hand_after hand m) ms can.1 (minted_given (taken r m.from m.brand m.value) m.to m.brand m.value (minted_taken r hand m.from m.brand m.value can.0.from all))
 
 -- ---- an invitation can be made
 
@@ -73,7 +88,7 @@ can_invite w good few =
         kind = first_is_set w good;
         from = record {
           fits = Fits-one_more out (element n) new (subst (λ z. Fits z out) (first_is_set w good) was);
-          room = omega (arith, counted-one_of (element n), good.invited.once, few);
+          minted = omega (arith, counted-one_of (element n), good.invited.once, few);
         };
         to = subst (λ t. IsNextOr t (taken w.rights Outside 0 (invitation_value n)) (length w.rights.payments) 0 (invitation_value n)) (sym (eq-eqb (length w.rights.payments) (length w.rights.payments) refl)) (one_is_set (element n) (element_is_key (element n) n refl (omega (arith, few))));
       },
@@ -86,6 +101,13 @@ bounded-after w (moves ms) can good = bounded_moved w.rights no_hand ms can.can 
 bounded-after w (offer o) can good = bounded_moved (with_slots w.rights (empty_slots o.proposal)) no_hand (burn_and_escrows o) can.moves.can good.bounded
 bounded-after w (invite d) can good = bounded_moved w.rights no_hand (invitation_move w ∷ []) (can_invite w good can.few) good.bounded
 bounded-after w _ can good = good.bounded
+
+pub minted-after : (w : State) (e : Effect) → IsGoodEffect w e → IsGoodWorld w → AllByRecursion IsMintedInBounds (after w e).rights.out
+minted-after w (new_brand b maker) can good = all_push IsMintedInBounds w.rights.out (new_supply b.kind) good.minted (omega arith)
+minted-after w (moves ms) can good = minted_moved w.rights no_hand ms can.can good.minted
+minted-after w (offer o) can good = minted_moved (with_slots w.rights (empty_slots o.proposal)) no_hand (burn_and_escrows o) can.moves.can good.minted
+minted-after w (invite d) can good = minted_moved w.rights no_hand (invitation_move w ∷ []) (can_invite w good can.few) good.minted
+minted-after w _ can good = good.minted
 
 -- ---- brands
 

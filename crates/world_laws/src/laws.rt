@@ -1,7 +1,7 @@
 //! The laws of the world: good effects keep rights in balance, open seats covered, promises told and owed once. The
 //! bodies are empty: what they state is proved of the definitions.
 
-ghost use Rattle.std.specs.Prelude.{◌≡◌, ◌<◌, ◌≤◌, ◌+◌, ◌*◌, ℕ, true, Option, Some};
+ghost use Rattle.std.specs.Prelude.{◌≡◌, ◌<◌, ℕ, true, Option, Some};
 ghost use Rattle.std.specs.Prelude.{List, ◌∷◌, length};
 ghost use Rattle.std.specs.List.{AllByRecursion};
 ghost use Rattle.world_state.specs.host_data.Nodes.{EachNode};
@@ -11,7 +11,6 @@ ghost use Rattle.world_state.specs.host_data.Tree.{Tree};
 ghost use Rattle.world_state.specs.promise_store.States.{SettlementView};
 ghost use Rattle.world_state.specs.proposals.OfferSafety.{MeetSlots};
 ghost use Rattle.world_state.specs.proposals.declared.allocations.Share.{Share};
-ghost use Rattle.world_state.specs.rights_model.declared.Movement.{Movement};
 ghost use Rattle.world_state.specs.turn_records.Deliveries.{Delivery, promise_of};
 ghost use Rattle.world_laws.specs.First.{first_world};
 ghost use Rattle.world_laws.specs.Turns.{Agree, allocation_at, amounts_at};
@@ -19,10 +18,8 @@ ghost use Rattle.world_state.specs.Good.{AreGood, IsDue, IsGoodEffect, IsGoodWor
 ghost use Rattle.world_state.specs.Good.{LeavesAnswer};
 ghost use Rattle.world_state.specs.Known.{Grows, HasFunction, HasWidth, IsFormed};
 ghost use Rattle.world_state.specs.Promises.{settlement_at};
-ghost use Rattle.world_state.specs.Rights.{IsRoomy, Rights, issued_in, moved};
-ghost use Rattle.world_state.specs.Rights.{most_issued, most_turns};
 ghost use Rattle.world_state.specs.Worlds.{Effect, State, after, after_all, behind, in_front};
-ghost use Rattle.world_state.specs.Worlds.{issued_by, issued_by_all, promises_made, seat_at};
+ghost use Rattle.world_state.specs.Worlds.{promises_made, seat_at};
 
 /// Whatever an effect does, what was made stays what it is: brands and who made them, whose a
 /// seat is and what it was opened for, the installation of an instance, invitations, facets, and
@@ -41,10 +38,9 @@ pub fn good_effects_keep_the_world_good()
         → AreGood w es → IsGoodWorld w → IsGoodWorld (after_all w es) }
 {}
 
-/// The world of a new host is good, and has room for all that its turns may issue.
+/// The world of a new host is good.
 pub fn a_new_world_is_good()
     ensures good { IsGoodWorld first_world }
-    ensures room { IsRoomy first_world.rights.out (most_turns * most_issued) }
 {}
 
 /// Through good effects what a seat had when it was left stays what it is, and what a promise was
@@ -79,17 +75,6 @@ pub fn good_effects_keep_the_turns_delivery()
     ensures all { (w : State) (d : Delivery) (es : List Effect)
         → AreGood w es → AllByRecursion (LeavesAnswer d) es
         → IsGoodWorld (in_front d w) → IsGoodWorld (in_front d (after_all w es)) }
-{}
-
-/// What isn't issued may still be issued: after a movement, after an effect, and after effects.
-pub fn what_is_not_issued_may_still_be()
-    ensures movement { (r : Rights) (m : Movement) (ms : List Movement) (n : ℕ)
-        → IsRoomy r.out (issued_in (m ∷ ms) + n) → IsRoomy (moved r m).out (issued_in ms + n) }
-    ensures one { (w : State) (e : Effect) (n m : ℕ)
-        → IsRoomy w.rights.out n → issued_by w e + m ≤ n → IsRoomy (after w e).rights.out m }
-    ensures all { (w : State) (es : List Effect) (n m : ℕ)
-        → IsRoomy w.rights.out n → issued_by_all w es + m ≤ n
-        → IsRoomy (after_all w es).rights.out m }
 {}
 
 /// All amounts that are known of a seat are, under one keyword, of one brand and kind: what it

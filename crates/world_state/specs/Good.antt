@@ -6,7 +6,7 @@ use Rattle.std.specs.Prelude.{Option, Some, None, IfSome, IsSome, IsSomeAnd, is_
 use Rattle.std.specs.List.{AllByRecursion}
 use Rattle.vault_model.specs.amount_math.Amount.{Meet}
 use Rattle.vault_model.specs.amount_math.Content.{count}
-use Rattle.vault_model.specs.amount_math.ValueView.{Fits, IsValue, ValueView}
+use Rattle.vault_model.specs.amount_math.ValueView.{Fits, IsValue, ValueView, minted_bound}
 use Rattle.vault_model.specs.amount_math.declared.Amount.{Amount}
 use Rattle.vault_model.specs.amount_math.declared.Kind.TheVariants.{Set}
 use Rattle.actors.specs.Labels.{Bound, bound_to}
@@ -108,6 +108,10 @@ pub record AreValues (r : Rights) : Type 0 where
 -- there is no more out of a brand than its kind lets there be
 abbrev pub IsInBounds : BrandSupply → Type 0
 IsInBounds s = Fits s.outstanding.kind s.outstanding.content
+
+-- no more was ever minted of a brand than may be
+abbrev pub IsMintedInBounds : BrandSupply → Type 0
+IsMintedInBounds s = s.minted ≤ minted_bound
 
 -- brand 0 is that of invitations; each brand has a supply of its kind, and one that made it
 pub record AreBrands (bs : List Brand) (makers : List Maker) (out : List BrandSupply) : Type 0 where
@@ -443,6 +447,7 @@ pub record IsGoodWorld (w : State) : Type 0 where
   pub slot_kinds : AllByRecursion (AreSharesOf w.rights.out) w.rights.slots
   pub valued : AreValues w.rights
   pub bounded : AllByRecursion IsInBounds w.rights.out
+  pub minted : AllByRecursion IsMintedInBounds w.rights.out
   pub brands : AreBrands w.brands w.makers w.rights.out
   pub invited : AreInvitations w.rights.out w.invitations
   pub seats : AreSeats w.seats w.rights.slots w.pairs w.staging

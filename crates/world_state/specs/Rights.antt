@@ -1,6 +1,6 @@
 -- What is held and what is out, as lists; what written movements make of them, one after another
 -- and together; and when they can be made.
-use Rattle.std.specs.Prelude.{◌≡◌, ℕ, ◌+◌, ◌<◌, ◌^◌, ◌==◌, if◌then◌else◌, Bool, true, false}
+use Rattle.std.specs.Prelude.{◌≡◌, ℕ, ◌+◌, ◌<◌, ◌≤◌, ◌==◌, if◌then◌else◌, Bool, true, false}
 use Rattle.std.specs.Prelude.{List, [], ◌∷◌, ◌++◌, length, map, slice_index_or, slice_set}
 use Rattle.std.specs.Prelude.{Option, Some, None, IsSomeAnd}
 use Rattle.std.specs.List.{flat_map}
@@ -9,7 +9,7 @@ use Rattle.std.specs.Str.{bytes_eq}
 use Rattle.vault_model.specs.amount_math.Amount.{holding}
 use Rattle.vault_model.specs.amount_math.Content.{Content, Contains, sum, difference, count, nothing}
 use Rattle.vault_model.specs.amount_math.Counted.{counted}
-use Rattle.vault_model.specs.amount_math.ValueView.{ValueView, Fits, IsValue, with_content}
+use Rattle.vault_model.specs.amount_math.ValueView.{ValueView, Fits, IsValue, minted_bound, with_content}
 use Rattle.vault_model.specs.amount_math.declared.Amount.{Amount}
 use Rattle.vault_model.specs.amount_math.declared.Kind.{Kind}
 use Rattle.vault_model.specs.ertp_mint.BrandSupply.{BrandSupply, issued, retired, supply_at}
@@ -184,10 +184,10 @@ pub record SlotHas (r : Rights) (s : ℕ) (k : List ℕ) (b : ℕ) (w : ValueVie
 pub record HandHas (hand : ℕ → Content) (b : ℕ) (w : ValueView) : Type 0 where
   pub has : Contains (hand b) w.content
 
--- it may come out of its brand
+-- it may come out of its brand: what is out then is within the kind's bound, and what was minted within its own
 pub record MayCome (r : Rights) (b : ℕ) (w : ValueView) : Type 0 where
   pub fits : Fits w.kind (sum (supply_at r.out b).outstanding.content w.content)
-  pub room : (supply_at r.out b).minted + counted w.content < 2 ^ 128
+  pub minted : (supply_at r.out b).minted + counted w.content ≤ minted_bound
 
 abbrev pub CanTake : Rights → (ℕ → Content) → Holder → ℕ → ValueView → Type 0
 CanTake r hand (Purse n) b w = PurseHas r n b w
@@ -266,31 +266,11 @@ abbrev pub CanMoveAll : Rights → (ℕ → Content) → List Movement → Type 
 CanMoveAll r hand [] = IsEmptyHand hand
 CanMoveAll r hand (m ∷ ms) = CanMove r hand m × CanMoveAll (moved r m) (hand_after hand m) ms
 
--- ---- what movements issue
+-- ---- turns
 
--- how many counts of all elements together come from outside
-abbrev pub issued_from : Holder → Content → ℕ
-issued_from Outside c = counted c
-issued_from (Purse n) c = 0
-issued_from (Payment n) c = 0
-issued_from (Slot s k) c = 0
-issued_from Hand c = 0
-
-abbrev pub issued_in : List Movement → ℕ
-issued_in [] = 0
-issued_in (m ∷ ms) = issued_from m.from m.value.content + issued_in ms
-
--- the most counts that a turn issues, all elements together, and how many turns there may be
-abbrev pub most_issued : ℕ
-most_issued = 2 ^ 87
-
+-- how many there may be
 abbrev pub most_turns : ℕ
 most_turns = 4000000000
-
--- so many counts may still be issued of each brand. Between turns that is what the turns that are
--- left may issue
-pub record IsRoomy (out : List BrandSupply) (n : ℕ) : Type 0 where
-  pub each : (b : ℕ) → (supply_at out b).minted + n < 2 ^ 128
 
 -- ---- all that is held
 

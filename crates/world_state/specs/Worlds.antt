@@ -42,7 +42,7 @@ use Rattle.turn_records.specs.turn_rows.Causes.{Cause}
 use Rattle.turn_records.specs.turn_rows.Turns.{Payout}
 use Rattle.world_state.specs.Promises.{PromiseBook, Resolved, asking, resolving, settlement_at}
 use Rattle.world_state.specs.Promises.{told_at_once, with_promise}
-use Rattle.world_state.specs.Rights.{Rights, issued_in, moved_together, slots_at}
+use Rattle.world_state.specs.Rights.{Rights, moved_together, slots_at}
 use Rattle.world_state.specs.Rights.{with_payment, with_purse, with_slots, with_supply}
 
 -- who made a brand: it is that of invitations, or was made with an issuer and a mint, or by an
@@ -458,14 +458,3 @@ in_front d w = record w { waiting = d ∷ w.waiting }
 -- the world behind the delivery that is in front
 abbrev pub behind : State → State
 behind w = record w { waiting = drop 1 w.waiting }
-
--- how many counts an effect issues
-abbrev pub issued_by : State → Effect → ℕ
-issued_by w (moves ms) = issued_in ms
-issued_by w (offer o) = issued_in (burn_and_escrows o)
-issued_by w (invite d) = issued_in (invitation_move w ∷ [])
-issued_by w _ = 0
-
-abbrev pub issued_by_all : State → List Effect → ℕ
-issued_by_all w [] = 0
-issued_by_all w (e ∷ es) = issued_by w e + issued_by_all (after w e) es

@@ -1,13 +1,11 @@
 //! The halves of a movement: what it moves is taken to the hand, and put from there.
 
-ghost use Rattle.std.specs.Prelude.{◌≡◌, ◌<◌, ◌+◌, ◌^◌, IfOk, OnErr, OnOk};
-ghost use Rattle.draft_reads.specs.amount_math.Content.{Contains, sum};
-ghost use Rattle.draft_reads.specs.amount_math.Counted.{counted};
-ghost use Rattle.draft_reads.specs.amount_math.ValueView.{Fits};
+ghost use Rattle.std.specs.Prelude.{◌≡◌, IfOk, OnErr, OnOk};
+ghost use Rattle.draft_reads.specs.amount_math.Content.{Contains};
 ghost use Rattle.draft_effects.specs.Steps.{CanMoveByHand, HasInHand, IsAfter, IsCarrying};
 ghost use Rattle.draft_effects.specs.Steps.{MayArrive, MayReach, SlotLeaves, moved_amount};
 ghost use Rattle.draft_reads.specs.Views.{CanGoBack};
-ghost use Rattle.draft_reads.specs.ertp_mint.BrandSupply.{supply_at};
+ghost use Rattle.draft_reads.specs.ertp_mint.BrandSupply.{MayIssue, supply_at};
 ghost use Rattle.draft_reads.specs.vault_model.Lists.{amount_of, taken};
 ghost use Rattle.draft_reads.specs.world_laws.Views.{put_to, taken_by_hand, with_slot_for};
 ghost use Rattle.draft_reads.specs.vault.Drafts.{IsClean, IsOfBrand};
@@ -68,9 +66,7 @@ pub fn put(draft: &mut Draft, to: &Holder, parcel: Parcel) -> Result<(), AllocEr
 pub fn issue(draft: &mut Draft, brand: u16, value: Value) -> Result<Parcel, AllocError>
     requires clean { IsClean draft.old }
     requires brand { IsOfBrand draft.old.now brand value }
-    requires small { (supply_at draft.old.now.out brand).minted + counted value.content < 2 ^ 128 }
-    requires fits { Fits value.kind
-        (sum (supply_at draft.old.now.out brand).outstanding.content value.content) }
+    requires may { MayIssue (supply_at draft.old.now.out brand) value }
     ensures ok { OnOk result (IsCarrying draft.old draft.new
         (taken draft.old.now Holder.Outside brand value) (amount_of brand value)) }
     ensures parcel { IfOk result (λ parcel. parcel ≡ amount_of brand value) }

@@ -12,7 +12,6 @@ ghost use Rattle.jessie_interpreter.specs.jessie_semantics.Keeping.{AllHave};
 ghost use Rattle.delivery_tasks.specs.host_data.View.{trees};
 ghost use Rattle.contract_powers.specs.world_state.Good.{IsGoodWorld};
 ghost use Rattle.contract_powers.specs.world_state.Known.{IsKnownTo, module_of};
-ghost use Rattle.contract_powers.specs.world_state.Rights.{IsRoomy};
 
 use contract_powers::host_world_lib::World;
 use contract_powers::planner::Planner;
@@ -63,7 +62,6 @@ pub(crate) fn run_in<T: Turn, P: Planner>(
     requires kept { trees state.old.items
         ≡ (instance_at (world_of world).tables.instances instance).state }
     requires known { AllHave (IsKnownTo (world_of world) instance) (trees arguments.items) }
-    requires room { IsRoomy (world_of world).rights.out (2 ^ 63 * meter) }
     ensures went { IfOk result.1 (λ came. WentOn instance
         (module_play (module_of (world_of world).tables instance) function.now (trees arguments.items)
         (instance_at (world_of world).tables.instances instance).state meter)
@@ -74,7 +72,6 @@ pub(crate) fn run_in<T: Turn, P: Planner>(
         alloc,
         world,
         instance,
-        room: meter,
         failed: false,
         turn: PhantomData,
         planner: PhantomData,
@@ -92,7 +89,6 @@ pub(crate) fn run_in<T: Turn, P: Planner>(
         alloc: _,
         world,
         instance: _,
-        room: _,
         failed: _,
         turn: _,
         planner: _,

@@ -6,7 +6,6 @@ ghost use Rattle.run_laws.specs.fair_laws.Accounts.{AreStoredEffects};
 ghost use Rattle.host_turns.specs.Totals.{IsTurn, TellsWorld, instances_in, instances_of};
 ghost use Rattle.front_turns.specs.world_laws.First.{first_world};
 ghost use Rattle.front_turns.specs.world_state.Good.{AreGood, IsGoodWorld};
-ghost use Rattle.front_turns.specs.world_state.Rights.{IsRoomy};
 ghost use Rattle.front_turns.specs.world_state.Worlds.{Effect, State, after_all};
 
 /// Where nothing has happened yet, the log of good effects can be told to the totals of the world before them; and
@@ -14,7 +13,6 @@ ghost use Rattle.front_turns.specs.world_state.Worlds.{Effect, State, after_all}
 pub fn good_effects_can_be_told()
     ensures turn { (w : State) (es : List Effect) (e : EscrowState) → IsGoodWorld w → AreGood w es
         → AreStoredEffects es → w.log ≡ [] → TellsWorld w e
-        → IsRoomy (after_all w es).rights.out 0
         → IsTurn w.rights (after_all w es).rights (instances_of w.seats) e (after_all w es).log }
     ensures seats { (w : State) (es : List Effect) → AreGood w es → w.log ≡ []
         → instances_of w.seats ++ instances_in (after_all w es).log

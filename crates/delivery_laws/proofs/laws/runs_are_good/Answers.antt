@@ -4,4 +4,4 @@ use Rattle.delivery_laws.proofs.Runs.{grows_itself, run_is}
 use Rattle.delivery_laws.proofs.laws.runs_are_good.Goals as goal
 
 pub returns : goal.returns
-returns c = record { good = λ start i n p m made asks fits good room. run_is calls_are start i n made p asks p [] start m refl fits good (grows_itself start) tt room }
+returns c = record { good = λ start i n p made asks good. run_is calls_are start i n made p asks p [] start refl good (grows_itself start) tt }

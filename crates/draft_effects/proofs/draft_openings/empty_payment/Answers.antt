@@ -5,15 +5,13 @@ use Rattle.draft_reads.specs.vault_model.Lists.{amount_of}
 use Rattle.draft_reads.specs.vault.Drafts.{DraftState}
 use Rattle.draft_reads.specs.world_state.Rights.{kind_at}
 use Rattle.draft_reads.proofs.Undoing.{clean_back}
-use Rattle.draft_effects.proofs.EmptySlots.{fits_none, small_none}
+use Rattle.draft_effects.proofs.EmptySlots.{fits_none, may_none}
 use Rattle.draft_effects.proofs.Openings.{payment_now, reach_next}
 use Rattle.draft_effects.proofs.draft_openings.empty_payment.Goals as goal
 
-pub issue-requires-clause-small : goal.issue-requires-clause-small
-issue-requires-clause-small c = small_none c.count_anew.new.self.now.out c.supply.result.now.out c.args.brand c.supply.ensures.supply c.empty.result c.minted-minted.result (ap (λ (w : ValueView). w.content) c.empty.ensures) c.minted-minted.ensures c.minted-minted.type_inv
-
-pub issue-requires-clause-fits : goal.issue-requires-clause-fits
-issue-requires-clause-fits c = fits_none c.count_anew.new.self.now.out c.supply-2.result.now.out c.args.brand c.supply-2.ensures.supply c.empty.result (ap (λ (w : ValueView). w.content) c.empty.ensures) (ap (λ (d : DraftState). kind_at d.now.out c.args.brand) c.count_anew.ensures ∙ c.requires.kind ∙ sym (ap (λ (w : ValueView). w.kind) c.empty.ensures)) c.kind-fits.ensures.fits
+pub issue-requires-clause-may : goal.issue-requires-clause-may
+issue-requires-clause-may c = may_none c.count_anew.new.self.now.out c.supply.result.now.out c.args.brand c.supply.ensures.supply c.empty.result c.minted-minted.result (ap (λ (w : ValueView). w.content) c.empty.ensures) c.minted-minted.ensures.minted c.minted-minted.ensures.bounded
+    (fits_none c.count_anew.new.self.now.out c.supply-2.result.now.out c.args.brand c.supply-2.ensures.supply c.empty.result (ap (λ (w : ValueView). w.content) c.empty.ensures) (ap (λ (d : DraftState). kind_at d.now.out c.args.brand) c.count_anew.ensures ∙ c.requires.kind ∙ sym (ap (λ (w : ValueView). w.kind) c.empty.ensures)) c.kind-fits.ensures.fits)
 
 pub returns-in_err-parcel-clause-back : goal.returns-in_err-parcel-clause-back
 returns-in_err-parcel-clause-back c = rw (c.in_err-parcel.ensures.err, c.count_anew.ensures) (clean_back c.args.draft.now c.args.draft.now refl c.valid.ensures c.requires.clean)

@@ -5,4 +5,4 @@ use Rattle.fair_laws.proofs.fair_deliveries.turns_of_deliveries_stay_fair.Goals 
 use Rattle.fair_laws.proofs.HeldReads.{calls_read, services_read}
 
 pub returns : goal.returns
-returns c = record { step = λ read s ts modules host steady before fair leaves. stay_fair read s ts fair leaves (steps_are read (services_are read modules) calls_are calls_read (services_read read) s host steady before) }
+returns c = record { step = λ read s ts modules host steady fair leaves. stay_fair read s ts fair leaves (steps_are read (services_are read modules) calls_are calls_read (services_read read) s host steady) }

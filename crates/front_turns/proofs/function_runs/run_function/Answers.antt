@@ -21,7 +21,7 @@ end_run-ran-requires-clause-can g c =
     let call : FunctionCall = record { instance = c.args.instance; function = c.args.function.now; arguments = trees c.args.arguments.items } in
     let values = trees c.run_in-world.new.state.items in
     let came = c.in-Ok-outcome.outcome in
-    can_end old mid call c.args.meter c.requires.turn.good c.requires.made c.requires.known c.requires.room (outcome came values)
+    can_end old mid call c.args.meter c.requires.turn.good c.requires.made c.requires.known (outcome came values)
     (was_ok c.run_in-world.result.1 came (λ (o : Outcome). WentOn c.args.instance (play_of c.args.meter (world_of old) call) old mid (outcome o values)) c.in-Ok-outcome.is c.run_in-world.ensures.went)
 
 pub returns-clause-came : goal.returns-clause-came

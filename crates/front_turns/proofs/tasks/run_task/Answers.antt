@@ -3,11 +3,8 @@ use Rattle.std.proofs.Common.{◌∙◌, ap, sym}
 use Rattle.contract_powers.proofs.world_effects.JoinedStores.{back_on}
 use Rattle.delivery_tasks.specs.Views.{function_call_view}
 use Rattle.front_turns.proofs.TurnEffects.{start_stays}
-use Rattle.front_turns.proofs.TaskWork.{ended_done, room_for, spent_done}
+use Rattle.front_turns.proofs.TaskWork.{ended_done, spent_done}
 use Rattle.front_turns.proofs.tasks.run_task.Goals as goal
-
-pub run_function-world-requires-clause-room : goal.run_function-world-requires-clause-room
-run_function-world-requires-clause-room g c = room_for c.args.meter c.from-most.result c.args.world c.requires.begun c.from-most.ensures
 
 pub returns-in-Ok-Ended-clause-done : goal.returns-in-Ok-Ended-clause-done
 returns-in-Ok-Ended-clause-done g c =

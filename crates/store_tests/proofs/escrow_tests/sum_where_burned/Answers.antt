@@ -2,14 +2,14 @@ use Rattle.std.proofs.Common.{sym, subst}
 use Rattle.escrow.specs.rights_model.declared.Holder.TheVariants.{Outside}
 use Rattle.escrow.specs.rights_model.declared.Movement.{Movement}
 use Rattle.escrow.specs.rights_model.Table.{CanMove}
-use Rattle.store_tests.proofs.HoldingLaws.{room_for}
+use Rattle.store_tests.proofs.HoldingLaws.{minted_within}
 use Rattle.store_tests.proofs.escrow_tests.sum_where_burned.Goals as goal
 
 pub moved-requires-clause-defined : goal.moved-requires-clause-defined
 moved-requires-clause-defined g c = let has = c.requires.has in rw c.movement-movement.ensures (has.table, has.sums, record { has = λ inside. has.has })
 
-pub moved-requires-clause-room : goal.moved-requires-clause-room
-moved-requires-clause-room g c = rw c.movement-movement.ensures (room_for c.args.escrow.now c.args.from Outside c.args.number c.check_few.ensures c.requires.small)
+pub moved-requires-clause-minted : goal.moved-requires-clause-minted
+moved-requires-clause-minted g c = rw c.movement-movement.ensures (minted_within c.args.escrow.now c.args.from Outside c.args.number c.check_few.ensures c.requires.small)
 
 pub undo_moved-requires-clause-told : goal.undo_moved-requires-clause-told
 undo_moved-requires-clause-told g c =
@@ -20,6 +20,6 @@ undo_moved-requires-clause-told g c =
       table = has.table;
       sums = has.sums;
       defined = subst (λ (m : Movement). CanMove has.table m) (sym is) (record { has = λ inside. has.has });
-      room = rw is (room_for c.args.escrow.now c.args.from Outside c.args.number c.check_few.ensures c.requires.small);
+      minted = rw is (minted_within c.args.escrow.now c.args.from Outside c.args.number c.check_few.ensures c.requires.small);
       told = c.in-Ok.ensures.ok;
     }

@@ -2,14 +2,14 @@ use Rattle.std.proofs.Common.{sym, subst}
 use Rattle.escrow.specs.rights_model.declared.Movement.{Movement}
 use Rattle.escrow.specs.rights_model.Table.{CanMove, moved}
 use Rattle.escrow.specs.Sums.{AreSums}
-use Rattle.store_tests.proofs.HoldingLaws.{holds_moved, room_for}
+use Rattle.store_tests.proofs.HoldingLaws.{holds_moved, minted_within}
 use Rattle.store_tests.proofs.escrow_tests.tell.Goals as goal
 
 pub moved-requires-clause-defined : goal.moved-requires-clause-defined
 moved-requires-clause-defined g c = let can = c.requires.can in rw c.movement-movement.ensures (can.table, can.sums, can.defined)
 
-pub moved-requires-clause-room : goal.moved-requires-clause-room
-moved-requires-clause-room g c = rw c.movement-movement.ensures (room_for c.args.escrow.now c.args.from c.args.to c.args.number c.check_few.ensures c.requires.small)
+pub moved-requires-clause-minted : goal.moved-requires-clause-minted
+moved-requires-clause-minted g c = rw c.movement-movement.ensures (minted_within c.args.escrow.now c.args.from c.args.to c.args.number c.check_few.ensures c.requires.small)
 
 pub returns-clause-holds : goal.returns-clause-holds
 returns-clause-holds g c =

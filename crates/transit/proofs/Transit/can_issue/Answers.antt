@@ -1,8 +1,5 @@
-use Rattle.std.proofs.Common.{subst}
 use Rattle.std.proofs.lemmas.Result.{IfErr-weaker}
-use Rattle.ertp_mint.specs.amount_math.Content.{Content, sum}
-use Rattle.ertp_mint.specs.amount_math.ValueView.{Fits}
-use Rattle.transit.proofs.Calls.{fits_so, kind_there, made, out_same, refused_so}
+use Rattle.transit.proofs.Calls.{kind_there, made, may_so, may_there, refused_so}
 use Rattle.transit.proofs.Transit.can_issue.Goals as goal
 
 pub can_issue-requires-clause-made : goal.can_issue-requires-clause-made
@@ -16,13 +13,12 @@ can_issue-requires-clause-kind c =
 pub returns-clause-ok : goal.returns-clause-ok
 returns-clause-ok c =
     let there = rw (← c.self.view_is) at c.requires.made in
-    rw (← c.self.view_is) (λ ok. fits_so c.self.inside.out c.self.inside.hand.items c.self.invariant c.args.brand there c.args.value.now (rw (← c.self.view_is) at c.requires.empty) (c.can_issue.ensures.ok ok))
+    rw (← c.self.view_is) (λ ok. may_so c.self.inside.out c.self.inside.hand.items c.self.invariant c.args.brand there c.args.value.now (rw (← c.self.view_is) at c.requires.empty) (c.can_issue.ensures.ok ok))
 
 pub returns-clause-sure : goal.returns-clause-sure
 returns-clause-sure c =
     let there = rw (← c.self.view_is) at c.requires.made in
-    let same = out_same c.self.inside.out c.self.inside.hand.items c.self.invariant c.args.brand there c.args.value.now (rw (← c.self.view_is) at c.requires.empty) in
-    rw (← c.self.view_is) (λ fits. c.can_issue.ensures.sure (subst (λ (d : Content). Fits c.args.value.now.kind (sum d c.args.value.now.content)) same fits))
+    rw (← c.self.view_is) (λ may. c.can_issue.ensures.sure (may_there c.self.inside.out c.self.inside.hand.items c.self.invariant c.args.brand there c.args.value.now (rw (← c.self.view_is) at c.requires.empty) may))
 
 pub returns-clause-refused : goal.returns-clause-refused
 returns-clause-refused c =

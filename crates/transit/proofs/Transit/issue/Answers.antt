@@ -1,4 +1,4 @@
-use Rattle.transit.proofs.Calls.{fits_so, issue_keeps, issue_view, kind_there, made, refused_so, small_there}
+use Rattle.transit.proofs.Calls.{issue_keeps, issue_view, kind_there, made, may_so, refused_so}
 use Rattle.transit.proofs.Transit.issue.Goals as goal
 
 pub issue-requires-clause-made : goal.issue-requires-clause-made
@@ -9,26 +9,21 @@ issue-requires-clause-kind c =
     let there = rw (← c.self.view_is) at c.requires.made in
     kind_there c.self.inside.out c.self.inside.hand.items c.self.invariant c.args.brand there c.args.value (rw (← c.self.view_is) at c.requires.kind)
 
-pub issue-requires-clause-room : goal.issue-requires-clause-room
-issue-requires-clause-room c =
-    let there = rw (← c.self.view_is) at c.requires.made in
-    small_there c.self.inside.out c.self.inside.hand.items c.self.invariant c.args.brand there c.args.value (rw (← c.self.view_is) at c.requires.empty) (rw (← c.self.view_is) at c.requires.small)
-
 pub invariant_of-self : goal.invariant_of-self
 invariant_of-self c =
     let there = rw (← c.self.view_is) at c.requires.made in
-    issue_keeps c.self.inside.out c.self.inside.hand.items c.self.invariant c.args.brand there c.args.value (rw (← c.self.view_is) at c.requires.empty) (rw (← c.self.view_is) at c.requires.kind) c.in-Ok.ensures.fits c.issue.new.self c.in-Ok.ensures.ok
+    issue_keeps c.self.inside.out c.self.inside.hand.items c.self.invariant c.args.brand there c.args.value (rw (← c.self.view_is) at c.requires.empty) (rw (← c.self.view_is) at c.requires.kind) c.in-Ok.ensures.may.fits c.issue.new.self c.in-Ok.ensures.ok
 
 pub returns-in-Ok-clause-ok : goal.returns-in-Ok-clause-ok
 returns-in-Ok-clause-ok c =
     let there = rw (← c.self.view_is) at c.requires.made in
     rw (← c.self.view_is)
-    (issue_view c.self.inside.out c.self.inside.hand.items c.self.invariant c.args.brand there c.args.value (rw (← c.self.view_is) at c.requires.empty) (rw (← c.self.view_is) at c.requires.kind) c.in-Ok.ensures.fits c.issue.new.self c.in-Ok.ensures.ok)
+    (issue_view c.self.inside.out c.self.inside.hand.items c.self.invariant c.args.brand there c.args.value (rw (← c.self.view_is) at c.requires.empty) (rw (← c.self.view_is) at c.requires.kind) c.in-Ok.ensures.may.fits c.issue.new.self c.in-Ok.ensures.ok)
 
-pub returns-in-Ok-clause-fits : goal.returns-in-Ok-clause-fits
-returns-in-Ok-clause-fits c =
+pub returns-in-Ok-clause-may : goal.returns-in-Ok-clause-may
+returns-in-Ok-clause-may c =
     let there = rw (← c.self.view_is) at c.requires.made in
-    rw (← c.self.view_is) (fits_so c.self.inside.out c.self.inside.hand.items c.self.invariant c.args.brand there c.args.value (rw (← c.self.view_is) at c.requires.empty) c.in-Ok.ensures.fits)
+    rw (← c.self.view_is) (may_so c.self.inside.out c.self.inside.hand.items c.self.invariant c.args.brand there c.args.value (rw (← c.self.view_is) at c.requires.empty) c.in-Ok.ensures.may)
 
 pub returns-in-Err-clause-refused : goal.returns-in-Err-clause-refused
 returns-in-Err-clause-refused c =

@@ -3,13 +3,8 @@ use Rattle.refusals.specs.amount_math.Content.{sum}
 use Rattle.refusals.specs.amount_math.KindLaws.{value_of_sum}
 use Rattle.refusals.specs.amount_math.ValueView.{IsValue}
 use Rattle.refusals.specs.amount_math.declared.Kind.{Kind}
-use Rattle.value_tests.proofs.Sums.{refused, small, value_passes}
+use Rattle.value_tests.proofs.Sums.{refused, value_passes}
 use Rattle.value_tests.proofs.holding_checks.check_sum.Goals as goal
-
-pub of_put-requires : goal.of_put-requires
-of_put-requires c =
-    let other = subst (λ (kind : Kind). IsValue kind c.args.given.now.content) (sym c.requires.kind) c.kind-other.ensures.value in
-    small c.args.held.now.value.kind c.args.held.now.value.content c.args.given.now.content c.in-Err.fault c.requires.value other c.in-Err.ensures.refused
 
 pub returns-in-Ok-clause-gives : goal.returns-in-Ok-clause-gives
 returns-in-Ok-clause-gives c =

@@ -1,5 +1,5 @@
 use Rattle.value_tests.proofs.Contents.{has-true, true-has}
-use Rattle.value_tests.proofs.Exact.{cause_counts, cause_overlap, cause_value, counts_cause, counts_fits, overlap_cause, passes_value, then_too_much, value_cause, value_passed}
+use Rattle.value_tests.proofs.Exact.{cause_counts, cause_out, cause_overlap, cause_value, counts_cause, counts_fits, out_cause, out_passed, overlap_cause, passes_out, passes_value, then_too_much, value_cause, value_passed}
 use Rattle.value_tests.proofs.Sums.{counts_pass}
 use Rattle.value_tests.proofs.laws.checks_are_exact.Goals as goal
 
@@ -23,3 +23,9 @@ returns-clause-overlap_refused c = λ kind s r. (overlap_cause kind s r, cause_o
 
 pub returns-clause-then_too_much : goal.returns-clause-then_too_much
 returns-clause-then_too_much c = λ kind s free key. then_too_much kind s key free
+
+pub returns-clause-out : goal.returns-clause-out
+returns-clause-out c = λ s d. (out_passed s d, passes_out s d)
+
+pub returns-clause-out_refused : goal.returns-clause-out_refused
+returns-clause-out_refused c = λ s d r. (out_cause s d r, cause_out s d r)

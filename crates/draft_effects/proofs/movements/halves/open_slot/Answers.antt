@@ -7,7 +7,7 @@ use Rattle.draft_reads.specs.vault_model.Lists.{amount_of}
 use Rattle.draft_reads.specs.rights_model.declared.Holder.TheVariants.{Slot}
 use Rattle.draft_reads.proofs.Undoing.{clean_back}
 use Rattle.draft_effects.specs.Steps.{MayReach, moved_amount}
-use Rattle.draft_effects.proofs.EmptySlots.{fits_none, opened_after_so, reach_empty, same_after, slot_is, small_none, still_may}
+use Rattle.draft_effects.proofs.EmptySlots.{fits_none, may_none, opened_after_so, reach_empty, same_after, slot_is, still_may}
 use Rattle.draft_effects.proofs.movements.halves.open_slot.Goals as goal
 
 pub returns-then-has_slot-clause-ok : goal.returns-then-has_slot-clause-ok
@@ -19,11 +19,9 @@ returns-then-has_slot-clause-ok c =
 pub returns-then-has_slot-clause-back : goal.returns-then-has_slot-clause-back
 returns-then-has_slot-clause-back c = clean_back c.args.draft.now c.args.draft.now refl c.valid.ensures c.requires.clean
 
-pub issue-requires-clause-small : goal.issue-requires-clause-small
-issue-requires-clause-small c = small_none c.args.draft.now.now.out c.supply.result.now.out c.args.movement.now.brand c.supply.ensures.supply c.empty.result c.minted-minted.result (ap (λ (w : ValueView). w.content) c.empty.ensures) c.minted-minted.ensures c.minted-minted.type_inv
-
-pub issue-requires-clause-fits : goal.issue-requires-clause-fits
-issue-requires-clause-fits c = fits_none c.args.draft.now.now.out c.supply-2.result.now.out c.args.movement.now.brand c.supply-2.ensures.supply c.empty.result (ap (λ (w : ValueView). w.content) c.empty.ensures) (c.requires.brand.kind ∙ sym (ap (λ (w : ValueView). w.kind) c.empty.ensures ∙ c.kind.ensures.kind)) c.kind-fits.ensures.fits
+pub issue-requires-clause-may : goal.issue-requires-clause-may
+issue-requires-clause-may c = may_none c.args.draft.now.now.out c.supply.result.now.out c.args.movement.now.brand c.supply.ensures.supply c.empty.result c.minted-minted.result (ap (λ (w : ValueView). w.content) c.empty.ensures) c.minted-minted.ensures.minted c.minted-minted.ensures.bounded
+    (fits_none c.args.draft.now.now.out c.supply-2.result.now.out c.args.movement.now.brand c.supply-2.ensures.supply c.empty.result (ap (λ (w : ValueView). w.content) c.empty.ensures) (c.requires.brand.kind ∙ sym (ap (λ (w : ValueView). w.kind) c.empty.ensures ∙ c.kind.ensures.kind)) c.kind-fits.ensures.fits)
 
 pub returns-in_err-parcel-clause-back : goal.returns-in_err-parcel-clause-back
 returns-in_err-parcel-clause-back c = rw (c.in_err-parcel.ensures.err) (clean_back c.args.draft.now c.args.draft.now refl c.valid.ensures c.requires.clean)

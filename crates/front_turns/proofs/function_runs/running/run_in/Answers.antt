@@ -21,12 +21,12 @@ use Rattle.front_turns.proofs.function_runs.running.run_in.Goals as goal
 
 pub invariant_of-powers : goal.invariant_of-powers
 invariant_of-powers g c = record {
-  ready = ∣ ready (situation c.args.world c.args.instance c.args.meter false) (record { turn = c.requires.turn; made = c.requires.made; roomy = c.requires.room }) ∣₁;
+  ready = ∣ ready (situation c.args.world c.args.instance false) (record { turn = c.requires.turn; made = c.requires.made }) ∣₁;
   back = ∣ record { same = c.requires.base; goes = c.requires.turn.goes } ∣₁;
 }
 
-pub evaluate-came-requires-clause-variables : goal.evaluate-came-requires-clause-variables
-evaluate-came-requires-clause-variables g c =
+pub evaluate-came-requires : goal.evaluate-came-requires
+evaluate-came-requires g c =
     let w = world_of c.args.world in
     let m = module_of w.tables c.args.instance in
     sym (length_map _ c.args.state.now.items) ∙ ap (λ (ts : List Tree). length ts) c.requires.kept ∙ (c.requires.turn.good.instances.each c.args.instance c.requires.made).whole
@@ -41,10 +41,10 @@ returns-clause-went g c =
     let p = module_play c.args.module.now c.args.function.now (trees c.args.arguments.items) (trees c.args.state.now.items) c.args.meter in
     let q = module_play (module_of w.tables i) c.args.function.now (trees c.args.arguments.items) (instance_at w.tables.instances i).state c.args.meter in
     let same : p ≡ q = λ k. module_play (c.requires.shared k) c.args.function.now (trees c.args.arguments.items) (c.requires.kept k) c.args.meter in
-    let running : IsRunning (situation c.args.world i c.args.meter false) = record { turn = c.requires.turn; made = c.requires.made; roomy = c.requires.room } in
+    let running : IsRunning (situation c.args.world i false) = record { turn = c.requires.turn; made = c.requires.made } in
     let evaluates : Evaluates w i n p = subst (λ (x : Play). Evaluates w i n x) (sym same) (asks w call c.args.meter c.requires.turn.good c.requires.made c.requires.known) in
     subst (λ (x : Play). IfOk c.evaluate-came.result (λ came. WentOn i x c.args.world c.evaluate-came.new.powers.world (outcome came (trees c.evaluate-came.new.state.items)))) same
-    (went_so _ c.evaluate-came.new.powers (λ a. situation a.world a.instance a.room a.failed) i n p c.evaluate-came.result (trees c.evaluate-came.new.state.items) evaluates running refl c.evaluate-came.ensures.follows)
+    (went_so _ c.evaluate-came.new.powers (λ a. situation a.world a.instance a.failed) i n p c.evaluate-came.result (trees c.evaluate-came.new.state.items) evaluates running refl c.evaluate-came.ensures.follows)
 
 pub returns-clause-back : goal.returns-clause-back
 returns-clause-back g c = undone g.T.Turn.base c.args.world c.evaluate-came.new.powers.world c.requires.base c.evaluate-came.new.powers.back

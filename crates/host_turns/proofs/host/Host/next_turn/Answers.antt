@@ -1,6 +1,5 @@
-use Rattle.std.proofs.Common.{refl, sym, ◌∙◌, ◌<◌, rules}
+use Rattle.std.proofs.Common.{refl, sym, ◌∙◌}
 use Rattle.host_turns.proofs.HostSteps.{none_waits_in, turned_called_for, turned_fair}
-use Rattle.front_turns.specs.world_state.Rights.{most_turns}
 use Rattle.host_turns.proofs.host.Host.next_turn.Goals as goal
 
 pub returns-then-waiting_in-eq0-clause-step : goal.returns-then-waiting_in-eq0-clause-step
@@ -8,10 +7,8 @@ returns-then-waiting_in-eq0-clause-step g c = record { none = none_waits_in _ _ 
 
 pub returns-in-Some-clause-fair : goal.returns-in-Some-clause-fair
 returns-in-Some-clause-fair g c =
-    let early : c.self.inside.turns < most_turns = search rules in
-    λ ts fair leaves. turned_fair _ _ c.self.view_is _ _ _ c.in-Some.is c.run_turn.ensures c.self.invariant early ts fair leaves
+    λ ts fair leaves. turned_fair _ _ c.self.view_is _ _ _ c.in-Some.is c.run_turn.ensures c.self.invariant ts fair leaves
 
 pub returns-in-Some-clause-called_for : goal.returns-in-Some-clause-called_for
 returns-in-Some-clause-called_for g c =
-    let early : c.self.inside.turns < most_turns = search rules in
-    turned_called_for _ _ c.self.view_is _ _ _ c.in-Some.is c.run_turn.ensures c.self.invariant early
+    turned_called_for _ _ c.self.view_is _ _ _ c.in-Some.is c.run_turn.ensures c.self.invariant

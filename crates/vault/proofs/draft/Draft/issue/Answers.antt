@@ -23,7 +23,7 @@ invariant_of-self-in-Ok-issue c =
     let sound = rw (← c.self.view_is) at c.requires.sound in
     let brand = rw (← c.self.view_is) at c.requires.brand in
     taken_keeps_so c.self.inside.stores c.note_take.new.stores c.issue.new.self c.self.inside.steps.items _ c.self.inside.movements.items _ c.self.inside.keys c.in-Ok.noted.keys c.self.inside.is_spoiled Outside c.args.brand c.args.brand c.args.value c.in-Ok.noted.movement sound c.self.invariant c.in-Ok.ensures.roomed c.in-Ok-issue.ensures.ok
-    (may_come c.self.inside.stores c.note_take.new.stores c.self.inside.steps.items c.self.inside.movements.items c.self.inside.keys c.self.inside.is_spoiled c.args.brand c.args.value c.in-Ok.ensures.roomed brand c.in-Ok-issue.ensures.fits) refl
+    (may_come c.self.inside.stores c.note_take.new.stores c.self.inside.steps.items c.self.inside.movements.items c.self.inside.keys c.self.inside.is_spoiled c.args.brand c.args.value c.in-Ok.ensures.roomed brand c.in-Ok-issue.ensures.may) refl
     (c.push_reserved-in-Ok-issue.ensures.items ∙ ap (λ (l : List Undo). l ++ Moves ∷ []) c.in-Ok.ensures.steps)
     (c.push_reserved.ensures.items ∙ ap (λ (l : List Movement). l ++ c.in-Ok.noted.movement ∷ []) c.in-Ok.ensures.movements)
     c.in-Ok.ensures.movement brand c.in-Ok.ensures.keys c.in-Ok.ensures.hand_room
@@ -42,7 +42,7 @@ returns-in-Ok-issue-clause-ok c =
     let sound = rw (← c.self.view_is) at c.requires.sound in
     let brand = rw (← c.self.view_is) at c.requires.brand in
     rw (← c.self.view_is) (taken_after_so c.self.inside.stores c.note_take.new.stores c.issue.new.self c.self.inside.steps.items _ c.self.inside.movements.items _ c.self.inside.keys c.in-Ok.noted.keys c.self.inside.is_spoiled Outside c.args.brand c.args.brand c.args.value c.in-Ok.noted.movement sound c.self.invariant c.in-Ok.ensures.roomed c.in-Ok-issue.ensures.ok
-    (may_come c.self.inside.stores c.note_take.new.stores c.self.inside.steps.items c.self.inside.movements.items c.self.inside.keys c.self.inside.is_spoiled c.args.brand c.args.value c.in-Ok.ensures.roomed brand c.in-Ok-issue.ensures.fits) refl
+    (may_come c.self.inside.stores c.note_take.new.stores c.self.inside.steps.items c.self.inside.movements.items c.self.inside.keys c.self.inside.is_spoiled c.args.brand c.args.value c.in-Ok.ensures.roomed brand c.in-Ok-issue.ensures.may) refl
     (c.push_reserved-in-Ok-issue.ensures.items ∙ ap (λ (l : List Undo). l ++ Moves ∷ []) c.in-Ok.ensures.steps)
     (c.push_reserved.ensures.items ∙ ap (λ (l : List Movement). l ++ c.in-Ok.noted.movement ∷ []) c.in-Ok.ensures.movements)
     c.in-Ok.ensures.movement)
