@@ -1,12 +1,12 @@
 -- How a call of an instance's function was answered over the world of a turn.
-use Rattle.std.specs.Prelude.{◌≡◌, ◌*◌, ◌^◌, ◌⊎◌, ℕ}
+use Rattle.std.specs.Prelude.{◌≡◌, ◌⊎◌, ℕ}
 use Rattle.world_effects.specs.CarriedEffects.{AreCarried}
 use Rattle.delivery_laws.specs.Works.{IsCallWork}
 use Rattle.delivery_laws.specs.delivery_turns.HostCalls.{call_effects, call_reply}
 use Rattle.world_effects.specs.host_world.Worlds.{world_of}
 use Rattle.world_effects.specs.host_world.declared.World.{World}
 use Rattle.jessie_machine.specs.jessie_semantics.Keeping.{CallHas}
-use Rattle.jessie_machine.specs.jessie_semantics.Play.{Call, Reply, cost, refused}
+use Rattle.jessie_machine.specs.jessie_semantics.Play.{Call, Reply, refused}
 use Rattle.refusals.specs.host_data.Tree.{null}
 use Rattle.world_effects.specs.world_state.Known.{IsKnownTo}
 
@@ -14,7 +14,7 @@ use Rattle.world_effects.specs.world_state.Known.{IsKnownTo}
 pub record IsCallDone (old new : World) (i : ℕ) (c : Call) (reply : Reply) : Type 0 where
   pub replied : reply ≡ call_reply (world_of old) i c
   pub carried : AreCarried old new (call_effects (world_of old) i c)
-  pub work : IsCallWork (world_of old) i (2 ^ 63 * cost c) c
+  pub work : IsCallWork (world_of old) i c
 
 -- it names what the instance may not name: then null is thrown, and nothing is done. No function of a module of a
 -- good world makes such a call

@@ -1,32 +1,29 @@
 -- Where a function of an instance stands with the world that it is run over.
-use Rattle.std.specs.Prelude.{◌≡◌, ◌<◌, ◌*◌, ◌^◌, ◌≤◌, ◌+◌, ℕ, Bool, false, length}
+use Rattle.std.specs.Prelude.{◌≡◌, ◌<◌, ℕ, Bool, false, length}
 use Rattle.world_effects.specs.CarriedEffects.{IsInTurn}
 use Rattle.contract_powers.specs.CallReplies.{IsCallAnswered}
 use Rattle.world_effects.specs.host_world.Worlds.{world_of}
 use Rattle.world_effects.specs.host_world.declared.World.{World}
 use Rattle.jessie_machine.specs.jessie_semantics.Keeping.{Known, Reference, ReplyHas, Within, to_function, to_object}
-use Rattle.jessie_machine.specs.jessie_semantics.Play.{Exchange, cost, reply_size}
+use Rattle.jessie_machine.specs.jessie_semantics.Play.{Exchange}
 use Rattle.world_effects.specs.world_state.Known.{FunctionKnown, ObjectKnown}
-use Rattle.world_effects.specs.world_state.Rights.{IsRoomy}
 use Rattle.world_effects.specs.world_state.Worlds.{State}
 use Rattle.std.specs.Prelude.{Some}
 
--- the world, the instance that runs, what calls and their answers may still cost, and whether memory was wanted in the
--- midst of a call: then the world may be half changed, and nothing is answered any more
+-- the world, the instance that runs, and whether memory was wanted in the midst of a call: then the world may be half
+-- changed, and nothing is answered any more
 pub record Situation : Type 0 where
   pub world : World
   pub instance : ℕ
-  pub room : ℕ
   pub failed : Bool
 
-abbrev pub situation : World → ℕ → ℕ → Bool → Situation
-situation w i room failed = record { world = w; instance = i; room = room; failed = failed }
+abbrev pub situation : World → ℕ → Bool → Situation
+situation w i failed = record { world = w; instance = i; failed = failed }
 
--- effects can be carried out on the world; the instance was made; there is room for what is left of the meter
+-- effects can be carried out on the world; the instance was made
 pub record IsRunning (s : Situation) : Type 0 where
   pub turn : IsInTurn s.world
   pub made : s.instance < length (world_of s.world).tables.instances
-  pub roomy : IsRoomy (world_of s.world).rights.out (2 ^ 63 * s.room)
 
 pub record IsReady (s : Situation) : Type 0 where
   pub running : s.failed ≡ false → IsRunning s
@@ -47,6 +44,5 @@ pub record IsAnswered (old new : Situation) (x : Exchange) : Type 0 where
   pub instance : new.instance ≡ old.instance
   pub running : IsRunning new
   pub answered : IsCallAnswered old.world new.world old.instance x.call x.reply
-  pub room : old.room ≤ new.room + (cost x.call + reply_size x.reply)
   pub replied : ReplyHas (Within (Knows new)) x.reply
   pub grown : (r : Reference) → Knows old r → Knows new r

@@ -1,7 +1,7 @@
 //! What the calls of an instance's functions come to, before they are carried out: none where a call names what the
 //! instance may not name.
 
-ghost use Rattle.std.specs.Prelude.{◌<◌, ◌*◌, ◌^◌, ℕ, List, IfOk, length};
+ghost use Rattle.std.specs.Prelude.{◌<◌, ℕ, List, IfOk, length};
 ghost use Rattle.world_effects.specs.call_outcomes.CallOutcomes.{GivesOutcome};
 ghost use Rattle.delivery_laws.specs.rules.Outcomes.{Outcome};
 ghost use Rattle.contract_powers.specs.Admission.{IsPlanned};
@@ -11,13 +11,12 @@ ghost use Rattle.contract_powers.specs.CallNotes.{IsTold};
 ghost use Rattle.world_effects.specs.host_world.Worlds.{world_of};
 ghost use Rattle.jessie_machine.specs.jessie_semantics.Keeping.{CallHas};
 ghost use Rattle.jessie_machine.specs.jessie_semantics.Play as plays;
-ghost use Rattle.jessie_machine.specs.jessie_semantics.Play.{Call, cost};
+ghost use Rattle.jessie_machine.specs.jessie_semantics.Play.{Call};
 ghost use Rattle.refusals.specs.host_data.Tree.{Tree};
 ghost use Rattle.refusals.specs.host_data.View.{tree, trees};
 ghost use Rattle.world_effects.specs.vault.Drafts.{IsClean};
 ghost use Rattle.world_effects.specs.world_state.Good.{IsGoodWorld};
 ghost use Rattle.world_effects.specs.world_state.Known.{IsKnownTo};
-ghost use Rattle.world_effects.specs.world_state.Rights.{IsRoomy};
 
 use crate::host_calls::answers::{Answered, answer_call};
 use crate::host_calls::facets::plan_far;
@@ -50,8 +49,6 @@ fn known_call<P: Planner>(
     requires made { instance < length (world_of world.now).tables.instances }
     requires known { CallHas (IsKnownTo (world_of world.now) instance)
         (plays.call target method (trees args.items)) }
-    requires room { IsRoomy (world_of world.now).rights.out
-        (2 ^ 63 * cost (plays.call target method (trees args.items))) }
     ensures { let c = plays.call target method (trees args.items) in
         IfOk result (IsAnswered c (call_rule (world_of world.now) instance c)) }
 {
@@ -78,8 +75,6 @@ fn named_call<P: Planner>(
     requires clean { IsClean world.now.draft }
     requires good { IsGoodWorld (world_of world.now) }
     requires made { instance < length (world_of world.now).tables.instances }
-    requires room { IsRoomy (world_of world.now).rights.out
-        (2 ^ 63 * cost (plays.call target method (trees args.items))) }
     ensures { IfOk result (IsPlanned (world_of world.now) instance
         (plays.call target method (trees args.items))) }
 {
@@ -106,8 +101,6 @@ pub fn admit_call<P: Planner>(
     requires clean { IsClean world.now.draft }
     requires good { IsGoodWorld (world_of world.now) }
     requires made { instance < length (world_of world.now).tables.instances }
-    requires room { IsRoomy (world_of world.now).rights.out
-        (2 ^ 63 * cost (plays.call target method.now (trees args.items))) }
     ensures { IfOk result (IsPlanned (world_of world.now) instance
         (plays.call target method.now (trees args.items))) }
 {

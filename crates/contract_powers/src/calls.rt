@@ -1,6 +1,6 @@
 //! Calls that an instance makes of the host, each carried out at once on the world.
 
-ghost use Rattle.std.specs.Prelude.{◌<◌, ◌*◌, ◌^◌, IfOk, length};
+ghost use Rattle.std.specs.Prelude.{◌<◌, IfOk, length};
 ghost use Rattle.world_effects.specs.call_outcomes.Lists.{IsEachShaped, effects_view};
 ghost use Rattle.world_effects.specs.CarriedEffects.{IsInTurn};
 ghost use Rattle.contract_powers.specs.CallReplies.{IsCallAnswered};
@@ -8,10 +8,8 @@ ghost use Rattle.contract_powers.specs.Admission.{CanCarry, Happened, WasCarried
 ghost use Rattle.world_effects.specs.host_world.Worlds.{IsUndoable, world_of};
 ghost use Rattle.jessie_machine.specs.Host.{reply_of};
 ghost use Rattle.jessie_machine.specs.jessie_semantics.Play as plays;
-ghost use Rattle.jessie_machine.specs.jessie_semantics.Play.{cost};
 ghost use Rattle.refusals.specs.host_data.View.{tree, trees};
 ghost use Rattle.world_effects.specs.world_state.Good.{AreGood};
-ghost use Rattle.world_effects.specs.world_state.Rights.{IsRoomy};
 
 use crate::admission::{admit_call, admit_far, admit_send, admit_when};
 use crate::host_calls::answers::Answered;
@@ -63,8 +61,6 @@ pub fn call<P: Planner>(
 ) -> Result<Reply, AllocError>
     requires turn { IsInTurn world.old }
     requires made { instance < length (world_of world.old).tables.instances }
-    requires room { IsRoomy (world_of world.old).rights.out
-        (2 ^ 63 * cost (plays.call target method.now (trees args.items))) }
     ensures answered { IfOk result (λ a. IsCallAnswered world.old world.new instance
         (plays.call target method.now (trees args.items)) (reply_of a)) }
     ensures back { IsUndoable world.old world.new }
@@ -85,8 +81,6 @@ pub fn send(
 ) -> Result<Reply, AllocError>
     requires turn { IsInTurn world.old }
     requires made { instance < length (world_of world.old).tables.instances }
-    requires room { IsRoomy (world_of world.old).rights.out
-        (2 ^ 63 * cost (plays.send target method.now (trees args.items))) }
     ensures answered { IfOk result (λ a. IsCallAnswered world.old world.new instance
         (plays.send target method.now (trees args.items)) (reply_of a)) }
     ensures back { IsUndoable world.old world.new }
@@ -107,8 +101,6 @@ pub fn when(
 ) -> Result<Reply, AllocError>
     requires turn { IsInTurn world.old }
     requires made { instance < length (world_of world.old).tables.instances }
-    requires room { IsRoomy (world_of world.old).rights.out
-        (2 ^ 63 * cost (plays.when promise function.now (tree held))) }
     ensures answered { IfOk result (λ a. IsCallAnswered world.old world.new instance
         (plays.when promise function.now (tree held)) (reply_of a)) }
     ensures back { IsUndoable world.old world.new }
@@ -129,8 +121,6 @@ pub fn far(
 ) -> Result<Reply, AllocError>
     requires turn { IsInTurn world.old }
     requires made { instance < length (world_of world.old).tables.instances }
-    requires room { IsRoomy (world_of world.old).rights.out
-        (2 ^ 63 * cost (plays.far name.now methods.items (tree held))) }
     ensures answered { IfOk result (λ a. IsCallAnswered world.old world.new instance
         (plays.far name.now methods.items (tree held)) (reply_of a)) }
     ensures back { IsUndoable world.old world.new }

@@ -4,7 +4,6 @@
 
 pub mod admission;
 pub mod calls;
-mod costs;
 pub mod host_calls;
 pub mod names;
 pub mod planner;

@@ -4,7 +4,6 @@ ghost use Rattle.contract_powers.specs.Situations.{IsReady, situation};
 ghost use Rattle.contract_powers.specs.TurnStarts.{GoesBackTo};
 
 use crate::calls;
-use crate::costs::{after_call, after_far, after_when};
 use crate::planner::Planner;
 use jessie_machine::host::{NoMemory, Powers, Reply};
 use refusals::host_data_lib::data::{Data, Obj};
@@ -32,14 +31,12 @@ pub struct ContractPowers<T: Turn, P: Planner> {
     pub world: World,
     /// The instance, by its number.
     pub instance: u32,
-    /// What calls and their answers may still cost: what is left of the run's meter, or more.
-    pub room: u64,
     /// Whether memory was wanted in the midst of a call: the world may be half changed, and nothing is answered any
     /// more.
     pub failed: bool,
     pub turn: PhantomData<T>,
     pub planner: PhantomData<P>,
-    ghost ready: { ∥ IsReady (situation world instance room failed) ∥₁ },
+    ghost ready: { ∥ IsReady (situation world instance failed) ∥₁ },
     ghost back: { ∥ GoesBackTo T.base world ∥₁ },
 }
 
@@ -47,19 +44,16 @@ impl<T: Turn, P: Planner> Powers for ContractPowers<T, P> {
     ghost use Rattle.contract_powers.specs.HostSide.{keeps_to_its_side};
     ghost use Rattle.contract_powers.specs.Situations.{IsAnswered, Knows, situation};
 
-    ghost answers = { λ p x q. IsAnswered (situation p.world p.instance p.room p.failed)
-        (situation q.world q.instance q.room q.failed) x };
+    ghost answers = { λ p x q. IsAnswered (situation p.world p.instance p.failed)
+        (situation q.world q.instance q.failed) x };
 
-    ghost known = { λ p. Knows (situation p.world p.instance p.room p.failed) };
-
-    ghost room = { λ p. p.room };
+    ghost known = { λ p. Knows (situation p.world p.instance p.failed) };
 
     fn call(&mut self, target: Obj, method: &str, args: Vec<Data>) -> Result<Reply, NoMemory> {
         if self.failed {
             drop(args);
             return Err(AllocError);
         }
-        let left = after_call(self.room, args.as_slice());
         self.failed = true;
         let answer = calls::call::<P>(
             self.alloc,
@@ -69,7 +63,6 @@ impl<T: Turn, P: Planner> Powers for ContractPowers<T, P> {
             method,
             args,
         )?;
-        self.room = left;
         self.failed = false;
         Ok(answer)
     }
@@ -79,7 +72,6 @@ impl<T: Turn, P: Planner> Powers for ContractPowers<T, P> {
             drop(args);
             return Err(AllocError);
         }
-        let left = after_call(self.room, args.as_slice());
         self.failed = true;
         let answer = calls::send(
             self.alloc,
@@ -89,7 +81,6 @@ impl<T: Turn, P: Planner> Powers for ContractPowers<T, P> {
             method,
             args,
         )?;
-        self.room = left;
         self.failed = false;
         Ok(answer)
     }
@@ -99,10 +90,8 @@ impl<T: Turn, P: Planner> Powers for ContractPowers<T, P> {
             drop(held);
             return Err(AllocError);
         }
-        let left = after_when(self.room, &held);
         self.failed = true;
         let answer = calls::when(self.alloc, &mut self.world, self.instance, promise, f, held)?;
-        self.room = left;
         self.failed = false;
         Ok(answer)
     }
@@ -118,7 +107,6 @@ impl<T: Turn, P: Planner> Powers for ContractPowers<T, P> {
             drop(held);
             return Err(AllocError);
         }
-        let left = after_far(self.room, name, methods.as_slice(), &held);
         self.failed = true;
         let answer = calls::far(
             self.alloc,
@@ -128,12 +116,11 @@ impl<T: Turn, P: Planner> Powers for ContractPowers<T, P> {
             methods,
             held,
         )?;
-        self.room = left;
         self.failed = false;
         Ok(answer)
     }
 
-    ghost keeps = { λ p x q is known fits. keeps_to_its_side
-        (situation p.world p.instance p.room p.failed) x
-        (situation q.world q.instance q.room q.failed) is known fits };
+    ghost keeps = { λ p x q is known. keeps_to_its_side
+        (situation p.world p.instance p.failed) x
+        (situation q.world q.instance q.failed) is known };
 }

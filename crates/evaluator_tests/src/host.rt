@@ -11,13 +11,11 @@ pub struct NullHost {}
 impl Powers for NullHost {
     ghost use Rattle.jessie_interpreter.specs.host_data.Tree.{null};
     ghost use Rattle.jessie_interpreter.specs.jessie_semantics.Play.{given};
-    ghost use Rattle.evaluator_tests.specs.NullHosts.{Everything, keeps_to_its_side, room};
+    ghost use Rattle.evaluator_tests.specs.NullHosts.{Everything, keeps_to_its_side};
 
     ghost answers = { λ w x v. x.reply ≡ given null };
 
     ghost known = { λ w. Everything };
-
-    ghost room = { λ w. room };
 
     fn call(&mut self, _target: Obj, _method: &str, _args: Vec<Data>) -> Result<Reply, NoMemory> {
         Ok(Reply::Value(Data::Null))

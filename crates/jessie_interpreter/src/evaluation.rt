@@ -1,5 +1,5 @@
 //! A whole evaluation of a function of a module.
-ghost use Rattle.std.specs.Prelude.{◌≡◌, ◌≤◌, ◌<◌, length, option_map, IfOk, OnErr, Ok};
+ghost use Rattle.std.specs.Prelude.{◌≡◌, ◌<◌, length, option_map, IfOk, OnErr, Ok};
 ghost use Rattle.jessie_machine.specs.host_data.View.{tree, trees};
 ghost use Rattle.jessie_machine.specs.jessie_grammar.Syntax.{routines, variable_names};
 ghost use Rattle.jessie_machine.specs.jessie_semantics.Play.{Follows};
@@ -69,11 +69,10 @@ pub fn evaluate<P: Powers>(
     state: &mut Vec<Data>,
     meter: u64,
 ) -> Result<Outcome, NoMemory>
-    requires variables { length state.old.items ≡ length (variable_names «module».now) }
-    requires fits { meter ≤ P.room powers.old }
+    requires { length state.old.items ≡ length (variable_names «module».now) }
     ensures follows { IfOk result (λ r. Follows P.answers (play (routines «module».now) (variable_names «module».now) f.now (trees args.items) (trees state.old.items) meter) powers.old powers.new (outcome r (trees state.new.items))) }
     ensures licensed { IfOk result (λ r. Licensed P.answers powers.old powers.new (trees args.items) (trees state.old.items) (length (variable_names «module».now)) (outcome r (trees state.new.items))) }
-    ensures granted { FunctionsKnown (P.known powers.old) (routines «module».now) → AllHave (Within (P.known powers.old)) (trees args.items) → AllHave (Within (P.known powers.old)) (trees state.old.items) → IfOk result (λ r. Granted P.answers P.known P.room powers.old powers.new (length (variable_names «module».now)) (outcome r (trees state.new.items))) }
+    ensures granted { FunctionsKnown (P.known powers.old) (routines «module».now) → AllHave (Within (P.known powers.old)) (trees args.items) → AllHave (Within (P.known powers.old)) (trees state.old.items) → IfOk result (λ r. Granted P.answers P.known powers.old powers.new (length (variable_names «module».now)) (outcome r (trees state.new.items))) }
     ensures spent { result ≡ Ok Outcome.Spent → state.new ≡ state.old }
     ensures memory { OnErr result (state.new ≡ state.old) }
     ensures count { length state.new.items ≡ length state.old.items }

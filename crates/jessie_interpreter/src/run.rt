@@ -1,5 +1,5 @@
 //! A function for each form of the language, down the tree as it was read.
-ghost use Rattle.std.specs.Prelude.{[], ◌≤◌, false};
+ghost use Rattle.std.specs.Prelude.{[], false};
 ghost use Rattle.jessie_machine.specs.host_data.View.{tree, trees};
 ghost use Rattle.jessie_machine.specs.jessie_grammar.Syntax.{routines, term_view, terms_view, named_terms_view, operands_view, link_view, links_view, return_view, statement_view, branches_view, block_view};
 ghost use Rattle.jessie_machine.specs.jessie_values.Dispatch.{unary};
@@ -45,9 +45,7 @@ fn run_expr<P: Powers>(
     machine: &mut Machine,
     expression: &Expr,
 ) -> Result<Data, Stop>
-    requires { machine.old.meter ≤ P.room powers.old }
-    ensures runs { Runs P.answers powers.old powers.new (expr (running «module».now room) (term_view expression.now)) (here «module».now values.now machine.old) (come tree result) (here «module».now values.now machine.new) }
-    ensures fits { machine.new.meter ≤ P.room powers.new }
+    ensures { Runs P.answers powers.old powers.new (expr (running «module».now room) (term_view expression.now)) (here «module».now values.now machine.old) (come tree result) (here «module».now values.now machine.new) }
 {
     match expression {
         Expr::Literal(literal) => read_literal(alloc, machine, literal),
@@ -167,9 +165,7 @@ fn run_exprs<P: Powers>(
     machine: &mut Machine,
     parts: &[Expr],
 ) -> Result<Vec<Data>, Stop>
-    requires { machine.old.meter ≤ P.room powers.old }
-    ensures runs { Runs P.answers powers.old powers.new (exprs (running «module».now room) (terms_view parts.now) []) (here «module».now values.now machine.old) (come all_seen result) (here «module».now values.now machine.new) }
-    ensures fits { machine.new.meter ≤ P.room powers.new }
+    ensures { Runs P.answers powers.old powers.new (exprs (running «module».now room) (terms_view parts.now) []) (here «module».now values.now machine.old) (come all_seen result) (here «module».now values.now machine.new) }
 {
     let mut found = Vec::new(alloc);
     for part in parts {
@@ -191,9 +187,7 @@ fn run_named<P: Powers>(
     machine: &mut Machine,
     parts: &[(Text, Expr)],
 ) -> Result<Vec<(Text, Data)>, Stop>
-    requires { machine.old.meter ≤ P.room powers.old }
-    ensures runs { Runs P.answers powers.old powers.new (named_exprs (running «module».now room) (named_terms_view parts.now) []) (here «module».now values.now machine.old) (come fields_seen result) (here «module».now values.now machine.new) }
-    ensures fits { machine.new.meter ≤ P.room powers.new }
+    ensures { Runs P.answers powers.old powers.new (named_exprs (running «module».now room) (named_terms_view parts.now) []) (here «module».now values.now machine.old) (come fields_seen result) (here «module».now values.now machine.new) }
 {
     let mut found = Vec::new(alloc);
     for (name, part) in parts {
@@ -216,9 +210,7 @@ fn run_call<P: Powers>(
     name: &Text,
     args: &[Expr],
 ) -> Result<Data, Stop>
-    requires { machine.old.meter ≤ P.room powers.old }
-    ensures runs { Runs P.answers powers.old powers.new (primary_rule (exprs (running «module».now room) (terms_view args.now) []) (calls_of (routines «module».now) room name.now)) (here «module».now values.now machine.old) (come tree result) (here «module».now values.now machine.new) }
-    ensures fits { machine.new.meter ≤ P.room powers.new }
+    ensures { Runs P.answers powers.old powers.new (primary_rule (exprs (running «module».now room) (terms_view args.now) []) (calls_of (routines «module».now) room name.now)) (here «module».now values.now machine.old) (come tree result) (here «module».now values.now machine.new) }
 {
     take(machine, 1)?;
     let args = run_exprs(alloc, powers, module, room, values, machine, args)?;
@@ -238,9 +230,7 @@ fn run_built_in<P: Powers>(
     function: BuiltIn,
     args: &[Expr],
 ) -> Result<Data, Stop>
-    requires { machine.old.meter ≤ P.room powers.old }
-    ensures runs { Runs P.answers powers.old powers.new (primary_rule (exprs (running «module».now room) (terms_view args.now) []) (apply_built_in function)) (here «module».now values.now machine.old) (come tree result) (here «module».now values.now machine.new) }
-    ensures fits { machine.new.meter ≤ P.room powers.new }
+    ensures { Runs P.answers powers.old powers.new (primary_rule (exprs (running «module».now room) (terms_view args.now) []) (apply_built_in function)) (here «module».now values.now machine.old) (come tree result) (here «module».now values.now machine.new) }
 {
     take(machine, 1)?;
     let args = run_exprs(alloc, powers, module, room, values, machine, args)?;
@@ -260,9 +250,7 @@ fn run_amounts<P: Powers>(
     name: &Text,
     args: &[Expr],
 ) -> Result<Data, Stop>
-    requires { machine.old.meter ≤ P.room powers.old }
-    ensures runs { Runs P.answers powers.old powers.new (amounts_rule (exprs (running «module».now room) (terms_view args.now) []) name.now) (here «module».now values.now machine.old) (come tree result) (here «module».now values.now machine.new) }
-    ensures fits { machine.new.meter ≤ P.room powers.new }
+    ensures { Runs P.answers powers.old powers.new (amounts_rule (exprs (running «module».now room) (terms_view args.now) []) name.now) (here «module».now values.now machine.old) (come tree result) (here «module».now values.now machine.new) }
 {
     take(machine, 1)?;
     let args = run_exprs(alloc, powers, module, room, values, machine, args)?;
@@ -283,9 +271,7 @@ fn run_send<P: Powers>(
     name: &Text,
     args: &[Expr],
 ) -> Result<Data, Stop>
-    requires { machine.old.meter ≤ P.room powers.old }
-    ensures runs { Runs P.answers powers.old powers.new (send_rule (expr (running «module».now room) (term_view target.now)) name.now (exprs (running «module».now room) (terms_view args.now) [])) (here «module».now values.now machine.old) (come tree result) (here «module».now values.now machine.new) }
-    ensures fits { machine.new.meter ≤ P.room powers.new }
+    ensures { Runs P.answers powers.old powers.new (send_rule (expr (running «module».now room) (term_view target.now)) name.now (exprs (running «module».now room) (terms_view args.now) [])) (here «module».now values.now machine.old) (come tree result) (here «module».now values.now machine.new) }
 {
     take(machine, 1)?;
     let target = run_expr(alloc, powers, module, room, values, machine, target)?;
@@ -305,9 +291,7 @@ fn run_array<P: Powers>(
     machine: &mut Machine,
     parts: &[Expr],
 ) -> Result<Data, Stop>
-    requires { machine.old.meter ≤ P.room powers.old }
-    ensures runs { Runs P.answers powers.old powers.new (array_rule (exprs (running «module».now room) (terms_view parts.now) [])) (here «module».now values.now machine.old) (come tree result) (here «module».now values.now machine.new) }
-    ensures fits { machine.new.meter ≤ P.room powers.new }
+    ensures { Runs P.answers powers.old powers.new (array_rule (exprs (running «module».now room) (terms_view parts.now) [])) (here «module».now values.now machine.old) (come tree result) (here «module».now values.now machine.new) }
 {
     take(machine, 1)?;
     let items = run_exprs(alloc, powers, module, room, values, machine, parts)?;
@@ -326,9 +310,7 @@ fn run_record<P: Powers>(
     machine: &mut Machine,
     parts: &[(Text, Expr)],
 ) -> Result<Data, Stop>
-    requires { machine.old.meter ≤ P.room powers.old }
-    ensures runs { Runs P.answers powers.old powers.new (record_rule (named_exprs (running «module».now room) (named_terms_view parts.now) [])) (here «module».now values.now machine.old) (come tree result) (here «module».now values.now machine.new) }
-    ensures fits { machine.new.meter ≤ P.room powers.new }
+    ensures { Runs P.answers powers.old powers.new (record_rule (named_exprs (running «module».now room) (named_terms_view parts.now) [])) (here «module».now values.now machine.old) (come tree result) (here «module».now values.now machine.new) }
 {
     take(machine, 1)?;
     let items = run_named(alloc, powers, module, room, values, machine, parts)?;
@@ -348,9 +330,7 @@ fn run_accesses<P: Powers>(
     first: &Expr,
     rest: &[Access],
 ) -> Result<Data, Stop>
-    requires { machine.old.meter ≤ P.room powers.old }
-    ensures runs { Runs P.answers powers.old powers.new (behind (expr (running «module».now room) (term_view first.now)) (links (running «module».now room) (links_view rest.now))) (here «module».now values.now machine.old) (come tree result) (here «module».now values.now machine.new) }
-    ensures fits { machine.new.meter ≤ P.room powers.new }
+    ensures { Runs P.answers powers.old powers.new (behind (expr (running «module».now room) (term_view first.now)) (links (running «module».now room) (links_view rest.now))) (here «module».now values.now machine.old) (come tree result) (here «module».now values.now machine.new) }
 {
     let mut data = run_expr(alloc, powers, module, room, values, machine, first)?;
     for part in rest {
@@ -372,9 +352,7 @@ fn run_access<P: Powers>(
     data: Data,
     part: &Access,
 ) -> Result<Data, Stop>
-    requires { machine.old.meter ≤ P.room powers.old }
-    ensures runs { Runs P.answers powers.old powers.new (one_link (running «module».now room) (link_view part.now) (tree «data»)) (here «module».now values.now machine.old) (come tree result) (here «module».now values.now machine.new) }
-    ensures fits { machine.new.meter ≤ P.room powers.new }
+    ensures { Runs P.answers powers.old powers.new (one_link (running «module».now room) (link_view part.now) (tree «data»)) (here «module».now values.now machine.old) (come tree result) (here «module».now values.now machine.new) }
 {
     match part {
         Access::Field(name) => run_field(machine, data, name),
@@ -409,9 +387,7 @@ fn run_method<P: Powers>(
     name: &Text,
     args: &[Expr],
 ) -> Result<Data, Stop>
-    requires { machine.old.meter ≤ P.room powers.old }
-    ensures runs { Runs P.answers powers.old powers.new (method_rule name.now (exprs (running «module».now room) (terms_view args.now) []) (tree target.now)) (here «module».now values.now machine.old) (come tree result) (here «module».now values.now machine.new) }
-    ensures fits { machine.new.meter ≤ P.room powers.new }
+    ensures { Runs P.answers powers.old powers.new (method_rule name.now (exprs (running «module».now room) (terms_view args.now) []) (tree target.now)) (here «module».now values.now machine.old) (come tree result) (here «module».now values.now machine.new) }
 {
     take(machine, 1)?;
     let args = run_exprs(alloc, powers, module, room, values, machine, args)?;
@@ -431,9 +407,7 @@ fn run_index<P: Powers>(
     target: Data,
     index: &Expr,
 ) -> Result<Data, Stop>
-    requires { machine.old.meter ≤ P.room powers.old }
-    ensures runs { Runs P.answers powers.old powers.new (index_rule (expr (running «module».now room) (term_view index.now)) (tree target)) (here «module».now values.now machine.old) (come tree result) (here «module».now values.now machine.new) }
-    ensures fits { machine.new.meter ≤ P.room powers.new }
+    ensures { Runs P.answers powers.old powers.new (index_rule (expr (running «module».now room) (term_view index.now)) (tree target)) (here «module».now values.now machine.old) (come tree result) (here «module».now values.now machine.new) }
 {
     take(machine, 1)?;
     let index = run_expr(alloc, powers, module, room, values, machine, index)?;
@@ -453,9 +427,7 @@ fn run_unary<P: Powers>(
     operator: Unary,
     part: &Expr,
 ) -> Result<Data, Stop>
-    requires { machine.old.meter ≤ P.room powers.old }
-    ensures runs { Runs P.answers powers.old powers.new (unary_rule (unary operator) (expr (running «module».now room) (term_view part.now))) (here «module».now values.now machine.old) (come tree result) (here «module».now values.now machine.new) }
-    ensures fits { machine.new.meter ≤ P.room powers.new }
+    ensures { Runs P.answers powers.old powers.new (unary_rule (unary operator) (expr (running «module».now room) (term_view part.now))) (here «module».now values.now machine.old) (come tree result) (here «module».now values.now machine.new) }
 {
     take(machine, 1)?;
     let data = run_expr(alloc, powers, module, room, values, machine, part)?;
@@ -475,9 +447,7 @@ fn run_chain<P: Powers>(
     first: &Expr,
     rest: &[(Operator, Expr)],
 ) -> Result<Data, Stop>
-    requires { machine.old.meter ≤ P.room powers.old }
-    ensures runs { Runs P.answers powers.old powers.new (behind (expr (running «module».now room) (term_view first.now)) (operands (running «module».now room) (operands_view rest.now))) (here «module».now values.now machine.old) (come tree result) (here «module».now values.now machine.new) }
-    ensures fits { machine.new.meter ≤ P.room powers.new }
+    ensures { Runs P.answers powers.old powers.new (behind (expr (running «module».now room) (term_view first.now)) (operands (running «module».now room) (operands_view rest.now))) (here «module».now values.now machine.old) (come tree result) (here «module».now values.now machine.new) }
 {
     if let Some(made) = chain_at_hand(machine, first, rest) {
         machine.meter = made.left;
@@ -506,9 +476,7 @@ fn run_operator<P: Powers>(
     operator: Operator,
     right: &Expr,
 ) -> Result<Data, Stop>
-    requires { machine.old.meter ≤ P.room powers.old }
-    ensures runs { Runs P.answers powers.old powers.new (operator_rule operator (expr (running «module».now room) (term_view right.now)) (tree left)) (here «module».now values.now machine.old) (come tree result) (here «module».now values.now machine.new) }
-    ensures fits { machine.new.meter ≤ P.room powers.new }
+    ensures { Runs P.answers powers.old powers.new (operator_rule operator (expr (running «module».now room) (term_view right.now)) (tree left)) (here «module».now values.now machine.old) (come tree result) (here «module».now values.now machine.new) }
 {
     take(machine, 1)?;
     let skipped = decide(operator, &left)?;
@@ -534,9 +502,7 @@ fn run_right<P: Powers>(
     operator: Operator,
     right: &Expr,
 ) -> Result<Data, Stop>
-    requires { machine.old.meter ≤ P.room powers.old }
-    ensures runs { Runs P.answers powers.old powers.new (right_side false operator (expr (running «module».now room) (term_view right.now)) (tree left)) (here «module».now values.now machine.old) (come tree result) (here «module».now values.now machine.new) }
-    ensures fits { machine.new.meter ≤ P.room powers.new }
+    ensures { Runs P.answers powers.old powers.new (right_side false operator (expr (running «module».now room) (term_view right.now)) (tree left)) (here «module».now values.now machine.old) (come tree result) (here «module».now values.now machine.new) }
 {
     let right = run_expr(alloc, powers, module, room, values, machine, right)?;
     apply(alloc, operator, left, &right)
@@ -556,9 +522,7 @@ fn run_choice<P: Powers>(
     first: &Expr,
     second: &Expr,
 ) -> Result<Data, Stop>
-    requires { machine.old.meter ≤ P.room powers.old }
-    ensures runs { Runs P.answers powers.old powers.new (choice_rule (expr (running «module».now room) (term_view condition.now)) (expr (running «module».now room) (term_view first.now)) (expr (running «module».now room) (term_view second.now))) (here «module».now values.now machine.old) (come tree result) (here «module».now values.now machine.new) }
-    ensures fits { machine.new.meter ≤ P.room powers.new }
+    ensures { Runs P.answers powers.old powers.new (choice_rule (expr (running «module».now room) (term_view condition.now)) (expr (running «module».now room) (term_view first.now)) (expr (running «module».now room) (term_view second.now))) (here «module».now values.now machine.old) (come tree result) (here «module».now values.now machine.new) }
 {
     let data = run_expr(alloc, powers, module, room, values, machine, condition)?;
     let given = truth(&data);
@@ -583,9 +547,7 @@ fn run_test<P: Powers>(
     machine: &mut Machine,
     condition: &Expr,
 ) -> Result<bool, Stop>
-    requires { machine.old.meter ≤ P.room powers.old }
-    ensures runs { Runs P.answers powers.old powers.new (test (running «module».now room) (term_view condition.now)) (here «module».now values.now machine.old) (come (λ b. b) result) (here «module».now values.now machine.new) }
-    ensures fits { machine.new.meter ≤ P.room powers.new }
+    ensures { Runs P.answers powers.old powers.new (test (running «module».now room) (term_view condition.now)) (here «module».now values.now machine.old) (come (λ b. b) result) (here «module».now values.now machine.new) }
 {
     if let Some(test) = test_at_hand(machine, condition) {
         machine.meter = test.left;
@@ -607,9 +569,7 @@ fn run_stmt<P: Powers>(
     machine: &mut Machine,
     statement: &Stmt,
 ) -> Result<End, Stop>
-    requires { machine.old.meter ≤ P.room powers.old }
-    ensures runs { Runs P.answers powers.old powers.new (stmt (running «module».now room) (statement_view statement.now)) (here «module».now values.now machine.old) (come end_of result) (here «module».now values.now machine.new) }
-    ensures fits { machine.new.meter ≤ P.room powers.new }
+    ensures { Runs P.answers powers.old powers.new (stmt (running «module».now room) (statement_view statement.now)) (here «module».now values.now machine.old) (come end_of result) (here «module».now values.now machine.new) }
 {
     begin_statement(machine)?;
     run_form(alloc, powers, module, room, values, machine, statement)
@@ -627,9 +587,7 @@ fn run_form<P: Powers>(
     machine: &mut Machine,
     statement: &Stmt,
 ) -> Result<End, Stop>
-    requires { machine.old.meter ≤ P.room powers.old }
-    ensures runs { Runs P.answers powers.old powers.new (form (running «module».now room) (statement_view statement.now)) (here «module».now values.now machine.old) (come end_of result) (here «module».now values.now machine.new) }
-    ensures fits { machine.new.meter ≤ P.room powers.new }
+    ensures { Runs P.answers powers.old powers.new (form (running «module».now room) (statement_view statement.now)) (here «module».now values.now machine.old) (come end_of result) (here «module».now values.now machine.new) }
 {
     match statement {
         Stmt::Const(name, value) => run_declare(
@@ -702,9 +660,7 @@ fn run_declare<P: Powers>(
     name: &Text,
     value: &Expr,
 ) -> Result<End, Stop>
-    requires { machine.old.meter ≤ P.room powers.old }
-    ensures runs { Runs P.answers powers.old powers.new (declare_rule name.now (expr (running «module».now room) (term_view value.now))) (here «module».now values.now machine.old) (come end_of result) (here «module».now values.now machine.new) }
-    ensures fits { machine.new.meter ≤ P.room powers.new }
+    ensures { Runs P.answers powers.old powers.new (declare_rule name.now (expr (running «module».now room) (term_view value.now))) (here «module».now values.now machine.old) (come end_of result) (here «module».now values.now machine.new) }
 {
     let data = run_expr(alloc, powers, module, room, values, machine, value)?;
     machine.locals.bind(alloc, name, data)?;
@@ -724,9 +680,7 @@ fn run_assign<P: Powers>(
     name: &Text,
     value: &Expr,
 ) -> Result<End, Stop>
-    requires { machine.old.meter ≤ P.room powers.old }
-    ensures runs { Runs P.answers powers.old powers.new (assign_rule name.now (expr (running «module».now room) (term_view value.now))) (here «module».now values.now machine.old) (come end_of result) (here «module».now values.now machine.new) }
-    ensures fits { machine.new.meter ≤ P.room powers.new }
+    ensures { Runs P.answers powers.old powers.new (assign_rule name.now (expr (running «module».now room) (term_view value.now))) (here «module».now values.now machine.old) (come end_of result) (here «module».now values.now machine.new) }
 {
     if assign_at_hand(machine, name, value) {
         return Ok(End::Next);
@@ -749,9 +703,7 @@ fn run_if<P: Powers>(
     ways: &[Branch],
     other: &[Stmt],
 ) -> Result<End, Stop>
-    requires { machine.old.meter ≤ P.room powers.old }
-    ensures runs { Runs P.answers powers.old powers.new (branches (running «module».now room) (branches_view ways.now) (scoped (block (running «module».now room) (block_view other.now)))) (here «module».now values.now machine.old) (come end_of result) (here «module».now values.now machine.new) }
-    ensures fits { machine.new.meter ≤ P.room powers.new }
+    ensures { Runs P.answers powers.old powers.new (branches (running «module».now room) (branches_view ways.now) (scoped (block (running «module».now room) (block_view other.now)))) (here «module».now values.now machine.old) (come end_of result) (here «module».now values.now machine.new) }
 {
     for way in ways {
         let holds = run_test(alloc, powers, module, room, values, machine, &way.condition)?;
@@ -783,9 +735,7 @@ fn run_while<P: Powers>(
     condition: &Expr,
     body: &[Stmt],
 ) -> Result<End, Stop>
-    requires { machine.old.meter ≤ P.room powers.old }
-    ensures runs { Runs P.answers powers.old powers.new (repeat_rule (test (running «module».now room) (term_view condition.now)) (block (running «module».now room) (block_view body.now))) (here «module».now values.now machine.old) (come end_of result) (here «module».now values.now machine.new) }
-    ensures fits { machine.new.meter ≤ P.room powers.new }
+    ensures { Runs P.answers powers.old powers.new (repeat_rule (test (running «module».now room) (term_view condition.now)) (block (running «module».now room) (block_view body.now))) (here «module».now values.now machine.old) (come end_of result) (here «module».now values.now machine.new) }
 {
     for round in 0..machine.meter {
         let holds = run_test(alloc, powers, module, room, values, machine, condition)?;
@@ -815,9 +765,7 @@ fn run_for<P: Powers>(
     source: &Expr,
     body: &[Stmt],
 ) -> Result<End, Stop>
-    requires { machine.old.meter ≤ P.room powers.old }
-    ensures runs { Runs P.answers powers.old powers.new (for_rule name.now (expr (running «module».now room) (term_view source.now)) (block (running «module».now room) (block_view body.now))) (here «module».now values.now machine.old) (come end_of result) (here «module».now values.now machine.new) }
-    ensures fits { machine.new.meter ≤ P.room powers.new }
+    ensures { Runs P.answers powers.old powers.new (for_rule name.now (expr (running «module».now room) (term_view source.now)) (block (running «module».now room) (block_view body.now))) (here «module».now values.now machine.old) (come end_of result) (here «module».now values.now machine.new) }
 {
     let data = run_expr(alloc, powers, module, room, values, machine, source)?;
     let items = parts(data)?;
@@ -845,9 +793,7 @@ fn run_return<P: Powers>(
     machine: &mut Machine,
     value: &Option<Expr>,
 ) -> Result<End, Stop>
-    requires { machine.old.meter ≤ P.room powers.old }
-    ensures runs { Runs P.answers powers.old powers.new (form (running «module».now room) (return_view value.now)) (here «module».now values.now machine.old) (come end_of result) (here «module».now values.now machine.new) }
-    ensures fits { machine.new.meter ≤ P.room powers.new }
+    ensures { Runs P.answers powers.old powers.new (form (running «module».now room) (return_view value.now)) (here «module».now values.now machine.old) (come end_of result) (here «module».now values.now machine.new) }
 {
     match value {
         Some(value) => {
@@ -870,9 +816,7 @@ fn run_throw<P: Powers>(
     machine: &mut Machine,
     value: &Expr,
 ) -> Result<End, Stop>
-    requires { machine.old.meter ≤ P.room powers.old }
-    ensures runs { Runs P.answers powers.old powers.new (raise_rule (expr (running «module».now room) (term_view value.now))) (here «module».now values.now machine.old) (come end_of result) (here «module».now values.now machine.new) }
-    ensures fits { machine.new.meter ≤ P.room powers.new }
+    ensures { Runs P.answers powers.old powers.new (raise_rule (expr (running «module».now room) (term_view value.now))) (here «module».now values.now machine.old) (come end_of result) (here «module».now values.now machine.new) }
 {
     let data = run_expr(alloc, powers, module, room, values, machine, value)?;
     Err(throw_data(alloc, data))
@@ -892,9 +836,7 @@ fn run_try<P: Powers>(
     name: &Text,
     handler: &[Stmt],
 ) -> Result<End, Stop>
-    requires { machine.old.meter ≤ P.room powers.old }
-    ensures runs { Runs P.answers powers.old powers.new (try_rule (block (running «module».now room) (block_view body.now)) name.now (block (running «module».now room) (block_view handler.now))) (here «module».now values.now machine.old) (come end_of result) (here «module».now values.now machine.new) }
-    ensures fits { machine.new.meter ≤ P.room powers.new }
+    ensures { Runs P.answers powers.old powers.new (try_rule (block (running «module».now room) (block_view body.now)) name.now (block (running «module».now room) (block_view handler.now))) (here «module».now values.now machine.old) (come end_of result) (here «module».now values.now machine.new) }
 {
     match run_scope(alloc, powers, module, room, values, machine, body) {
         Ok(end) => Ok(end),
@@ -923,9 +865,7 @@ fn run_value<P: Powers>(
     machine: &mut Machine,
     value: &Expr,
 ) -> Result<End, Stop>
-    requires { machine.old.meter ≤ P.room powers.old }
-    ensures runs { Runs P.answers powers.old powers.new (run_rule (expr (running «module».now room) (term_view value.now))) (here «module».now values.now machine.old) (come end_of result) (here «module».now values.now machine.new) }
-    ensures fits { machine.new.meter ≤ P.room powers.new }
+    ensures { Runs P.answers powers.old powers.new (run_rule (expr (running «module».now room) (term_view value.now))) (here «module».now values.now machine.old) (come end_of result) (here «module».now values.now machine.new) }
 {
     run_expr(alloc, powers, module, room, values, machine, value)?;
     Ok(End::Next)
@@ -943,9 +883,7 @@ fn run_scope<P: Powers>(
     machine: &mut Machine,
     body: &[Stmt],
 ) -> Result<End, Stop>
-    requires { machine.old.meter ≤ P.room powers.old }
-    ensures runs { Runs P.answers powers.old powers.new (scoped (block (running «module».now room) (block_view body.now))) (here «module».now values.now machine.old) (come end_of result) (here «module».now values.now machine.new) }
-    ensures fits { machine.new.meter ≤ P.room powers.new }
+    ensures { Runs P.answers powers.old powers.new (scoped (block (running «module».now room) (block_view body.now))) (here «module».now values.now machine.old) (come end_of result) (here «module».now values.now machine.new) }
 {
     let names = machine.locals.len();
     let end = run_block(alloc, powers, module, room, values, machine, body);
@@ -967,9 +905,7 @@ fn run_with<P: Powers>(
     data: Data,
     body: &[Stmt],
 ) -> Result<End, Stop>
-    requires { machine.old.meter ≤ P.room powers.old }
-    ensures runs { Runs P.answers powers.old powers.new (with_name name.now (block (running «module».now room) (block_view body.now)) (tree «data»)) (here «module».now values.now machine.old) (come end_of result) (here «module».now values.now machine.new) }
-    ensures fits { machine.new.meter ≤ P.room powers.new }
+    ensures { Runs P.answers powers.old powers.new (with_name name.now (block (running «module».now room) (block_view body.now)) (tree «data»)) (here «module».now values.now machine.old) (come end_of result) (here «module».now values.now machine.new) }
 {
     let names = machine.locals.len();
     machine.locals.bind(alloc, name, data)?;
@@ -990,9 +926,7 @@ fn run_block<P: Powers>(
     machine: &mut Machine,
     body: &[Stmt],
 ) -> Result<End, Stop>
-    requires { machine.old.meter ≤ P.room powers.old }
-    ensures runs { Runs P.answers powers.old powers.new (block (running «module».now room) (block_view body.now)) (here «module».now values.now machine.old) (come end_of result) (here «module».now values.now machine.new) }
-    ensures fits { machine.new.meter ≤ P.room powers.new }
+    ensures { Runs P.answers powers.old powers.new (block (running «module».now room) (block_view body.now)) (here «module».now values.now machine.old) (come end_of result) (here «module».now values.now machine.new) }
 {
     for statement in body {
         match run_stmt(alloc, powers, module, room, values, machine, statement)? {
@@ -1016,9 +950,7 @@ pub fn invoke<P: Powers>(
     f: &Text,
     args: Vec<Data>,
 ) -> Result<Data, Stop>
-    requires { machine.old.meter ≤ P.room powers.old }
-    ensures runs { Runs P.answers powers.old powers.new (calls_of (routines «module».now) room f.now (trees args.items)) (here «module».now values.now machine.old) (come tree result) (here «module».now values.now machine.new) }
-    ensures fits { machine.new.meter ≤ P.room powers.new }
+    ensures { Runs P.answers powers.old powers.new (calls_of (routines «module».now) room f.now (trees args.items)) (here «module».now values.now machine.old) (come tree result) (here «module».now values.now machine.new) }
 {
     if room == 0 {
         return Err(bad(Reason::TooDeep));

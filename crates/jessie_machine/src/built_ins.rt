@@ -1,5 +1,5 @@
 //! The functions of the language itself.
-ghost use Rattle.std.specs.Prelude.{◌≡◌, ◌≤◌, List, ℕ, Result};
+ghost use Rattle.std.specs.Prelude.{◌≡◌, List, ℕ, Result};
 ghost use Rattle.jessie_semantics.specs.host_data.Tree.{Tree};
 ghost use Rattle.jessie_semantics.specs.host_data.View.{tree, trees};
 ghost use Rattle.jessie_index.specs.jessie_values.Outcomes.{Gives, seen};
@@ -49,9 +49,7 @@ pub fn call_built_in<P: Powers>(
     function: BuiltIn,
     args: Vec<Data>,
 ) -> Result<Data, Stop>
-    requires { machine.old.meter ≤ P.room powers.old }
-    ensures runs { (names : List (List ℕ)) (values : List Tree) → Runs P.answers powers.old powers.new (apply_built_in function (trees args.items)) (state names values machine.old) (come tree result) (state names values machine.new) }
-    ensures fits { machine.new.meter ≤ P.room powers.new }
+    ensures { (names : List (List ℕ)) (values : List Tree) → Runs P.answers powers.old powers.new (apply_built_in function (trees args.items)) (state names values machine.old) (come tree result) (state names values machine.new) }
 {
     match function {
         BuiltIn::When => call_when(alloc, powers, machine, args),

@@ -3,7 +3,7 @@ ghost use Rattle.std.specs.Prelude.{◌≡◌, ◌≤◌, ◌+◌, ◌-◌, List
 ghost use Rattle.jessie_semantics.specs.host_data.Tree.{Tree, size, items_size};
 ghost use Rattle.jessie_semantics.specs.host_data.View.{tree, trees, items_of};
 ghost use Rattle.jessie_index.specs.jessie_values.Literals.{literal_tree};
-ghost use Rattle.jessie_semantics.specs.Play.{reply_size};
+ghost use Rattle.jessie_semantics.specs.Keeping.{reply_tree};
 ghost use Rattle.jessie_semantics.specs.Actions.{charge};
 ghost use Rattle.jessie_semantics.specs.Rules.{heard, literal_rule, given_back};
 ghost use Rattle.jessie_semantics.specs.Runs.{Computes};
@@ -101,7 +101,7 @@ pub fn take_call(machine: &mut Machine, shown: &[Data]) -> Result<(), Stop>
 #[inline(never)]
 pub fn settle(alloc: Global, machine: &mut Machine, reply: Reply) -> Result<Data, Stop>
     ensures does { (names : List (List ℕ)) (values : List Tree) → Computes (heard (reply_of reply)) (state names values machine.old) (come tree result) (state names values machine.new) }
-    ensures left { machine.new.meter ≤ machine.old.meter - reply_size (reply_of reply) }
+    ensures left { machine.new.meter ≤ machine.old.meter - size (reply_tree (reply_of reply)) }
 {
     match reply {
         Reply::Value(data) => {

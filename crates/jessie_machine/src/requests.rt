@@ -1,5 +1,5 @@
 //! Calls of methods, and sends to objects, of which the host is asked.
-ghost use Rattle.std.specs.Prelude.{ℕ, List, ◌≤◌};
+ghost use Rattle.std.specs.Prelude.{ℕ, List};
 ghost use Rattle.jessie_semantics.specs.host_data.Tree.{Tree};
 ghost use Rattle.jessie_semantics.specs.host_data.View.{tree, trees};
 ghost use Rattle.jessie_semantics.specs.Rules.{host_call, host_send};
@@ -25,9 +25,7 @@ pub fn call_method<P: Powers>(
     method: &Text,
     args: Vec<Data>,
 ) -> Result<Data, Stop>
-    requires { machine.old.meter ≤ P.room powers.old }
-    ensures runs { (names : List (List ℕ)) (values : List Tree) → Runs P.answers powers.old powers.new (host_call (tree target.now) method.now (trees args.items)) (state names values machine.old) (come tree result) (state names values machine.new) }
-    ensures fits { machine.new.meter ≤ P.room powers.new }
+    ensures { (names : List (List ℕ)) (values : List Tree) → Runs P.answers powers.old powers.new (host_call (tree target.now) method.now (trees args.items)) (state names values machine.old) (come tree result) (state names values machine.new) }
 {
     let Some(object) = target.object() else {
         return Err(bad(Reason::WrongKind));
@@ -47,9 +45,7 @@ pub fn send_method<P: Powers>(
     method: &Text,
     args: Vec<Data>,
 ) -> Result<Data, Stop>
-    requires { machine.old.meter ≤ P.room powers.old }
-    ensures runs { (names : List (List ℕ)) (values : List Tree) → Runs P.answers powers.old powers.new (host_send (tree target.now) method.now (trees args.items)) (state names values machine.old) (come tree result) (state names values machine.new) }
-    ensures fits { machine.new.meter ≤ P.room powers.new }
+    ensures { (names : List (List ℕ)) (values : List Tree) → Runs P.answers powers.old powers.new (host_send (tree target.now) method.now (trees args.items)) (state names values machine.old) (come tree result) (state names values machine.new) }
 {
     let Some(receiver) = target.object() else {
         return Err(bad(Reason::WrongKind));

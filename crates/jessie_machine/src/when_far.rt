@@ -1,17 +1,15 @@
 //! `when` and `Far`, to which the host replies.
-ghost use Rattle.std.specs.Prelude.{◌≤◌, ◌+◌, List, ℕ, Result, IfOk, MatchResult};
+ghost use Rattle.std.specs.Prelude.{List, ℕ, Result, IfOk};
 ghost use Rattle.jessie_semantics.specs.host_data.Tree.{Tree};
 ghost use Rattle.jessie_semantics.specs.host_data.View.{tree, trees};
 ghost use Rattle.jessie_index.specs.jessie_values.Requests.{when_call, far_call};
 ghost use Rattle.jessie_index.specs.jessie_values.RequestViews.{when_view, far_view};
 ghost use Rattle.jessie_semantics.specs.Actions.{State};
-ghost use Rattle.jessie_semantics.specs.Play.{cost, reply_size};
 ghost use Rattle.jessie_semantics.specs.Rules.{worked, when_asks, far_asks, host_when, host_far};
 ghost use Rattle.jessie_semantics.specs.Runs.{Runs, Computes};
-ghost use Rattle.jessie_machine.specs.Host.{answered_with, reply_of};
+ghost use Rattle.jessie_machine.specs.Host.{answered_with};
 ghost use Rattle.jessie_machine.specs.Stops.{come};
 ghost use Rattle.jessie_machine.specs.Machine.{state};
-ghost use Rattle.jessie_machine.specs.Bills.{bill};
 
 use crate::bills::{left_after, pay_bill};
 use crate::host::{NoMemory, Powers, Reply};
@@ -23,8 +21,7 @@ use std::alloc::Global;
 
 /// What the arguments of `when` ask for.
 fn read_when(args: Vec<Data>) -> Result<WhenArguments, Stop>
-    ensures does { (s : State) → Computes (worked (when_call (trees args.items))) s (come when_view result) s }
-    ensures fits { IfOk result (λ w. cost (when_asks (when_view w)) ≤ bill (trees args.items)) }
+    ensures { (s : State) → Computes (worked (when_call (trees args.items))) s (come when_view result) s }
 {
     match when_call(args) {
         Ok(request) => Ok(request),
@@ -34,9 +31,7 @@ fn read_when(args: Vec<Data>) -> Result<WhenArguments, Stop>
 
 /// Asks the host that a function hear of a promise.
 fn ask_when<P: Powers>(powers: &mut P, request: WhenArguments) -> Result<Reply, NoMemory>
-    requires { cost (when_asks (when_view request)) ≤ P.room powers.old }
-    ensures answered { IfOk result (λ a. P.answers powers.old (answered_with (when_asks (when_view request)) a) powers.new) }
-    ensures left { MatchResult result (λ a. P.room powers.old ≤ P.room powers.new + (cost (when_asks (when_view request)) + reply_size (reply_of a))) (λ e. P.room powers.old ≤ P.room powers.new) }
+    ensures { IfOk result (λ a. P.answers powers.old (answered_with (when_asks (when_view request)) a) powers.new) }
 {
     let WhenArguments {
         promise,
@@ -53,9 +48,7 @@ pub fn call_when<P: Powers>(
     machine: &mut Machine,
     args: Vec<Data>,
 ) -> Result<Data, Stop>
-    requires { machine.old.meter ≤ P.room powers.old }
-    ensures runs { (names : List (List ℕ)) (values : List Tree) → Runs P.answers powers.old powers.new (host_when (trees args.items)) (state names values machine.old) (come tree result) (state names values machine.new) }
-    ensures fits { machine.new.meter ≤ P.room powers.new }
+    ensures { (names : List (List ℕ)) (values : List Tree) → Runs P.answers powers.old powers.new (host_when (trees args.items)) (state names values machine.old) (come tree result) (state names values machine.new) }
 {
     let left = left_after(machine.meter, args.as_slice());
     let request = read_when(args)?;
@@ -66,8 +59,7 @@ pub fn call_when<P: Powers>(
 
 /// What the arguments of `Far` ask for.
 fn read_far(alloc: Global, args: Vec<Data>) -> Result<FarArguments, Stop>
-    ensures does { (s : State) → Computes (worked (far_call (trees args.items))) s (come far_view result) s }
-    ensures fits { IfOk result (λ f. cost (far_asks (far_view f)) ≤ bill (trees args.items)) }
+    ensures { (s : State) → Computes (worked (far_call (trees args.items))) s (come far_view result) s }
 {
     match far_call(alloc, args) {
         Ok(request) => Ok(request),
@@ -77,9 +69,7 @@ fn read_far(alloc: Global, args: Vec<Data>) -> Result<FarArguments, Stop>
 
 /// Asks the host for a facet.
 fn ask_far<P: Powers>(powers: &mut P, request: FarArguments) -> Result<Reply, NoMemory>
-    requires { cost (far_asks (far_view request)) ≤ P.room powers.old }
-    ensures answered { IfOk result (λ a. P.answers powers.old (answered_with (far_asks (far_view request)) a) powers.new) }
-    ensures left { MatchResult result (λ a. P.room powers.old ≤ P.room powers.new + (cost (far_asks (far_view request)) + reply_size (reply_of a))) (λ e. P.room powers.old ≤ P.room powers.new) }
+    ensures { IfOk result (λ a. P.answers powers.old (answered_with (far_asks (far_view request)) a) powers.new) }
 {
     let FarArguments {
         name,
@@ -96,9 +86,7 @@ pub fn call_far<P: Powers>(
     machine: &mut Machine,
     args: Vec<Data>,
 ) -> Result<Data, Stop>
-    requires { machine.old.meter ≤ P.room powers.old }
-    ensures runs { (names : List (List ℕ)) (values : List Tree) → Runs P.answers powers.old powers.new (host_far (trees args.items)) (state names values machine.old) (come tree result) (state names values machine.new) }
-    ensures fits { machine.new.meter ≤ P.room powers.new }
+    ensures { (names : List (List ℕ)) (values : List Tree) → Runs P.answers powers.old powers.new (host_far (trees args.items)) (state names values machine.old) (come tree result) (state names values machine.new) }
 {
     let left = left_after(machine.meter, args.as_slice());
     let request = read_far(alloc, args)?;

@@ -28,7 +28,7 @@ use Rattle.jessie_semantics.specs.declared.functions.AmountFunction.{AmountFunct
 use Rattle.jessie_semantics.specs.declared.functions.AmountFunction.TheVariants as f
 use Rattle.jessie_semantics.specs.Keeping.{Known, Within, ItemsWithin, AllHave}
 use Rattle.jessie_semantics.specs.Form.{InForm}
-use Rattle.jessie_semantics.specs.Naming.{FieldNamesAre, HasFieldNames, IsFieldName, ItemNamesAre, NamesAre}
+use Rattle.jessie_semantics.specs.Naming.{FieldNamesAre, HasFieldNames, IsFieldName, ItemNamesAre}
 use Rattle.jessie_semantics.proofs.Safe.{ResultHas, AmountHas}
 
 abbrev Any : {A : Type 0} → A → Type 0

@@ -1,16 +1,15 @@
--- A host that keeps to its side is asked for nothing that it doesn't know or that is beyond its room.
-use Rattle.std.proofs.Common.{◌≡◌, ℕ, ◌+◌, ◌-◌, ◌≤◌, List, [], ◌∷◌, ◌++◌, refl, ap, subst, ◌∙◌, length, arith}
+-- A host that keeps to its side is asked for nothing that it doesn't know.
+use Rattle.std.proofs.Common.{◌≡◌, ℕ, List, [], ◌∷◌, ◌++◌, refl, ap, subst, ◌∙◌, length}
 use Rattle.host_data.specs.Tree.{Tree, null, boolean, number, text, array, fields, object, function, Items, no_items, item, Fields, no_fields, field}
 use Rattle.jessie_values.specs.jessie_grammar.Syntax.{Routine}
-use Rattle.jessie_semantics.specs.Play.{Call, cost, reply_size, Exchange, Reply, given, refused, Play, Ends, Spends, Asks, Answered, after}
+use Rattle.jessie_semantics.specs.Play.{Call, Exchange, Reply, given, refused, Play, Ends, Spends, Asks, Answered, after}
 use Rattle.jessie_semantics.specs.Rules.{play}
-use Rattle.jessie_semantics.specs.Keeping.{Known, Reference, to_object, to_function, Within, ItemsWithin, FieldsWithin, FunctionsKnown, AllHave, CallHas, RepliesHave, ReplyHas, NextHas, Fits}
+use Rattle.jessie_semantics.specs.Keeping.{Known, Reference, to_object, to_function, Within, ItemsWithin, FieldsWithin, FunctionsKnown, AllHave, CallHas, RepliesHave, ReplyHas, NextHas}
 use Rattle.jessie_semantics.specs.Runs.{Path, Leads}
 use Rattle.jessie_semantics.specs.Hosts.{Keeps, Allowed, Granted}
 use Rattle.jessie_semantics.proofs.Safe.{safe_after, play_safe}
 use Rattle.jessie_semantics.proofs.Within.{closed_within}
 use Rattle.jessie_semantics.proofs.Writes.{AnyName, any_names}
-use Rattle.jessie_semantics.proofs.Licence.{room_fits}
 
 mutual
   more : (K L : Known) → ((o : Reference) → K o → L o) → (t : Tree) → Within K t → Within L t
@@ -57,43 +56,36 @@ after_more (Ends x s) (q ∷ rs) c go r e = cc
 after_more Spends (q ∷ rs) c go r e = cc
 after_more (Asks d f) (q ∷ rs) c go r e = after_more (f q) rs c go r e
 
-falls : (n c a b k : ℕ) → n ≤ a → a ≤ b + (c + k) → n - (c + k) ≤ b
-falls n c a b k h i = omega arith
-
-module _ {W : Type 0} (step : W → Exchange → W → Type 0) (known : W → Known) (room : W → ℕ) (keeps : Keeps step known room) (start : W) (p : Play) (N : ℕ)
+module _ {W : Type 0} (step : W → Exchange → W → Type 0) (known : W → Known) (keeps : Keeps step known) (start : W) (p : Play) (N : ℕ)
     (safe : (K : Known) → ((o : Reference) → known start o → K o) → (rs : List Reply) → RepliesHave (Within K) rs → NextHas (Within K) N (after p rs)) where
   -- what is so at the end
   record Came (w : W) (v : W) (xs : List Exchange) (a : Answered step w xs v) (r : Play) : Type 0 where
-    allowed : Allowed step known room w xs v a
+    allowed : Allowed step known w xs v a
     grown : (o : Reference) → known start o → known v o
     ends : NextHas (Within (known v)) N r
 
-  going : (xs : List Exchange) (w v : W) (q r : Play) (rs : List Reply) (n : ℕ) → after p rs ≡ q → Fits n q → n ≤ room w → ((o : Reference) → known start o → known w o) → RepliesHave (Within (known w)) rs
+  going : (xs : List Exchange) (w v : W) (q r : Play) (rs : List Reply) → after p rs ≡ q → ((o : Reference) → known start o → known w o) → RepliesHave (Within (known w)) rs
       → (a : Answered step w xs v) → Path q xs r → Came w v xs a r
-  going [] w v q r rs n e f b k h a path = record {
+  going [] w v q r rs e k h a path = record {
     allowed = tt;
     grown = subst (λ v. (o : Reference) → known start o → known v o) a k;
     ends = subst (λ v. NextHas (Within (known v)) N r) a (subst (λ q. NextHas (Within (known w)) N q) (e ∙ path) (safe (known w) k rs h));
   }
-  going (x ∷ xs) w v (Ends y s) r rs n e f b k h a path = absurd path
-  going (x ∷ xs) w v Spends r rs n e f b k h a path = absurd path
-  going (x ∷ xs) w v (Asks c go) r rs n e f b k h a path =
+  going (x ∷ xs) w v (Ends y s) r rs e k h a path = absurd path
+  going (x ∷ xs) w v Spends r rs e k h a path = absurd path
+  going (x ∷ xs) w v (Asks c go) r rs e k h a path =
       let here : CallHas (Within (known w)) x.call = subst (λ c. CallHas (Within (known w)) c) path.0 (subst (λ q. NextHas (Within (known w)) N q) e (safe (known w) k rs h)) in
-      let fits : cost x.call ≤ room w = subst (λ c. cost c ≤ room w) path.0 (omega (arith, f.0)) in
-      let lawful = keeps w x a.0 a.1.0 here fits in
-      let grows = lawful.1.0 in
+      let lawful = keeps w x a.0 a.1.0 here in
+      let grows = lawful.1 in
       let answer = lawful.0 in
-      let less = lawful.1.1 in
-      let left : Fits (n - (cost x.call + reply_size x.reply)) (go x.reply) = subst (λ c. Fits (n - (cost c + reply_size x.reply)) (go x.reply)) path.0 (f.1 x.reply) in
-      let rest = going xs a.0 v (go x.reply) r (rs ++ x.reply ∷ []) (n - (cost x.call + reply_size x.reply)) (after_more p rs c go x.reply e) left
-      (falls n (cost x.call) (room w) (room a.0) (reply_size x.reply) b less) (λ o i. grows o (k o i)) (replies_end _ rs x.reply (replies_more _ _ grows rs h) answer) a.1.1 path.1 in
-      record { allowed = (here, (fits, rest.allowed)); grown = rest.grown; ends = rest.ends }
+      let rest = going xs a.0 v (go x.reply) r (rs ++ x.reply ∷ []) (after_more p rs c go x.reply e) (λ o i. grows o (k o i)) (replies_end _ rs x.reply (replies_more _ _ grows rs h) answer) a.1.1 path.1 in
+      record { allowed = (here, rest.allowed); grown = rest.grown; ends = rest.ends }
 
-pub granted : {W : Type 0} (step : W → Exchange → W → Type 0) (known : W → Known) (room : W → ℕ) → Keeps step known room → (old new : W) (rs : List Routine) (variables : List (List ℕ)) (f : List ℕ) (vs values : List Tree) (meter : ℕ) (r : Play)
-    → FunctionsKnown (known old) rs → AllHave (Within (known old)) vs → AllHave (Within (known old)) values → meter ≤ room old → Leads step old new (play rs variables f vs values meter) r → Granted step known room old new (length variables) r
-granted step known room keeps old new rs variables f vs values meter r g h i q l =
+pub granted : {W : Type 0} (step : W → Exchange → W → Type 0) (known : W → Known) → Keeps step known → (old new : W) (rs : List Routine) (variables : List (List ℕ)) (f : List ℕ) (vs values : List Tree) (meter : ℕ) (r : Play)
+    → FunctionsKnown (known old) rs → AllHave (Within (known old)) vs → AllHave (Within (known old)) values → Leads step old new (play rs variables f vs values meter) r → Granted step known old new (length variables) r
+granted step known keeps old new rs variables f vs values meter r g h i l =
     let p = play rs variables f vs values meter in
-    let came = going step known room keeps old p (length variables)
-    (λ K k answers w. safe_after (Within K) (length variables) meter p answers (play_safe (Within K) (length variables) AnyName rs (closed_within K rs (functions_more _ K k rs g)) (any_names rs) variables f vs values meter meter (all_more _ K k vs h) (all_more _ K k values i) refl (omega arith)) w)
-    l.since old new p r [] meter refl (room_fits rs variables f vs values meter meter (omega arith)) q (λ o k. k) tt l.answered l.path in
+    let came = going step known keeps old p (length variables)
+    (λ K k answers w. safe_after (Within K) (length variables) p answers (play_safe (Within K) (length variables) AnyName rs (closed_within K rs (functions_more _ K k rs g)) (any_names rs) variables f vs values meter (all_more _ K k vs h) (all_more _ K k values i) refl) w)
+    l.since old new p r [] refl (λ o k. k) tt l.answered l.path in
     record { since = l.since; answered = l.answered; allowed = came.allowed; keeps = came.grown; ends = came.ends }

@@ -1,13 +1,13 @@
 -- What the rules make by themselves refers to nothing but the module's functions, and what they make of
 -- values to nothing that the values don't refer to: so each object that an evaluation shows was handed to it.
-use Rattle.std.proofs.Common.{ℕ, ◌+◌, ◌-◌, ◌≤◌, List, [], ◌∷◌, ◌++◌, map, inl, inr, refl, subst, length, arith}
+use Rattle.std.proofs.Common.{ℕ, List, [], ◌∷◌, ◌++◌, map, inl, inr, refl, subst, length}
 use Rattle.host_data.specs.Tree.{Tree, null, boolean, number, text, array, fields, object, function, Items, no_items, item, Fields, no_fields, field}
 use Rattle.host_data.specs.declared.data.Obj.{Obj}
 use Rattle.jessie_values.specs.jessie_grammar.Syntax.{Routine}
-use Rattle.jessie_semantics.specs.Play.{cost, reply_size, Reply, given, refused, Exchange, Play, Ends, Spends, Asks, after, Follows, replies}
+use Rattle.jessie_semantics.specs.Play.{Reply, given, refused, Exchange, Play, after, Follows, replies}
 use Rattle.jessie_semantics.specs.Rules.{play}
-use Rattle.jessie_semantics.specs.Keeping.{Known, to_object, to_function, Within, ItemsWithin, FieldsWithin, AllHave, ReplyHas, RepliesHave, NextHas, FunctionsKnown, Occurs, OccursItems, OccursFields, OccursAny, Handed, reply_tree, handed, Licensed, Fits}
-use Rattle.jessie_semantics.proofs.Safe.{Safe, safe_after, play_safe}
+use Rattle.jessie_semantics.specs.Keeping.{Known, to_object, to_function, Within, ItemsWithin, FieldsWithin, AllHave, RepliesHave, NextHas, FunctionsKnown, Occurs, OccursItems, OccursFields, OccursAny, Handed, reply_tree, handed, Licensed}
+use Rattle.jessie_semantics.proofs.Safe.{safe_after, play_safe}
 use Rattle.jessie_semantics.proofs.Within.{closed_within}
 use Rattle.jessie_semantics.proofs.Writes.{AnyName, any_names}
 
@@ -45,10 +45,6 @@ replies_held W [] h = tt
 replies_held W (given v ∷ rs) h = (h.0, replies_held W rs h.1)
 replies_held W (refused v ∷ rs) h = (h.0, replies_held W rs h.1)
 
-reply_all : (W : Tree → Type 0) → ((t : Tree) → W t) → (r : Reply) → ReplyHas W r
-reply_all W h (given v) = h v
-reply_all W h (refused v) = h v
-
 pub all_functions : (K : Known) → ((f : List ℕ) → K (to_function f)) → (rs : List Routine) → FunctionsKnown K rs
 all_functions K h [] = tt
 all_functions K h (r ∷ rs) = (h r.name, all_functions K h rs)
@@ -61,20 +57,8 @@ licence rs variables f vs values meter answers =
     let parts = parted (Within K) vs _ all in
     let rest = parted (Within K) values (map reply_tree answers) parts.1 in
     let p = play rs variables f vs values meter in
-    safe_after (Within K) (length variables) meter p answers
-    (play_safe (Within K) (length variables) AnyName rs (closed_within K rs (all_functions K (λ f. tt) rs)) (any_names rs) variables f vs values meter meter parts.0 rest.0 refl (omega arith)) (replies_held (Within K) answers rest.1)
-
-fits : (W : Tree → Type 0) (N m : ℕ) (p : Play) → ((t : Tree) → W t) → Safe W N m p → Fits m p
-fits W N m (Ends e vs) all h = tt
-fits W N m Spends all h = tt
-fits W N m (Asks c go) all h = (h.1.0, λ r. fits W N (m - (cost c + reply_size r)) (go r) all (h.1.1 r (reply_all W all r)))
-
-pub room_fits : (rs : List Routine) (variables : List (List ℕ)) (f : List ℕ) (vs values : List Tree) (meter room : ℕ) → meter ≤ room → Fits room (play rs variables f vs values meter)
-room_fits rs variables f vs values meter room q =
-    let K : Known = λ r. Unit {0} in
-    let all : (t : Tree) → Within K t = λ t. held K t (λ o i. tt) (λ f. tt) in
-    fits (Within K) (length variables) room (play rs variables f vs values meter) all
-    (play_safe (Within K) (length variables) AnyName rs (closed_within K rs (all_functions K (λ f. tt) rs)) (any_names rs) variables f vs values meter room (held_all K vs (λ o i. tt) (λ f. tt)) (held_all K values (λ o i. tt) (λ f. tt)) refl q)
+    safe_after (Within K) (length variables) p answers
+    (play_safe (Within K) (length variables) AnyName rs (closed_within K rs (all_functions K (λ f. tt) rs)) (any_names rs) variables f vs values meter parts.0 rest.0 refl) (replies_held (Within K) answers rest.1)
 
 pub licensed : {W : Type 0} {step : W → Exchange → W → Type 0} {old new : W} {r : Play} (rs : List Routine) (variables : List (List ℕ)) (f : List ℕ) (vs values : List Tree) (meter : ℕ)
     → Follows step (play rs variables f vs values meter) old new r → Licensed step old new vs values (length variables) r

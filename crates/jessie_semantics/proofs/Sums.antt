@@ -1,5 +1,5 @@
 -- When a sum is a value, and what it is refused for else.
-use Rattle.std.proofs.Common.{◌≡◌, ◌≢◌, ℕ, ◌<◌, ◌≤◌, ◌^◌, List, [], ◌∷◌, true, false, cond, Some, None, Ok, Err, map, refl, sym, ap, subst, ◌∙◌, inl, inr, arith}
+use Rattle.std.proofs.Common.{◌≡◌, ◌≢◌, ℕ, ◌<◌, ◌≤◌, List, [], ◌∷◌, true, false, cond, Some, None, Ok, Err, map, refl, sym, ap, subst, ◌∙◌, inl, inr, arith}
 use lib.Dec.{T}
 use Rattle.std.specs.Prelude.{nat_lt, unwrap_or}
 use Rattle.std.specs.FinMap as fin
@@ -8,9 +8,8 @@ use Rattle.std.specs.List.{find}
 use Rattle.std.specs.Ordering.{eq_by_cmp, is_lt}
 use Rattle.std.specs.declared.cmp.Ordering.TheVariants.{Less}
 use Rattle.std.proofs.lemmas.Bool.{cases_lt, le-leb, le-ltb, lt-leb, lt-ltb}
-use Rattle.host_data.specs.amount_math.Content.{Content, count, count-sum, count_listed, entries, key_cmp, listed, sum}
+use Rattle.host_data.specs.amount_math.Content.{Content, count, count_listed, entries, key_cmp, listed}
 use Rattle.host_data.specs.amount_math.Entries.{Entries, IsRising}
-use Rattle.host_data.specs.amount_math.Held.{keys_of-sum}
 use Rattle.host_data.specs.amount_math.Totals.{first, less, second}
 use Rattle.host_data.specs.amount_math.ValueView.{IsFirstPast, IsPutRefusal, IsValue, PassesBound, PassesKeys, ValueView, bag_bound, bound, fits_from_value, keys_of, most_keys, nat_bound}
 use Rattle.host_data.specs.amount_math.declared.Kind.{Kind}
@@ -21,7 +20,7 @@ use Rattle.host_data.specs.amount_math.declared.TooMuch.{TooMuch}
 use Rattle.host_data.proofs.amount_math.Listed.{below_rest, rising_rest, same_key}
 use Rattle.refusals.specs.Codes.{too_much}
 use Rattle.refusals.specs.Outcomes.{Fails}
-use Rattle.refusals.specs.Told.{CanShow, PutCanShow, put_told}
+use Rattle.refusals.specs.Told.{put_told}
 use Rattle.refusals.specs.declared.codes.Refusal.TheVariants.{Overlap}
 use Rattle.jessie_semantics.specs.Worths.{checked, elements, first_past, has_few, in_bounds}
 
@@ -115,29 +114,3 @@ refused w (put_fault.TooMuch over) h = elim h as (λ _. checked w ≡ Err (too_m
   | inr p ↦ passes_keys w.kind w.content over p.0 p.1
 ]
 refused w put_fault.NoMemory h = tt
-
--- ---- what is shown has less than 128 bits
-
-bounded : (kind : Kind) → bound kind ≤ 2 ^ 63
-bounded Nat = omega arith
-bounded Set = omega arith
-bounded Bag = omega arith
-
-few_keys : (kind : Kind) (c : Content) → kind ≢ Nat → IsValue kind c → keys_of c ≤ most_keys
-few_keys Nat c ne v = absurd (ne refl)
-few_keys Set c ne v = v.keyed.few
-few_keys Bag c ne v = v.keyed.few
-
-pub small : (kind : Kind) (a b : Content) (fault : PutFault) → IsValue kind a → IsValue kind b → IsPutRefusal kind (sum a b) fault → PutCanShow fault
-small kind a b (put_fault.Overlap key) v w h = tt
-small kind a b (put_fault.TooMuch over) v w h = elim h as (λ _. CanShow over.sum over.bound) [
-  | inl p ↦
-      let q = p.1 in
-      let x = (fits_from_value kind a v).each q.element in
-      let y = (fits_from_value kind b w).each q.element in
-      record { sum_fits = omega (arith, q.counted, count-sum a b q.element, x, y, bounded kind); bound_fits = omega (arith, q.bounded, bounded kind) }
-  | inr p ↦
-      let q = p.1 in
-      record { sum_fits = omega (arith, q.counted, keys_of-sum a b, few_keys kind a p.0 v, few_keys kind b p.0 w); bound_fits = omega (arith, q.bounded) }
-]
-small kind a b put_fault.NoMemory v w h = tt

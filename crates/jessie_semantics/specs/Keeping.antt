@@ -1,11 +1,11 @@
 -- What holds of each value that an evaluation works with: a fact W about trees, said of all that a
 -- call, an answer, a state or an outcome holds.
-use Rattle.std.specs.Prelude.{◌≡◌, ℕ, true, ◌≤◌, ◌+◌, ◌-◌, List, [], ◌∷◌, ◌++◌, ◌⊎◌, map, length}
+use Rattle.std.specs.Prelude.{◌≡◌, ℕ, true, List, [], ◌∷◌, ◌++◌, ◌⊎◌, map, length}
 use Rattle.host_data.specs.Tree.{Tree, null, boolean, number, text, array, fields, object, function, Items, no_items, item, Fields, no_fields, field}
 use Rattle.host_data.specs.declared.data.Obj.{Obj}
 use Rattle.jessie_values.specs.jessie_grammar.Syntax.{Routine}
 use Rattle.jessie_values.specs.Requests.{is_promise}
-use Rattle.jessie_semantics.specs.Play.{Call, call, send, when, far, cost, reply_size, Reply, given, refused, Exchange, Answered, Ending, returned, threw, Play, Ends, Spends, Asks, replies}
+use Rattle.jessie_semantics.specs.Play.{Call, call, send, when, far, Reply, given, refused, Exchange, Answered, Ending, returned, threw, Play, Ends, Spends, Asks, replies}
 
 abbrev pub AllHave : (Tree → Type 0) → List Tree → Type 0
 AllHave W [] = Unit {0}
@@ -40,12 +40,6 @@ abbrev pub NextHas : (Tree → Type 0) → ℕ → Play → Type 0
 NextHas W n (Ends e values) = EndingHas W e × (AllHave W values × (length values ≡ n))
 NextHas W n Spends = Unit {0}
 NextHas W n (Asks c go) = CallHas W c
-
--- each call costs no more than what is left of the room
-abbrev pub Fits : ℕ → Play → Type 0
-Fits m (Ends e values) = Unit {0}
-Fits m Spends = Unit {0}
-Fits m (Asks c go) = (cost c ≤ m) × ((r : Reply) → Fits (m - (cost c + reply_size r)) (go r))
 
 -- ---- what data refers to: objects, and functions of the module
 

@@ -1,8 +1,7 @@
 -- What an evaluation comes to, whatever the host answers: it ends, its meter is spent, or it asks the
 -- host and goes on by the answer.
-use Rattle.std.specs.Prelude.{◌≡◌, ℕ, ◌+◌, List, [], ◌∷◌, ◌++◌, length, map}
-use Rattle.host_data.specs.Tree.{Tree, null, size, items_size}
-use Rattle.host_data.specs.View.{items_of}
+use Rattle.std.specs.Prelude.{◌≡◌, ℕ, List, [], ◌∷◌, ◌++◌, map}
+use Rattle.host_data.specs.Tree.{Tree}
 use Rattle.host_data.specs.declared.data.Obj.{Obj}
 
 -- what the host is asked
@@ -34,27 +33,6 @@ pub data Play : Type 0 where
   Ends : Ending → List Tree → Play
   Spends : Play
   Asks : Call → (Reply → Play) → Play
-
--- What a call costs before it is made, and its answer after it. Data that a text leaves out is null to
--- the host, and takes nothing: so this is the least that the call costs.
-
-abbrev pub held_size : Tree → ℕ
-held_size null = 0
-held_size v = size v
-
-abbrev pub methods_size : List (List ℕ × List ℕ) → ℕ
-methods_size [] = 0
-methods_size (m ∷ ms) = length m.0 + 1 + methods_size ms
-
-abbrev pub cost : Call → ℕ
-cost (call o x vs) = 100 + items_size (items_of vs)
-cost (send o x vs) = 100 + items_size (items_of vs)
-cost (when o f v) = 102 + held_size v
-cost (far x ms v) = 100 + (1 + length x) + (1 + methods_size ms) + held_size v
-
-abbrev pub reply_size : Reply → ℕ
-reply_size (given v) = size v
-reply_size (refused v) = size v
 
 -- what it comes to after these answers
 abbrev pub after : Play → List Reply → Play

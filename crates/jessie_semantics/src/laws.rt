@@ -1,11 +1,11 @@
 //! What the rules of evaluation mean, of every module, function, list of arguments, state, meter
 //! and list of replies: functions that do nothing, whose contracts are the laws.
-ghost use Rattle.std.specs.Prelude.{ℕ, List, length, ◌≤◌};
+ghost use Rattle.std.specs.Prelude.{ℕ, List, length};
 ghost use Rattle.host_data.specs.Tree.{Tree};
 ghost use Rattle.jessie_values.specs.jessie_grammar.Syntax.{Routine};
 ghost use Rattle.jessie_semantics.specs.Play.{Reply, after};
 ghost use Rattle.jessie_semantics.specs.Rules.{play};
-ghost use Rattle.jessie_semantics.specs.Keeping.{AllHave, RepliesHave, NextHas, Within, Fits, Handed, handed};
+ghost use Rattle.jessie_semantics.specs.Keeping.{AllHave, RepliesHave, NextHas, Within, Handed, handed};
 ghost use Rattle.jessie_semantics.specs.Form.{InForm};
 ghost use Rattle.jessie_semantics.specs.Naming.{HasFieldNames, IsFieldName, RoutinesNamed, RoutinesWrite};
 
@@ -14,12 +14,6 @@ ghost use Rattle.jessie_semantics.specs.Naming.{HasFieldNames, IsFieldName, Rout
 pub fn objects_were_handed()
     ensures { (rs : List Routine) (variables : List (List ℕ)) (f : List ℕ) (vs values : List Tree) (meter : ℕ) (answers : List Reply)
         → NextHas (Within (Handed (handed vs values answers))) (length variables) (after (play rs variables f vs values meter) answers) }
-{}
-
-/// Where the host's room is at least the meter, each call is within what is left of it: what a call
-/// costs before it, and its answer's size, are taken off.
-pub fn calls_fit_the_room()
-    ensures { (rs : List Routine) (variables : List (List ℕ)) (f : List ℕ) (vs values : List Tree) (meter room : ℕ) → meter ≤ room → Fits room (play rs variables f vs values meter) }
 {}
 
 /// Where arguments, state values and answers have the fields of their records in byte order, each name

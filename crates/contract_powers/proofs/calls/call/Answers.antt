@@ -5,7 +5,7 @@ use Rattle.contract_powers.proofs.AdmittedCalls.{answered_so, can_carry}
 use Rattle.contract_powers.proofs.calls.call.Goals as goal
 
 pub carry-requires-clause-can : goal.carry-requires-clause-can
-carry-requires-clause-can g c = can_carry (world_of c.args.world.now) c.args.instance (plays.call c.args.target c.args.method.now (trees c.args.args.items)) c.requires.turn.good c.requires.made c.requires.room c.in_ok-planned.planned c.in_ok-planned.ensures
+carry-requires-clause-can g c = can_carry (world_of c.args.world.now) c.args.instance (plays.call c.args.target c.args.method.now (trees c.args.args.items)) c.requires.turn.good c.requires.made c.in_ok-planned.planned c.in_ok-planned.ensures
 
 pub returns-clause-answered : goal.returns-clause-answered
-returns-clause-answered g c = answered_so c.args.world.now c.carry.new.world c.args.instance (plays.call c.args.target c.args.method.now (trees c.args.args.items)) c.in_ok-planned.planned c.carry.result c.requires.turn c.requires.made c.requires.room c.in_ok-planned.ensures c.carry.ensures.was
+returns-clause-answered g c = answered_so c.args.world.now c.carry.new.world c.args.instance (plays.call c.args.target c.args.method.now (trees c.args.args.items)) c.in_ok-planned.planned c.carry.result c.requires.turn c.requires.made c.in_ok-planned.ensures c.carry.ensures.was

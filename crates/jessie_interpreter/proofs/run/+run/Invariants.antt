@@ -1,4 +1,4 @@
-use Rattle.std.proofs.Common.{◌≡◌, ◌≤◌, ◌+◌, ◌*◌, ◌-◌, [], drop, length}
+use Rattle.std.proofs.Common.{◌≡◌, ◌+◌, ◌*◌, ◌-◌, [], drop, length}
 use Rattle.std.specs.Vec.Iter.{into_iter_items, into_iter_len}
 use Rattle.jessie_machine.specs.host_data.View.{tree, trees, named_trees}
 use Rattle.jessie_machine.specs.jessie_grammar.Syntax.{routines, term_view, terms_view, named_terms_view, operands_view, link_view, links_view, return_view, statement_view, branches_view, block_view}
@@ -112,61 +112,46 @@ abbrev pub decreases-invoke : goal.decreases-invoke
 decreases-invoke g l = l.room * routines_weight (routines l.module.now) + (0)
 
 abbrev pub invariant-run_exprs-loop-part : goal.invariant-run_exprs-loop-part
-invariant-run_exprs-loop-part g l = record {
-  reaches : Reaches g.P.Powers.answers l.fn.powers l.powers (exprs (running l.module l.room) (terms_view l.parts) []) (here l.module l.values l.fn.machine)
-      (exprs (running l.module l.room) (terms_view (drop l.part-index l.parts)) (trees l.found.items)) (here l.module l.values l.machine);
-  fits : l.machine.meter ≤ g.P.Powers.room l.powers;
-}
+invariant-run_exprs-loop-part g l =
+    Reaches g.P.Powers.answers l.fn.powers l.powers (exprs (running l.module l.room) (terms_view l.parts) []) (here l.module l.values l.fn.machine)
+    (exprs (running l.module l.room) (terms_view (drop l.part-index l.parts)) (trees l.found.items)) (here l.module l.values l.machine)
 
 abbrev pub invariant-run_named-loop-name : goal.invariant-run_named-loop-name
-invariant-run_named-loop-name g l = record {
-  reaches : Reaches g.P.Powers.answers l.fn.powers l.powers (named_exprs (running l.module l.room) (named_terms_view l.parts) []) (here l.module l.values l.fn.machine)
-      (named_exprs (running l.module l.room) (named_terms_view (drop l.name-index l.parts)) (named_trees l.found.items)) (here l.module l.values l.machine);
-  fits : l.machine.meter ≤ g.P.Powers.room l.powers;
-}
+invariant-run_named-loop-name g l =
+    Reaches g.P.Powers.answers l.fn.powers l.powers (named_exprs (running l.module l.room) (named_terms_view l.parts) []) (here l.module l.values l.fn.machine)
+    (named_exprs (running l.module l.room) (named_terms_view (drop l.name-index l.parts)) (named_trees l.found.items)) (here l.module l.values l.machine)
 
 abbrev pub invariant-run_accesses-loop-part : goal.invariant-run_accesses-loop-part
-invariant-run_accesses-loop-part g l = record {
-  reaches : Reaches g.P.Powers.answers l.fn.powers l.powers (behind (expr (running l.module l.room) (term_view l.first)) (links (running l.module l.room) (links_view l.rest))) (here l.module l.values l.fn.machine)
-      (links (running l.module l.room) (links_view (drop l.part-index l.rest)) (tree l.«data»)) (here l.module l.values l.machine);
-  fits : l.machine.meter ≤ g.P.Powers.room l.powers;
-}
+invariant-run_accesses-loop-part g l =
+    Reaches g.P.Powers.answers l.fn.powers l.powers (behind (expr (running l.module l.room) (term_view l.first)) (links (running l.module l.room) (links_view l.rest))) (here l.module l.values l.fn.machine)
+    (links (running l.module l.room) (links_view (drop l.part-index l.rest)) (tree l.«data»)) (here l.module l.values l.machine)
 
 abbrev pub invariant-run_chain-loop-operator : goal.invariant-run_chain-loop-operator
-invariant-run_chain-loop-operator g l = record {
-  reaches : Reaches g.P.Powers.answers l.fn.powers l.powers (behind (expr (running l.module l.room) (term_view l.first)) (operands (running l.module l.room) (operands_view l.rest))) (here l.module l.values l.fn.machine)
-      (operands (running l.module l.room) (operands_view (drop l.operator-index l.rest)) (tree l.«data»)) (here l.module l.values l.machine);
-  fits : l.machine.meter ≤ g.P.Powers.room l.powers;
-}
+invariant-run_chain-loop-operator g l =
+    Reaches g.P.Powers.answers l.fn.powers l.powers (behind (expr (running l.module l.room) (term_view l.first)) (operands (running l.module l.room) (operands_view l.rest))) (here l.module l.values l.fn.machine)
+    (operands (running l.module l.room) (operands_view (drop l.operator-index l.rest)) (tree l.«data»)) (here l.module l.values l.machine)
 
 abbrev pub invariant-run_if-loop-way : goal.invariant-run_if-loop-way
-invariant-run_if-loop-way g l = record {
-  reaches : Reaches g.P.Powers.answers l.fn.powers l.powers (branches (running l.module l.room) (branches_view l.ways) (scoped (block (running l.module l.room) (block_view l.other)))) (here l.module l.values l.fn.machine)
-      (branches (running l.module l.room) (branches_view (drop l.way-index l.ways)) (scoped (block (running l.module l.room) (block_view l.other)))) (here l.module l.values l.machine);
-  fits : l.machine.meter ≤ g.P.Powers.room l.powers;
-}
+invariant-run_if-loop-way g l =
+    Reaches g.P.Powers.answers l.fn.powers l.powers (branches (running l.module l.room) (branches_view l.ways) (scoped (block (running l.module l.room) (block_view l.other)))) (here l.module l.values l.fn.machine)
+    (branches (running l.module l.room) (branches_view (drop l.way-index l.ways)) (scoped (block (running l.module l.room) (block_view l.other)))) (here l.module l.values l.machine)
 
 abbrev pub invariant-run_while-loop-round : goal.invariant-run_while-loop-round
-invariant-run_while-loop-round g l = record {
-  reaches : Reaches g.P.Powers.answers l.fn.powers l.powers (repeat_rule (test (running l.module l.room) (term_view l.condition)) (block (running l.module l.room) (block_view l.body))) (here l.module l.values l.fn.machine)
-      (rounds (l.fn.machine.meter - l.round) (test (running l.module l.room) (term_view l.condition)) (scoped (block (running l.module l.room) (block_view l.body)))) (here l.module l.values l.machine);
-  fits : l.machine.meter ≤ g.P.Powers.room l.powers;
-}
+invariant-run_while-loop-round g l =
+    Reaches g.P.Powers.answers l.fn.powers l.powers (repeat_rule (test (running l.module l.room) (term_view l.condition)) (block (running l.module l.room) (block_view l.body))) (here l.module l.values l.fn.machine)
+    (rounds (l.fn.machine.meter - l.round) (test (running l.module l.room) (term_view l.condition)) (scoped (block (running l.module l.room) (block_view l.body)))) (here l.module l.values l.machine)
 
 abbrev pub invariant-run_for-items : goal.invariant-run_for-items
 invariant-run_for-items g l = record {
   reaches : Reaches g.P.Powers.answers l.fn.powers l.powers (for_rule l.name (expr (running l.module l.room) (term_view l.source)) (block (running l.module l.room) (block_view l.body))) (here l.module l.values l.fn.machine)
       (walk (trees (into_iter_items l.items)) (with_name l.name (block (running l.module l.room) (block_view l.body)))) (here l.module l.values l.machine);
-  fits : l.machine.meter ≤ g.P.Powers.room l.powers;
   count : length (into_iter_items l.items) ≡ into_iter_len l.items;
 }
 
 abbrev pub invariant-run_block-loop-statement : goal.invariant-run_block-loop-statement
-invariant-run_block-loop-statement g l = record {
-  reaches : Reaches g.P.Powers.answers l.fn.powers l.powers (block (running l.module l.room) (block_view l.body)) (here l.module l.values l.fn.machine)
-      (block (running l.module l.room) (block_view (drop l.statement-index l.body))) (here l.module l.values l.machine);
-  fits : l.machine.meter ≤ g.P.Powers.room l.powers;
-}
+invariant-run_block-loop-statement g l =
+    Reaches g.P.Powers.answers l.fn.powers l.powers (block (running l.module l.room) (block_view l.body)) (here l.module l.values l.fn.machine)
+    (block (running l.module l.room) (block_view (drop l.statement-index l.body))) (here l.module l.values l.machine)
 
 abbrev pub decreases-run_for-items : goal.decreases-run_for-items
 decreases-run_for-items g l = length (into_iter_items l.items)

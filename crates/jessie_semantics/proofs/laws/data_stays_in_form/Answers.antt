@@ -1,4 +1,4 @@
-use Rattle.std.proofs.Common.{length, refl, arith}
+use Rattle.std.proofs.Common.{length, refl}
 use Rattle.jessie_semantics.specs.Rules.{play}
 use Rattle.jessie_semantics.specs.Form.{InForm}
 use Rattle.jessie_semantics.proofs.Safe.{safe_after, play_safe}
@@ -8,5 +8,5 @@ use Rattle.jessie_semantics.proofs.laws.data_stays_in_form.Goals as goal
 
 pub returns : goal.returns
 returns c = λ rs variables f vs values meter answers h i j.
-    safe_after InForm (length variables) meter (play rs variables f vs values meter) answers
-    (play_safe InForm (length variables) AnyName rs (closed_form rs) (any_names rs) variables f vs values meter meter h i refl (omega arith)) j
+    safe_after InForm (length variables) (play rs variables f vs values meter) answers
+    (play_safe InForm (length variables) AnyName rs (closed_form rs) (any_names rs) variables f vs values meter h i refl) j

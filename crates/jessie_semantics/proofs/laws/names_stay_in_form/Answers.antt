@@ -1,4 +1,4 @@
-use Rattle.std.proofs.Common.{length, refl, arith}
+use Rattle.std.proofs.Common.{length, refl}
 use Rattle.jessie_semantics.specs.Naming.{HasFieldNames, IsFieldName}
 use Rattle.jessie_semantics.specs.Rules.{play}
 use Rattle.jessie_semantics.proofs.Safe.{safe_after, play_safe}
@@ -7,5 +7,5 @@ use Rattle.jessie_semantics.proofs.laws.names_stay_in_form.Goals as goal
 
 pub returns : goal.returns
 returns c = λ rs variables f vs values meter answers w n h i j.
-    safe_after HasFieldNames (length variables) meter (play rs variables f vs values meter) answers
-    (play_safe HasFieldNames (length variables) IsFieldName rs (closed_named rs n) w variables f vs values meter meter h i refl (omega arith)) j
+    safe_after HasFieldNames (length variables) (play rs variables f vs values meter) answers
+    (play_safe HasFieldNames (length variables) IsFieldName rs (closed_named rs n) w variables f vs values meter h i refl) j

@@ -1,47 +1,38 @@
-use Rattle.std.proofs.Common.{◌≡◌, ◌+◌, false}
+use Rattle.std.proofs.Common.{false}
 use Rattle.std.proofs.Math.Logic.{∥∥₁_map}
-use Rattle.world_effects.specs.host_world.Worlds.{world_of}
 use Rattle.jessie_machine.specs.Host.{reply_of}
 use Rattle.jessie_machine.specs.jessie_semantics.Play as plays
-use Rattle.jessie_machine.specs.jessie_semantics.Play.{cost}
 use Rattle.refusals.specs.host_data.View.{tree}
 use Rattle.contract_powers.specs.Situations.{situation}
 use Rattle.contract_powers.proofs.ReadyRuns.{running_of}
-use Rattle.contract_powers.proofs.RunSteps.{failed_ready, goes_back, is_answered, less_room, ready, runs_on}
+use Rattle.contract_powers.proofs.RunSteps.{failed_ready, goes_back, is_answered, ready, runs_on}
 use Rattle.contract_powers.proofs.powers.ContractPowersPowers.when.Goals as goal
 
 pub when-requires-clause-turn : goal.when-requires-clause-turn
 when-requires-clause-turn g c =
-    let s = situation c.args.self.now.world c.args.self.now.instance c.args.self.now.room c.args.self.now.failed in
+    let s = situation c.args.self.now.world c.args.self.now.instance c.args.self.now.failed in
     (running_of s c.args.self.now.ready c.if-self.false).turn
 
 pub when-requires-clause-made : goal.when-requires-clause-made
 when-requires-clause-made g c =
-    let s = situation c.args.self.now.world c.args.self.now.instance c.args.self.now.room c.args.self.now.failed in
+    let s = situation c.args.self.now.world c.args.self.now.instance c.args.self.now.failed in
     (running_of s c.args.self.now.ready c.if-self.false).made
-
-pub when-requires-clause-room : goal.when-requires-clause-room
-when-requires-clause-room g c =
-    let s = situation c.args.self.now.world c.args.self.now.instance c.args.self.now.room c.args.self.now.failed in
-    less_room (world_of c.args.self.now.world) (cost (plays.when c.args.promise c.args.f.now (tree c.args.held))) c.args.self.now.room c.requires (running_of s c.args.self.now.ready c.if-self.false).roomy
 
 pub invariant_of-self : goal.invariant_of-self
 invariant_of-self g c = record {
-  ready = ∣ failed_ready c.when.new.world c.args.self.now.instance c.args.self.now.room ∣₁;
+  ready = ∣ failed_ready c.when.new.world c.args.self.now.instance ∣₁;
   back = ∥∥₁_map c.args.self.now.back (goes_back g.T.Turn.base c.args.self.now.world c.when.new.world c.when.ensures.back);
 }
 
 pub invariant_of-self-2 : goal.invariant_of-self-2
 invariant_of-self-2 g c =
-    let s = situation c.args.self.now.world c.args.self.now.instance c.args.self.now.room c.args.self.now.failed in
-    let takes : c.after_when-left.result + cost (plays.when c.args.promise c.args.f.now (tree c.args.held)) ≡ c.args.self.now.room = c.after_when-left.ensures in
+    let s = situation c.args.self.now.world c.args.self.now.instance c.args.self.now.failed in
     record {
-      ready = ∣ ready (situation c.when.new.world c.args.self.now.instance c.after_when-left.result false) (runs_on s c.when.new.world c.after_when-left.result (plays.when c.args.promise c.args.f.now (tree c.args.held)) (reply_of c.in_ok-answer.answer) (running_of s c.args.self.now.ready c.if-self.false) takes c.in_ok-answer.ensures.answered) ∣₁;
+      ready = ∣ ready (situation c.when.new.world c.args.self.now.instance false) (runs_on s c.when.new.world (plays.when c.args.promise c.args.f.now (tree c.args.held)) (reply_of c.in_ok-answer.answer) (running_of s c.args.self.now.ready c.if-self.false) c.in_ok-answer.ensures.answered) ∣₁;
       back = ∥∥₁_map c.args.self.now.back (goes_back g.T.Turn.base c.args.self.now.world c.when.new.world c.when.ensures.back);
     }
 
-pub returns-clause-answered : goal.returns-clause-answered
-returns-clause-answered g c =
-    let s = situation c.args.self.now.world c.args.self.now.instance c.args.self.now.room c.args.self.now.failed in
-    let takes : c.after_when-left.result + cost (plays.when c.args.promise c.args.f.now (tree c.args.held)) ≡ c.args.self.now.room = c.after_when-left.ensures in
-    is_answered s c.when.new.world c.after_when-left.result (plays.when c.args.promise c.args.f.now (tree c.args.held)) (reply_of c.in_ok-answer.answer) (running_of s c.args.self.now.ready c.if-self.false) takes c.in_ok-answer.ensures.answered
+pub returns : goal.returns
+returns g c =
+    let s = situation c.args.self.now.world c.args.self.now.instance c.args.self.now.failed in
+    is_answered s c.when.new.world (plays.when c.args.promise c.args.f.now (tree c.args.held)) (reply_of c.in_ok-answer.answer) (running_of s c.args.self.now.ready c.if-self.false) c.in_ok-answer.ensures.answered
