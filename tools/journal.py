@@ -37,6 +37,11 @@ _is_holder = _has_form(r"(purse|payment)\d+|seat\d+\.[A-Z]\w*|hand|outside")
 _is_sum = _has_form(r"\d+")
 
 
+def _is_supply(part):
+    """What version 1 has not."""
+    return part is None or _is_sum(part)
+
+
 def _is_count(part):
     """A whole number, plainly or as {"#": "decimal"}."""
     if isinstance(part, dict):
@@ -117,6 +122,7 @@ FIELDS = {  # of each row, its fields and what they have to be
         "payments": _is_sum,
         "purses": _is_sum,
         "slots": _is_sum,
+        "supply": _is_supply,
     },
     "close": {"left": _is_number, "turns": _is_number},
     "version": {"version": _is_number},
@@ -172,6 +178,8 @@ def journal_of(path, data):
             fault = f"row {index + 1} is no row of a journal"
             break
         fault = _later(row, index + 1)
+        if fault is None and rows and row["row"] == "version":
+            fault = f"row {index + 1} is a version row behind the first row"
         if fault is None and rows and rows[-1]["row"] == "close":
             fault = f"row {index + 1} stands behind the close row"
         if fault:

@@ -28,7 +28,7 @@ HINTS = {
     "WrongObject": "another kind of object is wanted at this place (0 is the target)",
     "BadArgs": 'the argument at this place hasn\'t the form; an amount is exactly {"brand":{"@":"x.brand"},"value":5}',
     "BadKeyword": "a keyword begins with a capital, and has letters, digits and _ only, at most 32",
-    "BadValue": "nat: a whole number from 0; set: an array of texts; bag: an array of [text, count]",
+    "BadValue": "nat: a whole number from 0 to 2^120 - 1; set: an array of texts; bag: an array of [text, count]",
     "BadExit": 'null, {"onDemand":null}, {"waived":null}, or {"afterDeadline":{"deadline":t,"timer":{"@":"timer"}}}',
     "WrongBrand": "another brand than the target's, or than those that the instance was started with",
     "WrongAmount": "the payment has to have exactly the amount that is named: split it first",
@@ -36,6 +36,8 @@ HINTS = {
     "RepeatedPayment": "one payment stands there twice: split it",
     "KeywordMismatch": "each keyword of give has one payment, and no keyword stands in give and want both",
     "NotEnough": "there is less than is asked for (held, asked)",
+    "TooMuch": "more than the bound (behind the sum): 4096 keys, 2^63 - 1 of a bag's key, 2^120 - 1 of a nat brand,"
+    " or 2^126 - 1 minted of one brand in all",
     "NotInvitation": "an invitation comes first, then the proposal, then the payments",
     "NotOfferSafe": "the seat would have neither all that it wants nor all that it gives",
     "NotOnDemand": "its exit rule doesn't let this seat be left: the contract lets it go, or its deadline comes",

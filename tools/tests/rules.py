@@ -1,6 +1,8 @@
 """What docs/JOURNAL.md says that turns keep to, tested on the rows of a journal, from scratch."""
 import journal as journals
 
+MOST_MINTED = 2**126 - 1
+MOST_OUT = {"nat": 2**120 - 1, "set": 1, "bag": 2**63 - 1}
 CAUSE_OF_CALL = {"exit": "exit", "fail": "fail", "shutdown": "halted", "shutdownWithFailure": "halted"}
 
 
@@ -10,6 +12,13 @@ class Seat:
         self.give = amounts_of(row["give"])
         self.want = amounts_of(row["want"])
         self.slots = list(row["give"]) + list(row["want"])
+
+
+def kind_of(value):
+    """The kind whose value it is; None where it is `[]`, a set's and a bag's."""
+    if not isinstance(value, list):
+        return "nat"
+    return ("set" if isinstance(value[0], str) else "bag") if value else None
 
 
 def amounts_of(amounts):
@@ -26,6 +35,7 @@ class Rules:
         self.opened = 0
         self.turns = 0
         self.minted, self.burned = {}, {}
+        self.kinds = {}  # brand: kind of its values
         self.spent = set()
         self.known = set()  # payments that a movement named
         self.broken = []
@@ -88,6 +98,11 @@ class Rules:
                 self.say(turn, f"{row['from']} hasn't so much")
         self.total(self.minted, row, counts, row["from"] == "outside")
         self.total(self.burned, row, counts, row["to"] == "outside")
+        if self.minted.get(row["brand"], 0) > MOST_MINTED:
+            self.say(turn, f"of {row['brand']} too much was minted")
+        kind = kind_of(row["value"])
+        if kind and self.kinds.setdefault(row["brand"], kind) != kind:
+            self.say(turn, f"{row['brand']} has values of two kinds")
         self.holdings.move(row)
 
     def total(self, totals, row, counts, applies):
@@ -156,9 +171,14 @@ class Rules:
         if [row["brand"] for row in turn.sums] != moved:
             self.say(turn, f"has sums of other brands than those that moved: {moved}")
         for row in turn.sums:
-            found = {"purse": 0, "payment": 0, "seat": 0}
+            found, out = {"purse": 0, "payment": 0, "seat": 0}, {}
             for holder, brands in self.holdings.held.items():
-                found[holder.partition(".")[0].rstrip("0123456789")] += sum(brands.get(row["brand"], {}).values())
+                counts = brands.get(row["brand"], {})
+                found[holder.partition(".")[0].rstrip("0123456789")] += sum(counts.values())
+                for key, count in counts.items():
+                    out[key] = out.get(key, 0) + count
+            if any(count > MOST_OUT[self.kinds[row["brand"]]] for count in out.values()):
+                self.say(turn, f"of {row['brand']} too much is out")
             wanted = {
                 "minted": self.minted.get(row["brand"], 0),
                 "burned": self.burned.get(row["brand"], 0),
@@ -166,6 +186,8 @@ class Rules:
                 "payments": found["payment"],
                 "slots": found["seat"],
             }
+            if "supply" in row:
+                wanted["supply"] = wanted["minted"] - wanted["burned"]
             if any(int(row[kind]) != wanted[kind] for kind in wanted):
                 self.say(turn, f"the sum of {row['brand']} is {wanted}")
             if wanted["minted"] - wanted["burned"] != sum(found.values()):

@@ -14,6 +14,7 @@ class Lines(unittest.TestCase):
     def test_numbers_and_amounts(self):
         self.assertEqual(number(5), 5)
         self.assertEqual(number(2**64), {"#": "18446744073709551616"})
+        self.assertEqual(amount("m.brand", 2**120 - 1)["value"], {"#": "1329227995784915872903807060280344575"})
         self.assertEqual(amount("m.brand", ["a"]), {"brand": at("m.brand"), "value": ["a"]})
 
 
@@ -34,6 +35,15 @@ class Client(unittest.TestCase):
         self.assertEqual(told.labels["bob", "q"], {"@": "payment0"})
         self.assertEqual([(bad.turn["n"], bad.line["do"]) for bad in told.not_ok], [(6, "deposit")])
         self.assertEqual((len(told.turns), told.left), (7, 0))
+
+    def test_a_large_amount(self):
+        script = Script()
+        script.call("alice", "ertp", "makeIssuerKit", "moola", "nat", label="moola")
+        script.call("alice", "moola.mint", "mintPayment", amount("moola.brand", 2**120 - 1), label="p")
+        script.call("alice", "moola.mint", "mintPayment", amount("moola.brand", 1))
+        told = script.run(program.program())
+        self.assertEqual(told.balance("alice", "p", "brand1"), 2**120 - 1)
+        self.assertEqual(told.not_ok[0].turn["answer"]["refused"]["shown"], [number(2**120), number(2**120 - 1)])
 
     def test_a_program_that_fails(self):
         with self.assertRaises(BadInput):

@@ -20,6 +20,8 @@ class Journals(unittest.TestCase):
                 journal = journals.read_journal(path)
                 self.assertIsNone(journal.fault, path)
                 self.assertEqual(rules.broken_in(journal), [], path)
+                self.assertEqual([row["row"] for row in journal.rows].index("version"), 0, path)
+                self.assertTrue(all("supply" in row for row in journal.rows if row["row"] == "sum"), path)
 
     def test_a_journal_that_breaks_one_is_told(self):
         swap = example("swap")
@@ -29,12 +31,25 @@ class Journals(unittest.TestCase):
             (18, "move", "value", 2, "turn 19: "),
             (34, "exit", "cause", "exit", "turn 35: seat2 is left without"),
             (9, "sums", "payments", "12", "turn 10: the sum of brand2"),
+            (9, "sums", "supply", "12", "turn 10: the sum of brand2"),
         ):
             rows = copy.deepcopy(swap.turns[place])
             found = rows.sums[0] if row == "sums" else next(event for event in rows.events if event["row"] == row)
             found[field] = value
             changed = swap._replace(turns=swap.turns[:place] + [rows] + swap.turns[place + 1 :])
             self.assertIn(told, " ".join(rules.broken_in(changed)), (place, row))
+
+
+    def test_so_is_one_that_passes_a_bound(self):
+        for name, place, value, told in (
+            ("large-amounts", 1, 2**120, "turn 2: of brand1 too much is out"),
+            ("large-amounts", 130, 64, "turn 131: of brand1 too much was minted"),
+            ("kinds", 17, [["rye", 2**63]], "turn 18: of brand3 too much is out"),
+            ("kinds", 17, ["rye"], "turn 35: brand3 has values of two kinds"),
+        ):
+            changed = copy.deepcopy(example(name))
+            next(event for event in changed.turns[place].events if event["row"] == "move")["value"] = value
+            self.assertIn(told, " ".join(rules.broken_in(changed)), (name, place))
 
 
 class Scripts(unittest.TestCase):

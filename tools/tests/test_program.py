@@ -7,8 +7,9 @@ import unittest
 
 from tests import program
 
-PRETENDED_PROGRAM = """#!/bin/sh
-if [ "$*" = run ]; then printf '{"left":0,"row":"close","turns":0}\\n'; else echo "{name} $*"; exit 7; fi
+EMPTY_JOURNAL = os.path.join(program.EXAMPLES, "empty.journal.jsonl")
+PRETENDED_PROGRAM = f"""#!/bin/sh
+if [ "$*" = run ]; then cat '{EMPTY_JOURNAL}'; else echo "{{name}} $*"; exit 7; fi
 """
 # As `rt try` does, it makes the program's file in a folder of TMPDIR, runs it, and takes the folder away.
 PRETENDED_RT = """#!/bin/sh

@@ -100,14 +100,20 @@ class BadInput(unittest.TestCase):
             tell.tell(journal, out=io.StringIO())
 
     def test_a_later_version(self):
-        whole = self.whole()
-        self.assertEqual(self.tell(b'{"row":"version","version":2}\n' + whole)[0], 1)
-        self.assertIn("of a later version: 3", self.tell(b'{"row":"version","version":3}\n' + whole)[2])
-        lines = whole.splitlines(keepends=True)
+        lines = self.whole().splitlines(keepends=True)
+        self.assertEqual(lines[0], b'{"row":"version","version":2}\n')
+        self.assertIn("of a later version: 3", self.tell(lines[0].replace(b"2", b"3") + b"".join(lines[1:]))[2])
+        self.assertIn("row 3 is a version row behind", self.tell(b"".join(lines[:2] + lines))[2])
         later = b"".join(lines[:9] + [b'{"row":"packet","seq":0}\n'] + lines[9:])
         status, out, err = self.tell(later)
         self.assertEqual((status, err), (2, "tell.py: j: row 10 is of a later version: it is a row `packet`\n"))
         self.assertIn("held at the end", out)
+
+    def test_version_1(self):
+        lines = self.whole().splitlines(keepends=True)[1:]
+        rows = [json.loads(line) for line in lines]
+        first = [json.dumps({field: row[field] for field in row if field != "supply"}) for row in rows]
+        self.assertEqual(self.tell("\n".join(first).encode() + b"\n")[:2], program.call_tool("tell.py", SWAP[0])[:2])
 
     def test_another_script(self):
         status, out, err = program.call_tool("tell.py", SWAP[0], example("offer.jsonl"))

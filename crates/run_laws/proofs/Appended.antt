@@ -1,5 +1,5 @@
 -- What waits when a turn begins stays where it is: effects append behind it.
-use Rattle.std.proofs.Common.{◌≡◌, ◌+◌, ℕ, List, [], ◌∷◌, ◌++◌, Option, Some, None, drop, length, refl, sym, ap, subst, ◌∙◌}
+use Rattle.std.proofs.Common.{◌≡◌, ◌+◌, List, [], ◌∷◌, ◌++◌, Some, drop, length, refl, sym, ap, subst, ◌∙◌}
 use Rattle.fair_laws.specs.delivery_turns.Hosts.{HostState, Step, step_after, step_from, step_of}
 use Rattle.fair_laws.specs.delivery_turns.Turns.{DeliveryTurn, delivery_turn}
 use Rattle.fair_laws.specs.rules.Zoe.{TextReader}
@@ -7,7 +7,6 @@ use Rattle.message_lines.specs.turn_records.Deliveries.{Delivery}
 use Rattle.fair_laws.specs.world_state.Worlds.{Effect, State, after_all, behind}
 use Rattle.fair_laws.proofs.world_laws.FrontDeliveries.{effects_pass}
 use Rattle.run_laws.specs.Order.{brought_by}
-use Rattle.run_laws.specs.Runs.{HostTurn}
 
 -- the world with this queue
 abbrev queued : State → List Delivery → State

@@ -14,7 +14,7 @@ use Rattle.message_lines.specs.turn_records.Deliveries.{Delivery}
 use Rattle.std.proofs.lemmas.List.{length-map, map-append}
 use Rattle.message_lines.specs.turn_records.Printed.{printed}
 use Rattle.message_lines.specs.turn_rows.Turns.{Turn}
-use Rattle.fair_laws.proofs.world_laws.First.{first_is_good, first_is_roomy}
+use Rattle.fair_laws.proofs.world_laws.First.{first_is_good}
 use Rattle.fair_laws.proofs.world_laws.Kept.{good-after}
 use Rattle.fair_laws.specs.world_state.Good.{IsLine}
 use Rattle.fair_laws.specs.world_state.Rights.{most_turns}
@@ -27,10 +27,10 @@ use Rattle.run_laws.specs.Runs.{HostTurn, drained, first_host, line_run, lines_r
 -- ---- good hosts
 
 first_host_is_good : (meter : ℕ) → meter ≤ most_meter → IsGoodHost (first_host meter)
-first_host_is_good meter few = record { meter = few; world = first_is_good; room = first_is_roomy; untold = refl }
+first_host_is_good meter few = record { meter = few; world = first_is_good; untold = refl }
 
 line_is_good : (s : HostState) (d : Delivery) → IsLine d → IsGoodHost s → IsGoodHost (with_line d s)
-line_is_good s d is good = record { meter = good.meter; world = good-after s.world (arrive d) is good.world; room = good.room; untold = good.untold }
+line_is_good s d is good = record { meter = good.meter; world = good-after s.world (arrive d) is good.world; untold = good.untold }
 
 -- ---- turns that lead somewhere
 
@@ -92,12 +92,12 @@ module _ (read : TextReader) (gives : ReadsModules read)
     (Q : List HostTurn → HostState → Type 0)
     (line_keeps : (ts : List HostTurn) (s : HostState) (d : Delivery) → IsLine d → Q ts s → Q ts (with_line d s))
     (step_keeps : (ts : List HostTurn) (s : HostState) (t : Step) → IsGoodTurn read (record { before = s; step = t }) → Q ts s → Q (ts ++ record { before = s; step = t } ∷ []) t.next) where
-  some_good : (s : HostState) (t : Step) → step_of read s ≡ Some t → IsGoodHost s → s.turns < most_turns → IsGoodHost t.next
-  some_good s t made good early = let P : Option Step → Type 0 = λ o. IfSome o (λ x. IsGoodHost x.next) in subst P made (steps_good read (services_are read gives) calls_are s good early)
+  some_good : (s : HostState) (t : Step) → step_of read s ≡ Some t → IsGoodHost s → IsGoodHost t.next
+  some_good s t made good = let P : Option Step → Type 0 = λ o. IfSome o (λ x. IsGoodHost x.next) in subst P made (steps_good read (services_are read gives) calls_are s good)
 
   at_step : (done : List HostTurn) (s : HostState) (t : Step) → At Q done s → s.turns < most_turns → step_of read s ≡ Some t → At Q (done ++ record { before = s; step = t } ∷ []) t.next
   at_step done s t at early made = record {
-    good = some_good s t made at.good early;
+    good = some_good s t made at.good;
     count = omega (arith, at.count, step_count read s t made, length-append done (record { before = s; step = t } ∷ []));
     holds = step_keeps done s t (record { good = at.good; early = early; made = made }) at.holds;
   }

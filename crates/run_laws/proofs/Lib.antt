@@ -13,6 +13,8 @@ pub mod Runs
 pub mod Works
 pub mod Hosts
 pub mod Worked
+pub mod ShortJournals
 pub use Rattle.fair_laws.proofs.delivery_laws
 pub use Rattle.fair_laws.proofs as fair_laws
+pub use Rattle.fair_laws.proofs.turn_rows
 pub use Rattle.fair_laws.proofs.rule_laws

@@ -1,5 +1,5 @@
 -- Rows of calls come from outside and from purses just where the row of the call, or that of its turn, shows it.
-use Rattle.std.specs.Prelude.{◌≡◌, ◌&&◌, ◌*◌, ◌^◌, ◌<◌, ◌-◌, ℕ, true, List, [], ◌∷◌, Some, None, Ok, Err, IfOk, codes, length, refl}
+use Rattle.std.specs.Prelude.{◌≡◌, ◌&&◌, ◌<◌, ◌-◌, ℕ, true, List, [], ◌∷◌, Some, None, Ok, Err, IfOk, codes, length, refl}
 use Rattle.std.specs.List.{AllByRecursion}
 use Rattle.std.specs.Str.{bytes_eq}
 use Rattle.std.proofs.Common.{inl, inr, ◌∙◌, ap}
@@ -21,7 +21,7 @@ use Rattle.fair_laws.specs.ertp_mint.Stocks.{most_made}
 use Rattle.fair_laws.specs.fair_rows.ExitCauses.{calls, is_ok, name, serves}
 use Rattle.fair_laws.specs.fair_rows.Rows.{is_service}
 use Rattle.fair_laws.specs.jessie_semantics.Keeping.{CallHas}
-use Rattle.fair_laws.specs.jessie_semantics.Play.{Call, call, cost, far, send, when}
+use Rattle.fair_laws.specs.jessie_semantics.Play.{Call, call, far, send, when}
 use Rattle.message_lines.specs.host_data.Tree as trees
 use Rattle.message_lines.specs.host_data.Tree.{Tree}
 use Rattle.message_lines.specs.host_data.declared.data.Obj.{Obj}
@@ -39,7 +39,6 @@ use Rattle.message_lines.specs.turn_rows.Turns.{Turn}
 use Rattle.fair_laws.proofs.world_laws.Lists.{all_read_or}
 use Rattle.fair_laws.specs.world_state.Good.{IsGoodWorld}
 use Rattle.fair_laws.specs.world_state.Known.{IsKnownTo}
-use Rattle.fair_laws.specs.world_state.Rights.{IsRoomy}
 use Rattle.fair_laws.specs.world_state.Worlds.{Effect, State, burn_and_escrows, invite, moves, offer, promises_made}
 use Rattle.run_laws.specs.Minting.{IsCalledForAt, has_call, is_served}
 use Rattle.run_laws.proofs.Effects.{AllTakeAsShown, AreCalledFor, first_all, second_all}
@@ -167,13 +166,12 @@ module _ (t : Turn) (o : Obj) (m : List ℕ) (told : (on method : List ℕ) → 
 
 -- ---- any call of a function
 
-call_can : (w : State) (i : ℕ) (o : Obj) (m : List ℕ) (args : List Tree) → IsGoodWorld w → i < length w.tables.instances → CallHas (IsKnownTo w i) (call o m args) → IsRoomy w.rights.out (2 ^ 63 * cost (call o m args)) → CanCall w (Some i) o args
-call_can w i o m args good made known room = record {
+call_can : (w : State) (i : ℕ) (o : Obj) (m : List ℕ) (args : List Tree) → IsGoodWorld w → i < length w.tables.instances → CallHas (IsKnownTo w i) (call o m args) → CanCall w (Some i) o args
+call_can w i o m args good made known = record {
   good = good;
   hosted = made;
   target = known.0.objects;
   arguments = λ place. all_read_or (IsKnownTo w i) args (place - 1) trees.null (all_have (IsKnownTo w i) args known.1) (null_formed w (Some i));
-  room = room;
 }
 
 -- a call that is answered is told in the turn's rows
@@ -211,9 +209,9 @@ module _ (t : Turn) where
   called_takes w i o m args (Err r) is told = (tt, tt)
   called_takes w i o m args (Ok (answer, es)) is told = (tt, contract_effects t o m (answered_told t o m args answer told.0) w i args es is.acts is.licensed)
 
-  pub call_takes : (served : AreGoodHostCalls) (w : State) (i : ℕ) → IsGoodWorld w → i < length w.tables.instances → (c : Call) → CallHas (IsKnownTo w i) c → IsRoomy w.rights.out (2 ^ 63 * cost c)
+  pub call_takes : (served : AreGoodHostCalls) (w : State) (i : ℕ) → IsGoodWorld w → i < length w.tables.instances → (c : Call) → CallHas (IsKnownTo w i) c
       → AllByRecursion (IsToldIn t) (call_effects w i c) → AllTakeAsShown t (call_effects w i c)
-  call_takes served w i good made (call o m args) known room told = called_takes w i o m args (serve_own w o m args) (served w i o m args (call_can w i o m args good made known room)) told
-  call_takes served w i good made (send o m args) known room told = moveless_takes (send o m args) (send_rule w i o m args) (send_takes w i o m args)
-  call_takes served w i good made (when o f held) known room told = moveless_takes (when o f held) (when_rule w i o f held) (when_takes w i o f held)
-  call_takes served w i good made (far x ms held) known room told = moveless_takes (far x ms held) (far_rule w i ms held) (far_takes w i ms held)
+  call_takes served w i good made (call o m args) known told = called_takes w i o m args (serve_own w o m args) (served w i o m args (call_can w i o m args good made known)) told
+  call_takes served w i good made (send o m args) known told = moveless_takes (send o m args) (send_rule w i o m args) (send_takes w i o m args)
+  call_takes served w i good made (when o f held) known told = moveless_takes (when o f held) (when_rule w i o f held) (when_takes w i o f held)
+  call_takes served w i good made (far x ms held) known told = moveless_takes (far x ms held) (far_rule w i ms held) (far_takes w i ms held)

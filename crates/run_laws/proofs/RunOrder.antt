@@ -9,7 +9,7 @@ use Rattle.fair_laws.specs.rules.Zoe.{TextReader}
 use Rattle.message_lines.specs.turn_records.Deliveries.{Delivery}
 use Rattle.run_laws.proofs.Appended.{Stepped, stepped}
 use Rattle.run_laws.specs.Order.{AreInOrder, Entry, IsFront, all_brought, brought_by, brought_in, deliveries_of, delivery_in, delivery_of, from_line, from_turn, line_in, of_lines, of_turns}
-use Rattle.run_laws.specs.Runs.{HostTurn, Run, drained, first_host, line_run, lines_run, meanings_of, no_turn, run_of, run_then, turn_then}
+use Rattle.run_laws.specs.Runs.{Run, drained, first_host, line_run, lines_run, meanings_of, no_turn, run_of, run_then, turn_then}
 
 -- ---- entries
 

@@ -54,7 +54,7 @@ module _ (read : TextReader) (gives : ReadsModules read) where
   step_fair : (ts : List Turn) (s : HostState) (t : Step) → IsGoodTurn read (record { before = s; step = t }) → LeadsFairly ts s → LeadsFairly (ts ++ printed t.turn ∷ []) t.next
   step_fair ts s t good at =
       let P : Option Step → Type 0 = λ o. IfSome o (StaysFair ts) in
-      let is = steps_are read (services_are read gives) calls_are calls_read (services_read read) s good.good at.steady good.early in
+      let is = steps_are read (services_are read gives) calls_are calls_read (services_read read) s good.good at.steady in
       let stays : StaysFair ts t = subst P good.made (stay_fair read s ts at.fair at.leaves is) in
       record { fair = stays.fair; leaves = stays.leaves; steady = stays.steady }
 
@@ -116,7 +116,7 @@ module _ (read : TextReader) (gives : ReadsModules read) where
   -- ---- what can be printed
 
   turn_prints : (t : HostTurn) → IsGoodTurn read t → CanBePrinted t
-  turn_prints t good = let P : Option Step → Type 0 = λ o. IfSome o (λ x. CanPrint x.turn) in subst P good.made (steps_print read (services_are read gives) calls_are t.before good.good good.early)
+  turn_prints t good = let P : Option Step → Type 0 = λ o. IfSome o (λ x. CanPrint x.turn) in subst P good.made (steps_print read (services_are read gives) calls_are t.before good.good)
 
   pub run_prints : (meter most : ℕ) (input : List ℕ) → meter ≤ most_meter → (first later : List HostTurn) → (run_of read meter most input).turns ≡ first ++ later → length first ≤ most_turns → AllByRecursion CanBePrinted first
   run_prints meter most input few first later is within = each_turn read CanBePrinted turn_prints meter most input gives few first later is within

@@ -1,7 +1,7 @@
 -- What is done for each delivery takes from outside and from purses just where the rows of its turn show it.
-use Rattle.std.specs.Prelude.{◌≡◌, ◌<◌, ◌≤◌, ℕ, Bool, true, false, cond, List, [], ◌∷◌, Option, Some, None, Result, Ok, Err, IfOk, is_none, length, nat_lt, refl}
+use Rattle.std.specs.Prelude.{◌≡◌, ◌<◌, ℕ, Bool, true, false, cond, List, [], ◌∷◌, Option, Some, None, Result, Ok, Err, IfOk, is_none, length, nat_lt, refl}
 use Rattle.std.specs.List.{AllByRecursion}
-use Rattle.std.proofs.Common.{◌∙◌, ap, subst, arith}
+use Rattle.std.proofs.Common.{◌∙◌, ap, subst}
 use Rattle.fair_laws.proofs.rule_laws.Forms.{object_formed}
 use Rattle.fair_laws.proofs.rule_laws.Shown.{handed_held}
 use Rattle.fair_laws.specs.rules.Obligations.{IsRule}
@@ -9,12 +9,12 @@ use Rattle.fair_laws.specs.rules.Outcomes.{Outcome}
 use Rattle.fair_laws.specs.rules.Traces.{all_open}
 use Rattle.fair_laws.specs.rules.Words.{has_halted, standing_of}
 use Rattle.message_lines.specs.turn_records.Names.{object_name}
-use Rattle.fair_laws.specs.delivery_laws.Works.{AreGoodHostCalls, most_meter}
+use Rattle.fair_laws.specs.delivery_laws.Works.{AreGoodHostCalls}
 use Rattle.fair_laws.proofs.delivery_laws.Asking.{evaluates, have_all}
 use Rattle.fair_laws.proofs.delivery_laws.Hosts.{IsQuiet, quiet_both, quiet_exits}
 use Rattle.fair_laws.proofs.delivery_laws.Reading.{IsAddressed, IsCalled, addressed_there, sent_there, weaker_ok}
 use Rattle.fair_laws.proofs.delivery_laws.Runs.{grows_itself}
-use Rattle.fair_laws.proofs.delivery_laws.Works.{at_most, known_all, notice_handed, number_known, service_rule, settlement_handed}
+use Rattle.fair_laws.proofs.delivery_laws.Works.{known_all, notice_handed, number_known, service_rule, settlement_handed}
 use Rattle.fair_laws.specs.delivery_turns.Functions.{FunctionCall, Run, ended, function_run, module_play, ran_out, run}
 use Rattle.fair_laws.specs.delivery_turns.Messages.{Addressed, addressed, gift_of, sent_to}
 use Rattle.fair_laws.specs.delivery_turns.Tasks as tasks
@@ -23,8 +23,7 @@ use Rattle.fair_laws.specs.fair_rows.ExitCauses.{is_ok}
 use Rattle.fair_laws.specs.actors.Facets.{FacetView, facet_at, no_facet}
 use Rattle.fair_laws.specs.actors.Tables.{instance_at}
 use Rattle.fair_laws.specs.jessie_semantics.Keeping.{AllHave}
-use Rattle.fair_laws.proofs.jessie_semantics.Licence.{room_fits}
-use Rattle.fair_laws.specs.jessie_grammar.Syntax.{routines, variable_names}
+use Rattle.fair_laws.specs.jessie_grammar.Syntax.{variable_names}
 use Rattle.message_lines.specs.host_data.Tree as trees
 use Rattle.message_lines.specs.host_data.Tree.{Tree}
 use Rattle.message_lines.specs.host_data.declared.data.Obj.{Obj}
@@ -47,7 +46,6 @@ use Rattle.fair_laws.proofs.world_laws.Fronts.{due_behind, good_behind}
 use Rattle.fair_laws.proofs.world_laws.Lists.{all_append, all_read}
 use Rattle.fair_laws.specs.world_state.Good.{IsFacet, IsGoodWorld}
 use Rattle.fair_laws.specs.world_state.Known.{IsHanded, IsKnownTo, made_as, module_of}
-use Rattle.fair_laws.specs.world_state.Rights.{IsRoomy, most_issued}
 use Rattle.fair_laws.specs.world_state.Worlds.{Effect, State, bind_label, exit, halt, in_front, invite, keep_state, moves, offer, seat_at, set_time}
 use Rattle.fair_laws.specs.rules.Methods.{serve as serve_call}
 use Rattle.run_laws.proofs.Effects.{AllTakeAsShown, TakesAsShown, first_all}
@@ -85,7 +83,7 @@ record IsCalling (d : Delivery) (m : List ℕ) : Type 0 where
   on : (o : Obj) (args : List Tree) → on_of d (deliveries.target o args) ≡ object_name o
   method : method_of d ≡ m
 
-module _ (t : Turn) (read : TextReader) (served : AreGoodServices (serve_call read)) (called : AreGoodHostCalls) (meter : ℕ) (few : meter ≤ most_meter) (w : State) (d : Delivery) (good : IsGoodWorld (in_front d w)) (room : IsRoomy w.rights.out most_issued) where
+module _ (t : Turn) (read : TextReader) (served : AreGoodServices (serve_call read)) (called : AreGoodHostCalls) (meter : ℕ) (w : State) (d : Delivery) (good : IsGoodWorld (in_front d w)) where
   abbrev pub WorkTakes : Reading → Work → Type 0
   WorkTakes r work = IsTurnRow t d r work.answer → AllByRecursion (IsToldIn t) work.effects → AllTakeAsShown t work.effects
 
@@ -117,11 +115,8 @@ module _ (t : Turn) (read : TextReader) (served : AreGoodServices (serve_call re
       let kept : AllHave (IsKnownTo w c.instance) values = have_all (IsKnownTo w c.instance) values (whole.instances.each c.instance made).state in
       let p = module_play m c.function c.arguments values meter in
       let asks = evaluates w c.instance whole made c.function c.arguments values meter known kept in
-      let bound = at_most meter few in
       ran_takes c.instance (run w c.instance p)
-      (run_takes t called w c.instance (length (variable_names m)) made p asks p [] w meter refl
-      (room_fits (routines m) (variable_names m) c.function c.arguments values meter meter (omega arith)) whole (grows_itself w) tt
-      (record { each = λ b. let x = room.each b in omega (arith, x, bound) }))
+      (run_takes t called w c.instance (length (variable_names m)) made p asks p [] w refl whole (grows_itself w) tt)
       told
 
   task_done : (r : Reading) (c : FunctionCall) → c.instance < length w.tables.instances → AllHave (IsKnownTo w c.instance) c.arguments → WorkTakes r (task_work read meter w (run_task w c))
@@ -135,7 +130,7 @@ module _ (t : Turn) (read : TextReader) (served : AreGoodServices (serve_call re
 
   method_done : (r : Reading) (f : FacetView) (m : List ℕ) (args : List Tree) (x : Option (List ℕ)) → IsFacet w f → AllByRecursion (IsHanded w) args → WorkTakes r (task_work read meter w (method_task f m args x))
   method_done r f m args None is handed = refused_takes r (no_method m)
-  method_done r f m args (Some g) is handed = run_done r (record { instance = f.instance; function = g; arguments = f.held ∷ args }) is.made (is.held, known_all read served called meter few w d good room f.instance args handed)
+  method_done r f m args (Some g) is handed = run_done r (record { instance = f.instance; function = g; arguments = f.held ∷ args }) is.made (is.held, known_all read served called meter w d good f.instance args handed)
 
   facet_done : (r : Reading) (f : FacetView) (m : List ℕ) (args : List Tree) → IsFacet w f → AllByRecursion (IsHanded w) args → WorkTakes r (task_work read meter w (facet_task w f m args))
   facet_done r f m args is handed = by (has_halted (standing_of w f.instance))
@@ -156,7 +151,7 @@ module _ (t : Turn) (read : TextReader) (served : AreGoodServices (serve_call re
 
   serve_done : (m : List ℕ) → IsCalling d m → (o : Obj) (args : List Tree) → IsHanded w (trees.object o) → AllByRecursion (IsHanded w) args → WorkTakes (deliveries.target o args) (task_work read meter w (serve o m args))
   unfolding task_work
-  serve_done m calling o args target handed = row_takes m calling o args (serve_call read w o m args) (service_rule read w d o m args served good room target handed)
+  serve_done m calling o args target handed = row_takes m calling o args (serve_call read w o m args) (service_rule read w d o m args served good target handed)
 
   on_done : (m : List ℕ) → IsCalling d m → (kind : ObjKind) (o : Obj) (args : List Tree) → o.kind ≡ kind → IsHanded w (trees.object o) → AllByRecursion (IsHanded w) args → WorkTakes (deliveries.target o args) (task_work read meter w (task_on kind w o m args))
   on_done m calling kinds.Facet o args e target handed =
@@ -190,40 +185,40 @@ module _ (t : Turn) (read : TextReader) (served : AreGoodServices (serve_call re
 
 -- ---- each delivery
 
-pub work_takes : (t : Turn) (read : TextReader) (served : AreGoodServices (serve_call read)) (called : AreGoodHostCalls) (meter : ℕ) (few : meter ≤ most_meter) (w : State) (d : Delivery) (good : IsGoodWorld (in_front d w)) (room : IsRoomy w.rights.out most_issued)
-    → BeginningTakes t read served called meter few w d good room (beginning w d)
+pub work_takes : (t : Turn) (read : TextReader) (served : AreGoodServices (serve_call read)) (called : AreGoodHostCalls) (meter : ℕ) (w : State) (d : Delivery) (good : IsGoodWorld (in_front d w))
+    → BeginningTakes t read served called meter w d good (beginning w d)
 unfolding beginning
-work_takes t read served called meter few w (deliveries.call c) good room =
+work_takes t read served called meter w (deliveries.call c) good =
     let d = deliveries.call c in
-    called_done t read served called meter few w d good room c.method (record { kind = λ o args. refl; on = λ o args. refl; method = refl }) (addressed w c)
+    called_done t read served called meter w d good c.method (record { kind = λ o args. refl; on = λ o args. refl; method = refl }) (addressed w c)
     (weaker_ok (IsCalled w (good_behind w d good) c) (IsAddressed w (good_behind w d good)) (addressed w c) (λ a is. is.addressed_to) (addressed_there w (good_behind w d good) c (due_behind w d good)))
-work_takes t read served called meter few w (deliveries.send s) good room =
+work_takes t read served called meter w (deliveries.send s) good =
     let d = deliveries.send s in
-    called_done t read served called meter few w d good room s.method (record { kind = λ o args. refl; on = λ o args. refl; method = refl }) (sent_to w s)
+    called_done t read served called meter w d good s.method (record { kind = λ o args. refl; on = λ o args. refl; method = refl }) (sent_to w s)
     (sent_there w (good_behind w d good) s (due_behind w d good))
-work_takes t read served called meter few w (deliveries.give g) good room = give_done t read served called meter few w (deliveries.give g) good room g (gift_of w g)
-work_takes t read served called meter few w (deliveries.tick time) good room = tick_done t read served called meter few w (deliveries.tick time) good room w.schedule.time time
-work_takes t read served called meter few w (deliveries.bad r) good room = refused_takes t read served called meter few w (deliveries.bad r) good room deliveries.nothing r
-work_takes t read served called meter few w (deliveries.start s) good room =
+work_takes t read served called meter w (deliveries.give g) good = give_done t read served called meter w (deliveries.give g) good g (gift_of w g)
+work_takes t read served called meter w (deliveries.tick time) good = tick_done t read served called meter w (deliveries.tick time) good w.schedule.time time
+work_takes t read served called meter w (deliveries.bad r) good = refused_takes t read served called meter w (deliveries.bad r) good deliveries.nothing r
+work_takes t read served called meter w (deliveries.start s) good =
     let d = deliveries.start s in
     let due = due_behind w d good in
-    task_done t read served called meter few w d good room deliveries.nothing (start_call s) due.made
+    task_done t read served called meter w d good deliveries.nothing (start_call s) due.made
     (object_formed w (Some s.instance) (record { kind = kinds.Zcf; number = s.instance }) refl, (handed_held w (Some s.instance) s.private_arguments due.arguments, tt))
-work_takes t read served called meter few w (deliveries.offer o) good room =
+work_takes t read served called meter w (deliveries.offer o) good =
     let d = deliveries.offer o in
     let due = due_behind w d good in
-    task_done t read served called meter few w d good room deliveries.nothing (handler_call o) due.function.made
+    task_done t read served called meter w d good deliveries.nothing (handler_call o) due.function.made
     (object_formed w (Some o.instance) (record { kind = kinds.Zseat; number = o.seat }) due.seat, (handed_held w (Some o.instance) o.offer_arguments due.arguments, (due.held, tt)))
-work_takes t read served called meter few w (deliveries.wake x) good room =
+work_takes t read served called meter w (deliveries.wake x) good =
     let d = deliveries.wake x in
     let due = due_behind w d good in
-    task_done t read served called meter few w d good room (deliveries.time w.schedule.time) (wakeup_call x w.schedule.time) due.function.made
-    (due.held, (number_known read served called meter few w d good room x.instance w.schedule.time, tt))
-work_takes t read served called meter few w (deliveries.notify n) good room =
+    task_done t read served called meter w d good (deliveries.time w.schedule.time) (wakeup_call x w.schedule.time) due.function.made
+    (due.held, (number_known read served called meter w d good x.instance w.schedule.time, tt))
+work_takes t read served called meter w (deliveries.notify n) good =
     let d = deliveries.notify n in
     let due = due_behind w d good in
     let s = settlement_of w n.promise in
-    let told : IsHanded w (notice_tree s) = notice_handed read served called meter few w d good room s (settlement_handed w (good_behind w d good) n.promise due.notice.promise) in
-    task_done t read served called meter few w d good room (deliveries.settlement s) (notice_call n s) due.notice.function.made
+    let told : IsHanded w (notice_tree s) = notice_handed read served called meter w d good s (settlement_handed w (good_behind w d good) n.promise due.notice.promise) in
+    task_done t read served called meter w d good (deliveries.settlement s) (notice_call n s) due.notice.function.made
     (due.notice.held, (handed_held w (Some n.instance) (notice_tree s) told, tt))
-work_takes t read served called meter few w (deliveries.deadline seat) good room = deadline_done t read served called meter few w (deliveries.deadline seat) good room seat
+work_takes t read served called meter w (deliveries.deadline seat) good = deadline_done t read served called meter w (deliveries.deadline seat) good seat

@@ -1,7 +1,6 @@
 -- In which order deliveries have their turns: first in, first out.
 use Rattle.std.specs.Prelude.{◌≡◌, ℕ, map, List, [], ◌∷◌, ◌++◌, drop, length}
 use Rattle.std.specs.List.{flat_map}
-use Rattle.fair_laws.specs.delivery_turns.Hosts.{HostState}
 use Rattle.message_lines.specs.Meanings.{Meaning, blank, delivered, run}
 use Rattle.fair_laws.specs.rules.Zoe.{TextReader}
 use Rattle.message_lines.specs.turn_records.Deliveries.{Delivery}

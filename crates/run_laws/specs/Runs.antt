@@ -1,7 +1,7 @@
 -- A run: from the bytes of an input to its turns, and to the journal.
 use Rattle.std.specs.Prelude.{◌≡◌, ◌≤◌, ◌+◌, ℕ, zero, suc, map, List, [], ◌∷◌, ◌++◌, length, Option}
 use Rattle.std.specs.Io.KnownBytes.{Appends}
-use Rattle.std.specs.List.{AllByRecursion, flat_map}
+use Rattle.std.specs.List.{AllByRecursion}
 use Rattle.std.specs.Option.{option_map_or}
 use Rattle.fair_laws.specs.delivery_turns.Hosts.{HostState, Step, step_of, with_line}
 use Rattle.message_lines.specs.InputLines.{lines_of}
@@ -9,8 +9,7 @@ use Rattle.message_lines.specs.Meanings.{Meaning, blank, delivered, meaning_of, 
 use Rattle.fair_laws.specs.rules.Zoe.{TextReader}
 use Rattle.fair_laws.specs.turn_writer.ShortRows.{HasShortRows}
 use Rattle.message_lines.specs.turn_records.Printed.{printed}
-use Rattle.message_lines.specs.turn_rows.Rows.{close_row, rows_of}
-use Rattle.message_lines.specs.turn_rows.Texts.{journal_text, row_text}
+use Rattle.message_lines.specs.turn_rows.Texts.{close_text, journal_text, turns_text}
 use Rattle.message_lines.specs.turn_rows.Turns.{Turn}
 use Rattle.fair_laws.specs.world_laws.First.{first_world}
 use Rattle.fair_laws.specs.world_state.Rights.{most_turns}
@@ -93,24 +92,18 @@ unfoldable pub journal_of : TextReader → ℕ → ℕ → List ℕ → List ℕ
 journal_of read meter most input =
     journal_text written (turns_of read meter most input) (left_of read meter most input)
 
--- the rows of a turn, and of turns
-abbrev pub turn_text : Turn → List ℕ
-turn_text t = flat_map row_text (rows_of written t)
-
-abbrev pub turns_text : List Turn → List ℕ
-turns_text ts = flat_map turn_text ts
-
 -- the close row of a host: how many deliveries are left, and how many turns it ran
-abbrev pub close_text : HostState → List ℕ
-close_text s = row_text (close_row (left_in s) s.turns)
+abbrev pub closing_text : HostState → List ℕ
+closing_text s = close_text written (left_in s) s.turns
 
--- the rows of the first turns were appended, whole and none too long, and nothing else
-pub record AppendsTurns (old new : Option (List ℕ)) (turns : List Turn) : Type 0 where
+-- Of turns that come after so many others the rows of the first were appended, whole and none too long, and nothing
+-- else. Where no turn was written, nothing was; the version row stands with the first turn of all.
+pub record AppendsTurns (old new : Option (List ℕ)) (before : ℕ) (turns : List Turn) : Type 0 where
   pub first : List Turn
   pub later : List Turn
   pub whole : turns ≡ first ++ later
-  pub short : AllByRecursion HasShortRows first
-  pub appended : Appends old new (turns_text first)
+  pub short : AllByRecursion (HasShortRows written) first
+  pub appended : Appends old new (turns_text written before first)
 
 -- those of the first turns, up to the last that may be run and no further, where another is left
 pub record AppendsToLimit (old new : Option (List ℕ)) (before : ℕ) (turns : List Turn) : Type 0 where
@@ -119,5 +112,5 @@ pub record AppendsToLimit (old new : Option (List ℕ)) (before : ℕ) (turns : 
   pub whole : turns ≡ first ++ later
   pub last : before + length first ≡ most_turns
   pub more : 1 ≤ length later
-  pub short : AllByRecursion HasShortRows first
-  pub appended : Appends old new (turns_text first)
+  pub short : AllByRecursion (HasShortRows written) first
+  pub appended : Appends old new (turns_text written before first)

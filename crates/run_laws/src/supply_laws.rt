@@ -1,20 +1,19 @@
 //! Laws of what a turn mints and withdraws. The bodies are empty: what they state is proved of the definitions.
 
-ghost use Rattle.std.specs.Prelude.{◌≤◌, ◌<◌, ℕ, List, IfSome};
+ghost use Rattle.std.specs.Prelude.{◌≤◌, ℕ, List, IfSome};
 ghost use Rattle.fair_laws.specs.delivery_laws.Hosts.{IsGoodHost};
 ghost use Rattle.fair_laws.specs.delivery_turns.Hosts.{HostState, step_of};
 ghost use Rattle.run_laws.specs.Runs.{most_meter, run_of};
 ghost use Rattle.fair_laws.specs.rules.Zoe.{ReadsModules, TextReader};
 ghost use Rattle.run_laws.specs.Steps.{AreCalledForToLimit, IsCalledFor};
 ghost use Rattle.run_laws.specs.Worked.{AreNotShown, AreShown};
-ghost use Rattle.fair_laws.specs.world_state.Rights.{most_turns};
 
 /// In the step of a good host the supply count of no element rises, but of a brand that the step's turn shows to be
 /// minted: by mintPayment of its mint, by mintGains of its ZCF mint or, of the brand of invitations, by makeInvitation.
 /// No purse has less of an element after it, but one that the turn shows a withdrawal from.
 pub fn steps_mint_where_it_is_called_for()
     ensures step { (read : TextReader) (s : HostState)
-        → ReadsModules read → IsGoodHost s → s.turns < most_turns
+        → ReadsModules read → IsGoodHost s
         → IfSome (step_of read s) (IsCalledFor s) }
 {}
 

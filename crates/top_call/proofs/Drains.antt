@@ -14,10 +14,11 @@ use Rattle.host_turns.specs.turn_rows.Form.{IsInForm}
 use Rattle.host_turns.specs.turn_records.declared.turns.TurnRecord.{TurnRecord}
 use Rattle.host_turns.specs.turn_records.Deliveries.{Delivery}
 use Rattle.host_turns.specs.turn_records.Printed.{printed}
+use Rattle.host_turns.specs.turn_rows.Texts.{turn_text, turns_text}
 use Rattle.host_turns.specs.turn_rows.Turns.{Turn}
 use Rattle.host_turns.specs.world_state.Rights.{most_turns}
 use Rattle.run_laws.proofs.RunOrder.{step_count}
-use Rattle.run_laws.specs.Runs.{AppendsToLimit, drained, left_in, no_turn, turn_text, turn_then, turns_in, turns_text}
+use Rattle.run_laws.specs.Runs.{AppendsToLimit, drained, left_in, no_turn, turn_then, turns_in}
 use Rattle.top_call.specs.Faults.{run_fault}
 use Rattle.host_turns.specs.HostSteps.{IsAtLimit, IsStep, IsTurn, NoneWaits}
 use Rattle.top_call.specs.Texts.{IsNextText, IsTurnText}
@@ -45,8 +46,8 @@ stepped_some old new turn stepped e h = let P : Option TurnRecord → Type 0 = �
 pub stepped_none : (old new : HostState) (stepped : Option TurnRecord) → stepped ≡ None → IsStep old new (Ok stepped) → NoneWaits old new
 stepped_none old new stepped e h = let P : Option TurnRecord → Type 0 = λ o. IsStep old new (Ok o) in subst P e h
 
-pub turn_text_of : (old new : HostState) (turn : TurnRecord) (stepped : Option TurnRecord) (text : List ℕ) → stepped ≡ Some turn → IsStep old new (Ok stepped) → text ≡ turn_text (printed (turn_view turn))
-    → (CanPrint (turn_view turn) → IsInForm written (printed (turn_view turn))) → HasShortRows (printed (turn_view turn)) → IsTurnText old new text
+pub turn_text_of : (old new : HostState) (turn : TurnRecord) (stepped : Option TurnRecord) (text : List ℕ) → stepped ≡ Some turn → IsStep old new (Ok stepped) → text ≡ turn_text written old.turns (printed (turn_view turn))
+    → (CanPrint (turn_view turn) → IsInForm written (printed (turn_view turn))) → HasShortRows written (printed (turn_view turn)) → IsTurnText old new text
 turn_text_of old new turn stepped text e h is form short =
     let made = stepped_some old new turn stepped e h in
     record { turn = turn_view turn; step = made.step; early = made.early; text = is; form = form; short = short }
@@ -97,11 +98,11 @@ TurnsLeft all n k s old mid = Written all (turns_in (drained reader k s)) n s.tu
 
 module _ (all : List Turn) (n k : ℕ) (s : HostState) (old mid : Option (List ℕ)) (h : TurnsLeft all n k s old mid) where
   -- none is left, since nothing waits
-  pub drain_empty : step_of reader s ≡ None → Appends old mid (turns_text all) × ((drained reader k s).end ≡ s)
+  pub drain_empty : step_of reader s ≡ None → Appends old mid (turns_text written n all) × ((drained reader k s).end ≡ s)
   drain_empty e = let none = drained_none k s e in (written_all all n s.turns old mid (rw none at h), rw none)
 
   -- or since no more is asked for
-  pub drain_over : k ≡ 0 → Appends old mid (turns_text all) × ((drained reader k s).end ≡ s)
+  pub drain_over : k ≡ 0 → Appends old mid (turns_text written n all) × ((drained reader k s).end ≡ s)
   drain_over e = let none = drained_zero s in (written_all all n s.turns old mid (rw (e, none) at h), rw (e, none))
 
   module _ (m : ℕ) (left : k ≡ suc m) where
@@ -112,10 +113,10 @@ module _ (all : List Turn) (n k : ℕ) (s : HostState) (old mid : Option (List �
       next : Written all (printed t.turn ∷ turns_in (drained reader m t.next)) n s.turns old mid
       next = rw (left, drained_more m s t is) at h
 
-      pub drain_turn : HasShortRows (printed t.turn) → Appends mid new (turn_text (printed t.turn)) → TurnsLeft all n m t.next old new
+      pub drain_turn : HasShortRows written (printed t.turn) → Appends mid new (turn_text written s.turns (printed t.turn)) → TurnsLeft all n m t.next old new
       drain_turn short more = written_more all (printed t.turn ∷ []) (turns_in (drained reader m t.next)) n s.turns t.next.turns old mid new next (short, tt) (rw append-nil more) (step_count reader s t is)
 
-      pub drain_failed : AppendsFront mid new (turn_text (printed t.turn)) → AppendsFront old new (turns_text all)
+      pub drain_failed : AppendsFront mid new (turn_text written s.turns (printed t.turn)) → AppendsFront old new (turns_text written n all)
       drain_failed f = failed_next all (printed t.turn ∷ []) (turns_in (drained reader m t.next)) n s.turns old mid new next (rw append-nil f)
 
 pub end_turn : (k m : ℕ) (s : HostState) (t : Step) → k ≡ suc m → step_of reader s ≡ Some t → (drained reader k s).end ≡ (drained reader m t.next).end

@@ -15,11 +15,11 @@ use Rattle.run_laws.specs.turn_writer.ShortRows.{HasShortRows}
 use Rattle.host_turns.specs.turn_records.Printed.{printed}
 use Rattle.host_turns.specs.turn_rows.Form.{IsInForm}
 use Rattle.host_turns.specs.world_state.Rights.{most_turns}
-use Rattle.run_laws.specs.Runs.{HostTurn, Run, drained, first_host, journal_of, left_of, line_run, lines_run, most_meter, run_of, turns_in, turns_of}
+use Rattle.run_laws.specs.Runs.{HostTurn, Run, drained, first_host, journal_of, left_of, line_run, lines_run, most_meter, run_of, turns_of}
 use Rattle.top_call.specs.Forms.{PrintsInForm}
 use Rattle.top_call.proofs.Drains.{drained_more, drained_none, drained_zero}
 use Rattle.top_call.proofs.RunTexts.{meant, run_parts}
-use Rattle.top_call.proofs.TurnTexts.{both_each}
+use Rattle.run_laws.proofs.ShortJournals.{both_each}
 use Rattle.host_turns.specs.turn_rows.Editions.{written}
 
 abbrev pub PrintInForm : Run → Type 0
@@ -51,7 +51,7 @@ form_run meter most input s t e is lines last =
 
 -- ---- turns whose rows are not too long
 
-pub turns_short : (ts : List HostTurn) → AllByRecursion PrintsInForm ts → AllByRecursion HasShortRows (map (λ (t : HostTurn). printed t.step.turn) ts)
+pub turns_short : (ts : List HostTurn) → AllByRecursion PrintsInForm ts → AllByRecursion (HasShortRows written) (map (λ (t : HostTurn). printed t.step.turn) ts)
 turns_short [] prints = tt
 turns_short (t ∷ ts) prints = (prints.0.short, turns_short ts prints.1)
 

@@ -8,9 +8,11 @@ use Rattle.run_laws.specs.delivery_turns.Hosts.{HostState}
 use Rattle.run_laws.specs.message_lines.Meanings.{Meaning}
 use Rattle.host_turns.specs.turn_records.Printed.{printed}
 use Rattle.run_laws.specs.turn_writer.ShortRows.{HasShortRows}
+use Rattle.host_turns.specs.turn_rows.Editions.{written}
+use Rattle.host_turns.specs.turn_rows.Texts.{turns_text}
 use Rattle.host_turns.specs.turn_rows.Turns.{Turn}
 use Rattle.run_laws.proofs.RunOrder.{line_count, lines_count}
-use Rattle.run_laws.specs.Runs.{HostTurn, Run, line_run, lines_run, run_then, turns_in, turns_text}
+use Rattle.run_laws.specs.Runs.{HostTurn, Run, line_run, lines_run, run_then, turns_in}
 use Rattle.top_call.proofs.TurnTexts.{Written, written_more}
 
 pub turns_both : (a b : Run) → turns_in (run_then a b) ≡ turns_in a ++ turns_in b
@@ -39,7 +41,7 @@ module _ (s : HostState) (ms : List Meaning) (m : Meaning) (left : List Meaning)
   line_next all n old mid h = subst (λ ts. Written all ts n s.turns old mid) turns_split h
 
   module _ (v : HostState) (is : v ≡ by_line.end) where
-    pub line_worked : (all : List Turn) (n : ℕ) (old mid new : Option (List ℕ)) → LinesLeft all n ms s old mid → AllByRecursion HasShortRows (turns_in by_line) → Appends mid new (turns_text (turns_in by_line)) → LinesLeft all n left v old new
+    pub line_worked : (all : List Turn) (n : ℕ) (old mid new : Option (List ℕ)) → LinesLeft all n ms s old mid → AllByRecursion (HasShortRows written) (turns_in by_line) → Appends mid new (turns_text written s.turns (turns_in by_line)) → LinesLeft all n left v old new
     line_worked all n old mid new h short more =
         subst (λ (u : HostState). LinesLeft all n left u old new) (sym is)
         (written_more all (turns_in by_line) (turns_in (lines_run reader by_line.end left)) n s.turns by_line.end.turns old mid new (line_next all n old mid h) short more (line_turns_count m s))

@@ -1,46 +1,30 @@
 -- The journal of a run is what its lines and its end write, and a close row of the host after them.
 use Rattle.std.proofs.Common.{◌≡◌, ℕ, ◌+◌, ◌≤◌, List, [], ◌∷◌, ◌++◌, length, map, Option, refl, sym, ap, subst, ◌∙◌, arith, append_assoc, append-nil}
 use Rattle.std.proofs.KnownBytes.{Appends-kept, Appends-nil, Appends-trans}
-use Rattle.std.proofs.lemmas.Grind.{flat_map-append}
 use Rattle.std.specs.Io.KnownBytes.{Appends, Keeps}
-use Rattle.std.specs.List.{AllByRecursion, flat_map}
+use Rattle.std.specs.List.{AllByRecursion}
 use Rattle.host_turns.specs.contract_texts.Reader.{reader}
 use Rattle.run_laws.specs.delivery_turns.Hosts.{HostState}
 use Rattle.host_io.specs.Fronts.{AppendsFront}
 use Rattle.run_laws.specs.message_lines.InputLines.{lines_of}
 use Rattle.run_laws.specs.message_lines.Meanings.{Meaning, meaning_of, run}
 use Rattle.run_laws.specs.turn_writer.ShortRows.{HasShortJournal, HasShortRows, IsShortRow}
-use Rattle.host_turns.specs.turn_rows.Rows.{close_row, rows_of}
-use Rattle.host_turns.specs.turn_rows.Texts.{journal_text, row_text}
+use Rattle.host_turns.specs.turn_rows.Rows.{close_row}
+use Rattle.host_turns.specs.turn_rows.Texts.{close_text, turns_text}
 use Rattle.host_turns.specs.turn_rows.Turns.{Turn}
 use Rattle.host_turns.specs.world_state.Rights.{most_turns}
-use Rattle.run_laws.specs.Runs.{AppendsTurns, Run, close_text, drained, first_host, journal_of, left_in, left_of, line_run, lines_run, meanings_of, no_turn, run_of, run_then, turns_in, turns_of, turns_text}
+use Rattle.run_laws.specs.Runs.{AppendsTurns, Run, closing_text, drained, first_host, journal_of, left_in, left_of, line_run, lines_run, meanings_of, no_turn, run_of, run_then, turns_in, turns_of}
 use Rattle.top_call.proofs.LineRuns.{lines_turns_count, turns_both}
-use Rattle.top_call.proofs.TurnTexts.{Written, both_each, written_all, written_more}
+use Rattle.run_laws.proofs.ShortJournals.{journal_short}
+use Rattle.run_laws.proofs.turn_rows.ByTurns.{text_by_turns}
+use Rattle.top_call.proofs.TurnTexts.{Written, written_all, written_more}
 use Rattle.host_turns.specs.turn_rows.Editions.{written}
 
 -- ---- the text
 
-rows_then : (ts : List Turn) → flat_map row_text (flat_map (rows_of written) ts) ≡ turns_text ts
-rows_then [] = refl
-rows_then (t ∷ ts) = flat_map-append row_text (rows_of written t) (flat_map (rows_of written) ts) ∙ ap (λ bytes. flat_map row_text (rows_of written t) ++ bytes) (rows_then ts)
-
-text_parts : (ts : List Turn) (left : ℕ) → journal_text written ts left ≡ turns_text ts ++ row_text (close_row left (length ts))
-text_parts ts left =
-    flat_map-append row_text (flat_map (rows_of written) ts) (close_row left (length ts) ∷ [])
-    ∙ (λ i. rows_then ts i ++ append-nil (row_text (close_row left (length ts))) i)
-
-journal_parts : (meter most : ℕ) (input : List ℕ) → journal_of reader meter most input ≡ turns_text (turns_of reader meter most input) ++ row_text (close_row (left_of reader meter most input) (length (turns_of reader meter most input)))
+journal_parts : (meter most : ℕ) (input : List ℕ) → journal_of reader meter most input ≡ turns_text written 0 (turns_of reader meter most input) ++ close_text written (left_of reader meter most input) (length (turns_of reader meter most input))
 unfolding journal_of
-journal_parts meter most input = text_parts (turns_of reader meter most input) (left_of reader meter most input)
-
--- ---- rows that are not too long
-
-rows_short : (ts : List Turn) (left turns : ℕ) → AllByRecursion HasShortRows ts → IsShortRow (close_row left turns) → AllByRecursion IsShortRow (flat_map (rows_of written) ts ++ close_row left turns ∷ [])
-rows_short [] left turns h close = (close, tt)
-rows_short (t ∷ ts) left turns h close =
-    subst (AllByRecursion IsShortRow) (sym (append_assoc (rows_of written t) (flat_map (rows_of written) ts) (close_row left turns ∷ [])))
-    (both_each IsShortRow (rows_of written t) (flat_map (rows_of written) ts ++ close_row left turns ∷ []) h.0 (rows_short ts left turns h.1 close))
+journal_parts meter most input = text_by_turns written (turns_of reader meter most input) (left_of reader meter most input)
 
 -- ---- the lines, and then the end
 
@@ -90,14 +74,14 @@ module _ (meter most : ℕ) (input : List ℕ) where
   }
 
   module _ (s t : HostState) (e : s ≡ first_host meter) (is : t ≡ (lines_run reader s (meant input)).end) where
-    pub run_lines : (old new : Option (List ℕ)) → AllByRecursion HasShortRows (turns_in (lines_run reader s (meant input))) → Appends old new (turns_text (turns_in (lines_run reader s (meant input)))) → Written all (turns_in (drained reader most t) ++ []) 0 t.turns old new
+    pub run_lines : (old new : Option (List ℕ)) → AllByRecursion (HasShortRows written) (turns_in (lines_run reader s (meant input))) → Appends old new (turns_text written s.turns (turns_in (lines_run reader s (meant input)))) → Written all (turns_in (drained reader most t) ++ []) 0 t.turns old new
     run_lines old new short h =
         subst (λ (u : HostState). Written all (turns_in (drained reader most u) ++ []) 0 u.turns old new) (sym is)
         (written_more _ _ _ _ _ _ old old new (run_start s old e) short h (lines_turns_count (meant input) s))
 
     -- all turns were written once the deliveries at the end were run
-    pub run_written : (old mid new : Option (List ℕ)) → AllByRecursion HasShortRows (turns_in (lines_run reader s (meant input))) → AllByRecursion HasShortRows (turns_in (drained reader most t))
-        → Appends old mid (turns_text (turns_in (lines_run reader s (meant input)))) → Appends mid new (turns_text (turns_in (drained reader most t))) → Appends old new (turns_text all)
+    pub run_written : (old mid new : Option (List ℕ)) → AllByRecursion (HasShortRows written) (turns_in (lines_run reader s (meant input))) → AllByRecursion (HasShortRows written) (turns_in (drained reader most t))
+        → Appends old mid (turns_text written s.turns (turns_in (lines_run reader s (meant input)))) → Appends mid new (turns_text written t.turns (turns_in (drained reader most t))) → Appends old new (turns_text written 0 all)
     run_written old mid new short both h more =
         written_all all 0 (t.turns + length (turns_in (drained reader most t))) old new (written_more _ _ [] _ _ _ old mid new (run_lines old mid short h) both more refl)
 
@@ -115,34 +99,34 @@ module _ (meter most : ℕ) (input : List ℕ) where
     -- ---- the close row
 
     -- no row of the journal is too long
-    pub run_short : AllByRecursion HasShortRows all → IsShortRow (close_row (left_in u) u.turns) → HasShortJournal all (left_of reader meter most input)
+    pub run_short : AllByRecursion (HasShortRows written) all → IsShortRow (close_row (left_in u) u.turns) → HasShortJournal written all (left_of reader meter most input)
     run_short short close =
-        rows_short all (left_of reader meter most input) (length all) short
+        journal_short written all (left_of reader meter most input) short
         (subst (λ n. IsShortRow (close_row (left_of reader meter most input) n)) (sym turns_run) (subst (λ (t : HostState). IsShortRow (close_row (left_in t) t.turns)) is close))
 
-    journal_closes : journal_of reader meter most input ≡ turns_text all ++ close_text u
-    journal_closes = journal_parts meter most input ∙ ap (λ n. turns_text all ++ row_text (close_row (left_of reader meter most input) n)) turns_run ∙ ap (λ t. turns_text all ++ close_text t) (sym is)
+    journal_closes : journal_of reader meter most input ≡ turns_text written 0 all ++ closing_text u
+    journal_closes = journal_parts meter most input ∙ ap (λ n. turns_text written 0 all ++ close_text written (left_of reader meter most input) n) turns_run ∙ ap (λ t. turns_text written 0 all ++ closing_text t) (sym is)
 
-    pub run_closed : (old mid new : Option (List ℕ)) → Appends old mid (turns_text all) → Appends mid new (close_text u) → Appends old new (journal_of reader meter most input)
+    pub run_closed : (old mid new : Option (List ℕ)) → Appends old mid (turns_text written 0 all) → Appends mid new (closing_text u) → Appends old new (journal_of reader meter most input)
     run_closed old mid new turns close = rw journal_closes (Appends-trans old mid new _ _ turns close)
 
-    pub run_close_failed : (old mid new : Option (List ℕ)) → Appends old mid (turns_text all) → AppendsFront mid new (close_text u) → AppendsFront old new (journal_of reader meter most input)
+    pub run_close_failed : (old mid new : Option (List ℕ)) → Appends old mid (turns_text written 0 all) → AppendsFront mid new (closing_text u) → AppendsFront old new (journal_of reader meter most input)
     run_close_failed old mid new turns f = record {
-      front = turns_text all ++ f.front;
+      front = turns_text written 0 all ++ f.front;
       back = f.back;
-      whole = journal_closes ∙ ap (λ xs. turns_text all ++ xs) f.whole ∙ sym (append_assoc (turns_text all) f.front f.back);
+      whole = journal_closes ∙ ap (λ xs. turns_text written 0 all ++ xs) f.whole ∙ sym (append_assoc (turns_text written 0 all) f.front f.back);
       appended = Appends-trans old mid new _ _ turns f.appended;
     }
 
   -- nothing came of it
-  pub run_close_kept : (old mid new : Option (List ℕ)) → AllByRecursion HasShortRows all → Appends old mid (turns_text all) → Keeps mid new → AppendsTurns old new all
+  pub run_close_kept : (old mid new : Option (List ℕ)) → AllByRecursion (HasShortRows written) all → Appends old mid (turns_text written 0 all) → Keeps mid new → AppendsTurns old new 0 all
   run_close_kept old mid new short turns kept = record { first = all; later = []; whole = sym (append-nil all); short = short; appended = Appends-kept old mid new _ turns kept }
 
   -- a fault before it
-  pub run_turns_failed : (old new : Option (List ℕ)) → AppendsFront old new (turns_text all) → AppendsFront old new (journal_of reader meter most input)
+  pub run_turns_failed : (old new : Option (List ℕ)) → AppendsFront old new (turns_text written 0 all) → AppendsFront old new (journal_of reader meter most input)
   run_turns_failed old new f = record {
     front = f.front;
-    back = f.back ++ close_text end;
-    whole = journal_closes end refl ∙ rw f.whole (append_assoc f.front f.back (close_text end));
+    back = f.back ++ closing_text end;
+    whole = journal_closes end refl ∙ rw f.whole (append_assoc f.front f.back (closing_text end));
     appended = f.appended;
   }

@@ -63,12 +63,12 @@ module _ (c : Seen) where
   too_long same long source sink = record { nothing = subst (λ w. Keeps c.written.before w) (sym same) (Keeps-refl c.written.before); long = long; quiet = record { source = source; sink = sink } }
 
   -- no turn was written
-  no_turns : (ts : List Turn) → c.written.now ≡ c.written.before → AppendsTurns c.written.before c.written.now ts
+  no_turns : (ts : List Turn) → c.written.now ≡ c.written.before → AppendsTurns c.written.before c.written.now 0 ts
   no_turns ts same = record { first = []; later = ts; whole = refl; short = tt; appended = subst (λ w. Appends c.written.before w []) (sym same) (Appends-nil c.written.before) }
 
   pub no_memory : c.written.now ≡ c.written.before → IsQuiet c.source → IsQuiet c.sink → IsOutOfMemory c
   no_memory same source sink = record {
-    turns = each c.held (λ input. AppendsTurns c.written.before c.written.now (turns_for c input)) (λ input. no_turns (turns_for c input) same);
+    turns = each c.held (λ input. AppendsTurns c.written.before c.written.now 0 (turns_for c input)) (λ input. no_turns (turns_for c input) same);
     quiet = record { source = source; sink = sink };
   }
 
@@ -91,7 +91,7 @@ module _ (c : Seen) where
     stops p input = Stops (record c { options = p }) input
 
     abbrev first_turns : Options → List ℕ → Type 0
-    first_turns p input = AppendsTurns c.written.before c.written.now (turns_of reader p.meter p.turns input)
+    first_turns p input = AppendsTurns c.written.before c.written.now 0 (turns_of reader p.meter p.turns input)
 
     -- what the run says, the whole call says
     pub says_on : (s : Status) → Says s ran → Says s c

@@ -9,4 +9,4 @@ use Rattle.host_turns.specs.turn_rows.Editions.{written}
 -- a turn that can be printed is in form, and none of its rows is too long
 pub record PrintsInForm (t : HostTurn) : Type 0 where
   pub form : CanPrint t.step.turn → IsInForm written (printed t.step.turn)
-  pub short : HasShortRows (printed t.step.turn)
+  pub short : HasShortRows written (printed t.step.turn)

@@ -3,12 +3,12 @@ use Rattle.std.specs.Prelude.{◌≡◌, ◌<◌, List, ℕ, Option, Some, None,
 use Rattle.std.specs.declared.alloc.Global.{Global}
 use Rattle.host_turns.specs.contract_texts.Reader.{reader}
 use Rattle.run_laws.specs.delivery_turns.Hosts.{HostState, step_of}
-use Rattle.run_laws.specs.Runs.{turn_text}
 use Rattle.run_laws.specs.turn_writer.Printing.{CanPrint}
 use Rattle.run_laws.specs.turn_writer.ShortRows.{HasShortRows}
 use Rattle.host_turns.specs.turn_records.Printed.{printed}
 use Rattle.host_turns.specs.turn_records.Turns.{Turn}
 use Rattle.host_turns.specs.turn_rows.Form.{IsInForm}
+use Rattle.host_turns.specs.turn_rows.Texts.{turn_text}
 use Rattle.host_turns.specs.world_state.Rights.{most_turns}
 use Rattle.host_turns.specs.HostSteps.{IsAtLimit, NoneWaits}
 use Rattle.top_call.specs.declared.run.RunFault.{RunFault}
@@ -21,9 +21,9 @@ pub record IsTurnText (old new : HostState) (bytes : List ℕ) : Type 0 where
   pub turn : Turn
   pub step : step_of reader old ≡ Some (record { next = new; turn = turn })
   pub early : old.turns < most_turns
-  pub text : bytes ≡ turn_text (printed turn)
+  pub text : bytes ≡ turn_text written old.turns (printed turn)
   pub form : CanPrint turn → IsInForm written (printed turn)
-  pub short : HasShortRows (printed turn)
+  pub short : HasShortRows written (printed turn)
 
 -- Where none waits, and where the last turn was run, nothing happened; for want of memory a turn may have been made of
 -- which there are no rows.

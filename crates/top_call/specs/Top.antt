@@ -98,7 +98,7 @@ pub record IsPast (o : Options) (input : List ℕ) : Type 0 where
 pub record Completes (c : Seen) (input : List ℕ) : Type 0 where
   pub journal : Appends c.written.before c.written.now (journal_for c input)
   pub fair : IsFairJournal written (journal_for c input) (turns_for c input) (left_for c input)
-  pub short : HasShortJournal (turns_for c input) (left_for c input)
+  pub short : HasShortJournal written (turns_for c input) (left_for c input)
   pub within : IsWithin c.options input
 
 pub record IsDone (c : Seen) : Type 0 where
@@ -128,7 +128,7 @@ pub record IsWriteFault (c : Seen) : Type 0 where
 -- memory ran out, or a row would be too long, and the rows of the first turns were written, whole
 pub record IsOutOfMemory (c : Seen) : Type 0 where
   pub turns : IfSome c.held
-      (λ input. AppendsTurns c.written.before c.written.now (turns_for c input))
+      (λ input. AppendsTurns c.written.before c.written.now 0 (turns_for c input))
   pub quiet : AreQuiet c
 
 -- the last turn was run, and another is left: just the turns up to there were written

@@ -7,9 +7,9 @@ ghost use Rattle.host_turns.specs.contract_texts.Reader.{reader};
 ghost use Rattle.run_laws.specs.fair_rows.Turns.{IsFairJournal};
 ghost use Rattle.host_io.specs.Causes.{Rose};
 ghost use Rattle.host_io.specs.Fronts.{AppendsFront};
-ghost use Rattle.run_laws.specs.Runs.{AppendsToLimit, AppendsTurns, close_text, drained, journal_of};
-ghost use Rattle.run_laws.specs.Runs.{left_in, left_of, line_run, lines_run, turn_text};
-ghost use Rattle.run_laws.specs.Runs.{most_meter, turns_in, turns_of, turns_text};
+ghost use Rattle.run_laws.specs.Runs.{AppendsToLimit, AppendsTurns, closing_text, drained, journal_of};
+ghost use Rattle.run_laws.specs.Runs.{left_in, left_of, line_run, lines_run};
+ghost use Rattle.run_laws.specs.Runs.{most_meter, turns_in, turns_of};
 ghost use Rattle.host_turns.specs.HostStates.{host_of};
 ghost use Rattle.top_call.specs.Forms.{PrintsInForm};
 ghost use Rattle.top_call.specs.Texts.{IsNextText};
@@ -21,6 +21,7 @@ ghost use Rattle.host_turns.specs.turn_records.Printed.{printed};
 ghost use Rattle.run_laws.specs.turn_writer.ShortRows.{HasShortJournal, HasShortRows, IsShortRow};
 ghost use Rattle.host_turns.specs.turn_rows.Form.{IsInForm};
 ghost use Rattle.host_turns.specs.turn_rows.Rows.{close_row};
+ghost use Rattle.host_turns.specs.turn_rows.Texts.{turn_text, turns_text};
 ghost use Rattle.host_turns.specs.world_state.Rights.{most_turns};
 ghost use Rattle.host_turns.specs.turn_rows.Editions.{written};
 
@@ -31,7 +32,7 @@ use host_turns::steps::{StepFault, Submitted};
 use host_turns::turn_records_lib::turns::TurnRecord;
 use run_laws::message_lines_lib::lines::Lines;
 use run_laws::turn_writer_lib::turn_form::is_in_form;
-use run_laws::turn_writer_lib::{write_close, write_turn};
+use run_laws::turn_writer_lib::{WRITTEN, write_close, write_turn};
 use std::alloc::{AllocError, Global};
 
 /// Why a run ends before its journal is whole.
@@ -72,14 +73,15 @@ fn write<K: Sink>(sink: &mut K, text: &str) -> Result<(), RunFault>
     }
 }
 
-/// The rows of a turn, which is let go.
-fn text_of(alloc: Global, turn: TurnRecord) -> Result<String, AllocError>
-    ensures text { IfOk result (λ text. string_bytes text ≡ turn_text (printed (turn_view turn))) }
+/// The rows of a turn that comes after so many others. The turn is let go.
+fn text_of(alloc: Global, before: u32, turn: TurnRecord) -> Result<String, AllocError>
+    ensures text { let rows = turn_text written before (printed (turn_view turn)) in
+        IfOk result (λ text. string_bytes text ≡ rows) }
     ensures form { CanPrint (turn_view turn) → IsInForm written (printed (turn_view turn)) }
-    ensures short { IfOk result (λ _. HasShortRows (printed (turn_view turn))) }
+    ensures short { IfOk result (λ _. HasShortRows written (printed (turn_view turn))) }
 {
     is_in_form(&turn);
-    let text = write_turn(alloc, &turn);
+    let text = write_turn(alloc, WRITTEN, before, &turn);
     drop(turn);
     text
 }
@@ -88,10 +90,11 @@ fn text_of(alloc: Global, turn: TurnRecord) -> Result<String, AllocError>
 fn next_text<P: Planner>(alloc: Global, host: &mut Host<P>) -> Result<Option<String>, RunFault>
     ensures { IsNextText (host_of host.old) (host_of host.new) result }
 {
+    let before = host.turns();
     let Some(turn) = host.next_turn(alloc)? else {
         return Ok(None);
     };
-    match text_of(alloc, turn) {
+    match text_of(alloc, before, turn) {
         Ok(text) => Ok(Some(text)),
         Err(_) => Err(RunFault::NoMemory),
     }
@@ -108,16 +111,18 @@ fn drain<P: Planner, K: Sink>(
     ensures few { OnOk result ((host_of host.new).turns ≤ most_turns) }
     ensures host { OnOk result (host_of host.new ≡ (drained reader most (host_of host.old)).end) }
     ensures ok { let turns = turns_in (drained reader most (host_of host.old)) in
-        OnOk result (Appends (K.written sink.old) (K.written sink.new) (turns_text turns)) }
+        let text = turns_text written (host_of host.old).turns turns in
+        OnOk result (Appends (K.written sink.old) (K.written sink.new) text) }
     ensures memory { let turns = turns_in (drained reader most (host_of host.old)) in
-        IsErrOf result RunFault.NoMemory
-        → AppendsTurns (K.written sink.old) (K.written sink.new) turns }
+        let before = (host_of host.old).turns in IsErrOf result RunFault.NoMemory
+        → AppendsTurns (K.written sink.old) (K.written sink.new) before turns }
     ensures limit { let turns = turns_in (drained reader most (host_of host.old)) in
         let before = (host_of host.old).turns in IsErrOf result RunFault.TurnLimit
         → AppendsToLimit (K.written sink.old) (K.written sink.new) before turns }
     ensures failed { let turns = turns_in (drained reader most (host_of host.old)) in
+        let text = turns_text written (host_of host.old).turns turns in
         IsErrOf result RunFault.Failed
-        → AppendsFront (K.written sink.old) (K.written sink.new) (turns_text turns) }
+        → AppendsFront (K.written sink.old) (K.written sink.new) text }
     ensures cause { IsErrOf result RunFault.Failed → Rose (K.faults sink.old) (K.faults sink.new) }
     ensures quiet { (IsErrOf result RunFault.Failed → ⊥)
         → K.faults sink.new ≡ K.faults sink.old }
@@ -145,16 +150,18 @@ fn work_line<P: Planner, K: Sink>(
     ensures host { let run = line_run reader (host_of host.old) (meaning_of line.now) in
         OnOk result (host_of host.new ≡ run.end) }
     ensures ok { let run = line_run reader (host_of host.old) (meaning_of line.now) in
-        OnOk result (Appends (K.written sink.old) (K.written sink.new) (turns_text (turns_in run))) }
+        let text = turns_text written (host_of host.old).turns (turns_in run) in
+        OnOk result (Appends (K.written sink.old) (K.written sink.new) text) }
     ensures memory { let run = line_run reader (host_of host.old) (meaning_of line.now) in
-        IsErrOf result RunFault.NoMemory
-        → AppendsTurns (K.written sink.old) (K.written sink.new) (turns_in run) }
+        let before = (host_of host.old).turns in IsErrOf result RunFault.NoMemory
+        → AppendsTurns (K.written sink.old) (K.written sink.new) before (turns_in run) }
     ensures limit { let run = line_run reader (host_of host.old) (meaning_of line.now) in
         let before = (host_of host.old).turns in IsErrOf result RunFault.TurnLimit
         → AppendsToLimit (K.written sink.old) (K.written sink.new) before (turns_in run) }
     ensures failed { let run = line_run reader (host_of host.old) (meaning_of line.now) in
+        let text = turns_text written (host_of host.old).turns (turns_in run) in
         IsErrOf result RunFault.Failed
-        → AppendsFront (K.written sink.old) (K.written sink.new) (turns_text (turns_in run)) }
+        → AppendsFront (K.written sink.old) (K.written sink.new) text }
     ensures cause { IsErrOf result RunFault.Failed → Rose (K.faults sink.old) (K.faults sink.new) }
     ensures quiet { (IsErrOf result RunFault.Failed → ⊥)
         → K.faults sink.new ≡ K.faults sink.old }
@@ -180,17 +187,21 @@ fn work_lines<P: Planner, K: Sink>(
     ensures host { let lines = map meaning_of (lines_of input.now) in
         OnOk result (host_of host.new ≡ (lines_run reader (host_of host.old) lines).end) }
     ensures ok { let run = lines_run reader (host_of host.old) (map meaning_of (lines_of input.now)) in
-        OnOk result (Appends (K.written sink.old) (K.written sink.new) (turns_text (turns_in run))) }
+        let text = turns_text written (host_of host.old).turns (turns_in run) in
+        OnOk result (Appends (K.written sink.old) (K.written sink.new) text) }
     ensures memory { let lines = map meaning_of (lines_of input.now) in
-        let run = lines_run reader (host_of host.old) lines in IsErrOf result RunFault.NoMemory
-        → AppendsTurns (K.written sink.old) (K.written sink.new) (turns_in run) }
+        let run = lines_run reader (host_of host.old) lines in
+        let before = (host_of host.old).turns in IsErrOf result RunFault.NoMemory
+        → AppendsTurns (K.written sink.old) (K.written sink.new) before (turns_in run) }
     ensures limit { let lines = map meaning_of (lines_of input.now) in
         let run = lines_run reader (host_of host.old) lines in
         let before = (host_of host.old).turns in IsErrOf result RunFault.TurnLimit
         → AppendsToLimit (K.written sink.old) (K.written sink.new) before (turns_in run) }
     ensures failed { let lines = map meaning_of (lines_of input.now) in
-        let run = lines_run reader (host_of host.old) lines in IsErrOf result RunFault.Failed
-        → AppendsFront (K.written sink.old) (K.written sink.new) (turns_text (turns_in run)) }
+        let run = lines_run reader (host_of host.old) lines in
+        let text = turns_text written (host_of host.old).turns (turns_in run) in
+        IsErrOf result RunFault.Failed
+        → AppendsFront (K.written sink.old) (K.written sink.new) text }
     ensures cause { IsErrOf result RunFault.Failed → Rose (K.faults sink.old) (K.faults sink.new) }
     ensures quiet { (IsErrOf result RunFault.Failed → ⊥)
         → K.faults sink.new ≡ K.faults sink.old }
@@ -206,12 +217,12 @@ fn work_lines<P: Planner, K: Sink>(
 /// Writes the close row.
 fn close<P: Planner, K: Sink>(alloc: Global, host: &Host<P>, sink: &mut K) -> Result<(), RunFault>
     ensures ok { OnOk result
-        (Appends (K.written sink.old) (K.written sink.new) (close_text (host_of host.now))) }
+        (Appends (K.written sink.old) (K.written sink.new) (closing_text (host_of host.now))) }
     ensures memory { IsErrOf result RunFault.NoMemory
         → Keeps (K.written sink.old) (K.written sink.new) }
     ensures limit { IsErrOf result RunFault.TurnLimit → ⊥ }
     ensures failed { IsErrOf result RunFault.Failed
-        → AppendsFront (K.written sink.old) (K.written sink.new) (close_text (host_of host.now)) }
+        → AppendsFront (K.written sink.old) (K.written sink.new) (closing_text (host_of host.now)) }
     ensures cause { IsErrOf result RunFault.Failed → Rose (K.faults sink.old) (K.faults sink.new) }
     ensures quiet { (IsErrOf result RunFault.Failed → ⊥)
         → K.faults sink.new ≡ K.faults sink.old }
@@ -219,7 +230,7 @@ fn close<P: Planner, K: Sink>(alloc: Global, host: &Host<P>, sink: &mut K) -> Re
     ensures short { let host = host_of host.now in
         OnOk result (IsShortRow (close_row (left_in host) host.turns)) }
 {
-    let Ok(text) = write_close(alloc, host.waiting(), host.turns()) else {
+    let Ok(text) = write_close(alloc, WRITTEN, host.waiting(), host.turns()) else {
         return Err(RunFault::NoMemory);
     };
     write(sink, text.as_str())
@@ -240,7 +251,7 @@ pub fn run_input<P: Planner, K: Sink>(
     ensures few { OnOk result (length (turns_of reader meter most input.now) ≤ most_turns) }
     ensures memory { let turns = turns_of reader meter most input.now in
         IsErrOf result RunFault.NoMemory
-        → AppendsTurns (K.written sink.old) (K.written sink.new) turns }
+        → AppendsTurns (K.written sink.old) (K.written sink.new) 0 turns }
     ensures limit { let turns = turns_of reader meter most input.now in
         IsErrOf result RunFault.TurnLimit
         → AppendsToLimit (K.written sink.old) (K.written sink.new) 0 turns }
@@ -256,7 +267,7 @@ pub fn run_input<P: Planner, K: Sink>(
         OnOk result (IsFairJournal written (journal_of reader meter most input.now) turns left) }
     // No row of it is too long.
     ensures short { let turns = turns_of reader meter most input.now in
-        OnOk result (HasShortJournal turns (left_of reader meter most input.now)) }
+        OnOk result (HasShortJournal written turns (left_of reader meter most input.now)) }
 {
     let Ok(mut host) = Host::<P>::new(alloc, meter) else {
         return Err(RunFault::NoMemory);

@@ -75,8 +75,9 @@ impl Status {
                 "the output could not be written; a front of the journal at most is there"
             }
             Status::NoMemory => {
-                "memory ran out, or a row would have more than 67108864 bytes; what was written are \
-                 the rows of the first turns, if any, whole, without a close row"
+                "memory ran out, a line would make more than 1048576 parts, or a row would have more \
+                 than 67108864 bytes; what was written are the rows of the first turns, if any, \
+                 whole, without a close row"
             }
             Status::TurnLimit => {
                 "turn 4000000000, the last that is run, was run and a delivery is left to be run; \

@@ -7,5 +7,6 @@ pub mod Worked
 pub mod PlainRows
 pub mod InForm
 pub mod Ranges
+pub mod ByTurns
 pub use Rattle.rights_model.proofs.amount_math
 pub use Rattle.rights_model.proofs as rights_model

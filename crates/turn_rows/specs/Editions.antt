@@ -7,7 +7,7 @@ use Rattle.turn_rows.specs.declared.editions.Edition.TheVariants.{First, Second}
 
 -- the edition that a run writes
 abbrev pub written : Edition
-written = First
+written = Second
 
 -- nat values are below it
 abbrev pub nat_end : Edition → ℕ

@@ -1,5 +1,5 @@
 -- The text of a journal, and the law that it tells the turns and what is left.
-use Rattle.std.specs.Prelude.{◌≡◌, ℕ, List, [], ◌∷◌, ◌++◌, length}
+use Rattle.std.specs.Prelude.{◌≡◌, ℕ, zero, suc, List, [], ◌∷◌, ◌++◌, length}
 use Rattle.std.specs.List.{flat_map}
 use Rattle.serde_json.specs.Data as json
 use Rattle.serde_json.specs.Written.{compact_text}
@@ -19,6 +19,32 @@ journal_rows e ts left = version_rows e ++ (flat_map (rows_of e) ts ++ close_row
 
 abbrev pub journal_text : Edition → List Turn → ℕ → List ℕ
 journal_text e ts left = flat_map row_text (journal_rows e ts left)
+
+-- ---- the same, turn by turn
+
+-- what stands before the rows that come after those of so many turns: before the first of all the version row
+abbrev pub first_rows : Edition → ℕ → List json.Data
+first_rows e zero = version_rows e
+first_rows e (suc n) = []
+
+-- the text of a turn that comes after so many others
+abbrev pub turn_text : Edition → ℕ → Turn → List ℕ
+turn_text e before t = flat_map row_text (first_rows e before ++ rows_of e t)
+
+-- the text of turns, of which the first comes after so many others
+abbrev pub turns_text : Edition → ℕ → List Turn → List ℕ
+turns_text e before [] = []
+turns_text e before (t ∷ ts) = turn_text e before t ++ turns_text e (suc before) ts
+
+-- the text of what comes after the turns
+abbrev pub close_text : Edition → ℕ → ℕ → List ℕ
+close_text e left turns = flat_map row_text (first_rows e turns ++ close_row left turns ∷ [])
+
+-- these texts, one after another, are the journal's
+abbrev pub TextByTurns : Type 0
+TextByTurns = (e : Edition) (ts : List Turn) (left : ℕ) → journal_text e ts left ≡ turns_text e 0 ts ++ close_text e left (length ts)
+
+-- ---- one text
 
 -- in either edition, no text of one list of turns, and of what is left, is the text of another
 abbrev pub OneText : Type 0

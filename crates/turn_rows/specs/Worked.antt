@@ -8,6 +8,7 @@ use Rattle.turn_rows.specs.Causes as causes
 use Rattle.turn_rows.specs.Kinds as kinds
 use Rattle.turn_rows.specs.Editions.{version_rows}
 use Rattle.turn_rows.specs.Rows.{amount_json, event_row, only, sum_row, turn_row}
+use Rattle.turn_rows.specs.Texts.{journal_text}
 use Rattle.turn_rows.specs.Turns.{called, counted, elements, key, exited, moved, number, ok, on_demand, opened, settled, fulfilled, Turn}
 use Rattle.turn_rows.specs.declared.editions.Edition.TheVariants.{First, Second}
 
@@ -35,6 +36,7 @@ pub record WorkedTexts : Type 0 where
   pub supply : compact_text (sum_row Second deposit_sum) ≡ codes "{\"brand\":\"brand1\",\"burned\":\"10\",\"minted\":\"110\",\"payments\":\"0\",\"purses\":\"100\",\"row\":\"sum\",\"slots\":\"0\",\"supply\":\"100\"}"
   pub version : map compact_text (version_rows Second) ≡ codes "{\"row\":\"version\",\"version\":2}" ∷ []
   pub no_version : version_rows First ≡ []
+  pub no_turn : journal_text Second [] 6 ≡ codes "{\"row\":\"version\",\"version\":2}\n{\"left\":6,\"row\":\"close\",\"turns\":0}\n"
   pub call : compact_text (event_row (called (record { how = kinds.calls; on = codes "zseat1"; method = codes "exit"; arguments = json.no_items; answer = ok json.null }))) ≡ codes "{\"answer\":{\"ok\":null},\"args\":[],\"do\":\"exit\",\"how\":\"call\",\"on\":\"zseat1\",\"row\":\"call\"}"
   pub exit : compact_text (event_row (exited (record { seat = 1; cause = causes.spent; payouts = record { keyword = codes "Price"; payment = 9 } ∷ [] }))) ≡ codes "{\"cause\":\"spent\",\"payouts\":{\"Price\":\"payment9\"},\"row\":\"exit\",\"seat\":1}"
   pub bag : compact_text (event_row (moved (record { brand = 2; from = Slot 4 (codes "Price"); to = Payment 3; value = elements (counted (codes "a") 2 ∷ key (codes "b") ∷ []) }))) ≡ codes "{\"brand\":\"brand2\",\"from\":\"seat4.Price\",\"row\":\"move\",\"to\":\"payment3\",\"value\":[[\"a\",2],\"b\"]}"

@@ -6,7 +6,7 @@ ghost use Rattle.turn_rows.specs.Form.{HasEventForm, HasSumForm};
 ghost use Rattle.turn_rows.specs.Order.{PutsAmount, PutsPayout};
 ghost use Rattle.turn_rows.specs.ReadBack.{closing_in, event_in, sum_in, turn_in};
 ghost use Rattle.turn_rows.specs.Rows.{close_row, event_row, sum_row, turn_row};
-ghost use Rattle.turn_rows.specs.Texts.{OneText};
+ghost use Rattle.turn_rows.specs.Texts.{OneText, TextByTurns};
 ghost use Rattle.turn_rows.specs.Turns.{Event, Turn};
 ghost use Rattle.turn_rows.specs.declared.editions.Edition.{Edition};
 ghost use Rattle.turn_rows.specs.Worked.{WorkedTexts};
@@ -14,6 +14,12 @@ ghost use Rattle.turn_rows.specs.Worked.{WorkedTexts};
 /// No journal in form has the text of another: the text tells the turns, and how many deliveries are left.
 pub fn one_text()
     ensures { OneText }
+{}
+
+/// The texts of the turns, one after another, and of the close row are the journal's: with those of the first
+/// turn, or of the close row where there is none, stands the version row.
+pub fn a_journal_is_written_turn_by_turn()
+    ensures { TextByTurns }
 {}
 
 /// What a row in form says is read back from it.

@@ -6,6 +6,7 @@ pub mod Nodes
 pub mod Brought
 pub mod RowSizes
 pub mod MoreRows
+pub mod FirstRows
 pub use Rattle.turn_records.proofs.host_data
 pub use Rattle.turn_records.proofs.proposals
 pub use Rattle.turn_records.proofs.refusals

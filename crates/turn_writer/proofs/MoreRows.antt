@@ -10,7 +10,7 @@ use Rattle.turn_records.specs.Printed.{printed_event}
 use Rattle.turn_records.specs.Views.{event_view, event_views}
 use Rattle.turn_records.specs.declared.events.Event.{Event}
 use Rattle.turn_writer.specs.Texts.{event_text, events_text, sums_text}
-use Rattle.turn_rows.specs.Editions.{written}
+use Rattle.turn_rows.specs.declared.editions.Edition.{Edition}
 
 -- one text more
 pub text_more : {A : Type 0} (text : A → List ℕ) (xs : List A) (i : ℕ) (d : A) (old mid new : List ℕ) → i < length xs → mid ≡ old ++ flat_map text (take i xs) → new ≡ mid ++ text (get_or xs i d) → new ≡ old ++ flat_map text (take (i + 1) xs)
@@ -26,8 +26,8 @@ told_texts es =
     ∙ flat_map-map (λ r. row_text (event_row r)) printed_event (event_views es)
     ∙ flat_map-map (λ v. row_text (event_row (printed_event v))) event_view es)
 
-abbrev pub sum_text : Sum → List ℕ
-sum_text s = row_text (sum_row written s)
+abbrev pub sum_text : Edition → Sum → List ℕ
+sum_text e s = row_text (sum_row e s)
 
-pub sum_texts : (sums : List Sum) → flat_map sum_text sums ≡ sums_text sums
-sum_texts sums = sym (flat_map-map row_text (sum_row written) sums)
+pub sum_texts : (e : Edition) (sums : List Sum) → flat_map (sum_text e) sums ≡ sums_text e sums
+sum_texts e sums = sym (flat_map-map row_text (sum_row e) sums)

@@ -24,7 +24,7 @@ use Rattle.turn_records.specs.promise_store.States.{SettlementView}
 use Rattle.turn_rows.specs.Rows.{answer_json, event_row, settlement_json, sum_row, turn_row}
 use Rattle.turn_rows.specs.amount_math.Content.{key_cmp}
 use Rattle.turn_writer.specs.ShortRows.{HasAnswerInOrder, HasDataInOrder, HasEventInOrder, HasShortRows, IsShortRow, answer_size, arguments_size, event_size, has_long_row, is_long_event, most_row, reading_size, settled_tree, turn_row_size}
-use Rattle.turn_rows.specs.Editions.{written}
+use Rattle.turn_rows.specs.declared.editions.Edition.{Edition}
 
 -- ---- numbers and texts
 
@@ -183,7 +183,7 @@ events_pass : (es : List Event) (others : List json.Data) → AllByRecursion Has
 events_pass [] others h short = refl
 events_pass (e ∷ es) others h short = rw (le-ltb most_row (event_size e) (omega (arith, event_long e h.0, short.0))) (events_pass es others h.1 short.1)
 
-pub short_rows_pass : (t : Turn) → HasDataInOrder t → HasShortRows (turns.printed t) → has_long_row t ≡ false
-short_rows_pass t h short =
+pub short_rows_pass : (d : Edition) (t : Turn) → HasDataInOrder t → HasShortRows d (turns.printed t) → has_long_row t ≡ false
+short_rows_pass d t h short =
     rw (le-ltb most_row (turn_row_size t) (omega (arith, turn_row_long t h, short.0)))
-    (events_pass t.events (map (sum_row written) t.sums) h.events short.1)
+    (events_pass t.events (map (sum_row d) t.sums) h.events short.1)

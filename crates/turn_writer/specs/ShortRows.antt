@@ -15,7 +15,7 @@ use Rattle.turn_records.specs.promise_store.States.{SettlementView, broken, ok}
 use Rattle.turn_rows.specs.Rows.{rows_of}
 use Rattle.turn_rows.specs.Texts.{journal_rows}
 use Rattle.turn_rows.specs.Turns as rows
-use Rattle.turn_rows.specs.Editions.{written}
+use Rattle.turn_rows.specs.declared.editions.Edition.{Edition}
 
 abbrev pub most_row : ℕ
 most_row = 2 ^ 26
@@ -23,12 +23,12 @@ most_row = 2 ^ 26
 abbrev pub IsShortRow : Data → Type 0
 IsShortRow row = length (compact_text row) ≤ most_row
 
-abbrev pub HasShortRows : rows.Turn → Type 0
-HasShortRows t = AllByRecursion IsShortRow (rows_of written t)
+abbrev pub HasShortRows : Edition → rows.Turn → Type 0
+HasShortRows e t = AllByRecursion IsShortRow (rows_of e t)
 
 -- the journal of turns, with so many deliveries left
-abbrev pub HasShortJournal : List rows.Turn → ℕ → Type 0
-HasShortJournal ts left = AllByRecursion IsShortRow (journal_rows written ts left)
+abbrev pub HasShortJournal : Edition → List rows.Turn → ℕ → Type 0
+HasShortJournal e ts left = AllByRecursion IsShortRow (journal_rows e ts left)
 
 -- ---- by the sizes of data
 

@@ -6,14 +6,13 @@ ghost use Rattle.std.specs.Prelude.{◌≡◌, false, map, IfOk, OnOk};
 ghost use Rattle.std.specs.List.{AllByRecursion, flat_map};
 ghost use Rattle.serde_json.specs.View.{view};
 ghost use Rattle.serde_json.specs.Written.{has_float};
-ghost use Rattle.turn_rows.specs.Rows.{close_row, event_row, rows_of, sum_row, turn_row};
-ghost use Rattle.turn_rows.specs.Texts.{row_text};
+ghost use Rattle.turn_rows.specs.Rows.{close_row, event_row, sum_row, turn_row};
+ghost use Rattle.turn_rows.specs.Texts.{close_text, first_rows, row_text, turn_text};
 ghost use Rattle.turn_records.specs.Printed.{printed, printed_event};
 ghost use Rattle.turn_records.specs.Views.{event_view, event_views, turn_view};
-ghost use Rattle.turn_writer.specs.JsonRows.{Adds, IsJson, IsText};
+ghost use Rattle.turn_writer.specs.JsonRows.{Adds, HasFields, IsJson, IsText};
 ghost use Rattle.turn_writer.specs.ShortRows.{HasShortRows, IsShortRow};
-ghost use Rattle.turn_writer.specs.Texts.{event_text, events_text, sums_text};
-ghost use Rattle.turn_rows.specs.Editions.{written};
+ghost use Rattle.turn_writer.specs.Texts.{event_text, events_text, sum_fields, sums_text};
 
 mod answers;
 mod event_rows;
@@ -52,6 +51,13 @@ pub mod turn_records_lib {
     }
 }
 
+/// What `turn_rows` gives to those above.
+pub mod turn_rows_lib {
+    pub mod editions {
+        pub use turn_rows::editions::Edition;
+    }
+}
+
 use event_rows::event_value;
 use json_row::JsonRow;
 use names::{brand_text, decimal_text};
@@ -62,10 +68,32 @@ use turn_records::events::Event;
 use turn_records::turns::TurnRecord;
 pub use turn_records::{host_data_lib, promise_store_lib, refusals_lib};
 use turn_row::turn_value;
+use turn_rows::editions::Edition;
 use turn_rows::rights_model_lib::Sum;
 
-fn sum_value(alloc: Global, sum: &Sum) -> Result<Value, AllocError>
-    ensures { IsJson result (sum_row written sum.now) }
+/// The edition that a run writes.
+pub const WRITTEN: Edition = Edition::Second;
+
+/// The first row of the second edition, with its line feed.
+const VERSION_ROW: &str = "{\"row\":\"version\",\"version\":2}\n";
+
+/// The version row, where the edition has one and nothing stands before: what a text begins with that comes
+/// after so many turns.
+fn first_text(alloc: Global, edition: Edition, before: u32) -> Result<String, AllocError>
+    ensures { IsText result (flat_map row_text (first_rows edition before)) }
+{
+    if before != 0 {
+        return Ok(String::new(alloc));
+    }
+    match edition {
+        Edition::First => Ok(String::new(alloc)),
+        Edition::Second => String::from_str(alloc, VERSION_ROW),
+    }
+}
+
+/// A sum row as far as the editions don't differ.
+fn sum_start(alloc: Global, sum: &Sum) -> JsonRow
+    ensures { HasFields result (sum_fields sum.now) }
 {
     JsonRow::new(alloc)
         .string("brand", brand_text(alloc, sum.brand))
@@ -75,7 +103,19 @@ fn sum_value(alloc: Global, sum: &Sum) -> Result<Value, AllocError>
         .string("purses", decimal_text(alloc, sum.purses))
         .text("row", "sum")
         .string("slots", decimal_text(alloc, sum.slots))
-        .finish()
+}
+
+fn sum_value(alloc: Global, edition: Edition, sum: &Sum) -> Result<Value, AllocError>
+    ensures { IsJson result (sum_row edition sum.now) }
+{
+    let row = sum_start(alloc, sum);
+    match edition {
+        Edition::First => row.finish(),
+        Edition::Second => {
+            let supply = sum.minted.saturating_sub(sum.burned);
+            row.string("supply", decimal_text(alloc, supply)).finish()
+        }
+    }
 }
 
 /// Adds a row to the text. One that is too long is refused as for want of memory.
@@ -113,20 +153,25 @@ fn push_events(alloc: Global, text: &mut String, events: &[Event]) -> Result<(),
     Ok(())
 }
 
-fn push_sum(alloc: Global, text: &mut String, sum: &Sum) -> Result<(), AllocError>
-    ensures adds { Adds result text.old text.new (row_text (sum_row written sum.now)) }
-    ensures short { OnOk result (IsShortRow (sum_row written sum.now)) }
+fn push_sum(alloc: Global, text: &mut String, edition: Edition, sum: &Sum) -> Result<(), AllocError>
+    ensures adds { Adds result text.old text.new (row_text (sum_row edition sum.now)) }
+    ensures short { OnOk result (IsShortRow (sum_row edition sum.now)) }
 {
-    let row = sum_value(alloc, sum)?;
+    let row = sum_value(alloc, edition, sum)?;
     push_row(alloc, text, &row)
 }
 
-fn push_sums(alloc: Global, text: &mut String, sums: &[Sum]) -> Result<(), AllocError>
-    ensures adds { Adds result text.old text.new (sums_text sums.now) }
-    ensures short { OnOk result (AllByRecursion IsShortRow (map (sum_row written) sums.now)) }
+fn push_sums(
+    alloc: Global,
+    text: &mut String,
+    edition: Edition,
+    sums: &[Sum],
+) -> Result<(), AllocError>
+    ensures adds { Adds result text.old text.new (sums_text edition sums.now) }
+    ensures short { OnOk result (AllByRecursion IsShortRow (map (sum_row edition) sums.now)) }
 {
     for sum in sums {
-        push_sum(alloc, text, sum)?;
+        push_sum(alloc, text, edition, sum)?;
     }
     Ok(())
 }
@@ -140,19 +185,25 @@ fn push_turn_row(alloc: Global, text: &mut String, turn: &TurnRecord) -> Result<
     push_row(alloc, text, &row)
 }
 
-/// The rows of a turn: the turn row, the rows of what happened as it happened, and the sums. Where a row
-/// would be longer than readers of journals take, there are none, as for want of memory.
-pub fn write_turn(alloc: Global, turn: &TurnRecord) -> Result<String, AllocError>
-    ensures text { IsText result (flat_map row_text (rows_of written (printed (turn_view turn.now)))) }
-    ensures short { IfOk result (λ _. HasShortRows (printed (turn_view turn.now))) }
+/// The rows of a turn that comes after so many others: the turn row, the rows of what happened as it happened, and
+/// the sums. With those of the first turn stands the version row. Where a row would be longer than readers of
+/// journals take, there are none, as for want of memory.
+pub fn write_turn(
+    alloc: Global,
+    edition: Edition,
+    before: u32,
+    turn: &TurnRecord,
+) -> Result<String, AllocError>
+    ensures text { IsText result (turn_text edition before (printed (turn_view turn.now))) }
+    ensures short { IfOk result (λ _. HasShortRows edition (printed (turn_view turn.now))) }
 {
     if has_long_row(turn) {
         return Err(AllocError);
     }
-    let mut text = String::new(alloc);
+    let mut text = first_text(alloc, edition, before)?;
     push_turn_row(alloc, &mut text, turn)?;
     push_events(alloc, &mut text, turn.events.as_slice())?;
-    push_sums(alloc, &mut text, turn.sums.as_slice())?;
+    push_sums(alloc, &mut text, edition, turn.sums.as_slice())?;
     Ok(text)
 }
 
@@ -166,13 +217,19 @@ fn close_value(alloc: Global, left: u64, turns: u32) -> Result<Value, AllocError
         .finish()
 }
 
-/// The close row: how many deliveries are left, and how many turns were run.
-pub fn write_close(alloc: Global, left: u64, turns: u32) -> Result<String, AllocError>
-    ensures text { IsText result (row_text (close_row left turns)) }
+/// The close row: how many deliveries are left, and how many turns were run. Where none was, the version row
+/// stands before it.
+pub fn write_close(
+    alloc: Global,
+    edition: Edition,
+    left: u64,
+    turns: u32,
+) -> Result<String, AllocError>
+    ensures text { IsText result (close_text edition left turns) }
     ensures short { IfOk result (λ _. IsShortRow (close_row left turns)) }
 {
-    let mut text = String::new(alloc);
     let row = close_value(alloc, left, turns)?;
+    let mut text = first_text(alloc, edition, turns)?;
     push_row(alloc, &mut text, &row)?;
     Ok(text)
 }

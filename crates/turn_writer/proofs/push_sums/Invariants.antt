@@ -4,10 +4,9 @@ use Rattle.turn_rows.specs.Rows.{sum_row}
 use Rattle.turn_writer.specs.ShortRows.{IsShortRow}
 use Rattle.turn_writer.proofs.MoreRows.{sum_text}
 use Rattle.turn_writer.proofs.push_sums.Given as goal
-use Rattle.turn_rows.specs.Editions.{written}
 
 abbrev pub invariant-loop-sum : goal.invariant-loop-sum
 invariant-loop-sum l = record {
-  adds : string_bytes l.text ≡ string_bytes l.fn.text ++ flat_map sum_text (take l.sum-index l.sums);
-  short : All (λ s. IsShortRow (sum_row written s)) (take l.sum-index l.sums);
+  adds : string_bytes l.text ≡ string_bytes l.fn.text ++ flat_map (sum_text l.edition) (take l.sum-index l.sums);
+  short : All (λ s. IsShortRow (sum_row l.edition s)) (take l.sum-index l.sums);
 }

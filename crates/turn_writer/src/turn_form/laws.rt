@@ -8,6 +8,7 @@ ghost use Rattle.turn_records.specs.Endings.{settled_by};
 ghost use Rattle.turn_records.specs.Events.{Answer};
 ghost use Rattle.turn_records.specs.Printed.{notice_tree, printed};
 ghost use Rattle.turn_records.specs.Turns.{Turn};
+ghost use Rattle.turn_rows.specs.declared.editions.Edition.{Edition};
 ghost use Rattle.turn_writer.specs.Printing.{CanPrintAnswer, CanPrintData, CanPrintSettlement};
 ghost use Rattle.turn_writer.specs.ShortRows.{HasDataInOrder, HasShortRows, has_long_row};
 
@@ -22,5 +23,6 @@ pub fn what_turns_bring_can_be_printed()
 /// Sizes refuse no turn whose rows are short: of data that has its fields in order they count no more bytes
 /// than are printed.
 pub fn short_rows_pass()
-    ensures { (t : Turn) → HasDataInOrder t → HasShortRows (printed t) → has_long_row t ≡ false }
+    ensures { (d : Edition) (t : Turn) → HasDataInOrder t → HasShortRows d (printed t)
+        → has_long_row t ≡ false }
 {}
