@@ -23,7 +23,7 @@ Test = Share → Result (Unit {0}) Refusal
 
 -- ---- each share passes, or the first that doesn't
 
-each_ok : (test : Test) (P : Share → Type 0) → ((r : Share) → P r → test r ≡ Ok tt) → (rs : List Share) → All P rs → each_passes test rs ≡ Ok tt
+pub each_ok : (test : Test) (P : Share → Type 0) → ((r : Share) → P r → test r ≡ Ok tt) → (rs : List Share) → All P rs → each_passes test rs ≡ Ok tt
 unfolding bind
 each_ok test P passes [] all = refl
 each_ok test P passes (r ∷ rs) all = ap (λ (t : Result (Unit {0}) Refusal). bind t (λ _. each_passes test rs)) (passes r (All-head P r rs all)) ∙ each_ok test P passes rs (All-tail P r rs all)
@@ -45,12 +45,12 @@ apart_passes slots r apart = by r.amount.value.kind (together slots r) apart
     by Set c fits = overlap_none Set c (fits refl)
     by Bag c fits = refl
 
-fits_passes : (slots : List Share) (r : Share) → CanGain slots r → fits_slot slots r ≡ Ok tt
+pub fits_passes : (slots : List Share) (r : Share) → CanGain slots r → fits_slot slots r ≡ Ok tt
 fits_passes slots r value = value_passes r.amount.value.kind (together slots r) value
 
 -- ---- all shares
 
-both : (a b : Result (Unit {0}) Refusal) → a ≡ Ok tt → (a >> b) ≡ b
+pub both : (a b : Result (Unit {0}) Refusal) → a ≡ Ok tt → (a >> b) ≡ b
 unfolding bind
 both a b is = ap (λ (t : Result (Unit {0}) Refusal). bind t (λ _. b)) is
 

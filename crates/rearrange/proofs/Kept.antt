@@ -144,6 +144,10 @@ module _ (states : List SeatState) (touched : List Touched) where
 
 -- ---- what comes after a test
 
+pub past : {B : Type 0} (test : Test) (next : Result B Refusal) → test ≡ Ok tt → (test >> next) ≡ next
+unfolding bind
+past test next is = ap (λ (t : Test). t >> next) is
+
 pub fails_then : {B : Type 0} (stop : Stop) (test : Test) (next : Result B Refusal) → Fails stop test → Fails stop (test >> next)
 unfolding bind
 fails_then stops.NoMemory test next fails = tt

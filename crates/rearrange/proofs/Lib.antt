@@ -5,13 +5,13 @@ pub mod Sorting
 pub mod Changes
 pub mod Conserved
 pub mod Agreeing
+pub mod Ascending
 pub mod Touching
 pub mod StagedRefusals
 pub mod Copies
 pub mod Worked
 pub mod Counts
 pub mod Taken
-pub mod RefusedCounts
 pub mod Slots
 pub mod TestedConservation
 pub mod Leasts
@@ -23,6 +23,5 @@ pub mod TestedChanges
 pub mod Added
 pub mod TestedWorking
 pub mod TestedTransfers
-pub mod Shown
 pub use Rattle.value_tests.proofs.lemmas
 pub use Rattle.value_tests.proofs as value_tests

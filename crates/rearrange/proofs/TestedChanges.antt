@@ -16,15 +16,11 @@ use Rattle.rearrange.specs.declared.plans.PlanFault.TheVariants as plan
 use Rattle.rearrange.specs.declared.seats.SeatsFault.{SeatsFault}
 use Rattle.refusals.specs.Outcomes.{Fails, ◌>>◌, bind, none_such}
 use Rattle.refusals.specs.declared.codes.Refusal.{Refusal}
-use Rattle.rearrange.proofs.Kept.{fails_then, plan_fails, plan_passes}
+use Rattle.rearrange.proofs.Kept.{fails_then, past, plan_fails, plan_passes}
 use Rattle.rearrange.proofs.TestedSeats.{staged_tests}
 
 abbrev Test : Type 0
 Test = Result (Unit {0}) Refusal
-
-past : {B : Type 0} (test : Test) (next : Result B Refusal) → test ≡ Ok tt → (test >> next) ≡ next
-unfolding bind
-past test next is = ap (λ (t : Test). t >> next) is
 
 none_passes : (o : Option SeatsFault) → o ≡ None → none_such o seats_told ≡ Ok tt
 unfolding none_such

@@ -1,5 +1,5 @@
 -- What a plan of transfers answers is what its definition tests.
-use Rattle.std.proofs.Common.{◌≡◌, ℕ, List, length, ◌≤◌, Option, Some, None, Result, Ok, Err, ap, ◌∙◌}
+use Rattle.std.proofs.Common.{◌≡◌, ℕ, List, length, ◌≤◌, Option, Some, None, Result, Ok, ap, ◌∙◌}
 use Rattle.std.specs.List.{All}
 use Rattle.proposals.specs.Shares.{most_shares}
 use Rattle.proposals.specs.declared.plans.SeatState.{SeatState}
@@ -18,9 +18,9 @@ use Rattle.rearrange.specs.declared.plans.PlanFault.TheVariants as plan
 use Rattle.rearrange.specs.declared.seats.SeatsFault.{SeatsFault}
 use Rattle.refusals.specs.Outcomes.{Fails, ◌>>◌, none_such}
 use Rattle.refusals.specs.declared.codes.Refusal.{Refusal}
-use Rattle.rearrange.proofs.Kept.{fails_then, plan_fails, plan_passes}
+use Rattle.rearrange.proofs.Kept.{fails_then, past, plan_fails, plan_passes}
 use Rattle.rearrange.proofs.TestedSeats.{transfers_tests}
-use Rattle.rearrange.proofs.TestedWorking.{fails_past, past, work_fails, work_passes}
+use Rattle.rearrange.proofs.TestedWorking.{fails_past, work_fails, work_passes}
 
 module _ (i : ℕ) (states : List SeatState) (list : List Transfer) where
   abbrev moving : List Touched

@@ -1,5 +1,5 @@
 -- Transfers pass their tests where they can be worked, and are refused else by what the first that can't is refused by.
-use Rattle.std.proofs.Common.{◌≡◌, ℕ, List, [], ◌∷◌, IfSome, Option, Some, None, Result, Ok, Err, inl, inr, refl, sym, ap, subst, ◌∙◌}
+use Rattle.std.proofs.Common.{◌≡◌, ℕ, List, [], ◌∷◌, IfSome, Option, Some, None, Result, Ok, inl, inr, refl, sym, subst, ◌∙◌}
 use Rattle.std.specs.List.{All}
 use Rattle.std.specs.Prelude.{IsSomeAnd}
 use Rattle.proposals.specs.Gains.{CanGain, IsGainsRefusal}
@@ -12,22 +12,18 @@ use Rattle.rearrange.specs.Slots.{can_give, can_take}
 use Rattle.rearrange.specs.TestedPlans.{can_gain, can_lose, can_work, passes_at}
 use Rattle.rearrange.specs.TransferRefusals.{CanGive, CanTake, CanWork, IsTransferRefusal, IsWorkRefusal, TransfersFault, gives, plans, takes, transfers_told}
 use Rattle.rearrange.specs.Transfers.{gains_of, losses_of, lowered_by, worked_by}
-use Rattle.refusals.specs.Outcomes.{Fails, ◌>>◌, bind}
+use Rattle.refusals.specs.Outcomes.{Fails, ◌>>◌}
 use Rattle.refusals.specs.declared.codes.Refusal.{Refusal}
 use Rattle.refusals.specs.declared.stops.Stop.{Stop}
 use Rattle.rearrange.proofs.Added.{gains_pass}
 use Rattle.rearrange.proofs.Gains.{gains_fail}
-use Rattle.rearrange.proofs.Kept.{fails_then}
+use Rattle.rearrange.proofs.Kept.{fails_then, past}
 use Rattle.rearrange.proofs.Slots.{if_refused, if_taken}
 
 abbrev Test : Type 0
 Test = Result (Unit {0}) Refusal
 
--- ---- what comes after a test that passes
-
-pub past : {B : Type 0} (test : Test) (next : Result B Refusal) → test ≡ Ok tt → (test >> next) ≡ next
-unfolding bind
-past test next is = ap (λ (t : Test). t >> next) is
+-- ---- what fails after a test that passes
 
 pub fails_past : {B : Type 0} (stop : Stop) (test next : Result B Refusal) → test ≡ next → Fails stop next → Fails stop test
 fails_past stop test next is fails = subst (λ r. Fails stop r) (sym is) fails

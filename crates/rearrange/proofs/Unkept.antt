@@ -10,6 +10,7 @@ use Rattle.proposals.specs.declared.plans.Touched.{Touched}
 use Rattle.rearrange.specs.Sums.{IsFirstUnkept, count_after, count_before}
 use Rattle.rearrange.specs.declared.sums.Unkept as plans
 use Rattle.refusals.specs.declared.codes.Unkept.{Unkept}
+use Rattle.refusals.specs.Codes.{capped}
 use Rattle.value_tests.specs.Totals.{total_of}
 use Rattle.rearrange.proofs.TestedConservation.{Named, both_sides, listed_if, named_if}
 use Rattle.rearrange.proofs.Leasts.{all_among, first_in, found_passes, least_is, named_among}
@@ -56,7 +57,7 @@ module _ (touched : List Touched) where
         (all_among HasOne u.brand (λ brand has. differ_there brand has u.brand (λ k other. is.least brand k other)) (brands_of touched))
 
     abbrev shown_as : ℕ → ℕ → Unkept
-    shown_as before after = record { brand = u.brand; element = u.element; before = pos before; after = pos after }
+    shown_as before after = record { brand = u.brand; element = u.element; before = pos (capped before); after = pos (capped after) }
 
     pub unkept_first : first_unkept touched ≡ Some (unkept_told u)
     unfolding first_unkept

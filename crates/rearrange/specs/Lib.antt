@@ -1,4 +1,5 @@
 pub mod Seats
+pub mod States
 pub mod Sums
 pub mod Parts
 pub mod Safety
@@ -13,7 +14,6 @@ pub mod Told
 pub mod Slots
 pub mod TestedPlans
 pub mod TransferRefusals
-pub mod Values
 pub mod Moves
 pub use Rattle.value_tests.specs.ertp_mint
 pub use Rattle.rights_model.specs as rights_model

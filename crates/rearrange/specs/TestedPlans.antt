@@ -15,7 +15,7 @@ use Rattle.rearrange.specs.Seats.{least_such, seats_such, state_of}
 use Rattle.rearrange.specs.Staged.{staged_plan}
 use Rattle.rearrange.specs.Sums.{count_after, count_before}
 use Rattle.rearrange.specs.Transfers.{gains_of, losses_of, lowered_by, transfers_plan, worked_by}
-use Rattle.refusals.specs.Codes.{limit, not_offer_safe, one_seat, repeated_seat, seat_exited, staged_left_out, wrong_instance}
+use Rattle.refusals.specs.Codes.{capped, limit, not_offer_safe, one_seat, repeated_seat, seat_exited, staged_left_out, wrong_instance}
 use Rattle.refusals.specs.Outcomes.{◌>>◌, need, none_such}
 use Rattle.refusals.specs.declared.codes.Refusal.{Refusal}
 use Rattle.refusals.specs.declared.codes.Refusal.TheVariants.{NotConserved}
@@ -60,8 +60,8 @@ abbrev pub unkept_at : List Touched → ℕ → List ℕ → Unkept
 unkept_at touched brand element = record {
   brand = brand;
   element = element;
-  before = pos (count_before brand element touched);
-  after = pos (count_after brand element touched);
+  before = pos (capped (count_before brand element touched));
+  after = pos (capped (count_after brand element touched));
 }
 
 abbrev pub unkept_of : List Touched → ℕ → Option Unkept

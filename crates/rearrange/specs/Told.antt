@@ -6,8 +6,7 @@ use Rattle.rearrange.specs.declared.plans.PlanFault.TheVariants as plan
 use Rattle.rearrange.specs.declared.seats.SeatsFault.{SeatsFault}
 use Rattle.rearrange.specs.declared.seats.SeatsFault.TheVariants as seats
 use Rattle.rearrange.specs.declared.sums.Unkept as plans
-use Rattle.refusals.specs.Codes.{limit, not_offer_safe, one_seat, repeated_seat, seat_exited, staged_left_out, wrong_instance}
-use Rattle.refusals.specs.Told.{CanShow}
+use Rattle.refusals.specs.Codes.{capped, limit, not_offer_safe, one_seat, repeated_seat, seat_exited, staged_left_out, wrong_instance}
 use Rattle.refusals.specs.declared.codes.Refusal.{Refusal}
 use Rattle.refusals.specs.declared.codes.Refusal.TheVariants as codes
 use Rattle.refusals.specs.declared.codes.Unkept.{Unkept}
@@ -19,13 +18,9 @@ abbrev pub unkept_told : plans.Unkept → Unkept
 unkept_told u = record {
   brand = u.brand;
   element = u.element;
-  before = pos u.before;
-  after = pos u.after;
+  before = pos (capped u.before);
+  after = pos (capped u.after);
 }
-
--- data can hold both counts
-abbrev pub CanShowUnkept : plans.Unkept → Type 0
-CanShowUnkept u = CanShow u.before u.after
 
 abbrev pub seats_told : SeatsFault → Refusal
 seats_told (seats.WrongInstance seat) = wrong_instance seat
@@ -40,8 +35,3 @@ plan_told (plan.NotConserved unkept) = Refused (codes.NotConserved (unkept_told 
 plan_told (plan.NotOfferSafe seat) = Refused (not_offer_safe seat)
 plan_told plan.Limit = Refused (limit most_shares)
 plan_told plan.NoMemory = NoMemory
-
--- counts that data can hold
-abbrev pub PlanCanShow : PlanFault → Type 0
-PlanCanShow (plan.NotConserved unkept) = CanShowUnkept unkept
-PlanCanShow _ = Unit {0}

@@ -1,10 +1,7 @@
 //! The laws. The bodies are empty: what they state is proved of the definitions.
 
-ghost use Rattle.std.specs.List.{AllByRecursion};
 ghost use Rattle.std.specs.Prelude.{◌≡◌, ◌↔◌, ◌≤◌, All, ℕ, List, Err, None, Ok, length, true};
 ghost use Rattle.proposals.specs.Losses.{IsLossesRefusal};
-ghost use Rattle.refusals.specs.amount_math.declared.PutFault.TheVariants as puts;
-ghost use Rattle.refusals.specs.amount_math.declared.TooMuch.{TooMuch};
 ghost use Rattle.refusals.specs.amount_math.declared.shortfall.LossFault.TheVariants as takes;
 ghost use Rattle.refusals.specs.amount_math.declared.shortfall.Shortfall.{Shortfall};
 ghost use Rattle.rearrange.specs.TestedPlans.{can_take_over, can_take_part, first_unkept, keeps, staged_changes};
@@ -22,30 +19,34 @@ ghost use Rattle.rearrange.specs.Safety.{AreSafe};
 ghost use Rattle.rearrange.specs.Seats.{allocation_of, seats_named, staged_refusal, transfers_refusal};
 ghost use Rattle.rearrange.specs.Staged.{IsStagedRefusal, staged_plan};
 ghost use Rattle.rearrange.specs.Sums.{AreConserved};
-ghost use Rattle.rearrange.specs.TransferRefusals.{CanWork, IsTransfersRefusal, IsWorkRefusal, TransfersFault};
-ghost use Rattle.rearrange.specs.TransferRefusals.{gives, seated_changes, transfers_told};
-ghost use Rattle.rearrange.specs.Transfers.{HasOneBrand, transfers_plan};
-ghost use Rattle.rearrange.specs.Values.{AreValues, IsValued};
+ghost use Rattle.rearrange.specs.TransferRefusals.{CanWork, IsTransfersRefusal, TransfersFault};
+ghost use Rattle.rearrange.specs.TransferRefusals.{seated_changes, transfers_told};
+ghost use Rattle.rearrange.specs.Transfers.{transfers_plan};
 ghost use Rattle.rearrange.specs.declared.plans.PlanFault.{PlanFault};
 ghost use Rattle.refusals.specs.Outcomes.{Fails, none_such};
-ghost use Rattle.refusals.specs.Told.{CanShow};
 ghost use Rattle.refusals.specs.declared.codes.Refusal.TheVariants.{NotEnough};
 
 /// A test of slots passes exactly where they cover the shares (Zoe's offer safety), and shares are refused to be
 /// taken exactly where a plan refuses them, with the same shortfall.
 pub fn tests_of_slots_are_exact()
-    ensures covered { (slots : List Share) (share : Share) → (is_covered slots share ≡ true) ↔ IsCovered slots share }
-    ensures shares { (slots shares : List Share) → (are_covered slots shares ≡ true) ↔ AreCovered slots shares }
-    ensures safe { (p : Proposal) (slots : List Share) → (is_safe p slots ≡ true) ↔ IsOfferSafe p slots }
-    ensures taken { (slots losses : List Share) → (can_take slots losses ≡ Ok tt) ↔ AreCovered slots losses }
+    ensures covered { (slots : List Share) (share : Share) →
+        (is_covered slots share ≡ true) ↔ IsCovered slots share }
+    ensures shares { (slots shares : List Share) →
+        (are_covered slots shares ≡ true) ↔ AreCovered slots shares }
+    ensures safe { (p : Proposal) (slots : List Share) →
+        (is_safe p slots ≡ true) ↔ IsOfferSafe p slots }
+    ensures taken { (slots losses : List Share) →
+        (can_take slots losses ≡ Ok tt) ↔ AreCovered slots losses }
     ensures refused { (slots losses : List Share) (short : Shortfall) →
-        (can_take slots losses ≡ Err (NotEnough short)) ↔ IsLossesRefusal slots losses (takes.NotEnough short) }
+        (can_take slots losses ≡ Err (NotEnough short))
+        ↔ IsLossesRefusal slots losses (takes.NotEnough short) }
 {}
 
 /// Something is told that isn't conserved exactly where some element of some brand isn't: of each, the touched
 /// seats have as many after as before (Zoe's conservation of rights).
 pub fn what_is_not_conserved_is_told()
-    ensures conserved { (touched : List Touched) → (first_unkept touched ≡ None) ↔ AreConserved touched }
+    ensures conserved { (touched : List Touched) →
+        (first_unkept touched ≡ None) ↔ AreConserved touched }
 {}
 
 /// The tests of seats find the faults that plans find, in their order, and pass where plans find none.
@@ -60,19 +61,22 @@ pub fn seats_are_tested_as_plans_test_them()
 /// the fault that plans find.
 pub fn plans_are_tested_as_they_are_made()
     ensures kept { (states : List SeatState) (touched : List Touched) → AreConserved touched
-        → AreSafe states touched → All (λ t. length t.after ≤ most_shares) touched → keeps states touched ≡ Ok tt }
+        → AreSafe states touched → All (λ t. length t.after ≤ most_shares) touched
+        → keeps states touched ≡ Ok tt }
     ensures refused { (states : List SeatState) (touched : List Touched) (fault : PlanFault) →
         IsPlanRefusal states touched fault → Fails (plan_told fault) (keeps states touched) }
 {}
 
 /// Staging is taken over where its plan is made, and is refused by the fault that its plan is refused by.
 pub fn staging_is_taken_over_as_it_is_planned()
-    ensures planned { (i : ℕ) (states : List SeatState) (seats : List ℕ) → staged_refusal i states seats ≡ None
+    ensures planned { (i : ℕ) (states : List SeatState) (seats : List ℕ) →
+        staged_refusal i states seats ≡ None
         → AreConserved (staged_plan states seats) → AreSafe states (staged_plan states seats)
         → All (λ t. length t.after ≤ most_shares) (staged_plan states seats)
         → staged_changes i states seats ≡ Ok (staged_plan states seats) }
     ensures refused { (i : ℕ) (states : List SeatState) (seats : List ℕ) (fault : PlanFault) →
-        IsStagedRefusal i states seats fault → Fails (plan_told fault) (staged_changes i states seats) }
+        IsStagedRefusal i states seats fault
+        → Fails (plan_told fault) (staged_changes i states seats) }
 {}
 
 /// Transfers between seats that can take part are worked where their plan is made, and are refused by the
@@ -83,15 +87,8 @@ pub fn transfers_are_worked_as_they_are_planned()
         → AreConserved (transfers_plan states list) → AreSafe states (transfers_plan states list)
         → All (λ t. length t.after ≤ most_shares) (transfers_plan states list)
         → seated_changes i states list ≡ Ok (transfers_plan states list) }
-    ensures refused { (i : ℕ) (states : List SeatState) (list : List Transfer) (fault : TransfersFault) →
-        IsTransfersRefusal i states list fault → Fails (transfers_told fault) (seated_changes i states list) }
-{}
-
-/// What transfers make too much can be shown, where what seats have and what transfers give are values, and all
-/// amounts for a seat and keyword are of one brand.
-pub fn what_transfers_make_too_much_can_be_shown()
-    ensures { (states : List SeatState) (list : List Transfer) (over : TooMuch) →
-        All (HasOneBrand states list) (seats_named list) → ((n : ℕ) → AreValues (allocation_of states n))
-        → AllByRecursion IsValued list → IsWorkRefusal (allocation_of states) list (gives (puts.TooMuch over))
-        → CanShow over.sum over.bound }
+    ensures refused { (i : ℕ) (states : List SeatState) (list : List Transfer)
+        (fault : TransfersFault) →
+        IsTransfersRefusal i states list fault
+        → Fails (transfers_told fault) (seated_changes i states list) }
 {}

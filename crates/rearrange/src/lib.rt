@@ -10,6 +10,7 @@ mod parts;
 pub mod plan_refusals;
 pub mod plans;
 pub mod safety;
+pub mod seat_states;
 pub mod seats;
 pub mod settled;
 pub mod slot_checks;
@@ -23,10 +24,6 @@ pub mod rights_model_lib {
 
 /// What `value_tests` gives to those above.
 pub mod value_tests_lib {
-    pub mod beside {
-        pub use value_tests::beside::check_all_out;
-    }
-
     pub mod holding_checks {
         pub use value_tests::holding_checks::{check_has, check_out, check_sum};
     }
@@ -41,6 +38,10 @@ pub mod value_tests_lib {
 
     pub mod value_sums {
         pub use value_tests::value_sums::whole_sum;
+    }
+
+    pub mod wholes {
+        pub use value_tests::wholes::check_all_out;
     }
 }
 

@@ -1,10 +1,8 @@
 //! Why a change of allocations is refused, as calls show it. Its one contract: each fault is the
 //! refusal that its definition says, of the same seats, keys and counts.
 
-pub mod laws;
-
 ghost use Rattle.std.specs.Prelude.{◌≡◌};
-ghost use Rattle.rearrange.specs.Told.{CanShowUnkept, PlanCanShow, plan_told, seats_told, unkept_told};
+ghost use Rattle.rearrange.specs.Told.{plan_told, seats_told, unkept_told};
 
 use crate::plans::PlanFault;
 use crate::seats::SeatsFault;
@@ -15,16 +13,15 @@ use refusals::stops::Stop;
 /// How many slots a seat may have, at most (Zoe's keywords; the number is our own).
 const MOST_SLOTS: u32 = 64;
 
-/// What a change would not keep, with its counts as numbers that data can hold.
+/// What a change would not keep, with its counts as they are shown.
 pub fn unkept_told(unkept: plans::Unkept) -> Unkept
-    requires { CanShowUnkept unkept }
     ensures { result ≡ unkept_told unkept }
 {
     Unkept {
         brand: unkept.brand,
         element: unkept.element,
-        before: unkept.before as i128,
-        after: unkept.after as i128,
+        before: unkept.before.shown(),
+        after: unkept.after.shown(),
     }
 }
 
@@ -43,7 +40,6 @@ pub fn seats_told(fault: SeatsFault) -> Refusal
 
 /// Why a change of allocations is refused.
 pub fn plan_told(fault: PlanFault) -> Stop
-    requires { PlanCanShow fault }
     ensures { result ≡ plan_told fault }
 {
     match fault {

@@ -9,9 +9,10 @@ ghost use Rattle.rearrange.specs.Sums.{AreConserved, touched_of};
 ghost use Rattle.rearrange.specs.Sums as sums;
 
 use crate::safety::least_unsafe;
-use crate::seats::{SeatsFault, allocation_copy};
+use crate::seat_states::SeatStates;
+use crate::seats::SeatsFault;
 use crate::sums::{SeatShares, Unkept, first_unkept};
-use proposals::plans::{Plan, SeatState, Touched};
+use proposals::plans::{Plan, Touched};
 use proposals::slots::{SlotsFault, allocation_of};
 use std::alloc::Global;
 
@@ -30,9 +31,10 @@ pub enum PlanFault {
 }
 
 /// Whether of each element of each brand the seats have as many after as before.
-fn check_kept(alloc: Global, states: &[SeatState], list: &[SeatShares]) -> Result<(), PlanFault>
+fn check_kept(alloc: Global, states: &SeatStates, list: &[SeatShares]) -> Result<(), PlanFault>
     ensures ok { OnOk result (AreConserved (sums.all_touched states.now list.now)) }
-    ensures refused { IfErr result (IsPlanRefusal states.now (sums.all_touched states.now list.now)) }
+    ensures refused { IfErr result
+        (IsPlanRefusal states.now (sums.all_touched states.now list.now)) }
 {
     match first_unkept(alloc, states, list) {
         Ok(None) => Ok(()),
@@ -42,11 +44,13 @@ fn check_kept(alloc: Global, states: &[SeatState], list: &[SeatShares]) -> Resul
 }
 
 /// Whether that is so, and each seat is offer safe after.
-fn check(alloc: Global, states: &[SeatState], list: &[SeatShares]) -> Result<(), PlanFault>
-    requires { All (λ s. IfSome (state_of states.now s.seat) (MeetProposal s.shares.items)) list.now }
+fn check(alloc: Global, states: &SeatStates, list: &[SeatShares]) -> Result<(), PlanFault>
+    requires { All (λ s. IfSome (state_of states.now s.seat) (MeetProposal s.shares.items))
+        list.now }
     ensures kept { OnOk result (AreConserved (sums.all_touched states.now list.now)) }
     ensures safe { OnOk result (AreSafe states.now (sums.all_touched states.now list.now)) }
-    ensures refused { IfErr result (IsPlanRefusal states.now (sums.all_touched states.now list.now)) }
+    ensures refused { IfErr result
+        (IsPlanRefusal states.now (sums.all_touched states.now list.now)) }
 {
     check_kept(alloc, states, list)?;
     match least_unsafe(states, list) {
@@ -56,14 +60,15 @@ fn check(alloc: Global, states: &[SeatState], list: &[SeatShares]) -> Result<(),
 }
 
 /// A seat with what it had and what it has then.
-fn touched(alloc: Global, states: &[SeatState], seat: SeatShares) -> Result<Touched, SlotsFault>
+fn touched(alloc: Global, states: &SeatStates, seat: SeatShares) -> Result<Touched, SlotsFault>
     requires { AreApart seat.shares.items }
     ensures ok { IfOk result (λ touched. touched ≡ touched_of states.now seat) }
     ensures few { IfOk result (λ touched. length touched.after ≤ most_shares) }
-    ensures limit { IfErr result (λ fault. fault ≡ SlotsFault.Limit → most_shares < length seat.shares.items) }
+    ensures limit { IfErr result (λ fault.
+        fault ≡ SlotsFault.Limit → most_shares < length seat.shares.items) }
 {
     let after = allocation_of(alloc, seat.shares)?;
-    match allocation_copy(alloc, states, seat.seat) {
+    match states.allocation_copy(alloc, seat.seat) {
         Ok(before) => Ok(Touched {
             seat: seat.seat,
             before,
@@ -87,13 +92,14 @@ fn keep(all: &mut Vec<Touched>, one: Touched) -> Result<(), SlotsFault>
 /// All seats with what they had and what they have then, or `Limit` where one has over 64 slots.
 fn all_touched(
     alloc: Global,
-    states: &[SeatState],
+    states: &SeatStates,
     list: Vec<SeatShares>,
 ) -> Result<Vec<Touched>, SlotsFault>
     requires { All (λ s. AreApart s.shares.items) list.items }
     ensures ok { IfOk result (λ touched. touched.items ≡ sums.all_touched states.now list.items) }
     ensures few { IfOk result (λ touched. All (λ t. length t.after ≤ most_shares) touched.items) }
-    ensures limit { IfErr result (λ fault. fault ≡ SlotsFault.Limit → Any (λ t. most_shares < length t.after) (sums.all_touched states.now list.items)) }
+    ensures limit { IfErr result (λ fault. fault ≡ SlotsFault.Limit
+        → Any (λ t. most_shares < length t.after) (sums.all_touched states.now list.items)) }
 {
     let mut all = Vec::new(alloc);
     for seat in list {
@@ -106,18 +112,16 @@ fn all_touched(
 }
 
 /// The plan of a change that was worked, or the first test that it fails.
-pub fn plan_of(
-    alloc: Global,
-    states: &[SeatState],
-    list: Vec<SeatShares>,
-) -> Result<Plan, PlanFault>
+pub fn plan_of(alloc: Global, states: &SeatStates, list: Vec<SeatShares>) -> Result<Plan, PlanFault>
     requires apart { All (λ s. AreApart s.shares.items) list.items }
-    requires meets { All (λ s. IfSome (state_of states.now s.seat) (MeetProposal s.shares.items)) list.items }
+    requires meets { All (λ s. IfSome (state_of states.now s.seat) (MeetProposal s.shares.items))
+        list.items }
     ensures ok { IfOk result (λ plan. plan ≡ sums.all_touched states.now list.items) }
     ensures conserved { IfOk result AreConserved }
     ensures safe { IfOk result (AreSafe states.now) }
     ensures few { IfOk result (All (λ t. length t.after ≤ most_shares)) }
-    ensures refused { IfErr result (IsPlanRefusal states.now (sums.all_touched states.now list.items)) }
+    ensures refused { IfErr result
+        (IsPlanRefusal states.now (sums.all_touched states.now list.items)) }
 {
     check(alloc, states, list.as_slice())?;
     match all_touched(alloc, states, list) {

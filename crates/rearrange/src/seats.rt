@@ -1,13 +1,12 @@
 //! The tests over seats that come before any amount is looked at. Where several seats fail one, the least
 //! is shown.
 
-ghost use Rattle.std.specs.Prelude.{◌≡◌, Some, IfOk, IsPermutation, option_copied};
+ghost use Rattle.std.specs.Prelude.{◌≡◌, Some, IfOk, IsPermutation};
 ghost use Rattle.std.specs.List.Sorted.{IsNonDecreasing};
-ghost use Rattle.proposals.specs.Shares.{AreApart};
 ghost use Rattle.rearrange.specs.Seats as given;
 
 use crate::listed::{ascending, is_listed, is_repeated};
-use proposals::allocations::{Allocation, Share};
+use crate::seat_states::SeatStates;
 use proposals::plans::SeatState;
 use std::alloc::{AllocError, Global};
 
@@ -26,48 +25,18 @@ pub enum SeatsFault {
     StagedLeftOut(u32),
 }
 
-/// The state of a seat: the first that is given of it.
-pub fn state_of(states: &[SeatState], seat: u32) -> Option<&SeatState>
-    ensures { option_copied result ≡ given.state_of states.now seat }
-{
-    states.iter().find(|state| state.seat == seat)
-}
-
-/// What a seat has by its state: nothing where none is given of it.
-pub fn allocation_of(states: &[SeatState], seat: u32) -> &[Share]
-    ensures shares { result.now ≡ given.allocation_of states.now seat }
-    ensures apart { AreApart result.now }
-{
-    match state_of(states, seat) {
-        Some(state) => state.allocation.shares(),
-        None => &[],
-    }
-}
-
-/// A copy of what a seat has by its state.
-pub(crate) fn allocation_copy(
-    alloc: Global,
-    states: &[SeatState],
-    seat: u32,
-) -> Result<Allocation, AllocError>
-    ensures { IfOk result (λ copy. copy ≡ given.allocation_of states.now seat) }
-{
-    match state_of(states, seat) {
-        Some(state) => state.allocation.copy(alloc),
-        None => Ok(Allocation::new(alloc)),
-    }
-}
-
-fn is_foreign(instance: u32, states: &[SeatState], seat: u32) -> bool
+fn is_foreign(instance: u32, states: &SeatStates, seat: u32) -> bool
     ensures { result ≡ given.is_foreign instance states.now seat }
 {
-    state_of(states, seat).is_some_and(|state| state.instance != instance)
+    states
+        .get(seat)
+        .is_some_and(|state| state.instance != instance)
 }
 
-fn has_exited(states: &[SeatState], seat: u32) -> bool
+fn has_exited(states: &SeatStates, seat: u32) -> bool
     ensures { result ≡ given.has_exited states.now seat }
 {
-    state_of(states, seat).is_some_and(|state| !state.is_open)
+    states.get(seat).is_some_and(|state| !state.is_open)
 }
 
 /// Whether an open seat of the instance with staging isn't among the seats, which ascend.
@@ -92,7 +61,7 @@ pub(crate) fn lesser(least: Option<u32>, seat: u32) -> u32
 }
 
 #[tactic(auto, using(proposals::proofs::Leasts::least_of_three))]
-fn least_foreign(instance: u32, states: &[SeatState], seats: &[u32]) -> Option<u32>
+fn least_foreign(instance: u32, states: &SeatStates, seats: &[u32]) -> Option<u32>
     ensures { result ≡ given.least_such (given.is_foreign instance states.now) seats.now }
 {
     let mut least = None;
@@ -105,7 +74,7 @@ fn least_foreign(instance: u32, states: &[SeatState], seats: &[u32]) -> Option<u
 }
 
 #[tactic(auto, using(proposals::proofs::Leasts::least_of_three))]
-fn least_exited(states: &[SeatState], seats: &[u32]) -> Option<u32>
+fn least_exited(states: &SeatStates, seats: &[u32]) -> Option<u32>
     ensures { result ≡ given.least_such (given.has_exited states.now) seats.now }
 {
     let mut least = None;
@@ -142,12 +111,13 @@ fn least_repeated(seats: &[u32], sorted: &[u32]) -> Option<u32>
 
 /// The least of the seats that are left out of a list that ascends.
 #[tactic(auto, using(proposals::proofs::Leasts::least_of_three))]
-fn least_unlisted(instance: u32, states: &[SeatState], sorted: &[u32]) -> Option<u32>
+fn least_unlisted(instance: u32, states: &SeatStates, sorted: &[u32]) -> Option<u32>
     requires { IsNonDecreasing sorted.now }
-    ensures { result ≡ given.least (given.seats_such (given.is_left_out instance sorted.now) states.now) }
+    ensures { result
+        ≡ given.least (given.seats_such (given.is_left_out instance sorted.now) states.now) }
 {
     let mut least = None;
-    for state in states {
+    for state in states.as_slice() {
         if is_left_out(instance, sorted, state) {
             least = Some(lesser(least, state.seat));
         }
@@ -155,10 +125,11 @@ fn least_unlisted(instance: u32, states: &[SeatState], sorted: &[u32]) -> Option
     least
 }
 
-fn least_left_out(instance: u32, states: &[SeatState], seats: &[u32], sorted: &[u32]) -> Option<u32>
+fn least_left_out(instance: u32, states: &SeatStates, seats: &[u32], sorted: &[u32]) -> Option<u32>
     requires order { IsNonDecreasing sorted.now }
     requires same { IsPermutation seats.now sorted.now }
-    ensures { result ≡ given.least (given.seats_such (given.is_left_out instance seats.now) states.now) }
+    ensures { result
+        ≡ given.least (given.seats_such (given.is_left_out instance seats.now) states.now) }
 {
     least_unlisted(instance, states, sorted)
 }
@@ -167,7 +138,7 @@ fn least_left_out(instance: u32, states: &[SeatState], seats: &[u32], sorted: &[
 #[tactic(auto, unfolding(crate::specs::Seats::staged_refusal))]
 fn first_fault(
     instance: u32,
-    states: &[SeatState],
+    states: &SeatStates,
     seats: &[u32],
     sorted: &[u32],
 ) -> Option<SeatsFault>
@@ -197,10 +168,11 @@ fn first_fault(
 pub fn staged_refusal(
     alloc: Global,
     instance: u32,
-    states: &[SeatState],
+    states: &SeatStates,
     seats: &[u32],
 ) -> Result<Option<SeatsFault>, AllocError>
-    ensures { IfOk result (λ refusal. refusal ≡ given.staged_refusal instance states.now seats.now) }
+    ensures { IfOk result (λ refusal.
+        refusal ≡ given.staged_refusal instance states.now seats.now) }
 {
     let sorted = ascending(alloc, seats)?;
     Ok(first_fault(instance, states, seats, sorted.as_slice()))
@@ -209,7 +181,7 @@ pub fn staged_refusal(
 /// Why seats can't take part in transfers, if they can't: a seat of another instance, or one that has
 /// exited; in this order, over all seats, each with the least that qualifies.
 #[tactic(auto, unfolding(crate::specs::Seats::transfers_refusal))]
-pub fn transfers_refusal(instance: u32, states: &[SeatState], seats: &[u32]) -> Option<SeatsFault>
+pub fn transfers_refusal(instance: u32, states: &SeatStates, seats: &[u32]) -> Option<SeatsFault>
     ensures { result ≡ given.transfers_refusal instance states.now seats.now }
 {
     if let Some(seat) = least_foreign(instance, states, seats) {

@@ -8,19 +8,20 @@ ghost use Rattle.rearrange.specs.Staged.{IsOfOneBrand, IsStagedRefusal, shares_s
 ghost use Rattle.rearrange.specs.Sums.{AreConserved, all_touched, touched_of};
 
 use crate::plans::{PlanFault, plan_of};
-use crate::seats::{allocation_of, staged_refusal, state_of};
+use crate::seat_states::SeatStates;
+use crate::seats::staged_refusal;
 use crate::settled::settled;
 use crate::sums::SeatShares;
 use proposals::allocations::Share;
-use proposals::plans::{Plan, SeatState};
+use proposals::plans::Plan;
 use std::alloc::{AllocError, Global};
 
 /// A seat's staging, or where it has none what it has.
-fn shares_staged(states: &[SeatState], seat: u32) -> &[Share]
+fn shares_staged(states: &SeatStates, seat: u32) -> &[Share]
     ensures shares { result.now ≡ shares_staged states.now seat }
     ensures apart { AreApart result.now }
 {
-    match state_of(states, seat) {
+    match states.get(seat) {
         Some(state) => match &state.staged {
             Some(staged) => staged.shares(),
             None => state.allocation.shares(),
@@ -30,15 +31,17 @@ fn shares_staged(states: &[SeatState], seat: u32) -> &[Share]
 }
 
 /// A seat that takes over its staging.
-fn with_staging(alloc: Global, states: &[SeatState], seat: u32) -> Result<SeatShares, AllocError>
+fn with_staging(alloc: Global, states: &SeatStates, seat: u32) -> Result<SeatShares, AllocError>
     requires { All IsOfOneBrand states.now }
-    ensures ok { IfOk result (λ s. touched_of states.now s ≡ touched_with states.now seat (shares_staged states.now seat)) }
+    ensures ok { IfOk result (λ s. touched_of states.now s
+        ≡ touched_with states.now seat (shares_staged states.now seat)) }
     ensures apart { IfOk result (λ s. AreApart s.shares.items) }
-    ensures meets { IfOk result (λ s. IfSome (given.state_of states.now s.seat) (MeetProposal s.shares.items)) }
+    ensures meets { IfOk result (λ s.
+        IfSome (given.state_of states.now s.seat) (MeetProposal s.shares.items)) }
 {
     let shares = settled(
         alloc,
-        allocation_of(states, seat),
+        states.allocation_of(seat),
         shares_staged(states, seat),
     )?;
     Ok(SeatShares { seat, shares })
@@ -47,13 +50,15 @@ fn with_staging(alloc: Global, states: &[SeatState], seat: u32) -> Result<SeatSh
 /// The listed seats, each with its staging taken over.
 fn all_with_staging(
     alloc: Global,
-    states: &[SeatState],
+    states: &SeatStates,
     seats: &[u32],
 ) -> Result<Vec<SeatShares>, AllocError>
     requires { All IsOfOneBrand states.now }
-    ensures ok { IfOk result (λ list. all_touched states.now list.items ≡ staged_plan states.now seats.now) }
+    ensures ok { IfOk result (λ list.
+        all_touched states.now list.items ≡ staged_plan states.now seats.now) }
     ensures apart { IfOk result (λ list. All (λ s. AreApart s.shares.items) list.items) }
-    ensures meets { IfOk result (λ list. All (λ s. IfSome (given.state_of states.now s.seat) (MeetProposal s.shares.items)) list.items) }
+    ensures meets { IfOk result (λ list. All
+        (λ s. IfSome (given.state_of states.now s.seat) (MeetProposal s.shares.items)) list.items) }
 {
     let mut list = Vec::new(alloc);
     for seat in seats {
@@ -66,7 +71,7 @@ fn all_with_staging(
 fn check_seats(
     alloc: Global,
     instance: u32,
-    states: &[SeatState],
+    states: &SeatStates,
     seats: &[u32],
 ) -> Result<(), PlanFault>
     ensures ok { OnOk result (given.staged_refusal instance states.now seats.now ≡ None) }
@@ -87,7 +92,7 @@ fn check_seats(
 pub fn plan_staged(
     alloc: Global,
     instance: u32,
-    states: &[SeatState],
+    states: &SeatStates,
     seats: &[u32],
 ) -> Result<Plan, PlanFault>
     requires { All IsOfOneBrand states.now }

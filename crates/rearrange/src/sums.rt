@@ -7,11 +7,11 @@ ghost use Rattle.rearrange.specs.Seats as given;
 
 use crate::differences::add_unlike_shares;
 use crate::parts::{Part, Side, add_shares, first_uneven, sort};
-use crate::seats::allocation_of;
+use crate::seat_states::SeatStates;
 use proposals::allocations::Share;
-use proposals::plans::SeatState;
 use refusals::amount_math_lib::Key;
 use std::alloc::{AllocError, Global};
+use value_tests::wide_sums::WideSum;
 
 /// What a seat has while a change is worked. A list that passes the limit of slots is refused last.
 #[derive(Drop)]
@@ -26,27 +26,28 @@ pub struct SeatShares {
 pub struct Unkept {
     pub brand: u16,
     pub element: Key,
-    pub before: u128,
-    pub after: u128,
+    pub before: WideSum,
+    pub after: WideSum,
 }
 
 /// What a seat has before and after.
 fn add_seat(
     alloc: Global,
     parts: &mut Vec<Part>,
-    states: &[SeatState],
+    states: &SeatStates,
     seat: &SeatShares,
 ) -> Result<(), AllocError>
-    ensures { OnOk result (HaveSeat parts.old.items (touched_of states.now seat.now) parts.new.items) }
+    ensures { OnOk result
+        (HaveSeat parts.old.items (touched_of states.now seat.now) parts.new.items) }
 {
-    add_shares(alloc, parts, Side::Before, allocation_of(states, seat.seat))?;
+    add_shares(alloc, parts, Side::Before, states.allocation_of(seat.seat))?;
     add_shares(alloc, parts, Side::After, seat.shares.as_slice())
 }
 
 /// What the seats have before and after.
 fn parts_of(
     alloc: Global,
-    states: &[SeatState],
+    states: &SeatStates,
     list: &[SeatShares],
 ) -> Result<Vec<Part>, AllocError>
     ensures { IfOk result (λ parts. HaveAll [] (all_touched states.now list.now) parts.items) }
@@ -62,7 +63,7 @@ fn parts_of(
 fn add_unlike_seat(
     alloc: Global,
     parts: &mut Vec<Part>,
-    states: &[SeatState],
+    states: &SeatStates,
     seat: &SeatShares,
 ) -> Result<(), AllocError>
     ensures { OnOk result (HaveShares (given.allocation_of states.now seat.now.seat)
@@ -71,7 +72,7 @@ fn add_unlike_seat(
     add_unlike_shares(
         alloc,
         parts,
-        allocation_of(states, seat.seat),
+        states.allocation_of(seat.seat),
         seat.shares.as_slice(),
     )
 }
@@ -79,7 +80,7 @@ fn add_unlike_seat(
 /// What the seats have before and after, but entries that two shares at one place have alike.
 fn unlike_parts_of(
     alloc: Global,
-    states: &[SeatState],
+    states: &SeatStates,
     list: &[SeatShares],
 ) -> Result<Vec<Part>, AllocError>
     ensures { IfOk result (λ parts. HaveTouched (all_touched states.now list.now) [] parts.items) }
@@ -96,7 +97,7 @@ fn unlike_parts_of(
 /// added up.
 fn are_conserved(
     alloc: Global,
-    states: &[SeatState],
+    states: &SeatStates,
     list: &[SeatShares],
 ) -> Result<bool, AllocError>
     ensures { IfOk result (λ conserved. IsTrue conserved
@@ -112,10 +113,12 @@ fn are_conserved(
 /// after as before, if there is one. Both sides are added up whole only where there is one.
 pub fn first_unkept(
     alloc: Global,
-    states: &[SeatState],
+    states: &SeatStates,
     list: &[SeatShares],
 ) -> Result<Option<Unkept>, AllocError>
-    ensures { IfOk result (λ found. MatchOption found (AreConserved (all_touched states.now list.now)) (IsFirstUnkept (all_touched states.now list.now))) }
+    ensures { IfOk result (λ found. MatchOption found
+        (AreConserved (all_touched states.now list.now))
+        (IsFirstUnkept (all_touched states.now list.now))) }
 {
     let conserved = are_conserved(alloc, states, list)?;
     if conserved {

@@ -30,7 +30,9 @@ use Rattle.rules.specs.Rearranging.{Asked, Parts, SeatShare, asked_in, gains_of,
 use Rattle.share_transfers.specs.Brands.{wrong_at}
 use Rattle.share_transfers.specs.Reading.{share_tests, transfers_at}
 use Rattle.share_transfers.specs.Views.{keywords_of}
+use Rattle.rearrange_calls.proofs.SameStates.{part_same, slots_same}
 use Rattle.rearrange_calls.proofs.Seated.{are_parts, seats_of}
+use Rattle.rearrange_calls.specs.Given.{AreStatesFor}
 use Rattle.rearrange_calls.specs.Steps.{AreFromData}
 use Rattle.rules.specs.world_state.Worlds.{IsOpen, State}
 
@@ -133,7 +135,7 @@ same_read w i seats list input named part = by (read_all asked_in list) refl
         ap (λ (l : List ℕ). are_keywords (keywords_of shares) >> (none_such (least l) wrong_brand >> transfers_of read)) (wrong_same w i seats part [] shares all)
         ∙ assoc (are_keywords (keywords_of shares)) (λ _. none_such (least (wrong_at (issuers_of w i) (given.allocation_of (states_for w seats)) [] shares)) wrong_brand) (λ _. transfers_of read)
 
-pub read_same : (w : State) (i : ℕ) (states : List SeatState) (seats : List ℕ) (list : List Parts) → AreFromData w list → seats_of list ≡ Some seats → states ≡ states_for w seats → can_take_part i states seats ≡ Ok tt → transfers_in w i list ≡ transfers_at (issuers_of w i) (given.allocation_of states) list
+pub read_same : (w : State) (i : ℕ) (states : List SeatState) (seats : List ℕ) (list : List Parts) → AreFromData w list → seats_of list ≡ Some seats → AreStatesFor w seats states → can_take_part i states seats ≡ Ok tt → transfers_in w i list ≡ transfers_at (issuers_of w i) (given.allocation_of states) list
 read_same w i states seats list input named are part =
-    same_read w i seats list input named (subst (λ (ss : List SeatState). can_take_part i ss seats ≡ Ok tt) are part)
-    ∙ ap (λ (ss : List SeatState). transfers_at (issuers_of w i) (given.allocation_of ss) list) (sym are)
+    same_read w i seats list input named (sym (part_same states (states_for w seats) are i seats) ∙ part)
+    ∙ ap (λ (has : ℕ → List Share). transfers_at (issuers_of w i) has list) (sym (slots_same states (states_for w seats) are))

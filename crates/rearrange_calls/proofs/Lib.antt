@@ -6,6 +6,8 @@ pub mod Unstaged
 pub mod Least
 pub mod SeatsNamed
 pub mod SameChanges
+pub mod SameStates
+pub mod Once
 pub mod ReallocationStates
 pub mod SettledShares
 pub mod StateFacts

@@ -4,7 +4,7 @@ use Rattle.std.specs.List.{All, AllByRecursion, IsDistinct, list_any}
 use Rattle.std.specs.Option.{option_map_or}
 use Rattle.std.proofs.Common.{◌≡◌, ◌≢◌, ℕ, ◌<◌, ◌≤◌, Bool, true, false, eqb, List, [], ◌∷◌, ◌++◌, length, Option, Some, None, Ok, Err, Result, IfOk, inl, inr, refl, sym, ap, subst, ◌∙◌, arith}
 use Rattle.std.proofs.lemmas.Bool.{eqb-true, false≢true, ne_eqb}
-use Rattle.std.proofs.lemmas.List.Elements.{All-from_recursion}
+use Rattle.std.proofs.lemmas.List.Elements.{All-from_recursion, All-weaker}
 use Rattle.std.proofs.lemmas.Map.Keys.{IsDistinct-cons}
 use Rattle.std.proofs.lemmas.Map.Steps.{length-le_from_distinct_below}
 use Rattle.refusals.specs.amount_math.Amount.{Meet}
@@ -30,6 +30,7 @@ use Rattle.rearrange.specs.Seats as given
 use Rattle.rearrange.specs.Seats.{seats_named}
 use Rattle.rearrange.specs.Staged.{shares_of, touched_with}
 use Rattle.rearrange.specs.Transfers.{HasOneBrand, amounts_for, gains_of, once, transfers_plan, worked}
+use Rattle.rearrange_calls.specs.Given.{AreStatesFor}
 use Rattle.rearrange_calls.specs.Passed.{ArePassed}
 use Rattle.rearrange_calls.specs.Met.{IsMet}
 use Rattle.refusals.proofs.Steps.{after_none_such, after_wanted, ok_has}
@@ -39,6 +40,7 @@ use Rattle.share_transfers.specs.declared.values.ShareTransfer.{ShareTransfer}
 use Rattle.rearrange_calls.proofs.Brands.{found_state, open_at, slots_at}
 use Rattle.rearrange_calls.proofs.OneBrand.{agree_all, given_agree, given_read, one_brand}
 use Rattle.rearrange_calls.proofs.Seated.{are_parts, seats_of}
+use Rattle.rearrange_calls.proofs.SameStates.{one_brand_same, part_same, slots_same}
 use Rattle.rearrange_calls.proofs.SettledShares.{settled_meet}
 use Rattle.rearrange_calls.specs.Steps.{AreFromData}
 use Rattle.share_transfers.proofs.world_laws.Lists.{all_map}
@@ -130,12 +132,12 @@ at_each P (m ∷ ms) n all (inr rest) = at_each P ms n all.1 rest
 
 -- ---- one brand
 
-module _ (w : State) (good : IsGoodWorld w) (i : ℕ) (states : List SeatState) (ns : List ℕ) (parts : List Parts) (input : AreFromData w parts) (named : seats_of parts ≡ Some ns) (are : states ≡ states_for w ns) (part : can_take_part i states ns ≡ Ok tt) (list : List Transfer) (reads : transfers_in w i parts ≡ Ok list) where
+module _ (w : State) (good : IsGoodWorld w) (i : ℕ) (states : List SeatState) (ns : List ℕ) (parts : List Parts) (input : AreFromData w parts) (named : seats_of parts ≡ Some ns) (are : AreStatesFor w ns states) (part : can_take_part i states ns ≡ Ok tt) (list : List Transfer) (reads : transfers_in w i parts ≡ Ok list) where
   own : AllByRecursion (IsSeatOf w.seats input.caller) ns
   own = seats_own w input.caller parts ns (are_parts w parts input) named
 
   part_at : can_take_part i (states_for w ns) ns ≡ Ok tt
-  part_at = subst (λ (ss : List SeatState). can_take_part i ss ns ≡ Ok tt) are part
+  part_at = sym (part_same states (states_for w ns) are i ns) ∙ part
 
   transfers : AreMovements w parts list
   transfers = ok_has _ _ list reads (transfers_are w i input.caller parts (are_parts w parts input))
@@ -173,7 +175,7 @@ module _ (w : State) (good : IsGoodWorld w) (i : ℕ) (states : List SeatState) 
 
   pub one_brands : All (HasOneBrand states list) (seats_named list)
   one_brands =
-      subst (λ (ss : List SeatState). All (HasOneBrand ss list) (seats_named list)) (sym are)
+      All-weaker (HasOneBrand (states_for w ns) list) (HasOneBrand states list) (one_brand_same states (states_for w ns) are list) (seats_named list)
       (subst (All (HasOneBrand (states_for w ns) list)) (sym names)
       (All-from_recursion (HasOneBrand (states_for w ns) list) ns
       (all_map (λ n. Named n ns) (HasOneBrand (states_for w ns) list) one_at ns (all_named ns ns (λ n there. there)))))
@@ -189,7 +191,7 @@ module _ (w : State) (good : IsGoodWorld w) (i : ℕ) (states : List SeatState) 
       once_all (λ n. IsMet (touched_with states n (worked (given.allocation_of states) list n))) (seats_named list)
       (subst (AllByRecursion (λ n. IsMet (touched_with states n (worked (given.allocation_of states) list n)))) (sym names)
       (all_map (λ n. Named n ns) (λ n. IsMet (touched_with states n (worked (given.allocation_of states) list n)))
-      (λ n there. settled_meet (given.allocation_of states n) (worked (given.allocation_of states) list n) (subst (λ (ss : List SeatState). shares.AreApart (given.allocation_of ss n)) (sym are) (slots_apart n there)))
+      (λ n there. settled_meet (given.allocation_of states n) (worked (given.allocation_of states) list n) (subst (λ (has : ℕ → List Share). shares.AreApart (has n)) (sym (slots_same states (states_for w ns) are)) (slots_apart n there)))
       ns (all_named ns ns (λ n there. there))))
 
   pub plan_passed : (touched : List Touched) (made : ℕ) → touched ≡ transfers_plan states list → All (λ t. length t.after ≤ most_shares) touched → made ≡ length w.seats → made < 2 ^ 32 → ArePassed touched

@@ -10,18 +10,21 @@ ghost use Rattle.world_reads.specs.host_world.Worlds.{world_of};
 ghost use Rattle.host_data.specs.Tree.{null};
 ghost use Rattle.host_data.specs.View.{trees};
 ghost use Rattle.host_data.specs.declared.data.ObjKind.TheVariants as kinds;
+ghost use Rattle.rearrange_calls.specs.Given.{AreStatesFor};
 ghost use Rattle.rearrange_calls.specs.Passed.{ArePassed};
-ghost use Rattle.refusals.specs.Outcomes.{Gives};
+ghost use Rattle.rearrange.specs.TestedPlans.{can_take_part};
+ghost use Rattle.refusals.specs.Outcomes.{Gives, bind};
 ghost use Rattle.rules.specs.Zcf.{atomic_rearrange};
 ghost use Rattle.rules.specs.Rearranging.{carried_out, seat_trees};
 ghost use Rattle.share_transfers.specs.Views.{parts_views};
-ghost use Rattle.rearrange_calls.specs.Steps.{AreFromData, carried, moved, parts_at, seats_moved, tested};
+ghost use Rattle.rearrange_calls.specs.Steps.{AreFromData, carried, changed, moved, parts_at, seats_moved, tested};
 ghost use Rattle.rules.specs.world_state.Good.{IsGoodWorld};
 
 use crate::rearrangement_effects::{check_room, rearrange_effects};
 use crate::transfer_changes::changes;
 use crate::transfer_states::{check_part, states_for};
 use host_data::data::Data;
+use rearrange::seat_states::SeatStates;
 use refusals::stops::Stop;
 use rules::call_arguments_lib::places::list_at;
 use rules::proposals_lib::plans::{self, Touched};
@@ -64,8 +67,31 @@ fn plan_with_room(alloc: Global, world: &World, touched: &[Touched]) -> Result<C
     Ok(effects_plan(alloc, touched)?)
 }
 
-/// What the transfers come to between their seats: `WrongInstance`, `SeatExited`, then the tests of the changes.
-#[tactic(auto, unfolding(crate::specs::Steps::tested, refusals::specs::Outcomes::bind))]
+/// What the transfers come to between seats in these states: `WrongInstance`, `SeatExited`, then the tests of the changes.
+#[tactic(auto, unfolding(refusals::specs::Outcomes::bind))]
+fn changes_between(
+    alloc: Global,
+    world: &World,
+    instance: u32,
+    states: &SeatStates,
+    seats: &[u32],
+    list: &[GivenParts],
+) -> Result<plans::Plan, Stop>
+    requires good { IsGoodWorld (world_of world.now) }
+    requires hosted { instance < length (world_of world.now).tables.instances }
+    requires source { AreFromData (world_of world.now) (parts_views list.now) }
+    requires named { read_all (object_in kinds.Zseat) (seat_trees (parts_views list.now))
+        ≡ Some seats.now }
+    requires states { AreStatesFor (world_of world.now) seats.now states.now }
+    ensures gives { Gives (λ plan. plan) result (bind (can_take_part instance states.now seats.now)
+        (λ _. changed (world_of world.now) instance seats.now (parts_views list.now))) }
+    ensures passed { IfOk result ArePassed }
+{
+    check_part(instance, states, seats)?;
+    changes(alloc, world, instance, states, seats, list)
+}
+
+/// What the transfers come to between their seats, whose states are made once each.
 fn tested_changes(
     alloc: Global,
     world: &World,
@@ -84,8 +110,7 @@ fn tested_changes(
     ensures passed { IfOk result ArePassed }
 {
     let states = states_for(alloc, world, seats)?;
-    check_part(instance, states.as_slice(), seats)?;
-    changes(alloc, world, instance, states.as_slice(), seats, list)
+    changes_between(alloc, world, instance, &states, seats, list)
 }
 
 /// The plan that moves what the transfers say between their seats.
@@ -103,7 +128,8 @@ fn transfers_plan(
     requires named { read_all (object_in kinds.Zseat) (seat_trees (parts_views list.now))
         ≡ Some seats.now }
     requires made { All (λ n. n < length (world_of world.now).seats) seats.now }
-    ensures { GivesOutcome (moved (world_of world.now) instance seats.now (parts_views list.now)) result }
+    ensures { GivesOutcome (moved (world_of world.now) instance seats.now (parts_views list.now))
+        result }
 {
     let plan = tested_changes(alloc, world, instance, seats, list)?;
     plan_with_room(alloc, world, plan.touched())
@@ -120,7 +146,8 @@ fn plan_for_seats(
     requires good { IsGoodWorld (world_of world.now) }
     requires hosted { instance < length (world_of world.now).tables.instances }
     requires source { AreFromData (world_of world.now) (parts_views list.now) }
-    ensures { GivesOutcome (seats_moved (world_of world.now) instance (parts_views list.now)) result }
+    ensures { GivesOutcome (seats_moved (world_of world.now) instance (parts_views list.now))
+        result }
 {
     let seats = seats_named(alloc, list)?;
     transfers_plan(alloc, world, instance, seats.as_slice(), list)
@@ -138,7 +165,8 @@ pub fn atomic_rearrange(
     requires good { IsGoodWorld (world_of world.now) }
     requires hosted { instance < length (world_of world.now).tables.instances }
     requires known { AreKnown (world_of world.now) (trees args.now) }
-    ensures { GivesOutcome (atomic_rearrange (world_of world.now) instance (trees args.now)) result }
+    ensures { GivesOutcome (atomic_rearrange (world_of world.now) instance (trees args.now))
+        result }
 {
     runs(world, instance)?;
     let list = parts_at(alloc, args)?;

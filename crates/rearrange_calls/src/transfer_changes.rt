@@ -7,17 +7,19 @@ ghost use Rattle.world_reads.specs.host_world.Worlds.{world_of};
 ghost use Rattle.host_data.specs.declared.data.ObjKind.TheVariants as kinds;
 ghost use Rattle.rearrange.specs.TestedPlans.{can_take_part, transfer_changes};
 ghost use Rattle.rearrange.specs.Transfers.{transfers_plan};
+ghost use Rattle.rearrange_calls.specs.Given.{AreStatesFor};
 ghost use Rattle.rearrange_calls.specs.Passed.{ArePassed};
 ghost use Rattle.refusals.specs.Outcomes.{Gives};
 ghost use Rattle.rules.specs.Given.{issuers_of};
-ghost use Rattle.rules.specs.Rearranging.{seat_trees, states_for, transfers_in};
+ghost use Rattle.rules.specs.Rearranging.{seat_trees, transfers_in};
 ghost use Rattle.share_transfers.specs.Views.{parts_views, transfer_views};
 ghost use Rattle.rearrange_calls.specs.Steps.{AreFromData, changed};
 ghost use Rattle.rules.specs.world_state.Good.{IsGoodWorld};
 
+use rearrange::seat_states::SeatStates;
 use refusals::stops::Stop;
 use rules::brands_lib::issuer_record::Issuer;
-use rules::proposals_lib::plans::{Plan, SeatState};
+use rules::proposals_lib::plans::Plan;
 use share_transfers::given_transfers::transfers_at;
 use share_transfers::parts::GivenParts;
 use share_transfers::transfers::plan_transfers;
@@ -39,7 +41,7 @@ fn transfers_in(
     alloc: Global,
     world: &World,
     instance: u32,
-    states: &[SeatState],
+    states: &SeatStates,
     seats: &[u32],
     list: &[GivenParts],
 ) -> Result<Vec<ShareTransfer>, Stop>
@@ -47,7 +49,7 @@ fn transfers_in(
     requires source { AreFromData (world_of world.now) (parts_views list.now) }
     requires named { read_all (object_in kinds.Zseat) (seat_trees (parts_views list.now))
         ≡ Some seats.now }
-    requires states { states.now ≡ states_for (world_of world.now) seats.now }
+    requires states { AreStatesFor (world_of world.now) seats.now states.now }
     requires part { can_take_part instance states.now seats.now ≡ Ok tt }
     ensures { Gives (λ list. transfer_views list.items) result
         (transfers_in (world_of world.now) instance (parts_views list.now)) }
@@ -62,7 +64,7 @@ pub fn changes(
     alloc: Global,
     world: &World,
     instance: u32,
-    states: &[SeatState],
+    states: &SeatStates,
     seats: &[u32],
     list: &[GivenParts],
 ) -> Result<Plan, Stop>
@@ -71,7 +73,7 @@ pub fn changes(
     requires source { AreFromData (world_of world.now) (parts_views list.now) }
     requires named { read_all (object_in kinds.Zseat) (seat_trees (parts_views list.now))
         ≡ Some seats.now }
-    requires states { states.now ≡ states_for (world_of world.now) seats.now }
+    requires states { AreStatesFor (world_of world.now) seats.now states.now }
     requires part { can_take_part instance states.now seats.now ≡ Ok tt }
     ensures gives { Gives (λ plan. plan) result
         (changed (world_of world.now) instance seats.now (parts_views list.now)) }

@@ -4,6 +4,7 @@ ghost use Rattle.std.specs.Prelude.{◌≡◌, ◌++◌, ◌∷◌, [], All, IfS
 ghost use Rattle.seat_tests.specs.Brands.{AreOfTheirBrands, HasBrands, brand_of, kind_of};
 
 use rearrange::plans::PlanFault;
+use rearrange::seat_states::SeatStates;
 use rearrange::seats::SeatsFault;
 use seats::amount_math_lib::{Amount, Key, Kind, NAT_BOUND, Value};
 use seats::host_text_lib::keyword::Keyword;
@@ -120,15 +121,15 @@ pub enum Said {
     RepeatedSeat(u32),
     SeatExited(u32),
     StagedLeftOut(u32),
-    /// The brand, and how many there are before and after.
-    NotConserved(u16, u128, u128),
+    /// The brand, and how many there are before and after, as it is shown.
+    NotConserved(u16, i128, i128),
     NotOfferSafe(u32),
     Limit,
     Other,
 }
 
 /// The most units of a value.
-pub const MOST: u128 = (1 << 63) - 1;
+pub const MOST: u128 = (1 << 120) - 1;
 
 fn brand_of(keyword: &Keyword) -> u16
     ensures { result ≡ brand_of keyword.now }
@@ -246,19 +247,21 @@ fn state(rt: &impl Abort, alloc: Global, given: &Given) -> SeatState
     }
 }
 
-/// Adds a seat's state behind the others.
-fn add_state(rt: &impl Abort, states: &mut Vec<SeatState>, state: SeatState)
-    ensures { states.new.items ≡ states.old.items ++ state ∷ [] }
+/// Adds the state of a seat above the others.
+fn add_state(rt: &impl Abort, states: &mut SeatStates, state: SeatState)
+    ensures { states.new ≡ states.old ++ state ∷ [] }
 {
+    assert!(rt; states.can_push(state.seat));
     if let Err(_failed) = states.push(state) {
         panic!(rt; "memory for a seat");
     }
 }
 
-pub fn states(rt: &impl Abort, alloc: Global, all: &[Given]) -> Vec<SeatState>
-    ensures { All HasBrands result.items }
+/// What seats are, of which each is above those before it.
+pub fn states(rt: &impl Abort, alloc: Global, all: &[Given]) -> SeatStates
+    ensures { All HasBrands result }
 {
-    let mut states = Vec::new(alloc);
+    let mut states = SeatStates::new(alloc);
     for given in all {
         add_state(rt, &mut states, state(rt, alloc, given));
     }
@@ -305,7 +308,9 @@ pub fn of_seats(fault: SeatsFault) -> Said {
 fn of_fault(fault: &PlanFault) -> Said {
     match fault {
         PlanFault::Seats(fault) => of_seats(*fault),
-        PlanFault::NotConserved(kept) => Said::NotConserved(kept.brand, kept.before, kept.after),
+        PlanFault::NotConserved(kept) => {
+            Said::NotConserved(kept.brand, kept.before.shown(), kept.after.shown())
+        }
         PlanFault::NotOfferSafe(seat) => Said::NotOfferSafe(*seat),
         PlanFault::Limit => Said::Limit,
         _ => Said::Other,

@@ -4,8 +4,8 @@ ghost use Rattle.std.specs.Prelude.{All};
 ghost use Rattle.seat_tests.specs.Brands.{HasBrands};
 
 use crate::parts::{FULL, Given, OPEN, Said, Shares, states, told};
+use rearrange::seat_states::SeatStates;
 use rearrange::staged::plan_staged;
-use seats::proposals_lib::plans::SeatState;
 use std::alloc::Global;
 use std::process::Abort;
 
@@ -19,7 +19,7 @@ struct Case {
 }
 
 /// What is told of the plan of a case.
-fn plan(alloc: Global, states: &[SeatState], case: &Case) -> Said
+fn plan(alloc: Global, states: &SeatStates, case: &Case) -> Said
     requires { All HasBrands states.now }
 {
     told(plan_staged(alloc, 1, states, case.listed), case.after)
@@ -27,7 +27,7 @@ fn plan(alloc: Global, states: &[SeatState], case: &Case) -> Said
 
 fn reallocated(rt: &impl Abort, alloc: Global, case: &Case) -> Said {
     let states = states(rt, alloc, case.seats);
-    plan(alloc, states.as_slice(), case)
+    plan(alloc, &states, case)
 }
 
 /// Gave Asset 3, wants Price 7 and is to have it.
@@ -129,11 +129,11 @@ const REFUSED: &[Case] = &[
     // As much is to be there as before, but of another brand.
     Case {
         seats: &[
-            UNSTAGED,
             Given {
                 staged: Some(&[("Asset", 4), ("Price", 3)]),
                 ..BOB
             },
+            UNSTAGED,
         ],
         listed: &[1, 2],
         after: &[],
@@ -160,12 +160,12 @@ const REFUSED: &[Case] = &[
     Case {
         seats: &[
             Given {
-                staged: Some(&[("Zoe", 1)]),
-                ..FULL
-            },
-            Given {
                 staged: Some(&[("X", 3)]),
                 ..UNSTAGED
+            },
+            Given {
+                staged: Some(&[("Zoe", 1)]),
+                ..FULL
             },
         ],
         listed: &[5, 2],

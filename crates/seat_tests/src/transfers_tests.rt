@@ -15,7 +15,7 @@ struct Case {
 
 fn said(rt: &impl Abort, alloc: Global, case: &Case) -> Said {
     let states = states(rt, alloc, case.seats);
-    match transfers_refusal(1, states.as_slice(), case.named) {
+    match transfers_refusal(1, &states, case.named) {
         Some(fault) => of_seats(fault),
         None => Said::Planned,
     }

@@ -19,6 +19,9 @@ module _ (shares : List GivenSeatShare) (i : ℕ) (r : GivenSeatShare) (lt : i <
   taken : take (i + 1) shares ≡ take i shares ++ r ∷ []
   taken = take_more shares i r lt ∙ ap (λ x. take i shares ++ x ∷ []) (sym is)
 
+  pub seen_next : seat_shares (take i shares) ++ seat_share r ∷ [] ≡ seat_shares (take (i + 1) shares)
+  seen_next = sym (ap seat_shares taken ∙ map-append seat_share (take i shares) (r ∷ []))
+
   pub brands_more : All HasBrand (take i shares) → HasBrand r → All HasBrand (take (i + 1) shares)
   brands_more all here = subst (All HasBrand) (sym taken) (All-append HasBrand (take i shares) (r ∷ []) all (All-cons HasBrand r [] here (All-nil HasBrand)))
 
@@ -32,9 +35,8 @@ module _ (shares : List GivenSeatShare) (i : ℕ) (r : GivenSeatShare) (lt : i <
     step : here ≡ cond (is_wrong_at issuers had (seat_shares (take i shares)) (seat_share r)) (r.share.amount.brand ∷ rest) rest
     step =
         let next : drop i shares ≡ r ∷ drop (i + 1) shares = drop_more shares i r lt ∙ ap (λ x. x ∷ drop (i + 1) shares) (sym is) in
-        let longer : seat_shares (take i shares) ++ seat_share r ∷ [] ≡ seat_shares (take (i + 1) shares) = sym (ap seat_shares taken ∙ map-append seat_share (take i shares) (r ∷ [])) in
         ap (λ xs. wrong_at issuers had (seat_shares (take i shares)) (seat_shares xs)) next
-        ∙ ap (λ before. cond (is_wrong_at issuers had (seat_shares (take i shares)) (seat_share r)) (r.share.amount.brand ∷ wrong_at issuers had before (seat_shares (drop (i + 1) shares))) (wrong_at issuers had before (seat_shares (drop (i + 1) shares)))) longer
+        ∙ ap (λ before. cond (is_wrong_at issuers had (seat_shares (take i shares)) (seat_share r)) (r.share.amount.brand ∷ wrong_at issuers had before (seat_shares (drop (i + 1) shares))) (wrong_at issuers had before (seat_shares (drop (i + 1) shares)))) seen_next
 
     pub wrong_more : (o now : Option ℕ) → now ≡ least_of o (Some r.share.amount.brand) → true ≡ is_wrong_at issuers had (seat_shares (take i shares)) (seat_share r) → least_of now (least rest) ≡ least_of o (least here)
     wrong_more o now at wrong =

@@ -1,5 +1,7 @@
 pub mod Views
 pub mod Brands
+pub mod BrandsSeen
+pub mod Changed
 pub mod Fine
 pub mod Reading
 pub mod Tests

@@ -9,15 +9,15 @@ ghost use Rattle.rearrange.specs.Seats as given;
 ghost use Rattle.rearrange.specs.Transfers as lists;
 ghost use Rattle.rearrange.specs.Working as copies;
 ghost use Rattle.refusals.specs.Outcomes.{Gives};
+ghost use Rattle.share_transfers.specs.Changed.{changed_seats, shares_on};
 ghost use Rattle.share_transfers.specs.Tests.{can_move};
 ghost use Rattle.share_transfers.specs.Views.{transfer_view, transfer_views};
 
 use crate::slots::{slots_less, slots_more};
 use crate::values::ShareTransfer;
-use crate::working_copy::{put_shares, shares_now};
+use crate::working_copy::WorkingCopy;
 use call_arguments::proposals_lib::allocations::Share;
-use call_arguments::proposals_lib::plans::SeatState;
-use rearrange::sums::SeatShares;
+use rearrange::seat_states::SeatStates;
 use refusals::stops::Stop;
 use std::alloc::Global;
 
@@ -45,25 +45,24 @@ fn gains_of(transfer: &ShareTransfer) -> &[Share]
 #[tactic(auto, using(crate::proofs::Worked::loses_as, crate::proofs::Worked::loses_none))]
 fn take(
     alloc: Global,
-    states: &[SeatState],
-    list: &mut Vec<SeatShares>,
+    states: &SeatStates,
+    copy: &mut WorkingCopy,
     transfer: &ShareTransfer,
 ) -> Result<(), Stop>
-    requires apart { All (λ s. AreApart s.shares.items) list.old.items }
+    requires apart { All (λ s. AreApart s.shares.items) (changed_seats copy.old) }
     requires meet { IfSome transfer.now.from (λ seat. MeetSlots
-        (copies.shares_now states.now list.old.items seat)
-        (lists.losses_of (transfer_view transfer.now))) }
+        (shares_on states.now copy.old seat) (lists.losses_of (transfer_view transfer.now))) }
     ensures gives { Gives (λ _. tt) result
-        (can_lose (copies.shares_now states.now list.old.items) (transfer_view transfer.now)) }
-    ensures ok { OnOk result (copies.shares_now states.now list.new.items
-        ≡ lists.lowered_by (copies.shares_now states.now list.old.items) (transfer_view transfer.now)) }
-    ensures apart { OnOk result (All (λ s. AreApart s.shares.items) list.new.items) }
+        (can_lose (shares_on states.now copy.old) (transfer_view transfer.now)) }
+    ensures ok { OnOk result (shares_on states.now copy.new
+        ≡ lists.lowered_by (shares_on states.now copy.old) (transfer_view transfer.now)) }
+    ensures apart { OnOk result (All (λ s. AreApart s.shares.items) (changed_seats copy.new)) }
 {
     let Some(seat) = transfer.from else {
         return Ok(());
     };
-    let shares = slots_less(alloc, shares_now(states, list, seat), losses_of(transfer))?;
-    put_shares(list, seat, shares)?;
+    let shares = slots_less(alloc, copy.shares(states, seat), losses_of(transfer))?;
+    copy.put(seat, shares)?;
     Ok(())
 }
 
@@ -71,28 +70,28 @@ fn take(
 #[tactic(auto, using(crate::proofs::Worked::gains_as, crate::proofs::Worked::gains_none))]
 fn give(
     alloc: Global,
-    states: &[SeatState],
-    list: &mut Vec<SeatShares>,
+    states: &SeatStates,
+    copy: &mut WorkingCopy,
     transfer: &ShareTransfer,
 ) -> Result<(), Stop>
-    requires apart { All (λ s. AreApart s.shares.items) list.old.items }
+    requires apart { All (λ s. AreApart s.shares.items) (changed_seats copy.old) }
     requires given { IfSome transfer.now.to
         (λ _. AreApart (lists.gains_of (transfer_view transfer.now))) }
     requires meet { IfSome transfer.now.to (λ seat. MeetSlots
-        (copies.shares_now states.now list.old.items seat)
+        (shares_on states.now copy.old seat)
         (lists.gains_of (transfer_view transfer.now))) }
     ensures gives { Gives (λ _. tt) result (passes_at transfer.now.to (λ seat. can_give
-        (copies.shares_now states.now list.old.items seat)
+        (shares_on states.now copy.old seat)
         (lists.gains_of (transfer_view transfer.now)))) }
-    ensures ok { OnOk result (copies.shares_now states.now list.new.items
-        ≡ copies.raised_by (copies.shares_now states.now list.old.items) (transfer_view transfer.now)) }
-    ensures apart { OnOk result (All (λ s. AreApart s.shares.items) list.new.items) }
+    ensures ok { OnOk result (shares_on states.now copy.new
+        ≡ copies.raised_by (shares_on states.now copy.old) (transfer_view transfer.now)) }
+    ensures apart { OnOk result (All (λ s. AreApart s.shares.items) (changed_seats copy.new)) }
 {
     let Some(seat) = transfer.to else {
         return Ok(());
     };
-    let shares = slots_more(alloc, shares_now(states, list, seat), gains_of(transfer))?;
-    put_shares(list, seat, shares)?;
+    let shares = slots_more(alloc, copy.shares(states, seat), gains_of(transfer))?;
+    copy.put(seat, shares)?;
     Ok(())
 }
 
@@ -100,42 +99,42 @@ fn give(
 #[tactic(auto, unfolding(refusals::specs::Outcomes::bind))]
 fn work(
     alloc: Global,
-    states: &[SeatState],
-    list: &mut Vec<SeatShares>,
+    states: &SeatStates,
+    copy: &mut WorkingCopy,
     transfer: &ShareTransfer,
 ) -> Result<(), Stop>
-    requires apart { All (λ s. AreApart s.shares.items) list.old.items }
+    requires apart { All (λ s. AreApart s.shares.items) (changed_seats copy.old) }
     requires given { IfSome transfer.now.to
         (λ _. AreApart (lists.gains_of (transfer_view transfer.now))) }
-    requires meet { copies.CanMeet (copies.shares_now states.now list.old.items)
+    requires meet { copies.CanMeet (shares_on states.now copy.old)
         (transfer_view transfer.now) }
     ensures gives { Gives (λ _. tt) result
-        (can_move (copies.shares_now states.now list.old.items) (transfer_view transfer.now)) }
-    ensures ok { OnOk result (copies.shares_now states.now list.new.items
-        ≡ lists.worked_by (copies.shares_now states.now list.old.items) (transfer_view transfer.now)) }
-    ensures apart { OnOk result (All (λ s. AreApart s.shares.items) list.new.items) }
+        (can_move (shares_on states.now copy.old) (transfer_view transfer.now)) }
+    ensures ok { OnOk result (shares_on states.now copy.new
+        ≡ lists.worked_by (shares_on states.now copy.old) (transfer_view transfer.now)) }
+    ensures apart { OnOk result (All (λ s. AreApart s.shares.items) (changed_seats copy.new)) }
 {
-    take(alloc, states, list, transfer)?;
-    give(alloc, states, list, transfer)
+    take(alloc, states, copy, transfer)?;
+    give(alloc, states, copy, transfer)
 }
 
-/// Works all transfers, in the order of the list: else the refusal of the first that can't be worked. What all seats
-/// have is looked up in a list, so that this takes the number of transfers times that of the seats.
+/// Works all transfers, in the order of the list: else the refusal of the first that can't be worked.
 pub fn work_all(
     alloc: Global,
-    states: &[SeatState],
+    states: &SeatStates,
     list: &[ShareTransfer],
-) -> Result<Vec<SeatShares>, Stop>
+) -> Result<WorkingCopy, Stop>
     requires one { All (lists.HasOneBrand states.now (transfer_views list.now))
         (given.seats_named (transfer_views list.now)) }
-    requires given { All (λ t. IfSome t.to (λ _. AreApart (lists.gains_of (transfer_view t)))) list.now }
+    requires given { All (λ t. IfSome t.to
+        (λ _. AreApart (lists.gains_of (transfer_view t)))) list.now }
     ensures gives { Gives (λ _. tt) result
         (can_work (given.allocation_of states.now) (transfer_views list.now)) }
-    ensures ok { IfOk result (λ now. copies.shares_now states.now now.items
+    ensures ok { IfOk result (λ now. shares_on states.now now
         ≡ lists.worked (given.allocation_of states.now) (transfer_views list.now)) }
-    ensures apart { IfOk result (λ now. All (λ s. AreApart s.shares.items) now.items) }
+    ensures apart { IfOk result (λ now. All (λ s. AreApart s.shares.items) (changed_seats now)) }
 {
-    let mut now = Vec::new(alloc);
+    let mut now = WorkingCopy::new(alloc);
     for transfer in list {
         work(alloc, states, &mut now, transfer)?;
     }

@@ -14,7 +14,7 @@ use crate::parts::GivenParts;
 use crate::share_brands::check_brands;
 use crate::shares::{GivenTransfer, shares_asked, transfers_asked};
 use crate::values::{ShareTransfer, transfers_of};
-use call_arguments::proposals_lib::plans::SeatState;
+use rearrange::seat_states::SeatStates;
 use refusals::stops::Stop;
 use rules::brands_lib::issuer_record::Issuer;
 use std::alloc::Global;
@@ -24,7 +24,7 @@ use std::alloc::Global;
 fn check_shares(
     alloc: Global,
     issuers: &[Issuer],
-    states: &[SeatState],
+    states: &SeatStates,
     read: &[GivenTransfer],
 ) -> Result<(), Stop>
     requires { AllByRecursion HasSeats (asked_views read.now) }
@@ -34,7 +34,7 @@ fn check_shares(
 {
     let shares = shares_asked(alloc, read)?;
     check_keywords(alloc, shares.as_slice())?;
-    check_brands(issuers, states, shares.as_slice())
+    check_brands(alloc, issuers, states, shares.as_slice())
 }
 
 /// The transfers that parts stand for, each test over all of them before the next: `BadArgs` 1, `BadKeyword`,
@@ -43,7 +43,7 @@ fn check_shares(
 pub fn transfers_at(
     alloc: Global,
     issuers: &[Issuer],
-    states: &[SeatState],
+    states: &SeatStates,
     list: &[GivenParts],
 ) -> Result<Vec<ShareTransfer>, Stop>
     requires { AllByRecursion IsSeated (parts_views list.now) }

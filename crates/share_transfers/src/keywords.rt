@@ -23,7 +23,8 @@ fn is_named(share: &GivenSeatShare) -> bool
 /// The first name of a share that is no keyword.
 #[tactic(auto, unfolding(call_arguments::specs::Records::first_ill))]
 fn first_ill<'a>(shares: &[GivenSeatShare<'a>]) -> Option<&'a Text>
-    ensures { option_map (λ name. name.now) result ≡ first_ill (keywords_of (seat_shares shares.now)) }
+    ensures { option_map (λ name. name.now) result
+        ≡ first_ill (keywords_of (seat_shares shares.now)) }
 {
     for share in shares {
         if !is_named(share) {

@@ -2,6 +2,7 @@
 //! worked one after the other on a working copy, and planned or refused as the rule says.
 #![tactic(auto)]
 
+mod brands_seen;
 mod exchanges;
 pub mod given_transfers;
 mod keywords;

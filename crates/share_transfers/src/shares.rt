@@ -155,7 +155,8 @@ pub fn shares_asked<'a>(
     alloc: Global,
     read: &[GivenTransfer<'a>],
 ) -> Result<Vec<GivenSeatShare<'a>>, AllocError>
-    ensures { IfOk result (λ shares. seat_shares shares.items ≡ flat_map shares_asked (asked_views read.now)) }
+    ensures { IfOk result (λ shares.
+        seat_shares shares.items ≡ flat_map shares_asked (asked_views read.now)) }
 {
     let mut all = Vec::new(alloc);
     for given in read {

@@ -18,7 +18,7 @@ use refusals::stops::Stop;
 use std::alloc::Global;
 
 /// That shares have values of their kinds, for a caller's proof.
-pub fn have_values(shares: &[Share])
+fn have_values(shares: &[Share])
     ensures { All HasValue shares.now }
 {
     for share in shares {

@@ -1,29 +1,28 @@
 //! The plan that transfers come to.
 
-ghost use Rattle.std.specs.Prelude.{◌≡◌, ◌≤◌, length, ◌++◌, All, IfErr, IfOk, IfSome, OnOk, map, option_to_list};
+ghost use Rattle.std.specs.Prelude.{◌≡◌, ◌≤◌, length, ◌++◌, All, IfOk, IfSome, OnOk, map, option_to_list};
 ghost use Rattle.rearrange.specs.TestedPlans.{transfer_changes};
-ghost use Rattle.rearrange.specs.Bounds.{AreBounded};
 ghost use Rattle.call_arguments.specs.proposals.Shares.{AreApart, most_shares};
 ghost use Rattle.rearrange.specs.Safety.{MeetProposal};
 ghost use Rattle.rearrange.specs.Seats as given;
 ghost use Rattle.rearrange.specs.Staged.{touched_with};
 ghost use Rattle.rearrange.specs.Sums.{all_touched, touched_of};
 ghost use Rattle.rearrange.specs.Transfers as lists;
-ghost use Rattle.rearrange.specs.Working.{CanSettle, shares_now};
+ghost use Rattle.rearrange.specs.Working.{CanSettle};
 ghost use Rattle.refusals.specs.Outcomes.{Gives};
+ghost use Rattle.share_transfers.specs.Changed.{changed_seats, shares_on};
 ghost use Rattle.share_transfers.specs.Tests.{kept_plan};
 ghost use Rattle.share_transfers.specs.Views.{transfer_view, transfer_views};
 
 use crate::exchanges::work_all;
 use crate::seat_lists::once;
-use crate::slots::have_values;
 use crate::values::ShareTransfer;
-use crate::working_copy::shares_now;
+use crate::working_copy::WorkingCopy;
 use call_arguments::proposals_lib::allocations::Share;
-use call_arguments::proposals_lib::plans::{Plan, SeatState};
+use call_arguments::proposals_lib::plans::Plan;
 use rearrange::plan_refusals::plan_told;
 use rearrange::plans::plan_of;
-use rearrange::seats::allocation_of;
+use rearrange::seat_states::SeatStates;
 use rearrange::settled::settled;
 use rearrange::sums::SeatShares;
 use refusals::stops::Stop;
@@ -54,17 +53,19 @@ fn seats_named(alloc: Global, list: &[ShareTransfer]) -> Result<Vec<u32>, AllocE
 /// A seat that takes over shares.
 fn settle(
     alloc: Global,
-    states: &[SeatState],
+    states: &SeatStates,
     shares: &[Share],
     seat: u32,
 ) -> Result<SeatShares, AllocError>
     requires can { CanSettle states.now shares.now seat }
     requires apart { AreApart shares.now }
-    ensures ok { IfOk result (λ s. touched_of states.now s ≡ touched_with states.now seat shares.now) }
+    ensures ok { IfOk result (λ s.
+        touched_of states.now s ≡ touched_with states.now seat shares.now) }
     ensures apart { IfOk result (λ s. AreApart s.shares.items) }
-    ensures meets { IfOk result (λ s. IfSome (given.state_of states.now s.seat) (MeetProposal s.shares.items)) }
+    ensures meets { IfOk result (λ s.
+        IfSome (given.state_of states.now s.seat) (MeetProposal s.shares.items)) }
 {
-    let shares = settled(alloc, allocation_of(states, seat), shares)?;
+    let shares = settled(alloc, states.allocation_of(seat), shares)?;
     Ok(SeatShares {
         seat,
         shares: shares,
@@ -74,19 +75,22 @@ fn settle(
 /// Seats that take over what they have on the working copy.
 fn settle_all(
     alloc: Global,
-    states: &[SeatState],
-    list: &[SeatShares],
+    states: &SeatStates,
+    copy: &WorkingCopy,
     seats: &[u32],
 ) -> Result<Vec<SeatShares>, AllocError>
-    requires can { All (λ seat. CanSettle states.now (shares_now states.now list.now seat) seat) seats.now }
-    requires apart { All (λ s. AreApart s.shares.items) list.now }
-    ensures ok { IfOk result (λ done. all_touched states.now done.items ≡ map (λ seat. touched_with states.now seat (shares_now states.now list.now seat)) seats.now) }
+    requires can { All (λ seat.
+        CanSettle states.now (shares_on states.now copy.now seat) seat) seats.now }
+    requires apart { All (λ s. AreApart s.shares.items) (changed_seats copy.now) }
+    ensures ok { IfOk result (λ done. all_touched states.now done.items ≡ map
+        (λ seat. touched_with states.now seat (shares_on states.now copy.now seat)) seats.now) }
     ensures apart { IfOk result (λ done. All (λ s. AreApart s.shares.items) done.items) }
-    ensures meets { IfOk result (λ done. All (λ s. IfSome (given.state_of states.now s.seat) (MeetProposal s.shares.items)) done.items) }
+    ensures meets { IfOk result (λ done. All
+        (λ s. IfSome (given.state_of states.now s.seat) (MeetProposal s.shares.items)) done.items) }
 {
     let mut done = Vec::new(alloc);
     for seat in seats {
-        done.push(settle(alloc, states, shares_now(states, list, *seat), *seat)?)?;
+        done.push(settle(alloc, states, copy.shares(states, *seat), *seat)?)?;
     }
     Ok(done)
 }
@@ -94,52 +98,35 @@ fn settle_all(
 /// The seats that are named take over what they have on the working copy, each once.
 fn settle_named(
     alloc: Global,
-    states: &[SeatState],
-    list: &[SeatShares],
+    states: &SeatStates,
+    copy: &WorkingCopy,
     named: &[u32],
 ) -> Result<Vec<SeatShares>, AllocError>
-    requires can { All (λ seat. CanSettle states.now (shares_now states.now list.now seat) seat) named.now }
-    requires apart { All (λ s. AreApart s.shares.items) list.now }
-    ensures ok { IfOk result (λ done. all_touched states.now done.items ≡ map (λ seat. touched_with states.now seat (shares_now states.now list.now seat)) (lists.once named.now)) }
+    requires can { All (λ seat.
+        CanSettle states.now (shares_on states.now copy.now seat) seat) named.now }
+    requires apart { All (λ s. AreApart s.shares.items) (changed_seats copy.now) }
+    ensures ok { IfOk result (λ done. all_touched states.now done.items ≡ map
+        (λ seat. touched_with states.now seat (shares_on states.now copy.now seat))
+        (lists.once named.now)) }
     ensures apart { IfOk result (λ done. All (λ s. AreApart s.shares.items) done.items) }
-    ensures meets { IfOk result (λ done. All (λ s. IfSome (given.state_of states.now s.seat) (MeetProposal s.shares.items)) done.items) }
+    ensures meets { IfOk result (λ done. All
+        (λ s. IfSome (given.state_of states.now s.seat) (MeetProposal s.shares.items)) done.items) }
 {
     let seats = once(alloc, named)?;
-    settle_all(alloc, states, list, seats.as_slice())
-}
-
-/// That fewer than 2^63 shares are planned, so that their counts can be shown: more would be past all memory (own).
-fn check_bounded(states: &[SeatState], list: &[SeatShares]) -> Result<(), Stop>
-    ensures bounded { OnOk result (AreBounded (all_touched states.now list.now)) }
-    ensures refused { IfErr result (λ stop. stop ≡ Stop.NoMemory) }
-{
-    let mut many: u64 = 0;
-    for seat in list {
-        let before = allocation_of(states, seat.seat);
-        let after = seat.shares.as_slice();
-        have_values(before);
-        have_values(after);
-        many = many
-            .saturating_add(before.len() as u64)
-            .saturating_add(after.len() as u64);
-        if many > i64::MAX as u64 {
-            return Err(Stop::NoMemory);
-        }
-    }
-    Ok(())
+    settle_all(alloc, states, copy, seats.as_slice())
 }
 
 /// The plan by which seats have shares, or the first test that it fails: `NotConserved`, `NotOfferSafe`, `Limit`.
-#[tactic(auto, using(rearrange::proofs::Kept::plan_passes, rearrange::proofs::Kept::plan_fails, crate::proofs::Planned::fault_shown), unfolding(refusals::specs::Outcomes::bind))]
-fn tested_plan(alloc: Global, states: &[SeatState], list: Vec<SeatShares>) -> Result<Plan, Stop>
+#[tactic(auto, using(rearrange::proofs::Kept::plan_passes, rearrange::proofs::Kept::plan_fails), unfolding(refusals::specs::Outcomes::bind))]
+fn tested_plan(alloc: Global, states: &SeatStates, list: Vec<SeatShares>) -> Result<Plan, Stop>
     requires apart { All (λ s. AreApart s.shares.items) list.items }
-    requires meets { All (λ s. IfSome (given.state_of states.now s.seat) (MeetProposal s.shares.items)) list.items }
+    requires meets { All
+        (λ s. IfSome (given.state_of states.now s.seat) (MeetProposal s.shares.items)) list.items }
     ensures gives { Gives (λ plan. plan) result
         (kept_plan states.now (all_touched states.now list.items)) }
     ensures plan { IfOk result (λ plan. plan ≡ all_touched states.now list.items) }
     ensures small { IfOk result (λ plan. All (λ t. length t.after ≤ most_shares) plan) }
 {
-    check_bounded(states, list.as_slice())?;
     match plan_of(alloc, states, list) {
         Ok(plan) => Ok(plan),
         Err(fault) => Err(plan_told(fault)),
@@ -152,12 +139,13 @@ fn tested_plan(alloc: Global, states: &[SeatState], list: Vec<SeatShares>) -> Re
 #[tactic(auto, using(crate::proofs::Planned::can_settle_all), unfolding(rearrange::specs::TestedPlans::transfer_changes, refusals::specs::Outcomes::bind))]
 pub fn plan_transfers(
     alloc: Global,
-    states: &[SeatState],
+    states: &SeatStates,
     list: &[ShareTransfer],
 ) -> Result<Plan, Stop>
     requires one { All (lists.HasOneBrand states.now (transfer_views list.now))
         (given.seats_named (transfer_views list.now)) }
-    requires given { All (λ t. IfSome t.to (λ _. AreApart (lists.gains_of (transfer_view t)))) list.now }
+    requires given { All (λ t. IfSome t.to
+        (λ _. AreApart (lists.gains_of (transfer_view t)))) list.now }
     ensures gives { Gives (λ plan. plan) result
         (transfer_changes states.now (transfer_views list.now)) }
     ensures plan { IfOk result (λ plan. plan
@@ -166,6 +154,6 @@ pub fn plan_transfers(
 {
     let now = work_all(alloc, states, list)?;
     let named = seats_named(alloc, list)?;
-    let done = settle_named(alloc, states, now.as_slice(), named.as_slice())?;
+    let done = settle_named(alloc, states, &now, named.as_slice())?;
     tested_plan(alloc, states, done)
 }

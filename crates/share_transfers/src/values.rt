@@ -65,7 +65,8 @@ fn transfer_of(alloc: Global, given: &GivenTransfer) -> Result<ShareTransfer, St
 #[tactic(auto, unfolding(refusals::specs::Outcomes::bind))]
 pub fn transfers_of(alloc: Global, read: &[GivenTransfer]) -> Result<Vec<ShareTransfer>, Stop>
     requires { All IsFine read.now }
-    ensures { Gives (λ list. transfer_views list.items) result (transfers_of (asked_views read.now)) }
+    ensures { Gives (λ list. transfer_views list.items) result
+        (transfers_of (asked_views read.now)) }
 {
     let mut list = Vec::new(alloc);
     for given in read {

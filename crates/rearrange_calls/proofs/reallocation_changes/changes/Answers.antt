@@ -12,6 +12,6 @@ pub returns-clause-gives : goal.returns-clause-gives
 returns-clause-gives c =
     let w = world_of c.args.world.now in
     subst (λ (r : Result (List Touched) Refusal). Gives (λ plan. plan) c.staged_changes.result r)
-    (sym (states_enough w c.requires.good c.args.seats.now c.in_ok-all.all.items c.in_ok-all.ensures c.as_slice-2.result.now
-    (c.as_slice-2.ensures.value ∙ c.in_ok-states.ensures ∙ ap (map (state_of w)) c.as_slice.ensures.value) c.args.instance))
+    (sym (states_enough w c.requires.good c.args.seats.now c.in_ok-once.once.items c.in_ok-once.ensures.all c.in_ok-states.states
+    (c.in_ok-states.ensures ∙ ap (map (state_of w)) c.as_slice.ensures.value) c.args.instance))
     c.staged_changes.ensures.gives

@@ -7,6 +7,7 @@ use Rattle.call_arguments.specs.proposals.declared.allocations.Share.{Share}
 use Rattle.rearrange.specs.Transfers.{gains_of}
 use Rattle.rearrange.specs.Working.{raised_by, shares_now}
 use Rattle.refusals.specs.Outcomes.{Gives}
+use Rattle.share_transfers.specs.Changed.{changed_seats}
 use Rattle.share_transfers.specs.Views.{transfer_view}
 use Rattle.share_transfers.proofs.Worked.{past_losses}
 use Rattle.share_transfers.proofs.exchanges.work.Goals as goal
@@ -22,6 +23,6 @@ returns-clause-ok c = on_ok_weaker c.give.result (λ given. given ∙ ap (λ (ha
 pub returns-clause-gives : goal.returns-clause-gives
 returns-clause-gives c =
     let t = transfer_view c.args.transfer.now in
-    let had = shares_now c.args.states.now c.args.list.now.items in
+    let had = shares_now c.args.states.now (changed_seats c.args.copy.now) in
     subst (Gives (λ _. tt) c.give.result) (sym (past_losses had t c.in_ok-take.ensures.gives))
     (subst (λ (has : ℕ → List Share). Gives (λ _. tt) c.give.result (passes_at t.to (λ seat. can_give (has seat) (gains_of t)))) c.in_ok-take.ensures.ok c.give.ensures.gives)
