@@ -1,4 +1,3 @@
-pub mod Calls
 pub mod Issued
 pub mod MakersCounted
 pub mod MintBrands

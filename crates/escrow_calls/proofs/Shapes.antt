@@ -4,17 +4,10 @@ use Rattle.std.specs.List.{AllByRecursion}
 use Rattle.std.proofs.Common.{ℕ, List, [], ◌∷◌}
 use Rattle.rules.specs.world_state.Shapes.{AreMovements, IsGivenOnce, IsTakenOnce}
 use Rattle.rules.specs.proposals.declared.allocations.Share.{Share}
-use Rattle.rules.specs.rights_model.declared.Holder.TheVariants.{Outside, Slot}
+use Rattle.rules.specs.rights_model.declared.Holder.TheVariants.{Outside}
 use Rattle.rules.specs.rights_model.declared.Movement.{Movement}
 use Rattle.rules.specs.Zmint.{gain, loss}
-
-slot_taken : (seat : ℕ) (k : List ℕ) (ms : List Movement) → AllByRecursion (IsTakenOnce (Slot seat k)) ms
-slot_taken seat k [] = tt
-slot_taken seat k (m ∷ ms) = (tt, slot_taken seat k ms)
-
-slot_given : (seat : ℕ) (k : List ℕ) (ms : List Movement) → AllByRecursion (IsGivenOnce (Slot seat k)) ms
-slot_given seat k [] = tt
-slot_given seat k (m ∷ ms) = (tt, slot_given seat k ms)
+use Rattle.escrow_calls.proofs.Transfers.{slot_given, slot_taken}
 
 outside_taken : (ms : List Movement) → AllByRecursion (IsTakenOnce Outside) ms
 outside_taken [] = tt

@@ -1,14 +1,16 @@
--- Tests one after another, whose parts were put together.
+-- Tests one after another, and rules, whose parts were put together.
 use Rattle.std.proofs.Common.{◌≡◌, ℕ, List, [], ◌∷◌, length, Result, Ok, Err, refl, sym, ap, ◌∙◌}
 use Rattle.rules.specs.proposals.Gains.{with_gains}
 use Rattle.rules.specs.proposals.Losses.{with_losses}
-use Rattle.rules.specs.call_arguments.Arguments.{record_at}
+use Rattle.rules.specs.call_arguments.Arguments.{arg, record_at}
 use Rattle.rules.specs.call_arguments.Numbers.{first_repeated, least_failing}
 use Rattle.rules.specs.Outcomes.{Outcome}
 use Rattle.rules.specs.Words.{runs}
 use Rattle.rules.specs.States.{allocation_of, changing, has_room, seat_of, touched_seat}
-use Rattle.escrow_calls.specs.EscrowedLeft.{deposited, deposited_from, deposited_in, depositing, given_payments, gives_withdrawal, takes_deposit, withdrawing, withdrawn, withdrawn_in}
-use Rattle.escrow_calls.specs.PaymentParts.{apart_payments, live_payments, tested_payments}
+use Rattle.escrow_calls.specs.EscrowParts.{deposited, depositing, withdrawing, withdrawn}
+use Rattle.escrow_calls.specs.MintParts.{burned, burning_losses, minted, minting_gains}
+use Rattle.escrow_calls.specs.PaymentParts.{apart_payments, given_payments, live_payments, tested_payments}
+use Rattle.escrow_calls.specs.SlotChanges.{mint_asked, slots_asked}
 use Rattle.host_data.specs.Tree.{Tree, null}
 use Rattle.host_data.specs.declared.data.ObjKind.TheVariants as kinds
 use Rattle.rules.specs.rearrange.Slots.{can_take, each_passes, fits_slot, is_safe}
@@ -21,6 +23,7 @@ use Rattle.rules.specs.GivenPayments.{escrows_of, first_wrong, is_live_in}
 use Rattle.rules.specs.Proposals.{least_alone}
 use Rattle.rules.specs.Zcf.{deposit_to_seat, payments_for, share_names, withdraw_from_seat}
 use Rattle.rules.specs.Given.{is_misfit, issuers_of, own_seat, shares_at}
+use Rattle.rules.specs.Zmint.{burn_losses, is_not_of, mint_gains, minting}
 use Rattle.rules.specs.world_state.Worlds.{State, payments_tree, payout_moves}
 
 abbrev Test : Type 0
@@ -72,57 +75,90 @@ tested_same w shares given =
     let read = objects_under kinds.Payment 3 given in
     ap (λ (r : Numbers). named >> r) (read_parted w shares read) ∙ named_parted w shares named (read >>= live_of w)
 
-abbrev paid_out : ℕ → List Share → ℕ → Outcome
-paid_out seat shares first = Ok (payments_tree first shares, changing (seat ∷ []) (payout_moves seat first shares))
-
 -- ---- the rules, whose parts were put together
 
-abbrev Plan : Type 0
-Plan = Outcome
-
-grouped : (a b : Test) (next : Plan) → ((a >> b) >> next) ≡ (a >> (b >> next))
-unfolding bind
-grouped (Ok x) b next = refl
-grouped (Err e) b next = refl
-
-read_grouped : {A B : Type 0} (r : Result A Refusal) (f : A → Result B Refusal) (g : B → Plan) → ((r >>= f) >>= g) ≡ (r >>= (λ a. f a >>= g))
+read_grouped : {A B : Type 0} (r : Result A Refusal) (f : A → Result B Refusal) (g : B → Outcome) → ((r >>= f) >>= g) ≡ (r >>= (λ a. f a >>= g))
 unfolding bind
 read_grouped (Ok a) f g = refl
 read_grouped (Err e) f g = refl
 
 -- of what is read the same is made
-after_read : {A : Type 0} (r : Result A Refusal) (f g : A → Plan) → ((a : A) → f a ≡ g a) → (r >>= f) ≡ (r >>= g)
+after_read : {A : Type 0} (r : Result A Refusal) (f g : A → Outcome) → ((a : A) → f a ≡ g a) → (r >>= f) ≡ (r >>= g)
 unfolding bind
 after_read (Ok a) f g same = same a
 after_read (Err e) f g same = refl
 
-withdrawn_shares : (w : State) (seat : ℕ) (slots shares : List Share) → (can_take slots shares >> (need (is_safe (seat_of w seat).proposal (with_losses slots shares)) (not_offer_safe seat) >> (has_room w (touched_seat seat slots (with_losses slots shares) ∷ []) (length shares) >> paid_out seat shares (length w.rights.payments)))) ≡ withdrawn w seat slots shares
-unfolding withdrawn gives_withdrawal
-withdrawn_shares w seat slots shares =
-    let room = has_room w (touched_seat seat slots (with_losses slots shares) ∷ []) (length shares) in
-    let safe = need (is_safe (seat_of w seat).proposal (with_losses slots shares)) (not_offer_safe seat) in
-    let done = paid_out seat shares (length w.rights.payments) in
-    ap (λ (r : Plan). can_take slots shares >> r) (sym (grouped safe room done)) ∙ sym (grouped (can_take slots shares) (safe >> room) done)
+-- what is made of a seat and of shares may be made once both are read
+module _ (made : ℕ × List Share → Outcome) where
+  of_shares : (seat : ℕ) (shares : Result (List Share) Refusal) → ((shares >>= (λ rs. Ok (seat, rs))) >>= made) ≡ (shares >>= (λ rs. made (seat, rs)))
+  unfolding bind
+  of_shares seat (Ok rs) = refl
+  of_shares seat (Err e) = refl
 
-pub withdrawn_same : (w : State) (i : ℕ) (args : List Tree) → withdraw_from_seat w i args ≡ withdrawing w i args
-unfolding withdrawing withdrawn_in withdraw_from_seat
-withdrawn_same w i args =
-    ap (λ (r : Plan). runs w i >> r) (after_read (own_seat w i 1 args) _ _ (λ seat.
-    after_read (shares_at (is_misfit (issuers_of w i) (allocation_of w seat)) 2 args) _ _ (λ shares. withdrawn_shares w seat (allocation_of w seat) shares)))
+  of_seat : (seat : Result ℕ Refusal) (shares : ℕ → Result (List Share) Refusal) → ((seat >>= (λ n. shares n >>= (λ rs. Ok (n, rs)))) >>= made) ≡ (seat >>= (λ n. shares n >>= (λ rs. made (n, rs))))
+  unfolding bind
+  of_seat (Ok n) shares = of_shares n (shares n)
+  of_seat (Err e) shares = refl
 
-abbrev escrowed : ℕ → List Share → List ℕ → Plan
-escrowed seat shares payments = Ok (null, changing (seat ∷ []) (escrows_of seat shares payments))
+  of_asked : (ran : Test) (seat : Result ℕ Refusal) (shares : ℕ → Result (List Share) Refusal) → ((ran >> (seat >>= (λ n. shares n >>= (λ rs. Ok (n, rs))))) >>= made) ≡ (ran >> (seat >>= (λ n. shares n >>= (λ rs. made (n, rs)))))
+  unfolding bind
+  of_asked (Ok done) seat shares = of_seat seat shares
+  of_asked (Err e) seat shares = refl
 
-deposited_shares : (w : State) (seat : ℕ) (slots shares : List Share) (args : List Tree) → (record_at 3 args >>= (λ given. payments_for w shares given >>= (λ payments. each_passes (fits_slot slots) shares >> (has_room w (touched_seat seat slots (with_gains slots shares) ∷ []) 0 >> escrowed seat shares payments)))) ≡ deposited w seat slots shares args
-unfolding deposited deposited_from given_payments takes_deposit
-deposited_shares w seat slots shares args =
-    let fits = each_passes (fits_slot slots) shares in
-    let room = has_room w (touched_seat seat slots (with_gains slots shares) ∷ []) 0 in
-    after_read (record_at 3 args) _ _ (λ given. after_read (payments_for w shares given) _ _ (λ payments. sym (grouped fits room (escrowed seat shares payments))))
-    ∙ sym (read_grouped (record_at 3 args) (payments_for w shares) (λ payments. (fits >> room) >> escrowed seat shares payments))
+module _ (w : State) (i : ℕ) (args : List Tree) where
+  abbrev shares_for : ℕ → Result (List Share) Refusal
+  shares_for seat = shares_at (is_misfit (issuers_of w i) (allocation_of w seat)) 2 args
 
-pub deposited_same : (w : State) (i : ℕ) (args : List Tree) → deposit_to_seat w i args ≡ depositing w i args
-unfolding depositing deposited_in deposit_to_seat
-deposited_same w i args =
-    ap (λ (r : Plan). runs w i >> r) (after_read (own_seat w i 1 args) _ _ (λ seat.
-    after_read (shares_at (is_misfit (issuers_of w i) (allocation_of w seat)) 2 args) _ _ (λ shares. deposited_shares w seat (allocation_of w seat) shares args)))
+  pub withdrawn_same : withdraw_from_seat w i args ≡ withdrawing w i args
+  unfolding slots_asked withdrawing withdrawn withdraw_from_seat
+  withdrawn_same = sym (of_asked (λ a. withdrawn w a.0 (allocation_of w a.0) a.1) (runs w i) (own_seat w i 1 args) shares_for)
+
+  abbrev escrowed : ℕ → List Share → List Share → List ℕ → Outcome
+  escrowed seat slots shares payments =
+      each_passes (fits_slot slots) shares
+      >> (has_room w (touched_seat seat slots (with_gains slots shares) ∷ []) 0
+      >> Ok (null, changing (seat ∷ []) (escrows_of seat shares payments)))
+
+  given_tested : (seat : ℕ) (slots shares : List Share) → (record_at 3 args >>= (λ given. payments_for w shares given >>= escrowed seat slots shares)) ≡ deposited w seat slots shares args
+  unfolding deposited given_payments
+  given_tested seat slots shares =
+      after_read (record_at 3 args) _ _ (λ given. ap (λ (r : Numbers). r >>= escrowed seat slots shares) (tested_same w shares given))
+      ∙ sym (read_grouped (record_at 3 args) (tested_payments w shares) (escrowed seat slots shares))
+
+  pub deposited_same : deposit_to_seat w i args ≡ depositing w i args
+  unfolding slots_asked depositing deposit_to_seat
+  deposited_same =
+      ap (λ (r : Outcome). runs w i >> r) (after_read (own_seat w i 1 args) _ _ (λ seat.
+      after_read (shares_for seat) _ _ (λ shares. given_tested seat (allocation_of w seat) shares)))
+      ∙ sym (of_asked (λ a. deposited w a.0 (allocation_of w a.0) a.1 args) (runs w i) (own_seat w i 1 args) shares_for)
+
+-- a withdrawal whose tests pass
+module _ (w : State) (seat : ℕ) (slots shares : List Share) where
+  abbrev safe : Test
+  safe = need (is_safe (seat_of w seat).proposal (with_losses slots shares)) (not_offer_safe seat)
+
+  abbrev room : Test
+  room = has_room w (touched_seat seat slots (with_losses slots shares) ∷ []) (length shares)
+
+  abbrev paid_from : ℕ → Outcome
+  paid_from first = Ok (payments_tree first shares, changing (seat ∷ []) (payout_moves seat first shares))
+
+  pub withdrawn_is : can_take slots shares ≡ Ok tt → safe ≡ Ok tt → room ≡ Ok tt → (first : ℕ) → first ≡ length w.rights.payments → withdrawn w seat slots shares ≡ paid_from first
+  unfolding withdrawn bind
+  withdrawn_is taken stays_safe leaves_room first is =
+      ap (λ (r : Test). r >> (safe >> (room >> paid_from (length w.rights.payments)))) taken
+      ∙ ap (λ (r : Test). r >> (room >> paid_from (length w.rights.payments))) stays_safe
+      ∙ ap (λ (r : Test). r >> paid_from (length w.rights.payments)) leaves_room
+      ∙ ap paid_from (sym is)
+
+module _ (w : State) (brand : ℕ) (args : List Tree) where
+  abbrev shares_of_mint : ℕ → Result (List Share) Refusal
+  shares_of_mint seat = shares_at (is_not_of brand (allocation_of w seat)) 1 args
+
+  pub minted_same : mint_gains w brand args ≡ minting_gains w brand args
+  unfolding mint_asked mint_gains minted minting_gains
+  minted_same = sym (of_asked (λ a. minted w brand a.0 (allocation_of w a.0) a.1 (arg 2 args)) (runs w (minting w brand)) (own_seat w (minting w brand) 2 args) shares_of_mint)
+
+  pub burned_same : burn_losses w brand args ≡ burning_losses w brand args
+  unfolding mint_asked burn_losses burned burning_losses
+  burned_same = sym (of_asked (λ a. burned w a.0 (allocation_of w a.0) a.1) (runs w (minting w brand)) (own_seat w (minting w brand) 2 args) shares_of_mint)

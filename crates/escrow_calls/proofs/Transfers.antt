@@ -1,6 +1,6 @@
 -- Movements between payments and slots are transfers: each payment is taken from once, and given to once.
 use Rattle.std.specs.List.{AllByRecursion}
-use Rattle.std.proofs.Common.{◌≡◌, ℕ, suc, ◌+◌, ◌<◌, ◌≤◌, List, [], ◌∷◌, arith}
+use Rattle.std.proofs.Common.{◌≡◌, ℕ, suc, ◌<◌, List, [], ◌∷◌, arith}
 use Rattle.rules.specs.call_arguments.Numbers.{AreApart, IsNoneOf}
 use Rattle.rules.specs.world_state.Shapes.{AreMovements, IsGivenOnce, IsTakenOnce}
 use Rattle.rules.specs.proposals.declared.allocations.Share.{Share}
@@ -14,11 +14,11 @@ same_payment : (n m : ℕ) → ◌≡◌ {A = Holder} (Payment n) (Payment m) �
 same_payment n m e = cc
 
 -- nothing is given to a slot but by movements, of which each is one
-slot_given : (seat : ℕ) (k : List ℕ) (ms : List Movement) → AllByRecursion (IsGivenOnce (Slot seat k)) ms
+pub slot_given : (seat : ℕ) (k : List ℕ) (ms : List Movement) → AllByRecursion (IsGivenOnce (Slot seat k)) ms
 slot_given seat k [] = tt
 slot_given seat k (m ∷ ms) = (tt, slot_given seat k ms)
 
-slot_taken : (seat : ℕ) (k : List ℕ) (ms : List Movement) → AllByRecursion (IsTakenOnce (Slot seat k)) ms
+pub slot_taken : (seat : ℕ) (k : List ℕ) (ms : List Movement) → AllByRecursion (IsTakenOnce (Slot seat k)) ms
 slot_taken seat k [] = tt
 slot_taken seat k (m ∷ ms) = (tt, slot_taken seat k ms)
 

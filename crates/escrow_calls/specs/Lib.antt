@@ -1,5 +1,6 @@
+pub mod SlotChanges
 pub mod MintParts
-pub mod EscrowedLeft
+pub mod EscrowParts
 pub mod PaymentParts
 pub use Rattle.contract_reads.specs as contract_reads
 pub use Rattle.ertp_calls.specs.call_outcomes

@@ -1,5 +1,6 @@
 -- Payments that are given for shares.
 use Rattle.std.specs.Prelude.{ℕ, List, Result, Ok}
+use Rattle.rules.specs.call_arguments.Arguments.{record_at}
 use Rattle.rules.specs.call_arguments.Numbers.{first_repeated, least_failing}
 use Rattle.host_data.specs.Tree.{Tree}
 use Rattle.host_data.specs.declared.data.ObjKind.TheVariants as kinds
@@ -34,3 +35,9 @@ tested_payments w shares given = do
   payments ← apart_payments w shares given
   none_such (first_wrong w shares payments) (λ v. wrong_amount v.0 v.1)
   Ok payments
+
+-- the same, in the record at the third place
+unfoldable pub given_payments : State → List Share → List Tree → Result (List ℕ) Refusal
+given_payments w shares args = do
+  given ← record_at 3 args
+  tested_payments w shares given

@@ -2,23 +2,20 @@
 
 ghost use Rattle.std.specs.Prelude.{◌≡◌, ◌<◌, [], ◌∷◌, IfOk, Ok, length, map};
 ghost use Rattle.ertp_calls.specs.call_outcomes.CallOutcomes.{GivesOutcome};
-ghost use Rattle.rules.specs.States.{allocation_of, changing, seat_of};
+ghost use Rattle.rules.specs.States.{changing};
 ghost use Rattle.contract_reads.specs.Known.{AreKnown};
 ghost use Rattle.ertp_calls.specs.host_world.Worlds.{world_of};
 ghost use Rattle.host_data.specs.Tree.{null};
 ghost use Rattle.host_data.specs.View.{trees};
-ghost use Rattle.contract_reads.specs.Calls.{FitSlots, IsSeatCall};
 ghost use Rattle.rules.specs.Zmint.{burn_losses, loss, minting};
 ghost use Rattle.rules.specs.world_state.Good.{IsGoodWorld};
-ghost use Rattle.rules.specs.world_state.Worlds.{IsOpen};
-ghost use Rattle.escrow_calls.specs.MintParts.{burned, burning_of};
+ghost use Rattle.escrow_calls.specs.MintParts.{burned, burning_losses};
+ghost use Rattle.escrow_calls.specs.SlotChanges.{IsOfSeat};
 
-use crate::minters::seat_of_mint;
-use contract_reads::contract_words::allocations::current_allocation;
+use crate::slot_changes::slot_change_of_mint;
 use contract_reads::seat_changes::counts::{check_room, slots_after};
 use contract_reads::seat_changes::effects::change_effects;
 use contract_reads::seat_changes::safety::check_safe;
-use contract_reads::seat_changes::shares::shares_of_mint;
 use ertp_calls::call_outcomes_lib::outcomes::CallOutcome;
 use ertp_calls::host_world_lib::World;
 use host_data::data::Data;
@@ -66,7 +63,7 @@ fn burn_plan(alloc: Global, seat: u32, shares: &[Share]) -> Result<CallOutcome, 
     })
 }
 
-/// What is left of burning once the shares are read: else `NotEnough`, `NotOfferSafe`, `Limit` (Zoe).
+/// What is left of burning once the seat and the shares are read: else `NotEnough`, `NotOfferSafe`, `Limit` (Zoe).
 #[tactic(auto, unfolding(crate::specs::MintParts::burned, refusals::specs::Outcomes::bind))]
 fn burn(
     alloc: Global,
@@ -76,9 +73,7 @@ fn burn(
     shares: &[Share],
 ) -> Result<CallOutcome, Stop>
     requires good { IsGoodWorld (world_of world.now) }
-    requires made { seat < length (world_of world.now).seats }
-    requires slots { slots.now ≡ allocation_of (world_of world.now) seat }
-    requires fit { FitSlots slots.now shares.now }
+    requires seat { IsOfSeat (world_of world.now) seat slots.now shares.now }
     ensures { GivesOutcome (burned (world_of world.now) seat slots.now shares.now) result }
 {
     check_losses(slots, shares)?;
@@ -87,43 +82,8 @@ fn burn(
     burn_plan(alloc, seat, shares)
 }
 
-/// What is left of burning once the seat's slots are known.
-#[tactic(auto, unfolding(crate::specs::MintParts::burning_of, refusals::specs::Outcomes::bind))]
-fn burn_shares(
-    alloc: Global,
-    world: &World,
-    brand: u16,
-    seat: u32,
-    slots: &[Share],
-    args: &[Data],
-) -> Result<CallOutcome, Stop>
-    requires call { IsSeatCall (world_of world.now) seat (trees args.now) }
-    requires slots { slots.now ≡ allocation_of (world_of world.now) seat }
-    ensures { GivesOutcome (burning_of (world_of world.now) brand (trees args.now) seat slots.now) result }
-{
-    let shares = shares_of_mint(alloc, world, brand, seat, slots, args)?;
-    burn(alloc, world, seat, slots, shares.as_slice())
-}
-
-/// What is left of burning once the seat is known.
-fn burn_of(
-    alloc: Global,
-    world: &World,
-    brand: u16,
-    seat: u32,
-    args: &[Data],
-) -> Result<CallOutcome, Stop>
-    requires call { IsSeatCall (world_of world.now) seat (trees args.now) }
-    requires open { IsOpen (seat_of (world_of world.now) seat) }
-    ensures { GivesOutcome (burning_of (world_of world.now) brand (trees args.now) seat
-        (allocation_of (world_of world.now) seat)) result }
-{
-    let slots = current_allocation(world, seat)?;
-    burn_shares(alloc, world, brand, seat, slots.shares(), args)
-}
-
 /// zmint.burnLosses(record, seat) (Zoe).
-#[tactic(auto, unfolding(rules::specs::Zmint::burn_losses, crate::specs::MintParts::minting_seat, refusals::specs::Outcomes::bind))]
+#[tactic(auto, using(crate::proofs::Steps::burned_same), unfolding(crate::specs::MintParts::burning_losses, refusals::specs::Outcomes::bind))]
 pub fn burn_losses(
     alloc: Global,
     world: &World,
@@ -136,6 +96,12 @@ pub fn burn_losses(
     requires known { AreKnown (world_of world.now) (trees args.now) }
     ensures { GivesOutcome (burn_losses (world_of world.now) brand (trees args.now)) result }
 {
-    let seat = seat_of_mint(world, brand, args)?;
-    burn_of(alloc, world, brand, seat, args)
+    let change = slot_change_of_mint(alloc, world, brand, args)?;
+    burn(
+        alloc,
+        world,
+        change.seat,
+        change.slots.shares(),
+        change.shares.as_slice(),
+    )
 }

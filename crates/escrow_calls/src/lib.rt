@@ -5,10 +5,10 @@
 
 pub mod burns;
 pub mod deposits;
-mod minters;
 pub mod mints;
 mod payments;
 mod payouts;
+mod slot_changes;
 mod supply;
 pub mod withdrawals;
 pub mod zmint;

@@ -1,27 +1,23 @@
 //! Minting to a seat of an instance's own.
 
-ghost use Rattle.std.specs.Prelude.{◌≡◌, ◌<◌, [], ◌∷◌, All, IfOk, Ok, length, map};
+ghost use Rattle.std.specs.Prelude.{◌≡◌, ◌<◌, [], ◌∷◌, IfOk, Ok, length, map};
 ghost use Rattle.host_data.specs.Amounts.{seen};
 ghost use Rattle.ertp_calls.specs.call_outcomes.Lists.{IsEachShaped, effects_view};
 ghost use Rattle.ertp_calls.specs.call_outcomes.CallOutcomes.{GivesOutcome};
-ghost use Rattle.rules.specs.States.{allocation_of, changing, seat_of};
+ghost use Rattle.rules.specs.States.{changing};
 ghost use Rattle.contract_reads.specs.Known.{AreKnown};
 ghost use Rattle.ertp_calls.specs.host_world.Worlds.{world_of};
 ghost use Rattle.host_data.specs.View.{trees};
-ghost use Rattle.contract_reads.specs.Calls.{FitSlots, IsSeatCall};
+ghost use Rattle.contract_reads.specs.Calls.{FitSlots};
 ghost use Rattle.rules.specs.Zmint.{gain, mint_gains, minting};
 ghost use Rattle.ertp_calls.specs.vault.Drafts.{IsClean};
 ghost use Rattle.rules.specs.world_state.Good.{IsGoodWorld};
-ghost use Rattle.rules.specs.world_state.Rights.{kind_at};
-ghost use Rattle.rules.specs.world_state.Worlds.{IsOpen};
-ghost use Rattle.escrow_calls.specs.MintParts.{minted, minting_to};
+ghost use Rattle.escrow_calls.specs.MintParts.{minted, minting_gains};
 
-use crate::minters::seat_of_mint;
+use crate::slot_changes::slot_change_of_mint;
 use crate::supply::check_comes_out;
-use contract_reads::contract_words::allocations::current_allocation;
 use contract_reads::seat_changes::counts::{check_room, slots_after};
 use contract_reads::seat_changes::effects::change_effects;
-use contract_reads::seat_changes::shares::shares_of_mint;
 use ertp_calls::call_outcomes_lib::lists::Effects;
 use ertp_calls::call_outcomes_lib::outcomes::CallOutcome;
 use ertp_calls::host_world_lib::World;
@@ -83,8 +79,8 @@ fn mint_plan(
     Ok(CallOutcome { answer, effects })
 }
 
-/// What is left of minting once the shares are read: else `Overlap`, `TooMuch` of all of them with what is out, `Overlap`,
-/// `TooMuch` of each with its slot, `Limit` (Zoe).
+/// What is left of minting once the seat and the shares are read: else `Overlap`, `TooMuch` of all of them with what is
+/// out, `TooMuch` of what was minted with them, `Overlap`, `TooMuch` of each with its slot, `Limit` (Zoe).
 #[tactic(auto, unfolding(crate::specs::MintParts::minted, refusals::specs::Outcomes::bind))]
 fn mint(
     alloc: Global,
@@ -97,9 +93,9 @@ fn mint(
 ) -> Result<CallOutcome, Stop>
     requires clean { IsClean world.now.draft }
     requires made { brand < length (world_of world.now).rights.out }
-    requires kinds { All (λ r. r.amount.value.kind ≡ kind_at (world_of world.now).rights.out brand) shares.now }
     requires fit { FitSlots slots.now shares.now }
-    ensures { GivesOutcome (minted (world_of world.now) brand seat slots.now shares.now (seen given.entry)) result }
+    ensures { GivesOutcome
+        (minted (world_of world.now) brand seat slots.now shares.now (seen given.entry)) result }
 {
     check_comes_out(alloc, &world.draft, brand, shares)?;
     check_gains(slots, shares)?;
@@ -107,55 +103,8 @@ fn mint(
     mint_plan(alloc, seat, shares, given)
 }
 
-/// What is left of minting once the seat's slots are known.
-#[tactic(auto, unfolding(crate::specs::MintParts::minting_to, refusals::specs::Outcomes::bind))]
-fn mint_shares(
-    alloc: Global,
-    world: &World,
-    brand: u16,
-    seat: u32,
-    slots: &[Share],
-    args: &[Data],
-) -> Result<CallOutcome, Stop>
-    requires clean { IsClean world.now.draft }
-    requires call { IsSeatCall (world_of world.now) seat (trees args.now) }
-    requires made { brand < length (world_of world.now).makers }
-    requires slots { slots.now ≡ allocation_of (world_of world.now) seat }
-    ensures { GivesOutcome (minting_to (world_of world.now) brand (trees args.now) seat slots.now) result }
-{
-    let shares = shares_of_mint(alloc, world, brand, seat, slots, args)?;
-    mint(
-        alloc,
-        world,
-        brand,
-        seat,
-        slots,
-        shares.as_slice(),
-        argument(args, 2),
-    )
-}
-
-/// What is left of minting once the seat is known.
-fn mint_to(
-    alloc: Global,
-    world: &World,
-    brand: u16,
-    seat: u32,
-    args: &[Data],
-) -> Result<CallOutcome, Stop>
-    requires clean { IsClean world.now.draft }
-    requires call { IsSeatCall (world_of world.now) seat (trees args.now) }
-    requires open { IsOpen (seat_of (world_of world.now) seat) }
-    requires made { brand < length (world_of world.now).makers }
-    ensures { GivesOutcome (minting_to (world_of world.now) brand (trees args.now) seat
-        (allocation_of (world_of world.now) seat)) result }
-{
-    let slots = current_allocation(world, seat)?;
-    mint_shares(alloc, world, brand, seat, slots.shares(), args)
-}
-
 /// zmint.mintGains(record, seat) (Zoe).
-#[tactic(auto, unfolding(rules::specs::Zmint::mint_gains, crate::specs::MintParts::minting_seat, refusals::specs::Outcomes::bind))]
+#[tactic(auto, using(crate::proofs::MintBrands::maker_supply, crate::proofs::Steps::minted_same), unfolding(crate::specs::MintParts::minting_gains, refusals::specs::Outcomes::bind))]
 pub fn mint_gains(
     alloc: Global,
     world: &World,
@@ -169,6 +118,14 @@ pub fn mint_gains(
     requires known { AreKnown (world_of world.now) (trees args.now) }
     ensures { GivesOutcome (mint_gains (world_of world.now) brand (trees args.now)) result }
 {
-    let seat = seat_of_mint(world, brand, args)?;
-    mint_to(alloc, world, brand, seat, args)
+    let change = slot_change_of_mint(alloc, world, brand, args)?;
+    mint(
+        alloc,
+        world,
+        brand,
+        change.seat,
+        change.slots.shares(),
+        change.shares.as_slice(),
+        argument(args, 2),
+    )
 }

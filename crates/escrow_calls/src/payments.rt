@@ -5,7 +5,7 @@ ghost use Rattle.rules.specs.call_arguments.Amounts.{is_same};
 ghost use Rattle.rules.specs.call_arguments.Arguments.{record_at};
 ghost use Rattle.rules.specs.call_arguments.Numbers.{AreApart};
 ghost use Rattle.contract_reads.specs.Known.{AreKnown};
-ghost use Rattle.escrow_calls.specs.PaymentParts.{apart_payments, live_payments, tested_payments};
+ghost use Rattle.escrow_calls.specs.PaymentParts.{apart_payments, given_payments, live_payments};
 ghost use Rattle.ertp_calls.specs.host_world.Worlds.{world_of};
 ghost use Rattle.host_data.specs.View.{named_trees, trees};
 ghost use Rattle.rules.specs.call_arguments.Keywords.{texts};
@@ -16,7 +16,7 @@ ghost use Rattle.rules.specs.rights_model.Table.{movement};
 ghost use Rattle.contract_reads.specs.Calls.{AreOfKinds};
 ghost use Rattle.rules.specs.GivenPayments.{escrows_of, first_wrong, held_by, is_live_in, pays};
 ghost use Rattle.rules.specs.Proposals.{least_alone};
-ghost use Rattle.rules.specs.Zcf.{payments_for, share_names};
+ghost use Rattle.rules.specs.Zcf.{share_names};
 ghost use Rattle.rules.specs.world_state.Good.{IsGoodWorld};
 ghost use Rattle.rules.specs.world_state.Rights.{kind_at};
 
@@ -30,6 +30,7 @@ use refusals::stops::{Stop, wrong_amount};
 use rules::call_arguments_lib::amounts::check_same as check_amount;
 use rules::call_arguments_lib::keyword_arguments::{check_same, field_names};
 use rules::call_arguments_lib::numbers::check_apart;
+use rules::call_arguments_lib::places::record_at;
 use rules::call_arguments_lib::records::objects_under;
 use rules::proposals_lib::allocations::Share;
 use rules::rights_model_lib::{Holder, Movement};
@@ -157,47 +158,27 @@ fn apart_payments(
     Ok(payments)
 }
 
-/// The same, then `WrongAmount` of the first that hasn't just what its share says.
-#[tactic(auto, unfolding(crate::specs::PaymentParts::tested_payments, refusals::specs::Outcomes::bind))]
-fn tested_payments(
+/// The payments for shares, in the record at the third place and in the order of the shares: else `BadArgs` 3 or what
+/// that record is refused for, then `KeywordMismatch`, `WrongObject` 3, `DeadPayment`, `RepeatedPayment`,
+/// `WrongAmount`, each over all of them before the next (Zoe).
+#[tactic(auto, unfolding(crate::specs::PaymentParts::given_payments, crate::specs::PaymentParts::tested_payments, refusals::specs::Outcomes::bind))]
+pub(crate) fn given_payments(
     alloc: Global,
     world: &World,
     shares: &[Share],
     args: &[Data],
-    given: &[(Text, Data)],
 ) -> Result<Vec<u32>, Stop>
     requires good { IsGoodWorld (world_of world.now) }
     requires known { AreKnown (world_of world.now) (trees args.now) }
-    requires given { record_at 3 (trees args.now) ≡ Ok (named_trees given.now) }
     requires kinds { AreOfKinds (world_of world.now) shares.now }
     ensures gives { Gives (λ ns. ns.items) result
-        (tested_payments (world_of world.now) shares.now (named_trees given.now)) }
+        (given_payments (world_of world.now) shares.now (trees args.now)) }
     ensures apart { IfOk result (λ ns. AreApart ns.items) }
 {
+    let given = record_at(3, args)?;
     let payments = apart_payments(alloc, world, shares, args, given)?;
     check_amounts(world, shares, payments.as_slice())?;
     Ok(payments)
-}
-
-/// The payments for shares, in the order of the shares: `KeywordMismatch`, `WrongObject` 3, `DeadPayment`,
-/// `RepeatedPayment`, `WrongAmount`, each over all of them before the next (Zoe).
-#[tactic(auto, using(crate::proofs::Steps::tested_same))]
-pub fn payments_for(
-    alloc: Global,
-    world: &World,
-    shares: &[Share],
-    args: &[Data],
-    given: &[(Text, Data)],
-) -> Result<Vec<u32>, Stop>
-    requires good { IsGoodWorld (world_of world.now) }
-    requires known { AreKnown (world_of world.now) (trees args.now) }
-    requires given { record_at 3 (trees args.now) ≡ Ok (named_trees given.now) }
-    requires kinds { AreOfKinds (world_of world.now) shares.now }
-    ensures gives { Gives (λ ns. ns.items) result
-        (payments_for (world_of world.now) shares.now (named_trees given.now)) }
-    ensures apart { IfOk result (λ ns. AreApart ns.items) }
-{
-    tested_payments(alloc, world, shares, args, given)
 }
 
 /// What a share says goes from a payment to its slot.

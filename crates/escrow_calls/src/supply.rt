@@ -1,18 +1,18 @@
 //! Whether what shares say may come out of their brand together.
 
-ghost use Rattle.std.specs.Prelude.{◌≡◌, ◌<◌, All, IfOk, length, map};
+ghost use Rattle.std.specs.Prelude.{◌≡◌, ◌<◌, IfOk, length, map};
 ghost use Rattle.rules.specs.ertp_mint.BrandSupply.{supply_at};
 ghost use Rattle.refusals.specs.Outcomes.{Gives};
 ghost use Rattle.rules.specs.Zmint.{values_of};
-ghost use Rattle.rules.specs.value_tests.Tests.{all_fit_out};
+ghost use Rattle.rules.specs.value_tests.Tests.{can_come_out};
+ghost use Rattle.rules.specs.value_tests.Totals.{total_of};
 ghost use Rattle.ertp_calls.specs.vault.Drafts.{IsClean};
-ghost use Rattle.rules.specs.world_state.Rights.{kind_at};
 
 use ertp_calls::vault_lib::draft::Draft;
 use refusals::amount_math_lib::Value;
 use refusals::stops::Stop;
 use rules::proposals_lib::allocations::Share;
-use rules::value_tests_lib::beside::check_all_out;
+use rules::value_tests_lib::wholes::check_all_out;
 use std::alloc::{AllocError, Global};
 
 /// The values of shares.
@@ -27,7 +27,7 @@ fn values_of<'a>(alloc: Global, shares: &'a [Share]) -> Result<Vec<&'a Value>, A
 }
 
 /// That the values of shares may come out of a brand together, beside what is out of it: else `Overlap` or `TooMuch` of all
-/// of them (ERTP).
+/// of them, then `TooMuch` of what was minted with them (ERTP).
 pub(crate) fn check_comes_out(
     alloc: Global,
     draft: &Draft,
@@ -36,9 +36,8 @@ pub(crate) fn check_comes_out(
 ) -> Result<(), Stop>
     requires clean { IsClean draft.now }
     requires made { brand < length draft.now.now.out }
-    requires kinds { All (λ r. r.amount.value.kind ≡ kind_at draft.now.now.out brand) shares.now }
     ensures { Gives (λ _. tt) result
-        (all_fit_out (supply_at draft.now.now.out brand).outstanding (values_of shares.now)) }
+        (can_come_out (supply_at draft.now.now.out brand) (total_of (values_of shares.now))) }
 {
     draft.valid();
     let values = values_of(alloc, shares)?;

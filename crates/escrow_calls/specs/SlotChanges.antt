@@ -1,0 +1,38 @@
+-- What calls that change the slots of a seat read first: the seat, and the shares that the call gives.
+use Rattle.std.specs.Prelude.{◌≡◌, ℕ, ◌<◌, List, length, Result, Ok}
+use Rattle.contract_reads.specs.Calls.{FitSlots}
+use Rattle.host_data.specs.Tree.{Tree}
+use Rattle.refusals.specs.Outcomes.{◌>>=◌, ◌>>◌}
+use Rattle.refusals.specs.declared.codes.Refusal.{Refusal}
+use Rattle.rules.specs.Given.{is_misfit, issuers_of, own_seat, shares_at}
+use Rattle.rules.specs.States.{allocation_of}
+use Rattle.rules.specs.Words.{runs}
+use Rattle.rules.specs.Zmint.{is_not_of, minting}
+use Rattle.rules.specs.proposals.declared.allocations.Share.{Share}
+use Rattle.rules.specs.world_state.Worlds.{State}
+
+-- the seat, and the shares
+abbrev pub Asked : Type 0
+Asked = Result (ℕ × List Share) Refusal
+
+-- of a deposit and of a withdrawal: an open seat of the instance's own, and shares of brands that it keeps
+unfoldable pub slots_asked : State → ℕ → List Tree → Asked
+slots_asked w i args = do
+  runs w i
+  seat ← own_seat w i 1 args
+  shares ← shares_at (is_misfit (issuers_of w i) (allocation_of w seat)) 2 args
+  Ok (seat, shares)
+
+-- of a mint's calls: an open seat of the mint's instance, and shares of the mint's brand
+unfoldable pub mint_asked : State → ℕ → List Tree → Asked
+mint_asked w brand args = do
+  runs w (minting w brand)
+  seat ← own_seat w (minting w brand) 2 args
+  shares ← shares_at (is_not_of brand (allocation_of w seat)) 1 args
+  Ok (seat, shares)
+
+-- the seat was made, the slots are its own, and the shares fit them
+pub record IsOfSeat (w : State) (seat : ℕ) (slots shares : List Share) : Type 0 where
+  pub made : seat < length w.seats
+  pub own : slots ≡ allocation_of w seat
+  pub fit : FitSlots slots shares
