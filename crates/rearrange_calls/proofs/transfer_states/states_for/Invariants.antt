@@ -1,7 +1,0 @@
-use Rattle.std.proofs.Common.{◌≡◌, take}
-use Rattle.world_reads.specs.host_world.Worlds.{world_of}
-use Rattle.rules.specs.Rearranging.{states_for}
-use Rattle.rearrange_calls.proofs.transfer_states.states_for.Given as goal
-
-abbrev pub invariant-loop-seat : goal.invariant-loop-seat
-invariant-loop-seat l = l.states.items ≡ states_for (world_of l.world) (take l.seat-index l.seats)
