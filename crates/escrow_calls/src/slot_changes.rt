@@ -41,8 +41,8 @@ impl Drop for SlotChange {
 }
 
 /// What a deposit or a withdrawal is asked for, where the instance runs: an open seat of the instance's own at the
-/// first place, and shares at the second, of brands that it keeps: else `Closed`, what `own_seat` refuses, then what
-/// `shares_for` does (Zoe).
+/// first place, and shares at the second, of brands that it keeps: else `Closed`, then `WrongObject` 1, `WrongInstance`,
+/// `SeatExited` of the seat, then what `shares_for` refuses of the shares (Zoe).
 #[tactic(auto, unfolding(crate::specs::SlotChanges::slots_asked, refusals::specs::Outcomes::bind))]
 pub(crate) fn slot_change(
     alloc: Global,
@@ -84,8 +84,8 @@ fn instance_of_mint(world: &World, brand: u16) -> u32
 }
 
 /// What a mint's call is asked for, where the mint's instance runs: an open seat of that instance at the second place,
-/// and shares at the first, of the mint's brand: else `Closed`, what `own_seat` refuses, then what `shares_of_mint`
-/// does (Zoe).
+/// and shares at the first, of the mint's brand: else `Closed`, then `WrongObject` 2, `WrongInstance`, `SeatExited` of
+/// the seat, then what `shares_of_mint` refuses of the shares (Zoe).
 #[tactic(auto, unfolding(crate::specs::SlotChanges::mint_asked, refusals::specs::Outcomes::bind))]
 pub(crate) fn slot_change_of_mint(
     alloc: Global,

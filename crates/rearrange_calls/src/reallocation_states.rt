@@ -19,7 +19,7 @@ fn state(world: &World, seat: u32) -> Result<SeatState, AllocError>
     world.draft.seats().state(seat)
 }
 
-/// What seats that are listed once each are while a change is planned.
+/// What seats, listed once each in ascending order, are while a change is planned.
 pub fn states(alloc: Global, world: &World, once: &[u32]) -> Result<SeatStates, AllocError>
     requires made { All (λ n. n < length (world_of world.now).seats) once.now }
     requires order { AllPairs (λ m n. m < n) once.now }

@@ -35,7 +35,7 @@ fn unstaged_state(world: &World, seat: u32) -> Result<SeatState, AllocError>
     Ok(state)
 }
 
-/// What seats that are listed once each are while transfers between them are planned.
+/// What seats, listed once each in ascending order, are while transfers between them are planned.
 fn states_of(alloc: Global, world: &World, once: &[u32]) -> Result<SeatStates, AllocError>
     requires made { All (λ n. n < length (world_of world.now).seats) once.now }
     requires order { AllPairs (λ m n. m < n) once.now }

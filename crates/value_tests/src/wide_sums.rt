@@ -7,7 +7,7 @@ ghost use Rattle.refusals.specs.Codes.{capped};
 use refusals::faults::capped;
 use std::marker::Model;
 
-/// A sum of counts. Contracts see the number.
+/// A sum of counts, below 2^192. Contracts see the number.
 #[derive(Drop)]
 pub struct WideSum {
     high: u64,
@@ -49,7 +49,7 @@ impl WideSum {
         }
     }
 
-    /// The sum with one count more.
+    /// The sum with one count more, which stays below 2^192.
     pub fn with(&self, more: u128) -> WideSum
         requires { self.now + more < 2 ^ 192 }
         ensures { result ≡ self.now + more }
@@ -59,7 +59,7 @@ impl WideSum {
         WideSum { high, low }
     }
 
-    /// Adds a count.
+    /// Adds a count; the sum stays below 2^192.
     pub fn add(&mut self, more: u128)
         requires { self.old + more < 2 ^ 192 }
         ensures { self.new ≡ self.old + more }
@@ -81,7 +81,7 @@ impl WideSum {
         self.high == other.high && self.low == other.low
     }
 
-    /// The sum as it is shown.
+    /// The sum as it is shown: 2^127 - 1 where it passes that (AmountMath's numbers).
     pub fn shown(&self) -> i128
         ensures { result ≡ pos (capped self.now) }
     {
