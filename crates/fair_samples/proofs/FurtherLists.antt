@@ -1,9 +1,9 @@
 -- The further lists break their sentences alone.
-use Rattle.std.proofs.Common.{◌≡◌, ◌≤◌, ◌^◌, ◌-◌, ℕ, Bool, true, false, List, [], ◌∷◌, length, is_some, codes, refl, sym, ap, subst, ◌∙◌, inr, arith}
+use Rattle.std.proofs.Common.{◌≡◌, ◌≤◌, ◌^◌, ◌-◌, ℕ, Bool, true, false, List, [], ◌∷◌, length, map, is_some, codes, refl, sym, ap, subst, ◌∙◌, inr, arith}
 use Rattle.std.proofs.lemmas.Bool.{and_parts, true≢false}
 use Rattle.std.specs.Fmt.{digits}
 use Rattle.std.specs.List.{AllByRecursion, list_all}
-use Rattle.fair_rows.specs.amount_math.Content.{count, count-difference, count-of_nat_unit, unit}
+use Rattle.fair_rows.specs.amount_math.Content.{count, count-difference, entries, count-of_nat_unit, unit}
 use Rattle.fair_rows.specs.amount_math.ValueView.{bound}
 use Rattle.fair_rows.specs.amount_math.declared.Kind.{Kind}
 use Rattle.fair_rows.specs.amount_math.declared.Kind.TheVariants.{Bag, Nat, Set}
@@ -13,10 +13,10 @@ use Rattle.fair_rows.specs.rights_model.declared.Holder.TheVariants.{Outside, Pa
 use Rattle.fair_rows.specs.rights_model.declared.Movement.{Movement}
 use Rattle.fair_rows.specs.rights_model.declared.Sum.{Sum}
 use Rattle.serde_json.specs.Data as json
-use Rattle.fair_rows.specs.turn_rows.Turns.{Move, Turn, Value, elements, number}
+use Rattle.fair_rows.specs.turn_rows.Turns.{Move, Turn, Value, counted, elements, key, number}
 use Rattle.fair_rows.specs.Values.{HaveKinds, IsValueOf}
 use Rattle.fair_samples.specs.Claims.{BreaksAlone}
-use Rattle.fair_samples.specs.Further.{asked_to_exit, exit_called, fail_called, handler_threw, was_shut_down, was_shut_down_with_failure, start_threw, meter_spent, facet_spent, wanted_brand, two_brands, opened_twice, too_much, burned_elsewhere, gave_less, paid_less, paid_out_of_order, paid_together, refused_opening, refused_exit, told_twice, off_by_one, further}
+use Rattle.fair_samples.specs.Further.{asked_to_exit, exit_called, fail_called, handler_threw, was_shut_down, was_shut_down_with_failure, start_threw, meter_spent, facet_spent, wanted_brand, two_brands, opened_twice, too_many_of_a_key, too_much, burned_elsewhere, gave_less, paid_less, paid_out_of_order, paid_together, refused_opening, refused_exit, told_twice, off_by_one, further}
 use Rattle.fair_samples.specs.Sentences.{Meets, Sentence, causes_are_followed, offers_burn, offers_escrow, payouts_are_new, payouts_follow, refusals_change_nothing, seats_are_in_order, slots_are_of_one_brand, sums_are_told, supplies_are_bounded}
 use Rattle.fair_samples.proofs.Together.{same_some}
 use Rattle.fair_samples.proofs.Held.{held_is, moves_of}
@@ -53,6 +53,28 @@ much = record { brand = 1; from = Outside; to = Payment 1; value = number 1 } �
 
 much_out : count (supply (moves_of much) 1) unit ≡ 2 ^ 120
 much_out = count-difference (minted (moves_of much) 1) (burned (moves_of much) 1) unit ∙ omega (arith, count_where_is (λ (m : Movement). m.from) (λ (m : Move). m.from) (λ m. refl) 1 much unit, count_where_is (λ (m : Movement). m.to) (λ (m : Move). m.to) (λ m. refl) 1 much unit)
+
+first_is_counted : Value → Bool
+first_is_counted (elements (counted s n ∷ es)) = true
+first_is_counted _ = false
+
+keyed_first : (es : List (List ℕ × ℕ)) → first_is_counted (elements (map (λ (e : List ℕ × ℕ). key e.0) es)) ≡ false
+unfolding first_is_counted
+keyed_first [] = refl
+keyed_first (e ∷ es) = refl
+
+counts_alone : (k : Kind) → IsValueOf k (elements (counted (codes "a") 1 ∷ [])) → k ≡ Bag
+unfolding first_is_counted is_number
+counts_alone Bag is = refl
+counts_alone Nat is = absurd (true≢false (sym (ap is_number is.is)))
+counts_alone Set is = absurd (true≢false (ap first_is_counted is.is ∙ keyed_first (entries is.content)))
+
+abbrev many_of_a_key : List Move
+many_of_a_key =
+    record { brand = 4; from = Outside; to = Payment 1; value = elements (counted (codes "a") 1 ∷ []) } ∷ record { brand = 4; from = Outside; to = Payment 0; value = elements (counted (codes "a") (2 ^ 63 - 1) ∷ []) } ∷ []
+
+many_out : count (supply (moves_of many_of_a_key) 4) (codes "a") ≡ 2 ^ 63
+many_out = count-difference (minted (moves_of many_of_a_key) 4) (burned (moves_of many_of_a_key) 4) (codes "a") ∙ omega (arith, count_where_is (λ (m : Movement). m.from) (λ (m : Move). m.from) (λ m. refl) 4 many_of_a_key (codes "a"), count_where_is (λ (m : Movement). m.to) (λ (m : Move). m.to) (λ m. refl) 4 many_of_a_key (codes "a"))
 
 breaks_asked_to_exit : ¬ Meets causes_are_followed asked_to_exit
 unfolding digits
@@ -106,6 +128,13 @@ breaks_too_much h =
     let few : count (supply (moves_of much) 1) unit ≤ bound Nat = subst (λ k. count (supply (moves_of much) 1) unit ≤ bound k) (numbers_alone (b.kind_of 1) b.values.1.0) ((b.fits 1).each unit) in
     omega (arith, few, much_out)
 
+breaks_too_many_of_a_key : ¬ Meets supplies_are_bounded too_many_of_a_key
+breaks_too_many_of_a_key h =
+    let of_bags : HaveKinds ((4, elements (counted (codes "a") (2 ^ 63 - 1) ∷ [])) ∷ (4, elements (counted (codes "a") 1 ∷ [])) ∷ []) = record { kind_of = kind_at; values = of_kinds ((4, elements (counted (codes "a") (2 ^ 63 - 1) ∷ [])) ∷ (4, elements (counted (codes "a") 1 ∷ [])) ∷ []) refl } in
+    let b = h.0.2 of_bags in
+    let few : count (supply (moves_of many_of_a_key) 4) (codes "a") ≤ bound Bag = subst (λ k. count (supply (moves_of many_of_a_key) 4) (codes "a") ≤ bound k) (counts_alone (b.kind_of 4) b.values.1.0) ((b.fits 4).each (codes "a")) in
+    omega (arith, few, many_out)
+
 breaks_burned_elsewhere : ¬ Meets offers_burn burned_elsewhere
 breaks_burned_elsewhere h = true≢false (sym (ap is_outside h.1.0.1.1.0.to))
 
@@ -148,4 +177,4 @@ all_alone (p ∷ ps) met broken =
     (alone p.0 p.1 (others_met p.0 p.1 parts.0) broken.0, all_alone ps parts.1 broken.1)
 
 pub further_alone : AllByRecursion (λ (p : Sentence × List Turn). BreaksAlone p.0 p.1) further
-further_alone = all_alone further further_meet_others (breaks_asked_to_exit, (breaks_exit_called, (breaks_fail_called, (breaks_handler_threw, (breaks_was_shut_down, (breaks_was_shut_down_with_failure, (breaks_start_threw, (breaks_meter_spent, (breaks_facet_spent, (breaks_wanted_brand, (breaks_two_brands, (breaks_opened_twice, (breaks_too_much, (breaks_burned_elsewhere, (breaks_gave_less, (breaks_paid_less, (breaks_paid_out_of_order, (breaks_paid_together, (breaks_refused_opening, (breaks_refused_exit, (breaks_told_twice, (breaks_off_by_one, tt))))))))))))))))))))))
+further_alone = all_alone further further_meet_others (breaks_asked_to_exit, (breaks_exit_called, (breaks_fail_called, (breaks_handler_threw, (breaks_was_shut_down, (breaks_was_shut_down_with_failure, (breaks_start_threw, (breaks_meter_spent, (breaks_facet_spent, (breaks_wanted_brand, (breaks_two_brands, (breaks_opened_twice, (breaks_too_much, (breaks_too_many_of_a_key, (breaks_burned_elsewhere, (breaks_gave_less, (breaks_paid_less, (breaks_paid_out_of_order, (breaks_paid_together, (breaks_refused_opening, (breaks_refused_exit, (breaks_told_twice, (breaks_off_by_one, tt)))))))))))))))))))))))

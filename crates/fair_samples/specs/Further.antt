@@ -4,7 +4,7 @@ use Rattle.fair_rows.specs.rights_model.declared.Holder.TheVariants.{Outside, Pa
 use Rattle.serde_json.specs.Data as json
 use Rattle.fair_rows.specs.turn_rows.Causes as causes
 use Rattle.fair_rows.specs.turn_rows.Kinds as kinds
-use Rattle.fair_rows.specs.turn_rows.Turns.{Turn, called, number, ok, refused, spent, threw}
+use Rattle.fair_rows.specs.turn_rows.Turns.{Turn, called, counted, elements, number, ok, refused, spent, threw}
 use Rattle.fair_samples.specs.Samples.{amount, exit_turn, burned_total, burn_move, call, exit, exit_call, handler_turn, invitation, invitation_turn, kit, kit_turn, mint_turn, move, none, object, offer_turn, one, open_row, payout, service, start_turn, then_turns, total, trade}
 use Rattle.fair_samples.specs.Sentences.{Sentence, causes_are_followed, offers_burn, offers_escrow, payouts_are_new, payouts_follow, refusals_change_nothing, seats_are_in_order, slots_are_of_one_brand, sums_are_told, supplies_are_bounded}
 
@@ -62,6 +62,10 @@ opened_twice = start_turn 1 (kit ∷ open_row 0 [] [] ∷ kit ∷ open_row 0 [] 
 abbrev pub too_much : List Turn
 too_much = service 1 (codes "mint1") (codes "mintPayment") none (ok json.null) (move 1 Outside (Payment 0) (number (2 ^ 120 - 1)) ∷ move 1 Outside (Payment 1) (number 1) ∷ []) (total 1 (2 ^ 120) 0 0 (2 ^ 120) 0 ∷ []) ∷ []
 
+-- of a key of a bag brand 2^63 are minted
+abbrev pub too_many_of_a_key : List Turn
+too_many_of_a_key = service 1 (codes "mint4") (codes "mintPayment") none (ok json.null) (move 4 Outside (Payment 0) (elements (counted (codes "a") (2 ^ 63 - 1) ∷ [])) ∷ move 4 Outside (Payment 1) (elements (counted (codes "a") 1 ∷ [])) ∷ []) (total 4 (2 ^ 63) 0 0 (2 ^ 63) 0 ∷ []) ∷ []
+
 -- the invitation goes to a purse
 abbrev pub burned_elsewhere : List Turn
 burned_elsewhere = invitation_turn ∷ offer_turn 2 (open_row 0 [] [] ∷ move 0 (Payment 0) (Purse 0) invitation ∷ []) (total 0 1 0 1 0 0 ∷ []) ∷ []
@@ -109,6 +113,7 @@ further =
     (causes_are_followed, asked_to_exit) ∷ (causes_are_followed, exit_called) ∷ (causes_are_followed, fail_called) ∷ (causes_are_followed, handler_threw)
     ∷ (causes_are_followed, was_shut_down) ∷ (causes_are_followed, was_shut_down_with_failure) ∷ (causes_are_followed, start_threw) ∷ (causes_are_followed, meter_spent) ∷ (causes_are_followed, facet_spent)
     ∷ (slots_are_of_one_brand, wanted_brand) ∷ (slots_are_of_one_brand, two_brands) ∷ (seats_are_in_order, opened_twice) ∷ (supplies_are_bounded, too_much)
+    ∷ (supplies_are_bounded, too_many_of_a_key)
     ∷ (offers_burn, burned_elsewhere) ∷ (offers_escrow, gave_less)
     ∷ (payouts_follow, paid_less) ∷ (payouts_follow, paid_out_of_order) ∷ (payouts_are_new, paid_together)
     ∷ (refusals_change_nothing, refused_opening) ∷ (refusals_change_nothing, refused_exit)
