@@ -7,7 +7,7 @@ use Rattle.amount_math.specs.declared.shape.Shape.TheVariants.{Nat, Set, Bag}
 use Rattle.amount_math.specs.Content.{Contains, nothing, of_nat, of_nat_zero, unit, count-of_nat_unit, count, sum, sum-of_nat, difference, count-difference}
 use Rattle.amount_math.specs.ValueView.{ValueView, Fits, HasFew, IsNat, IsOutstanding, IsValue, with_content, nat_bound}
 use Rattle.amount_math.specs.NatLaws.{IsNat-of_nat}
-use Rattle.amount_math.specs.KindLaws.{nothing_is_value, outstanding_fits, outstanding_part, outstanding_sum, value_of_part, value_of_sum}
+use Rattle.amount_math.specs.KindLaws.{nothing_is_value, outstanding_part, outstanding_sum, value_of_part, value_of_sum}
 use Rattle.amount_math.specs.Shapes.{value_view, IsCounted, IsShape}
 
 pub of_nat-injective : (m n : ℕ) → of_nat m ≡ of_nat n → m ≡ n
@@ -92,9 +92,6 @@ sum_is_value s t kinds p q fits few = value_of_sum (value_view s).kind _ _ (valu
 
 pub counted_is : (w : ValueView) (s : Shape) → value_view s ≡ w → IsOutstanding w.kind w.content → IsCounted s
 counted_is w s e h = shape_of_outstanding s (subst (λ (v : ValueView). IsOutstanding v.kind v.content) (sym e) h)
-
-pub counted_fits : (w : ValueView) (s : Shape) → value_view s ≡ w → IsCounted s → Fits w.kind w.content
-counted_fits w s e h = subst (λ (v : ValueView). Fits v.kind v.content) e (outstanding_fits _ _ (outstanding_of_shape s h))
 
 pub same_value_view : (a b : ValueView) → a.kind ≡ b.kind → a.content ≡ b.content → a ≡ b
 same_value_view a b kinds contents i = record { kind = kinds i; content = contents i }

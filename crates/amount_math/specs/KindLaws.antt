@@ -1,6 +1,6 @@
 -- Which contents stay values of their kind: the sum that fits, what is contained in one, and nothing.
 use Rattle.std.specs.Prelude.{◌≡◌, ◌≢◌, ℕ, zero, suc, ◌+◌, ◌<◌, ◌≤◌, true, false, cond, Option, Some, None, List, [], ◌∷◌, length, slice_index_or, unwrap_or, ◌*◌, refl}
-use Rattle.std.proofs.Common.{inl, inr, sym, ◌∙◌, ap, subst, arith}
+use Rattle.std.proofs.Common.{sym, ◌∙◌, ap, arith}
 use lib.Dec.{T}
 use Rattle.std.specs.Ordering.{is_eq, is_lt, eq_by_cmp, ordering_reverse}
 use Rattle.std.specs.declared.cmp.Ordering.TheVariants.{Less, Equal, Greater}
@@ -10,14 +10,12 @@ use Rattle.std.specs.FinMap.{find, is_sorted}
 use Rattle.std.specs.FinMap.Entries.{below_all}
 use Rattle.amount_math.specs.declared.Kind.{Kind}
 use Rattle.amount_math.specs.declared.Kind.TheVariants.{Nat, Set, Bag}
-use Rattle.amount_math.specs.declared.PutFault.{PutFault}
-use Rattle.amount_math.specs.declared.PutFault.TheVariants as put_fault
 use Rattle.amount_math.specs.Sparse.{is_something, empty}
 use Rattle.amount_math.specs.Totals.{first, second, less, equal, weighed}
 use Rattle.amount_math.specs.Counted.{counted, counted-of_nat}
 use Rattle.amount_math.specs.Content.{Content, Contains, key_cmp, counts, is_zero, listed, entries, count, count_listed, nothing, count-nothing, sum, count-sum, sum-of_nat, of_nat, count-of_nat, count-of_nat_unit, unit, same_content}
 use Rattle.amount_math.specs.Entries.{Entries, IsRising}
-use Rattle.amount_math.specs.ValueView.{IsValue, IsNat, IsSet, IsBag, IsKeyed, HasKeys, HasFew, Fits, IsOutstanding, IsPutRefusal, IsIssueRefusal, keys_of, most_keys, most_counted, bound, bag_bound}
+use Rattle.amount_math.specs.ValueView.{IsValue, IsNat, IsSet, IsBag, IsKeyed, HasKeys, HasFew, Fits, IsOutstanding, keys_of, most_keys, most_counted, bag_bound}
 use Rattle.amount_math.specs.NatLaws.{nothing_is_nat}
 
 -- ---- how many keys what is contained has
@@ -220,37 +218,8 @@ outstanding_part Nat a b has p = only_units_of_part a b has p (fits_part Nat a b
 outstanding_part Set a b has p = record { keys = keys_of_part a b has p.keys; fits = fits_part Set a b has p.fits }
 outstanding_part Bag a b has p = record { keys = keys_of_part a b has p.keys; fits = fits_part Bag a b has p.fits }
 
--- ---- a refusal that isn't for want of memory is of a sum that is no value
-
-pub issue_refused_not_fits : (kind : Kind) (c : Content) (fault : PutFault) → IsIssueRefusal kind c fault → fault ≢ put_fault.NoMemory → ¬ Fits kind c
-issue_refused_not_fits kind c (put_fault.Overlap key) h apart fits = omega (arith, h.1.passes, subst (λ k. count c key ≤ bound k) h.0 (fits.each key))
-issue_refused_not_fits kind c (put_fault.TooMuch over) h apart fits = omega (arith, h.1.passes, fits.each h.1.element)
-issue_refused_not_fits kind c put_fault.NoMemory h apart fits = absurd (apart refl)
-
 -- a value has few enough keys
 pub has_few : (kind : Kind) (c : Content) → IsValue kind c → HasFew kind c
 has_few Nat c p = tt
 has_few Set c p = p.keyed.few
 has_few Bag c p = p.keyed.few
-
-few_of_value : (kind : Kind) (c : Content) → kind ≢ Nat → IsValue kind c → keys_of c ≤ most_keys
-few_of_value Nat c h p = absurd (h refl)
-few_of_value Set c h p = p.keyed.few
-few_of_value Bag c h p = p.keyed.few
-
-fits_of_value : (kind : Kind) (c : Content) → IsValue kind c → Fits kind c
-fits_of_value kind c p = outstanding_fits kind c (value_is_outstanding kind c p)
-
-pub put_refused_no_value : (kind : Kind) (c : Content) (fault : PutFault) → IsPutRefusal kind c fault → fault ≢ put_fault.NoMemory → ¬ IsValue kind c
-put_refused_no_value kind c (put_fault.Overlap key) h apart value = issue_refused_not_fits kind c (put_fault.Overlap key) h apart (fits_of_value kind c value)
-put_refused_no_value kind c (put_fault.TooMuch over) h apart value = elim h [
-  | inl counts ↦ issue_refused_not_fits kind c (put_fault.TooMuch over) counts apart (fits_of_value kind c value)
-  | inr keys ↦ omega (arith, keys.1.passes, few_of_value kind c keys.0 value)
-]
-put_refused_no_value kind c put_fault.NoMemory h apart value = absurd (apart refl)
-
--- what isn't issued wouldn't be put either
-pub put_from_issue : (kind : Kind) (c : Content) (fault : PutFault) → IsIssueRefusal kind c fault → IsPutRefusal kind c fault
-put_from_issue kind c (put_fault.Overlap key) h = h
-put_from_issue kind c (put_fault.TooMuch over) h = inl h
-put_from_issue kind c put_fault.NoMemory h = h

@@ -73,11 +73,12 @@ pub record PassesKeys (kind : Kind) (c : Content) (over : TooMuch) : Type 0 wher
   pub bounded : over.bound ≡ most_keys
   pub passes : most_keys < keys_of c
 
--- when a value isn't added to what is out of its brand: memory is wanted, or the two have a key of a set in common, of which the least is shown, or the sum has too much of another kind
-abbrev pub IsIssueRefusal : Kind → Content → PutFault → Type 0
-IsIssueRefusal kind c (put_fault.Overlap key) = (kind ≡ Set) × IsFirstPast 1 c key
-IsIssueRefusal kind c (put_fault.TooMuch over) = (kind ≢ Set) × PassesBound kind c over
-IsIssueRefusal kind c put_fault.NoMemory = Unit {0}
+-- when the counts of a sum are refused: memory is wanted, or two sets have a key in common, of which
+-- the least is shown, or a count of another kind passes its bound
+abbrev pub IsCountRefusal : Kind → Content → PutFault → Type 0
+IsCountRefusal kind c (put_fault.Overlap key) = (kind ≡ Set) × IsFirstPast 1 c key
+IsCountRefusal kind c (put_fault.TooMuch over) = (kind ≢ Set) × PassesBound kind c over
+IsCountRefusal kind c put_fault.NoMemory = Unit {0}
 
 -- when a value isn't added to another: the same, or the sum has too many keys
 abbrev pub IsPutRefusal : Kind → Content → PutFault → Type 0

@@ -1,6 +1,6 @@
 //! Operations on the amounts of one brand, refused for two.
 
-ghost use Rattle.std.specs.Prelude.{◌≡◌, ◌≢◌, ◌↔◌, IsTrue, IsOk, IsErr, IfOk, IfErr, OnOk, OnErr};
+ghost use Rattle.std.specs.Prelude.{◌≡◌, ◌↔◌, IsTrue, IsOk, IfOk, IfErr, OnOk, OnErr};
 ghost use Rattle.amount_math.specs.Content.{Content, Contains, difference, nothing, sum};
 ghost use Rattle.amount_math.specs.ValueView.{IsGreatest, IsIncomparable, IsLeast};
 ghost use Rattle.amount_math.specs.Amount.{OneKind, holding};

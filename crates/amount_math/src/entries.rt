@@ -1,10 +1,10 @@
 //! Lists of entries, in byte order of their keys: what they have, and whether others fit with them.
 //! Each goes through the one list in order and looks up in the other by halving.
 
-ghost use Rattle.std.specs.Prelude.{◌≡◌, ◌+◌, ◌<◌, ◌≤◌, ◌↔◌, ℕ, List, length, IsTrue, IsNone, IsSome, IfSome, IsErr, IfOk, IfErr};
+ghost use Rattle.std.specs.Prelude.{◌≡◌, ◌+◌, ◌<◌, ◌≤◌, ◌↔◌, ℕ, List, length, IsTrue, IsNone, IfSome, IsErr, IfOk, IfErr};
 ghost use Rattle.amount_math.specs.Content.{Contains, count, of_entries, sum};
 ghost use Rattle.amount_math.specs.Counted.{counted};
-ghost use Rattle.amount_math.specs.Entries.{AreEntries, IsGap, IsRising, entry_at, most_of_key, tally};
+ghost use Rattle.amount_math.specs.Entries.{AreEntries, IsGap, IsRising, entry_at, tally};
 ghost use Rattle.amount_math.specs.ValueView.{IsFirstPast, keys_of};
 
 use crate::{Entry, Key};

@@ -5,7 +5,7 @@ ghost use Rattle.std.specs.List.Sorted.{IsPermutation};
 ghost use Rattle.amount_math.specs.Content.{Contains, Content, count, difference, entries, nothing, of_entries, one_of, sum};
 ghost use Rattle.amount_math.specs.Counted.{counted};
 ghost use Rattle.amount_math.specs.Entries.{AreEntries, IsKey, most_of_key};
-ghost use Rattle.amount_math.specs.ValueView.{Fits, IsBag, IsIssueRefusal, PassesBound, keys_of, most_keys};
+ghost use Rattle.amount_math.specs.ValueView.{Fits, IsBag, IsCountRefusal, keys_of, most_keys};
 ghost use Rattle.amount_math.specs.declared.Kind.{Kind};
 
 use crate::in_place::put_all;
@@ -131,7 +131,7 @@ impl Keyed {
         requires { Fits Kind.Set self.now.content }
         ensures ok { IsOk result → Fits Kind.Set (sum self.now.content more.now.content) }
         ensures sure { Fits Kind.Set (sum self.now.content more.now.content) → IsOk result }
-        ensures refused { IfErr result (IsIssueRefusal Kind.Set (sum self.now.content more.now.content)) }
+        ensures refused { IfErr result (IsCountRefusal Kind.Set (sum self.now.content more.now.content)) }
     {
         let others = more.entries();
         let Some(at) = entries::first_past(self.entries(), others, 1) else {
@@ -148,7 +148,7 @@ impl Keyed {
         requires { Fits Kind.Bag self.now.content }
         ensures ok { IsOk result → Fits Kind.Bag (sum self.now.content more.now.content) }
         ensures sure { Fits Kind.Bag (sum self.now.content more.now.content) → IsOk result }
-        ensures refused { IfErr result (IsIssueRefusal Kind.Bag (sum self.now.content more.now.content)) }
+        ensures refused { IfErr result (IsCountRefusal Kind.Bag (sum self.now.content more.now.content)) }
     {
         let held = self.entries();
         let others = more.entries();

@@ -19,7 +19,6 @@ mod keys;
 mod kinds;
 mod made;
 mod merges;
-mod outstanding;
 mod shape;
 pub mod shortfall;
 
@@ -29,7 +28,6 @@ pub use holding::Holding;
 use keyed::Keyed;
 pub use keys::{COUNT_BOUND, Entry, KEY_BYTES, Key};
 pub use kinds::{AmountKind, BadValue, BagKind, MakeFault, NatKind, SetKind};
-pub use outstanding::Outstanding;
 use shape::{Shape, nat_sum};
 use std::alloc::{AllocError, Global};
 use std::marker::Model;

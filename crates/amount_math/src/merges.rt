@@ -1,6 +1,6 @@
 //! Putting entries together and taking them away, in the order of their keys.
 
-ghost use Rattle.std.specs.Prelude.{◌≡◌, ◌≤◌, ◌<◌, ◌+◌, ◌++◌, ℕ, List, [], IfOk, IfErr, OnOk, OnErr, IfSome, IsSome, IsNone, MatchOption, length, reverse, vec_len};
+ghost use Rattle.std.specs.Prelude.{◌≡◌, ◌≤◌, ◌+◌, ℕ, List, [], IfOk, OnOk, OnErr, IfSome, IsNone, reverse, vec_len};
 ghost use Rattle.std.specs.List.{All};
 ghost use Rattle.std.specs.Vec.{vec_capacity};
 ghost use Rattle.amount_math.specs.Content.{Contains, count, difference, of_entries, sum};

@@ -5,7 +5,7 @@ ghost use Rattle.amount_math.specs.Content.{Contains, difference, nothing, of_na
 ghost use Rattle.amount_math.specs.Counted.{counted};
 ghost use Rattle.amount_math.specs.Held.{GoesIn, HasRoom, keys_in, with_more};
 ghost use Rattle.amount_math.specs.Shapes.{IsCounted, IsShape, held_by, room_in, value_view};
-ghost use Rattle.amount_math.specs.ValueView.{Fits, HasFew, IsIssueRefusal, IsNat, IsPutRefusal, IsValue, PassesBound, PassesKeys, keys_of, nat_bound, with_content};
+ghost use Rattle.amount_math.specs.ValueView.{Fits, HasFew, IsCountRefusal, IsPutRefusal, IsValue, PassesKeys, keys_of, nat_bound, with_content};
 
 use crate::keyed::Keyed;
 use crate::{Kind, NAT_BOUND, PutFault, TooMuch};
@@ -39,7 +39,7 @@ fn check_nat(held: u128, more: u128) -> Result<(), PutFault>
     requires more { more ≤ nat_bound }
     ensures ok { IsOk result → Fits Kind.Nat (sum (of_nat held) (of_nat more)) }
     ensures sure { Fits Kind.Nat (sum (of_nat held) (of_nat more)) → IsOk result }
-    ensures refused { IfErr result (IsIssueRefusal Kind.Nat (sum (of_nat held) (of_nat more))) }
+    ensures refused { IfErr result (IsCountRefusal Kind.Nat (sum (of_nat held) (of_nat more))) }
 {
     match nat_sum(held, more) {
         Ok(_) => Ok(()),
@@ -107,7 +107,7 @@ impl Shape {
         requires more { IsCounted more.now }
         ensures ok { IsOk result → Fits (value_view self.now).kind (sum (value_view self.now).content (value_view more.now).content) }
         ensures sure { Fits (value_view self.now).kind (sum (value_view self.now).content (value_view more.now).content) → IsOk result }
-        ensures refused { IfErr result (IsIssueRefusal (value_view self.now).kind (sum (value_view self.now).content (value_view more.now).content)) }
+        ensures refused { IfErr result (IsCountRefusal (value_view self.now).kind (sum (value_view self.now).content (value_view more.now).content)) }
     {
         match (self, more) {
             (Shape::Nat(held), Shape::Nat(number)) => check_nat(*held, *number),
@@ -163,24 +163,6 @@ impl Shape {
         ensures refused { IfErr result (IsPutRefusal (value_view self.old).kind (sum (value_view self.old).content (value_view more.old).content)) }
     {
         self.check_sum(more)?;
-        match self.add(more) {
-            Ok(()) => Ok(()),
-            Err(_) => Err(PutFault::NoMemory),
-        }
-    }
-
-    /// `put` where there may be any number of keys.
-    pub(crate) fn issue(&mut self, more: &mut Shape) -> Result<(), PutFault>
-        requires kinds { (value_view self.old).kind ≡ (value_view more.old).kind }
-        requires held { IsCounted self.old }
-        requires more { IsShape more.old }
-        ensures ok { OnOk result (value_view self.new ≡ with_content (value_view self.old) (sum (value_view self.old).content (value_view more.old).content)) }
-        ensures fits { OnOk result (Fits (value_view self.old).kind (sum (value_view self.old).content (value_view more.old).content)) }
-        ensures shapes { IsCounted self.new × IsShape more.new }
-        ensures err { OnErr result ((self.new ≡ self.old) × (more.new ≡ more.old)) }
-        ensures refused { IfErr result (IsIssueRefusal (value_view self.old).kind (sum (value_view self.old).content (value_view more.old).content)) }
-    {
-        self.check_counts(more)?;
         match self.add(more) {
             Ok(()) => Ok(()),
             Err(_) => Err(PutFault::NoMemory),

@@ -1,6 +1,5 @@
 //! Less is held than is asked for: what a refusal shows of both.
 
-ghost use Rattle.std.specs.Prelude.{◌≡◌};
 ghost use Rattle.amount_math.specs.Content.{Contains};
 ghost use Rattle.amount_math.specs.Shortfalls.{IsLossFault};
 ghost use Rattle.amount_math.specs.ValueView.{IsValue};

@@ -1,6 +1,6 @@
 -- What movements move is added, one after another.
 use Rattle.std.proofs.Common.{◌≡◌, ℕ, zero, suc, ◌+◌, ◌<◌, ◌≤◌, List, [], ◌∷◌, add-one, drop, drop-cons, get_or, length, refl, sym, ◌∙◌, ap, arith}
-use Rattle.draft_reads.specs.amount_math.Content.{Content, sum, sum-assoc, sum-nothing}
+use Rattle.draft_reads.specs.amount_math.Content.{sum, sum-assoc, sum-nothing}
 use Rattle.draft_reads.specs.amount_math.ValueView.{ValueView, with_content}
 use Rattle.draft_reads.specs.rights_model.declared.Movement.{Movement}
 use Rattle.draft_effects.specs.Sums.{HaveSum, IsAdding, content_moved, whole_moved}

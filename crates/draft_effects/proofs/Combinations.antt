@@ -1,14 +1,14 @@
 -- A combination of payments that can be made in the world can be made in a draft, and makes of the rights what its movements make together.
 use Rattle.std.specs.List.{slice_get}
 use Rattle.std.specs.Prelude.{cond, unwrap_or}
-use Rattle.std.proofs.Common.{◌≡◌, ◌≢◌, inl, inr, ℕ, ◌+◌, ◌<◌, ◌≤◌, ◌==◌, List, [], ◌∷◌, Option, Some, length, map, refl, sym, ◌∙◌, ap, subst, arith}
+use Rattle.std.proofs.Common.{◌≡◌, inl, inr, ℕ, ◌+◌, ◌<◌, ◌==◌, List, [], ◌∷◌, Option, Some, length, map, refl, sym, ◌∙◌, ap, subst, arith}
 use Rattle.std.proofs.lemmas.Bool.{cases_eq, eq-eqb, ne_eqb}
 use Rattle.draft_reads.specs.amount_math.Content.{Content, Contains, Contains-refl, count-difference, count-nothing, difference, nothing, nothing-sum, same_content, sum}
 use Rattle.draft_reads.specs.amount_math.ValueView.{ValueView}
 use Rattle.draft_reads.specs.amount_math.declared.Kind.{Kind}
 use Rattle.draft_effects.specs.Steps.{MayReach}
 use Rattle.draft_effects.proofs.TransferSequences.{all_spent_long, counted_so}
-use Rattle.draft_effects.proofs.Measures.{all_grow, made_or_owed}
+use Rattle.draft_effects.proofs.Measures.{all_grow}
 use Rattle.draft_reads.specs.Views.{HasNow, rights_in, seats_in, staged_from, staging_in}
 use Rattle.draft_reads.proofs.Undoing.{clean_goes}
 use Rattle.draft_reads.specs.ertp_mint.BrandSupply.{BrandSupply}
@@ -21,12 +21,11 @@ use Rattle.draft_reads.specs.proposals.declared.allocations.Share.{Share}
 use Rattle.draft_reads.specs.rights_model.declared.Holder.TheVariants.{Hand, Payment}
 use Rattle.draft_reads.specs.rights_model.declared.Movement.{Movement}
 use Rattle.draft_reads.specs.rights_model.Table.{movement}
-use Rattle.draft_reads.specs.vault_model.Flows.{Part, content_of, whole_of}
-use Rattle.draft_reads.specs.vault_model.Lists.{Lists, amount_of, kind_of}
-use Rattle.draft_reads.specs.vault_model.Seats.{KeptSeat}
+use Rattle.draft_reads.specs.vault_model.Flows.{content_of}
+use Rattle.draft_reads.specs.vault_model.Lists.{Lists, amount_of}
 use Rattle.draft_reads.specs.vault_model.Tables.{hand_minus}
 use Rattle.draft_reads.specs.world_laws.Combinations.{all_taken}
-use Rattle.draft_reads.specs.world_laws.Views.{put_to, rights_of, seat_of, seats_of}
+use Rattle.draft_reads.specs.world_laws.Views.{put_to, rights_of, seat_of}
 use Rattle.draft_reads.proofs.world_laws.Combined.{combined_together}
 use Rattle.draft_effects.specs.HandStore.{CanCarryAll, IsStoring, StoresAll, all_carried, hand_after_all, into_hand}
 use Rattle.draft_reads.specs.vault.Drafts.{DraftState, IsClean, IsOfBrand, IsValid, hand_now}

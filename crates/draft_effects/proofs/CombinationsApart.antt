@@ -1,6 +1,6 @@
 -- Payments that movements to one payment neither take from nor give to.
 use Rattle.std.specs.Prelude.{cond, slice_set}
-use Rattle.std.proofs.Common.{◌≡◌, ◌≢◌, ℕ, suc, ◌+◌, ◌<◌, ◌≤◌, ◌==◌, Bool, true, false, List, [], ◌∷◌, ◌++◌, length, map, refl, sym, ◌∙◌, ap, arith}
+use Rattle.std.proofs.Common.{◌≡◌, ◌≢◌, ℕ, ◌+◌, ◌≤◌, ◌==◌, Bool, true, false, List, [], ◌∷◌, ◌++◌, length, map, refl, ◌∙◌, ap, arith}
 use Rattle.std.proofs.lemmas.Bool.{eqb-true}
 use Rattle.draft_reads.specs.amount_math.ValueView.{ValueView}
 use Rattle.draft_reads.specs.amount_math.declared.Amount.{Amount}

@@ -1,6 +1,6 @@
 -- The movements of an offer stand by themselves, and can be made once its seat is open; and what they make of a draft.
 use Rattle.std.specs.List.{AllByRecursion}
-use Rattle.std.proofs.Common.{◌≡◌, ◌≢◌, ℕ, ◌+◌, ◌≤◌, List, [], ◌∷◌, ◌++◌, None, Option, length, refl, sym, ◌∙◌, ap, subst, arith}
+use Rattle.std.proofs.Common.{◌≡◌, ◌≢◌, ℕ, ◌+◌, ◌≤◌, List, [], ◌∷◌, ◌++◌, None, length, refl, sym, ◌∙◌, ap, subst, arith}
 use Rattle.draft_reads.specs.ertp_mint.Stocks.{most_made}
 use Rattle.draft_reads.proofs.lemmas.ListEdits.{length_map, length_set}
 use Rattle.draft_reads.specs.holders.PaymentViews.{PaymentView, payment_view_at, spent_payment}

@@ -1,22 +1,19 @@
 -- The slots of a closed seat can be paid out one after another, and what that makes of a draft.
 use Rattle.std.specs.Prelude.{cond, is_some, slice_set, unwrap_or}
-use Rattle.std.specs.List.{AllByRecursion}
-use Rattle.std.proofs.Common.{◌≡◌, ◌≢◌, ℕ, zero, suc, ◌+◌, ◌-◌, ◌<◌, ◌≤◌, Bool, true, false, List, [], ◌∷◌, ◌++◌, None, Option, Some, length, map, refl, sym, ◌∙◌, ap, subst, arith}
+use Rattle.std.proofs.Common.{◌≡◌, ℕ, zero, suc, ◌+◌, ◌-◌, ◌<◌, ◌≤◌, true, false, List, [], ◌∷◌, ◌++◌, None, Option, Some, length, map, refl, sym, ◌∙◌, ap, subst, arith}
 use Rattle.draft_reads.specs.amount_math.Content.{Contains, Contains-refl}
 use Rattle.draft_reads.specs.amount_math.declared.Amount.{Amount}
-use Rattle.draft_reads.specs.ertp_mint.BrandSupply.{BrandSupply}
 use Rattle.draft_reads.specs.ertp_mint.Stocks.{most_made, no_amount}
 use Rattle.draft_reads.proofs.lemmas.ListEdits.{length_map, length_push, length_set, read_set}
-use Rattle.draft_reads.specs.holders.PaymentViews.{PaymentView, live_payment}
-use Rattle.draft_reads.specs.proposals.Shares.{AreApart, AreShares, amount_under, keyed_share}
+use Rattle.draft_reads.specs.holders.PaymentViews.{live_payment}
+use Rattle.draft_reads.specs.proposals.Shares.{AreApart, amount_under}
 use Rattle.draft_reads.specs.proposals.Slots.{emptied}
 use Rattle.draft_reads.specs.proposals.declared.allocations.Share.{Share}
 use Rattle.draft_reads.specs.rights_model.declared.Holder.TheVariants.{Payment, Slot}
 use Rattle.draft_reads.specs.rights_model.declared.Movement.{Movement}
 use Rattle.draft_reads.specs.rights_model.Table.{movement}
-use Rattle.draft_reads.specs.vault_model.Lists.{CanTake, Lists, amount_of, less, slot_of, taken, with_closed_seat, with_new_slot}
+use Rattle.draft_reads.specs.vault_model.Lists.{CanTake, Lists, less, slot_of, taken, with_closed_seat, with_new_slot}
 use Rattle.draft_reads.specs.vault_model.Seats.{KeptSeat, amount_at, kept_seat_at, no_kept_seat, with_amount, with_slots}
-use Rattle.draft_reads.specs.vault_model.Tables.{IsSound}
 use Rattle.draft_reads.proofs.vault_model.Sound.{owes_its_slots}
 use Rattle.draft_reads.specs.world_laws.Views.{all_by_hand, by_hand, put_to, rights_of, seat_of, seats_of, slots_held}
 use Rattle.draft_reads.proofs.world_laws.LeftViews.{AreFree, emptied_among, found_among, free_more, free_of_none, left_paid}

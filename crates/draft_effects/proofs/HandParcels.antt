@@ -1,24 +1,22 @@
 -- What a draft has once a parcel of the hand is held in its own store, and once one that was let go from there is put, or given up.
-use Rattle.std.proofs.Common.{◌≡◌, ◌≢◌, ℕ, ◌<◌, ◌==◌, Bool, true, false, cond, List, length, refl, sym, ◌∙◌, ap, subst, arith}
-use Rattle.std.specs.Prelude.{is_some, slice_index_or, slice_set}
-use Rattle.std.proofs.lemmas.Bool.{eq-eqb}
-use Rattle.draft_reads.specs.amount_math.Content.{Content, Contains, difference, nothing, sum, sum-difference}
+use Rattle.std.proofs.Common.{◌≡◌, ℕ, ◌<◌, ◌==◌, cond, List, length, refl, sym, ◌∙◌, ap, subst, arith}
+use Rattle.std.specs.Prelude.{slice_index_or, slice_set}
+use Rattle.draft_reads.specs.amount_math.Content.{Contains, difference, nothing, sum, sum-difference}
 use Rattle.draft_reads.specs.amount_math.ValueView.{ValueView}
 use Rattle.draft_reads.specs.amount_math.declared.Amount.{Amount}
 use Rattle.draft_reads.specs.amount_math.declared.PutFault.{PutFault}
 use Rattle.draft_reads.specs.amount_math.declared.PutFault.TheVariants.{NoMemory}
 use Rattle.draft_reads.specs.ertp_mint.BrandSupply.{BrandSupply}
 use Rattle.draft_reads.proofs.lemmas.ListEdits.{length_set, read_other, read_set}
-use Rattle.draft_reads.specs.vault_model.Backwards.{to_hand}
 use Rattle.draft_reads.specs.vault_model.Lists.{Lists, amount_of, given, taken}
 use Rattle.draft_reads.specs.vault_model.Tables.{hand_minus, hand_plus}
 use Rattle.draft_reads.proofs.vault_model.Sound.{at_or_else}
 use Rattle.draft_reads.specs.rights_model.declared.Holder.{Holder}
-use Rattle.draft_reads.specs.rights_model.declared.Holder.TheVariants.{Purse, Payment, Slot, Hand, Outside}
+use Rattle.draft_reads.specs.rights_model.declared.Holder.TheVariants.{Hand}
 use Rattle.draft_reads.specs.rights_model.Table.{movement}
 use Rattle.draft_reads.specs.world_laws.Views.{put_to}
 use Rattle.draft_reads.specs.Views.{CanGoBack}
-use Rattle.draft_reads.specs.vault.Drafts.{DraftState, HandGoes, HandKeeps, IsOfBrand, IsStored, IsValid, MayPut, after, given_at, given_up_too, hand_now, held_too, let_out, opened, slotted}
+use Rattle.draft_reads.specs.vault.Drafts.{DraftState, HandKeeps, IsOfBrand, IsStored, IsValid, after, given_at, given_up_too, hand_now, held_too, let_out, opened, slotted}
 use Rattle.draft_reads.proofs.vault.HandLaws.{hand_after}
 use Rattle.draft_reads.specs.vault.Asked.{IsPutFault, brand_of}
 use Rattle.draft_reads.specs.vault.Taking.{part_of, with_part_taken}

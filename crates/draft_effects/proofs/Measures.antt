@@ -1,7 +1,7 @@
 -- How many payments are made or owed, which only grows while movements are made.
-use Rattle.std.specs.Prelude.{IsNone, cond, is_none, is_some, slice_set}
+use Rattle.std.specs.Prelude.{IsNone, cond, is_none, slice_set}
 use Rattle.std.specs.Str.{bytes_eq}
-use Rattle.std.proofs.Common.{◌≡◌, ℕ, zero, suc, ◌+◌, ◌<◌, ◌≤◌, ◌==◌, Bool, true, false, List, [], ◌∷◌, ◌++◌, None, Option, Some, length, refl, sym, ◌∙◌, ap, subst, arith}
+use Rattle.std.proofs.Common.{ℕ, zero, suc, ◌+◌, ◌<◌, ◌≤◌, ◌==◌, Bool, true, false, List, [], ◌∷◌, ◌++◌, Option, length, ap, arith}
 use Rattle.draft_reads.specs.amount_math.Amount.{holding}
 use Rattle.draft_reads.specs.amount_math.Content.{nothing}
 use Rattle.draft_reads.specs.amount_math.ValueView.{ValueView}
@@ -18,7 +18,6 @@ use Rattle.draft_reads.proofs.world_laws.Views.{opened_last}
 use Rattle.draft_reads.specs.world_state.Good.{open_slots, slots_in}
 use Rattle.draft_reads.specs.world_state.Rights.{Rights, all_moved, changed_share, given, moved, paid, lessened_payment, paid_payment, shares_less, shares_more, shares_with, slots_at, taken}
 use Rattle.draft_reads.specs.world_state.Worlds.{IsOpen, Seat, seat_at}
-use Rattle.draft_effects.proofs.MovedPayments.{paid_next}
 
 -- ---- slots
 

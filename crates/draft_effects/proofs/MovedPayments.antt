@@ -1,14 +1,14 @@
 -- Payments of the world's rights while movements are made, none of which is spent yet, beside those of lists.
-use Rattle.std.specs.Prelude.{MatchOption, cond, slice_set}
+use Rattle.std.specs.Prelude.{cond, slice_set}
 use Rattle.std.specs.List.{AllByRecursion}
 use Rattle.std.specs.Option.{option_map}
-use Rattle.std.proofs.Common.{◌≡◌, ◌≢◌, inl, inr, ℕ, suc, ◌+◌, ◌<◌, ◌==◌, Bool, true, false, List, [], ◌∷◌, ◌++◌, None, Option, Some, length, refl, sym, ◌∙◌, ap, subst, arith}
+use Rattle.std.proofs.Common.{◌≡◌, ◌≢◌, inl, inr, ℕ, ◌<◌, List, [], ◌∷◌, ◌++◌, None, Option, Some, length, refl, sym, ◌∙◌, ap, subst, arith}
 use Rattle.std.specs.Prelude.{IfSome, IsSomeAnd}
 use Rattle.std.proofs.lemmas.Bool.{cases_eq, eq-eqb}
-use Rattle.draft_reads.specs.amount_math.Content.{Content, Contains, count, count-difference, same_content}
+use Rattle.draft_reads.specs.amount_math.Content.{Content, count, count-difference, same_content}
 use Rattle.draft_reads.specs.amount_math.ValueView.{ValueView}
 use Rattle.draft_reads.specs.amount_math.declared.Amount.{Amount}
-use Rattle.draft_reads.proofs.lemmas.ListEdits.{length_push, length_set, read_before, read_other, read_pushed, read_set}
+use Rattle.draft_reads.proofs.lemmas.ListEdits.{length_push, length_set, read_before, read_other, read_pushed}
 use Rattle.draft_reads.specs.holders.PaymentViews.{PaymentView, live_payment, payment_view_at, spent_payment}
 use Rattle.draft_reads.specs.rights_model.declared.Holder.{Holder}
 use Rattle.draft_reads.specs.rights_model.declared.Holder.TheVariants.{Purse, Payment, Slot, Hand, Outside}
@@ -16,7 +16,6 @@ use Rattle.draft_reads.specs.rights_model.declared.Movement.{Movement}
 use Rattle.draft_reads.specs.vault_model.Lists.{amount_of}
 use Rattle.draft_reads.specs.world_state.Good.{HoldsNothing}
 use Rattle.draft_reads.specs.world_state.Rights.{Has, IsPaymentWith, Rights, all_moved, given, moved, paid, lessened_payment, paid_payment, spent_from, taken, value_less}
-use Rattle.draft_reads.specs.world_state.Shapes.{IsTakenOnce}
 use Rattle.draft_effects.proofs.MovementsApart.{GoesToHolder, StandAlone, made_with}
 
 -- ---- the payments of a movement's halves

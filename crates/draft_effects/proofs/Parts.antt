@@ -1,6 +1,6 @@
 -- Parts of a payment that can go to payments of their own in the world can be put there from the hand, which has all that the payment had.
 use Rattle.std.specs.Prelude.{cond, slice_set}
-use Rattle.std.proofs.Common.{◌≡◌, ◌≢◌, ℕ, suc, ◌+◌, ◌<◌, ◌≤◌, ◌==◌, Bool, true, false, List, [], ◌∷◌, ◌++◌, Some, length, refl, sym, ◌∙◌, ap, subst, arith}
+use Rattle.std.proofs.Common.{◌≡◌, ◌≢◌, ℕ, suc, ◌+◌, ◌<◌, ◌≤◌, ◌==◌, Bool, true, false, List, [], ◌∷◌, Some, length, refl, sym, ◌∙◌, ap, subst, arith}
 use Rattle.std.specs.Prelude.{IsSomeAnd}
 use Rattle.std.proofs.lemmas.Bool.{eq-eqb, eqb-true, ne_eqb}
 use Rattle.draft_reads.specs.amount_math.Content.{Content, Contains, difference}
@@ -22,12 +22,11 @@ use Rattle.draft_reads.specs.vault_model.Flows.{spread}
 use Rattle.draft_reads.specs.vault_model.Lists.{Lists, amount_of}
 use Rattle.draft_reads.specs.vault_model.Tables.{IsSound, hand_minus, no_hand}
 use Rattle.draft_reads.proofs.vault_model.Sound.{sound_given}
-use Rattle.draft_reads.specs.world_laws.Views.{rights_of, seats_of}
+use Rattle.draft_reads.specs.world_laws.Views.{seats_of}
 use Rattle.draft_reads.proofs.world_laws.Together.{with_payment_views}
 use Rattle.draft_effects.specs.HandStore.{CanCarryAll, CanGain, carried, hand_after_all}
 use Rattle.draft_reads.specs.vault.Drafts.{IsOfBrand}
-use Rattle.draft_reads.specs.world_state.Good.{IsFresh, IsGoodMove}
-use Rattle.draft_reads.specs.world_state.Rights.{CanGive, CanMove, CanMoveAll, Has, IsNextOr, Rights, all_moved, hand_after, kind_at, moved, lessened_payment, taken}
+use Rattle.draft_reads.specs.world_state.Rights.{CanGive, CanMoveAll, Has, IsNextOr, Rights, all_moved, kind_at, moved, lessened_payment, taken}
 use Rattle.draft_reads.specs.world_state.Worlds.{Seat}
 
 -- a payment of a brand with a value

@@ -1,17 +1,17 @@
 -- Movements of a rearrangement that can be made together in the world can be made one after another by way of the hand's own store, and make of the rights what they make together.
 use Rattle.std.specs.Prelude.{is_some, unwrap_or}
 use Rattle.std.specs.List.{AllByRecursion}
-use Rattle.std.proofs.Common.{◌≡◌, ℕ, ◌<◌, ◌≤◌, List, [], ◌∷◌, None, Option, Some, length, map, refl, sym, ◌∙◌, ap, subst, arith}
+use Rattle.std.proofs.Common.{◌≡◌, ℕ, ◌≤◌, List, [], ◌∷◌, None, Option, Some, length, refl, sym, ◌∙◌, ap, subst, arith}
 use Rattle.draft_reads.specs.amount_math.Content.{Content, Contains, Contains-trans, count-nothing, nothing, same_content}
 use Rattle.draft_reads.specs.amount_math.ValueView.{ValueView}
 use Rattle.draft_reads.specs.amount_math.declared.Amount.{Amount}
 use Rattle.draft_effects.specs.Steps.{MayReach}
-use Rattle.draft_effects.proofs.TransferSequences.{IsBeside, all_spent_long, arrives_can, arrives_give, seats_given, seats_slot_for, seats_taken, sound_target}
+use Rattle.draft_effects.proofs.TransferSequences.{all_spent_long, arrives_can, arrives_give, seats_given, seats_slot_for, seats_taken, sound_target}
 use Rattle.draft_effects.proofs.Measures.{all_grow, made_or_owed}
 use Rattle.draft_reads.specs.Views.{HasNow, rights_in, seats_in, staged_from, staging_in}
 use Rattle.draft_reads.proofs.Staged.{staged_long}
 use Rattle.draft_reads.proofs.Undoing.{clean_goes}
-use Rattle.draft_reads.specs.ertp_mint.BrandSupply.{BrandSupply, supply_at}
+use Rattle.draft_reads.specs.ertp_mint.BrandSupply.{supply_at}
 use Rattle.draft_reads.specs.ertp_mint.Stocks.{most_made, no_amount}
 use Rattle.draft_reads.proofs.lemmas.ListEdits.{length_map}
 use Rattle.draft_reads.specs.world_state.Shapes.{GoesByHand, IsHalf, IsRearrangement}
@@ -32,7 +32,7 @@ use Rattle.draft_reads.proofs.world_laws.Views.{slots_read}
 use Rattle.draft_effects.specs.HandStore.{CanCarry, CanCarryAll, IsStoring, StoresAll, all_carried, carried, hand_after_all}
 use Rattle.draft_reads.specs.vault.Drafts.{DraftState, IsClean, IsOfBrand, IsValid, hand_now}
 use Rattle.draft_reads.specs.world_state.Good.{CanMoveTogether, IsGoodMove}
-use Rattle.draft_reads.specs.world_state.Rights.{CanMove, CanMoveAll, HasOrOpens, IsEmptyHand, IsNothing, SlotHas, all_moved, all_spent, hand_after, moved, moved_together, slots_at, spent_from}
+use Rattle.draft_reads.specs.world_state.Rights.{CanMove, CanMoveAll, HasOrOpens, IsEmptyHand, IsNothing, SlotHas, all_moved, all_spent, hand_after, moved, moved_together, spent_from}
 use Rattle.draft_reads.specs.world_state.Worlds.{Seat}
 
 -- ---- a slot that something is taken from is there

@@ -1,8 +1,7 @@
 -- The payments of the world's rights, and of a draft's lists, once parts of a payment went to payments of their own.
-use Rattle.std.specs.Prelude.{cond, slice_set}
+use Rattle.std.specs.Prelude.{slice_set}
 use Rattle.std.proofs.Common.{◌≡◌, ℕ, zero, suc, ◌+◌, ◌<◌, List, [], ◌∷◌, ◌++◌, length, map, refl, sym, ◌∙◌, ap, arith, append_assoc}
 use Rattle.draft_reads.specs.amount_math.ValueView.{ValueView}
-use Rattle.draft_reads.specs.amount_math.declared.Amount.{Amount}
 use Rattle.draft_effects.proofs.MovedPayments.{paid_next}
 use Rattle.draft_reads.proofs.lemmas.ListEdits.{length_push, length_set, read_before, read_set, set_same, set_set}
 use Rattle.draft_reads.specs.world_state.Shapes.{parts_from}

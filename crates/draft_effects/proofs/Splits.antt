@@ -1,7 +1,7 @@
 -- A split of a payment that can be made in the world can be made in a draft, and makes of the rights what its movements make together.
 use Rattle.std.specs.List.{slice_get}
 use Rattle.std.specs.Prelude.{IsSomeAnd, cond, slice_set, unwrap_or}
-use Rattle.std.proofs.Common.{◌≡◌, ◌≢◌, inl, inr, ℕ, ◌<◌, ◌≤◌, ◌==◌, List, [], ◌∷◌, ◌++◌, None, Option, Some, length, map, refl, sym, ◌∙◌, ap, subst, arith}
+use Rattle.std.proofs.Common.{◌≡◌, inl, inr, ℕ, ◌<◌, List, [], ◌∷◌, ◌++◌, None, Option, Some, length, map, refl, sym, ◌∙◌, ap, subst, arith}
 use Rattle.std.proofs.lemmas.Bool.{cases_eq, eq-eqb, ne_eqb}
 use Rattle.draft_reads.specs.amount_math.Content.{Content, count, count-nothing, nothing, nothing-sum, same_content, sum}
 use Rattle.draft_reads.specs.amount_math.ValueView.{ValueView}
@@ -19,7 +19,7 @@ use Rattle.draft_reads.specs.rights_model.declared.Holder.TheVariants.{Purse, Pa
 use Rattle.draft_reads.specs.rights_model.declared.Movement.{Movement}
 use Rattle.draft_reads.specs.vault_model.Flows.{spread}
 use Rattle.draft_reads.specs.vault_model.Lists.{CanTake, Lists, amount_of, kind_of, taken}
-use Rattle.draft_reads.specs.vault_model.Tables.{IsSound, hand_plus}
+use Rattle.draft_reads.specs.vault_model.Tables.{hand_plus}
 use Rattle.draft_reads.proofs.vault_model.Sound.{sound_taken}
 use Rattle.draft_reads.specs.world_laws.Views.{rights_of, seats_of}
 use Rattle.draft_reads.proofs.world_laws.Together.{with_payment_views}
@@ -27,7 +27,7 @@ use Rattle.draft_effects.specs.HandStore.{CanCarryAll, IsStoring, StoresAll, all
 use Rattle.draft_reads.specs.vault.Drafts.{DraftState, IsClean, IsValid, hand_now}
 use Rattle.draft_reads.specs.world_state.Good.{CanMoveTogether, HoldsNothing}
 use Rattle.draft_reads.specs.world_state.Rights.{Has, IsPaymentWith, PaymentHas, Rights, all_moved, all_spent, moved_together}
-use Rattle.draft_effects.proofs.SplitPayments.{less_all, lists_put, out_each, parts_moved, parts_spent}
+use Rattle.draft_effects.proofs.SplitPayments.{lists_put, out_each, parts_moved, parts_spent}
 use Rattle.draft_effects.proofs.Parts.{ArePut, is_next, parts_put}
 
 -- a payment that has something of a brand is live, and of the brand

@@ -1,8 +1,8 @@
 -- A draft of which shares are staged, or let go, in the world's words.
 use Rattle.std.specs.Prelude.{◌↔◌, Err, IsErr, IsNone, IsSome, Ok, OnOk, Result, is_none, is_some, slice_set}
-use Rattle.std.proofs.Common.{◌≡◌, ◌≢◌, ℕ, zero, suc, ◌<◌, ◌≤◌, ◌==◌, Bool, true, false, cond, List, [], ◌∷◌, None, Option, Some, length, map, refl, sym, ◌∙◌, ap, subst, arith}
-use Rattle.std.proofs.lemmas.Bool.{eq-eqb, ne_eqb}
-use Rattle.draft_reads.proofs.lemmas.ListEdits.{length_map, read_past, set_same}
+use Rattle.std.proofs.Common.{◌≡◌, ℕ, zero, suc, ◌<◌, ◌==◌, true, false, cond, List, [], ◌∷◌, None, Option, Some, length, map, refl, sym, ◌∙◌, ap, subst, arith}
+use Rattle.std.proofs.lemmas.Bool.{eq-eqb}
+use Rattle.draft_reads.proofs.lemmas.ListEdits.{length_map}
 use Rattle.draft_reads.specs.proposals.declared.allocations.Share.{Share}
 use Rattle.draft_reads.specs.vault_model.Seats.{IsOpenSeat, KeptSeat, kept_seat_at}
 use Rattle.draft_reads.specs.world_laws.Views.{seat_of}

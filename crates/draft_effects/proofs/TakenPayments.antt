@@ -1,7 +1,7 @@
 -- Payments that can go whole to one in the world can be taken, one after another, from a draft's lists; and what they have can be added.
 use Rattle.std.specs.Prelude.{IsSomeAnd, cond, slice_set}
 use Rattle.std.specs.List.{AllByRecursion}
-use Rattle.std.proofs.Common.{◌≡◌, ◌≢◌, ℕ, suc, ◌+◌, ◌<◌, ◌≤◌, ◌==◌, Bool, true, false, List, [], ◌∷◌, ◌++◌, Some, length, map, refl, sym, ◌∙◌, ap, subst, arith}
+use Rattle.std.proofs.Common.{◌≡◌, ◌≢◌, ℕ, ◌+◌, ◌<◌, ◌≤◌, ◌==◌, Bool, true, false, List, [], ◌∷◌, ◌++◌, length, map, refl, sym, ◌∙◌, ap, subst, arith}
 use Rattle.std.proofs.lemmas.Bool.{eq-eqb, eqb-true, ne_eqb}
 use Rattle.draft_reads.specs.amount_math.Content.{Content, Contains, Contains-refl, sum, sum-assoc, sum-nothing}
 use Rattle.draft_reads.specs.amount_math.ValueView.{IsValue, ValueView, with_content}
@@ -14,14 +14,14 @@ use Rattle.draft_reads.specs.holders.PaymentViews.{PaymentView, live_payment, pa
 use Rattle.draft_reads.specs.rights_model.declared.Holder.TheVariants.{Hand, Payment}
 use Rattle.draft_reads.specs.rights_model.declared.Movement.{Movement}
 use Rattle.draft_reads.specs.rights_model.Table.{movement}
-use Rattle.draft_reads.specs.vault_model.Flows.{Part, content_of, gathered}
-use Rattle.draft_reads.specs.vault_model.Lists.{CanTake, Lists, amount_of, kind_of, taken}
+use Rattle.draft_reads.specs.vault_model.Flows.{content_of, gathered}
+use Rattle.draft_reads.specs.vault_model.Lists.{CanTake, Lists, amount_of, taken}
 use Rattle.draft_reads.specs.vault_model.Tables.{content_held, hand_plus, no_hand}
 use Rattle.draft_reads.specs.world_laws.Combinations.{CanTakeAll, all_taken}
-use Rattle.draft_effects.specs.HandStore.{CanCarryAll, CanLose, all_carried, hand_after_all}
+use Rattle.draft_effects.specs.HandStore.{CanCarryAll, all_carried, hand_after_all}
 use Rattle.draft_reads.specs.vault.Drafts.{IsOfBrand}
 use Rattle.draft_reads.specs.world_state.Good.{HasNothing, HoldsNothing}
-use Rattle.draft_reads.specs.world_state.Rights.{CanGive, CanMove, CanMoveAll, IsNextOr, PaymentHas, Rights, Takes, all_moved, kind_at, moved, paid, lessened_payment, raised_payment, paid_payment}
+use Rattle.draft_reads.specs.world_state.Rights.{CanMove, CanMoveAll, IsNextOr, PaymentHas, Rights, Takes, all_moved, kind_at, moved, lessened_payment, raised_payment, paid_payment}
 use Rattle.draft_effects.proofs.CombinationsApart.{all_read, given_read, moved_most, moved_read, written}
 
 abbrev Empties : Rights → List Movement → Type 0

@@ -1,5 +1,5 @@
 -- What movements make of a draft, in the world's words.
-use Rattle.std.proofs.Common.{◌≡◌, List, Option, length, map, refl, sym, ◌∙◌, ap, arith}
+use Rattle.std.proofs.Common.{List, Option, length, ◌∙◌, ap, arith}
 use Rattle.draft_reads.proofs.lemmas.ListEdits.{length_map}
 use Rattle.draft_reads.specs.rights_model.declared.Movement.{Movement}
 use Rattle.draft_reads.specs.vault_model.Tables.{IsSound, no_hand}

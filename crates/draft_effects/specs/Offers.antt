@@ -1,5 +1,5 @@
 -- What an offer needs of a draft: that its movements can be made once its seat is open.
-use Rattle.std.specs.Prelude.{ℕ, List, [], ◌∷◌, ◌++◌, Option, length}
+use Rattle.std.specs.Prelude.{ℕ, List, [], ◌∷◌, ◌++◌, Option}
 use Rattle.draft_reads.specs.Views.{rights_in, seats_in}
 use Rattle.draft_reads.specs.world_state.Shapes.{AreMovements}
 use Rattle.draft_reads.specs.proposals.declared.allocations.Share.{Share}

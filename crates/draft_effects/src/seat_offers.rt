@@ -2,12 +2,11 @@
 //! proposal, its invitation is burned, and its payments are escrowed, as the world's effect of an offer
 //! makes of rights and seats; or the draft can be undone as before.
 
-ghost use Rattle.std.specs.Prelude.{◌≡◌, ◌<◌, ◌++◌, ◌∷◌, [], List, None, Option, length, IfOk, OnOk};
+ghost use Rattle.std.specs.Prelude.{◌≡◌, ◌<◌, ◌++◌, ◌∷◌, [], None, length, IfOk, OnOk};
 ghost use Rattle.draft_effects.specs.Steps.{CanMoveEach, IsAfter};
 ghost use Rattle.draft_reads.specs.Views.{CanGoBack, HasNow, rights_in, seats_in, staging_in};
 ghost use Rattle.draft_reads.specs.ertp_mint.Stocks.{most_made};
 ghost use Rattle.draft_reads.specs.proposals.Slots.{FitsSeat};
-ghost use Rattle.draft_reads.specs.proposals.declared.allocations.Share.{Share};
 ghost use Rattle.draft_effects.specs.Offers.{CanEscrow, rights_opened, seats_opened};
 ghost use Rattle.draft_reads.specs.world_laws.Views.{all_by_hand};
 ghost use Rattle.draft_reads.specs.vault.Drafts.{DraftState, IsClean};

@@ -18,7 +18,7 @@ use Rattle.std.specs.Cmp.Lexicographic.{slice_cmp}
 use Rattle.amount_math.specs.Content.{Content, count, count-sum, count-difference, count-of_entries, count-of_nat, count-of_nat_unit, count_listed, counts, entries, key_cmp, listed, of_entries, of_entries-entries, of_nat, same_content, sum}
 use Rattle.amount_math.specs.Entries.{Entries, IsRising, at_key, entry_at, tally}
 use Rattle.amount_math.specs.Totals.{weighed}
-use Rattle.amount_math.specs.ValueView.{Fits, IsFirstPast, IsIssueRefusal, PassesBound, bound, nat_bound}
+use Rattle.amount_math.specs.ValueView.{Fits, IsFirstPast, IsCountRefusal, PassesBound, bound, nat_bound}
 use Rattle.amount_math.specs.declared.Kind.TheVariants.{Nat, Set}
 use Rattle.amount_math.specs.declared.PutFault.{PutFault}
 use Rattle.amount_math.specs.declared.PutFault.TheVariants as put_fault
@@ -318,10 +318,10 @@ module _ (kind : Kind) (es : Placed) (ms : Entries) (rising : IsRising ms) (most
 pub past_does_not_fit : (kind : Kind) (c : Content) (k : List ℕ) → IsFirstPast (bound kind) c k → ¬ Fits kind c
 past_does_not_fit kind c k past fits = omega (arith, past.passes, fits.each k)
 
-pub set_refused : (kind : Kind) (c : Content) (fault : PutFault) (key k : List ℕ) → kind ≡ Set → IsFirstPast (bound kind) c k → key ≡ k → (fault ≡ put_fault.Overlap key) ⊎ (fault ≡ put_fault.NoMemory) → IsIssueRefusal kind c fault
+pub set_refused : (kind : Kind) (c : Content) (fault : PutFault) (key k : List ℕ) → kind ≡ Set → IsFirstPast (bound kind) c k → key ≡ k → (fault ≡ put_fault.Overlap key) ⊎ (fault ≡ put_fault.NoMemory) → IsCountRefusal kind c fault
 set_refused kind c fault key k e past is h = elim h [
-  | inl f ↦ subst (IsIssueRefusal kind c) (sym f) (e, subst (λ q. IsFirstPast 1 c q) (sym is) (subst (λ b. IsFirstPast (bound b) c k) e past))
-  | inr f ↦ subst (IsIssueRefusal kind c) (sym f) tt
+  | inl f ↦ subst (IsCountRefusal kind c) (sym f) (e, subst (λ q. IsFirstPast 1 c q) (sym is) (subst (λ b. IsFirstPast (bound b) c k) e past))
+  | inr f ↦ subst (IsCountRefusal kind c) (sym f) tt
 ]
 
 -- what is said of the places and the entries is said of what they are seen as

@@ -100,7 +100,8 @@ impl Circulations {
     /// How many of a key are out of a brand, or how many units, which are those of the empty key.
     pub fn count_out(&self, brand: u16, key: &str) -> u128
         requires { brand < length self.now }
-        ensures { result ≡ count (circulation_at self.now brand).supply.outstanding.content key.now }
+        ensures { result
+            ≡ count (circulation_at self.now brand).supply.outstanding.content key.now }
     {
         self.brands[brand as usize].count_out(key)
     }
@@ -112,7 +113,8 @@ impl Circulations {
         requires kind { (circulation_at self.now brand).supply.outstanding.kind ≡ value.now.kind }
         ensures ok { IsOk result → MayIssue (circulation_at self.now brand).supply value.now }
         ensures sure { MayIssue (circulation_at self.now brand).supply value.now → IsOk result }
-        ensures refused { IfErr result (IsMintRefusal (circulation_at self.now brand).supply value.now) }
+        ensures refused { IfErr result
+            (IsMintRefusal (circulation_at self.now brand).supply value.now) }
     {
         self.brands[brand as usize].can_issue(value)
     }
@@ -123,14 +125,17 @@ impl Circulations {
     pub fn issue(&mut self, brand: u16, value: Value) -> Result<Parcel, (Value, PutFault)>
         requires made { brand < length self.old }
         requires kind { (circulation_at self.old brand).supply.outstanding.kind ≡ value.kind }
-        ensures ok { OnOk result (self.new ≡ slice_set self.old brand (with_issued (circulation_at self.old brand) value.content)) }
+        ensures ok { OnOk result (self.new ≡ slice_set self.old brand
+            (with_issued (circulation_at self.old brand) value.content)) }
         ensures parcel { IfOk result (λ parcel. parcel ≡ record { brand = brand; value = value }) }
         ensures may { OnOk result (MayIssue (circulation_at self.old brand).supply value) }
         ensures out { OnOk result (IsOut (circulation_at self.new brand) value) }
-        ensures undone { OnOk result (with_unissued (circulation_at self.new brand) value.content ≡ circulation_at self.old brand) }
+        ensures undone { OnOk result (with_unissued (circulation_at self.new brand) value.content
+            ≡ circulation_at self.old brand) }
         ensures back { IfErr result (λ (back, _). back ≡ value) }
         ensures err { OnErr result (self.new ≡ self.old) }
-        ensures refused { IfErr result (λ (_, fault). IsMintRefusal (circulation_at self.old brand).supply value fault) }
+        ensures refused { IfErr result (λ (_, fault).
+            IsMintRefusal (circulation_at self.old brand).supply value fault) }
     {
         match self.brands[brand as usize].issue(&value) {
             Ok(()) => Ok(Parcel::issued(brand, value)),
@@ -142,7 +147,8 @@ impl Circulations {
     pub fn undo_issue(&mut self, parcel: Parcel)
         requires made { parcel.brand < length self.old }
         requires out { IsOut (circulation_at self.old parcel.brand) parcel.value }
-        ensures { self.new ≡ slice_set self.old parcel.brand (with_unissued (circulation_at self.old parcel.brand) parcel.value.content) }
+        ensures { self.new ≡ slice_set self.old parcel.brand
+            (with_unissued (circulation_at self.old parcel.brand) parcel.value.content) }
     {
         let (brand, value) = parcel.into_parts();
         self.brands[brand as usize].undo_issue(&value);
@@ -153,9 +159,11 @@ impl Circulations {
         requires made { parcel.brand < length self.old }
         requires out { IsOut (circulation_at self.old parcel.brand) parcel.value }
         ensures value { result ≡ parcel.value }
-        ensures retired { self.new ≡ slice_set self.old parcel.brand (with_retired (circulation_at self.old parcel.brand) parcel.value.content) }
+        ensures retired { self.new ≡ slice_set self.old parcel.brand
+            (with_retired (circulation_at self.old parcel.brand) parcel.value.content) }
         ensures back { CanReturn (circulation_at self.new parcel.brand) parcel.value }
-        ensures undone { with_unretired (circulation_at self.new parcel.brand) parcel.value.content ≡ circulation_at self.old parcel.brand }
+        ensures undone { with_unretired (circulation_at self.new parcel.brand) parcel.value.content
+            ≡ circulation_at self.old parcel.brand }
     {
         let (brand, value) = parcel.into_parts();
         self.brands[brand as usize].retire(&value);
@@ -167,7 +175,8 @@ impl Circulations {
         requires made { brand < length self.old }
         requires back { CanReturn (circulation_at self.old brand) value }
         ensures parcel { result ≡ record { brand = brand; value = value } }
-        ensures unretired { self.new ≡ slice_set self.old brand (with_unretired (circulation_at self.old brand) value.content) }
+        ensures unretired { self.new ≡ slice_set self.old brand
+            (with_unretired (circulation_at self.old brand) value.content) }
     {
         self.brands[brand as usize].undo_retire(&value);
         Parcel::issued(brand, value)
@@ -177,7 +186,8 @@ impl Circulations {
     pub fn forget(&mut self, brand: u16, value: &Value)
         requires made { brand < length self.old }
         requires kept { Contains (circulation_at self.old brand).kept value.now.content }
-        ensures { self.new ≡ slice_set self.old brand (with_forgotten (circulation_at self.old brand) value.now.content) }
+        ensures { self.new ≡ slice_set self.old brand
+            (with_forgotten (circulation_at self.old brand) value.now.content) }
     {
         self.brands[brand as usize].forget(value);
     }

@@ -4,7 +4,7 @@
 ghost use Rattle.std.specs.Prelude.{◌≡◌, ◌≢◌, ◌≤◌, ◌⊎◌, IfErr, IsOk, OnErr, OnOk};
 ghost use Rattle.amount_math.specs.Content.{count, of_entries, of_nat, sum};
 ghost use Rattle.amount_math.specs.Entries.{IsRising};
-ghost use Rattle.amount_math.specs.ValueView.{Fits, IsIssueRefusal, bound, nat_bound};
+ghost use Rattle.amount_math.specs.ValueView.{Fits, IsCountRefusal, bound, nat_bound};
 ghost use Rattle.ertp_mint.specs.Places.{AllowsAll, nothing_out, seen, with_change};
 
 use crate::place::Change;
@@ -55,7 +55,7 @@ impl KeysOut {
         requires { Fits value.now.kind self.now.out }
         ensures ok { IsOk result → Fits value.now.kind (sum self.now.out value.now.content) }
         ensures sure { Fits value.now.kind (sum self.now.out value.now.content) → IsOk result }
-        ensures refused { IfErr result (IsIssueRefusal value.now.kind (sum self.now.out value.now.content)) }
+        ensures refused { IfErr result (IsCountRefusal value.now.kind (sum self.now.out value.now.content)) }
     {
         let kind = value.kind();
         match value.entries() {
@@ -121,7 +121,7 @@ fn can_issue_keys(places: &Places, kind: Kind, entries: &[Entry]) -> Result<(), 
     requires fits { Fits kind (seen places.now.entries).out }
     ensures ok { IsOk result → Fits kind (sum (seen places.now.entries).out (of_entries entries.now)) }
     ensures sure { Fits kind (sum (seen places.now.entries).out (of_entries entries.now)) → IsOk result }
-    ensures refused { IfErr result (IsIssueRefusal kind (sum (seen places.now.entries).out (of_entries entries.now))) }
+    ensures refused { IfErr result (IsCountRefusal kind (sum (seen places.now.entries).out (of_entries entries.now))) }
 {
     let most = most_out(kind);
     let Some(at) = first_past(places, entries, most) else {
@@ -153,7 +153,7 @@ fn can_issue_units(places: &Places, units: u128) -> Result<(), PutFault>
     requires fits { Fits Kind.Nat (seen places.now.entries).out }
     ensures ok { IsOk result → Fits Kind.Nat (sum (seen places.now.entries).out (of_nat units)) }
     ensures sure { Fits Kind.Nat (sum (seen places.now.entries).out (of_nat units)) → IsOk result }
-    ensures refused { IfErr result (IsIssueRefusal Kind.Nat (sum (seen places.now.entries).out (of_nat units))) }
+    ensures refused { IfErr result (IsCountRefusal Kind.Nat (sum (seen places.now.entries).out (of_nat units))) }
 {
     let held = place_of(places, "");
     let sum = held.out + units;

@@ -1,11 +1,10 @@
 -- When a movement can be counted, and that what is kept running stays the sums from scratch.
-use Rattle.std.specs.Prelude.{◌≡◌, ◌≢◌, ◌⊎◌, ◌≤◌, ◌<◌, ◌==◌, ℕ, zero, suc, ◌+◌, Bool, true, false, cond, if◌then◌else◌, ◌&&◌, List, [], ◌∷◌, ◌++◌, length, slice_get, refl}
+use Rattle.std.specs.Prelude.{◌≡◌, ◌≢◌, ◌⊎◌, ◌≤◌, ◌<◌, ◌^◌, ◌==◌, ℕ, zero, suc, ◌+◌, Bool, true, false, cond, if◌then◌else◌, ◌&&◌, List, [], ◌∷◌, ◌++◌, length, slice_get, refl}
 use Rattle.std.proofs.Common.{inl, inr, sym, ◌∙◌, ap, subst, arith, length-append}
 use Rattle.std.proofs.lemmas.Bool.{cases_eq, eq-eqb}
 use Rattle.std.specs.Option.{option_map_or}
 use Rattle.rights_model.specs.amount_math.Content.{Content, nothing}
 use Rattle.rights_model.specs.amount_math.Counted.{counted}
-use Rattle.rights_model.specs.amount_math.ValueView.{minted_bound}
 use Rattle.rights_model.specs.declared.Holder.{Holder}
 use Rattle.rights_model.specs.declared.Holder.TheVariants.{Purse, Payment, Slot, Hand, Outside}
 use Rattle.rights_model.specs.declared.Movement.{Movement}
@@ -48,7 +47,7 @@ module _ (t : Table) (e : EscrowState) (m : Movement) (sums : AreSums t e) (can 
   share_after : (i : ℕ) → held_over (is_slot_of e.instances i) (moved t m) m.brand + leaving (is_slot_of e.instances i) m m.brand ≡ held_over (is_slot_of e.instances i) t m.brand + coming (is_slot_of e.instances i) m m.brand
   share_after i = held-moved (is_slot_of e.instances i) refl m.brand t m can
 
-  pub can_tell : minted_with e m ≤ minted_bound → CanTell e m
+  pub can_tell : minted_with e m < 2 ^ 128 → CanTell e m
   can_tell within = record {
     totals = record {
       has = has;
@@ -106,7 +105,7 @@ module _ (e f : EscrowState) (m : Movement) (told : IsTold e f m) where
 
 -- ---- backwards
 
-module _ (e f : EscrowState) (m : Movement) (t : Table) (sums : AreSums t e) (can : CanMove t m) (within : minted_with e m ≤ minted_bound) (told : IsTold e f m) where
+module _ (e f : EscrowState) (m : Movement) (t : Table) (sums : AreSums t e) (can : CanMove t m) (within : minted_with e m < 2 ^ 128) (told : IsTold e f m) where
   pub can_untell : CanUntell f m
   can_untell = record {
     totals = record {

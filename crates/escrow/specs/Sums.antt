@@ -1,7 +1,6 @@
 -- The sums from scratch over a table, which what is kept running equals.
-use Rattle.std.specs.Prelude.{◌≡◌, ◌+◌, ◌≤◌, ℕ, List, length}
+use Rattle.std.specs.Prelude.{◌≡◌, ◌+◌, ◌<◌, ◌≤◌, ◌^◌, ℕ, List, length}
 use Rattle.rights_model.specs.amount_math.Content.{nothing}
-use Rattle.rights_model.specs.amount_math.ValueView.{minted_bound}
 use Rattle.rights_model.specs.declared.Holder.TheVariants.{Slot}
 use Rattle.rights_model.specs.declared.Movement.{Movement}
 use Rattle.rights_model.specs.declared.Sum.{Sum}
@@ -30,11 +29,12 @@ pub record AreSums (t : Table) (e : EscrowState) : Type 0 where
   pub whole : (b : ℕ) → (totals_of e b).minted ≡ (totals_of e b).burned + held_over is_inside t b
   pub seats : (seat : ℕ) → length e.instances ≤ seat → HasNoSlots t seat
 
--- before it was told the movement was defined on the table that was told, and what was told from Outside of its brand stayed within the bound
+-- before it was told the movement was defined on the table that was told, and what was told from
+-- Outside of its brand stayed below 2^128
 pub record WasTold (e : EscrowState) (m : Movement) : Type 0 where
   pub before : EscrowState
   pub table : Table
   pub sums : AreSums table before
   pub defined : CanMove table m
-  pub minted : minted_with before m ≤ minted_bound
+  pub minted : minted_with before m < 2 ^ 128
   pub told : IsTold before e m

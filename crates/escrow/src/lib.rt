@@ -11,8 +11,7 @@ pub mod rights_model_lib {
     pub use rights_model::{Holder, Movement, Sum};
 }
 
-ghost use Rattle.std.specs.Prelude.{◌≡◌, ◌<◌, ◌≤◌, ℕ, length, slice_index, IsOk, OnErr, OnOk};
-ghost use Rattle.rights_model.specs.amount_math.ValueView.{minted_bound};
+ghost use Rattle.std.specs.Prelude.{◌≡◌, ◌<◌, ◌^◌, ℕ, length, slice_index, IsOk, OnErr, OnOk};
 ghost use Rattle.rights_model.specs.Table.{Table, CanMove, moved, no_holdings};
 ghost use Rattle.rights_model.specs.Totals.{held_over};
 ghost use Rattle.escrow.specs.Sums.{AreHeld, AreSums, WasTold};
@@ -107,12 +106,12 @@ impl Escrow {
     }
 
     /// A movement was made, on the table that was told so far, between holders of which each slot is that
-    /// of a seat that was told. What was told from Outside of its brand stays within the bound. For want of memory,
+    /// of a seat that was told. What was told from Outside of its brand stays below 2^128. For want of memory,
     /// which comes only where the brand, or a slot's pair of instance and brand, is new, all is as before.
     pub fn moved(&mut self, movement: &Movement) -> Result<(), AllocError>
         requires defined { (t : Table) × AreSums t self.old × CanMove t movement.now }
         requires opened { AreOpened self.old movement.now }
-        requires minted { minted_with self.old movement.now ≤ minted_bound }
+        requires minted { minted_with self.old movement.now < 2 ^ 128 }
         ensures ok { OnOk result (IsTold self.old self.new movement.now) }
         ensures sums { OnOk result ((t : Table) → AreSums t self.old → CanMove t movement.now → AreSums (moved t movement.now) self.new) }
         ensures known { HasRows self.old movement.now → IsOk result }

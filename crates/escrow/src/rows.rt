@@ -3,7 +3,7 @@
 ghost use Rattle.std.specs.Prelude.{◌≡◌, ◌+◌, ◌<◌, ◌≤◌, ◌^◌, ◌==◌, ℕ, false, unwrap_or, IsOk, IsSome, OnOk};
 ghost use Rattle.std.specs.BTreeMap.{get};
 ghost use Rattle.std.specs.Ordering.{nat_cmp};
-ghost use Rattle.escrow.specs.Running.{CanMoveBack, CanMoveTotals, IsMoved, zeros};
+ghost use Rattle.escrow.specs.Running.{CanMoveBack, CanMoveTotals, IsMoved};
 ghost use Rattle.escrow.specs.Rows.{part, share_at, totals_at};
 ghost use Rattle.escrow.specs.Told.{HasShareRow, instance_at, is_slot_of, pair_cmp};
 

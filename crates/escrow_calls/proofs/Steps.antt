@@ -7,10 +7,10 @@ use Rattle.rules.specs.call_arguments.Numbers.{first_repeated, least_failing}
 use Rattle.rules.specs.Outcomes.{Outcome}
 use Rattle.rules.specs.Words.{runs}
 use Rattle.rules.specs.States.{allocation_of, changing, has_room, seat_of, touched_seat}
-use Rattle.escrow_calls.specs.EscrowParts.{deposited, depositing, withdrawing, withdrawn}
-use Rattle.escrow_calls.specs.MintParts.{burned, burning_losses, minted, minting_gains}
+use Rattle.escrow_calls.specs.EscrowParts.{deposit_of_shares, deposit_outcome, withdrawal_outcome, withdrawal_of_shares}
+use Rattle.escrow_calls.specs.MintParts.{burn_of_shares, burn_outcome, mint_of_shares, mint_outcome}
 use Rattle.escrow_calls.specs.PaymentParts.{apart_payments, given_payments, live_payments, tested_payments}
-use Rattle.escrow_calls.specs.SlotChanges.{mint_asked, slots_asked}
+use Rattle.escrow_calls.specs.SlotChanges.{mint_seat_and_shares, seat_and_shares}
 use Rattle.host_data.specs.Tree.{Tree, null}
 use Rattle.host_data.specs.declared.data.ObjKind.TheVariants as kinds
 use Rattle.rules.specs.rearrange.Slots.{can_take, each_passes, fits_slot, is_safe}
@@ -100,18 +100,18 @@ module _ (made : ℕ × List Share → Outcome) where
   of_seat (Ok n) shares = of_shares n (shares n)
   of_seat (Err e) shares = refl
 
-  of_asked : (ran : Test) (seat : Result ℕ Refusal) (shares : ℕ → Result (List Share) Refusal) → ((ran >> (seat >>= (λ n. shares n >>= (λ rs. Ok (n, rs))))) >>= made) ≡ (ran >> (seat >>= (λ n. shares n >>= (λ rs. made (n, rs)))))
+  of_seat_and_shares : (ran : Test) (seat : Result ℕ Refusal) (shares : ℕ → Result (List Share) Refusal) → ((ran >> (seat >>= (λ n. shares n >>= (λ rs. Ok (n, rs))))) >>= made) ≡ (ran >> (seat >>= (λ n. shares n >>= (λ rs. made (n, rs)))))
   unfolding bind
-  of_asked (Ok done) seat shares = of_seat seat shares
-  of_asked (Err e) seat shares = refl
+  of_seat_and_shares (Ok done) seat shares = of_seat seat shares
+  of_seat_and_shares (Err e) seat shares = refl
 
 module _ (w : State) (i : ℕ) (args : List Tree) where
   abbrev shares_for : ℕ → Result (List Share) Refusal
   shares_for seat = shares_at (is_misfit (issuers_of w i) (allocation_of w seat)) 2 args
 
-  pub withdrawn_same : withdraw_from_seat w i args ≡ withdrawing w i args
-  unfolding slots_asked withdrawing withdrawn withdraw_from_seat
-  withdrawn_same = sym (of_asked (λ a. withdrawn w a.0 (allocation_of w a.0) a.1) (runs w i) (own_seat w i 1 args) shares_for)
+  pub withdrawn_same : withdraw_from_seat w i args ≡ withdrawal_outcome w i args
+  unfolding seat_and_shares withdrawal_outcome withdrawal_of_shares withdraw_from_seat
+  withdrawn_same = sym (of_seat_and_shares (λ a. withdrawal_of_shares w a.0 (allocation_of w a.0) a.1) (runs w i) (own_seat w i 1 args) shares_for)
 
   abbrev escrowed : ℕ → List Share → List Share → List ℕ → Outcome
   escrowed seat slots shares payments =
@@ -119,18 +119,18 @@ module _ (w : State) (i : ℕ) (args : List Tree) where
       >> (has_room w (touched_seat seat slots (with_gains slots shares) ∷ []) 0
       >> Ok (null, changing (seat ∷ []) (escrows_of seat shares payments)))
 
-  given_tested : (seat : ℕ) (slots shares : List Share) → (record_at 3 args >>= (λ given. payments_for w shares given >>= escrowed seat slots shares)) ≡ deposited w seat slots shares args
-  unfolding deposited given_payments
+  given_tested : (seat : ℕ) (slots shares : List Share) → (record_at 3 args >>= (λ given. payments_for w shares given >>= escrowed seat slots shares)) ≡ deposit_of_shares w seat slots shares args
+  unfolding deposit_of_shares given_payments
   given_tested seat slots shares =
       after_read (record_at 3 args) _ _ (λ given. ap (λ (r : Numbers). r >>= escrowed seat slots shares) (tested_same w shares given))
       ∙ sym (read_grouped (record_at 3 args) (tested_payments w shares) (escrowed seat slots shares))
 
-  pub deposited_same : deposit_to_seat w i args ≡ depositing w i args
-  unfolding slots_asked depositing deposit_to_seat
+  pub deposited_same : deposit_to_seat w i args ≡ deposit_outcome w i args
+  unfolding seat_and_shares deposit_outcome deposit_to_seat
   deposited_same =
       ap (λ (r : Outcome). runs w i >> r) (after_read (own_seat w i 1 args) _ _ (λ seat.
       after_read (shares_for seat) _ _ (λ shares. given_tested seat (allocation_of w seat) shares)))
-      ∙ sym (of_asked (λ a. deposited w a.0 (allocation_of w a.0) a.1 args) (runs w i) (own_seat w i 1 args) shares_for)
+      ∙ sym (of_seat_and_shares (λ a. deposit_of_shares w a.0 (allocation_of w a.0) a.1 args) (runs w i) (own_seat w i 1 args) shares_for)
 
 -- a withdrawal whose tests pass
 module _ (w : State) (seat : ℕ) (slots shares : List Share) where
@@ -143,8 +143,8 @@ module _ (w : State) (seat : ℕ) (slots shares : List Share) where
   abbrev paid_from : ℕ → Outcome
   paid_from first = Ok (payments_tree first shares, changing (seat ∷ []) (payout_moves seat first shares))
 
-  pub withdrawn_is : can_take slots shares ≡ Ok tt → safe ≡ Ok tt → room ≡ Ok tt → (first : ℕ) → first ≡ length w.rights.payments → withdrawn w seat slots shares ≡ paid_from first
-  unfolding withdrawn bind
+  pub withdrawn_is : can_take slots shares ≡ Ok tt → safe ≡ Ok tt → room ≡ Ok tt → (first : ℕ) → first ≡ length w.rights.payments → withdrawal_of_shares w seat slots shares ≡ paid_from first
+  unfolding withdrawal_of_shares bind
   withdrawn_is taken stays_safe leaves_room first is =
       ap (λ (r : Test). r >> (safe >> (room >> paid_from (length w.rights.payments)))) taken
       ∙ ap (λ (r : Test). r >> (room >> paid_from (length w.rights.payments))) stays_safe
@@ -155,10 +155,10 @@ module _ (w : State) (brand : ℕ) (args : List Tree) where
   abbrev shares_of_mint : ℕ → Result (List Share) Refusal
   shares_of_mint seat = shares_at (is_not_of brand (allocation_of w seat)) 1 args
 
-  pub minted_same : mint_gains w brand args ≡ minting_gains w brand args
-  unfolding mint_asked mint_gains minted minting_gains
-  minted_same = sym (of_asked (λ a. minted w brand a.0 (allocation_of w a.0) a.1 (arg 2 args)) (runs w (minting w brand)) (own_seat w (minting w brand) 2 args) shares_of_mint)
+  pub minted_same : mint_gains w brand args ≡ mint_outcome w brand args
+  unfolding mint_seat_and_shares mint_gains mint_of_shares mint_outcome
+  minted_same = sym (of_seat_and_shares (λ a. mint_of_shares w brand a.0 (allocation_of w a.0) a.1 (arg 2 args)) (runs w (minting w brand)) (own_seat w (minting w brand) 2 args) shares_of_mint)
 
-  pub burned_same : burn_losses w brand args ≡ burning_losses w brand args
-  unfolding mint_asked burn_losses burned burning_losses
-  burned_same = sym (of_asked (λ a. burned w a.0 (allocation_of w a.0) a.1) (runs w (minting w brand)) (own_seat w (minting w brand) 2 args) shares_of_mint)
+  pub burned_same : burn_losses w brand args ≡ burn_outcome w brand args
+  unfolding mint_seat_and_shares burn_losses burn_of_shares burn_outcome
+  burned_same = sym (of_seat_and_shares (λ a. burn_of_shares w a.0 (allocation_of w a.0) a.1) (runs w (minting w brand)) (own_seat w (minting w brand) 2 args) shares_of_mint)

@@ -11,21 +11,21 @@ use Rattle.rules.specs.Zmint.{is_not_of, minting}
 use Rattle.rules.specs.proposals.declared.allocations.Share.{Share}
 use Rattle.rules.specs.world_state.Worlds.{State}
 
--- the seat, and the shares
-abbrev pub Asked : Type 0
-Asked = Result (ℕ × List Share) Refusal
+-- a seat with shares for it, or why the call is refused
+abbrev pub SeatAndShares : Type 0
+SeatAndShares = Result (ℕ × List Share) Refusal
 
 -- of a deposit and of a withdrawal: an open seat of the instance's own, and shares of brands that it keeps
-unfoldable pub slots_asked : State → ℕ → List Tree → Asked
-slots_asked w i args = do
+unfoldable pub seat_and_shares : State → ℕ → List Tree → SeatAndShares
+seat_and_shares w i args = do
   runs w i
   seat ← own_seat w i 1 args
   shares ← shares_at (is_misfit (issuers_of w i) (allocation_of w seat)) 2 args
   Ok (seat, shares)
 
 -- of a mint's calls: an open seat of the mint's instance, and shares of the mint's brand
-unfoldable pub mint_asked : State → ℕ → List Tree → Asked
-mint_asked w brand args = do
+unfoldable pub mint_seat_and_shares : State → ℕ → List Tree → SeatAndShares
+mint_seat_and_shares w brand args = do
   runs w (minting w brand)
   seat ← own_seat w (minting w brand) 2 args
   shares ← shares_at (is_not_of brand (allocation_of w seat)) 1 args

@@ -9,7 +9,7 @@ ghost use Rattle.host_data.specs.Tree.{null};
 ghost use Rattle.host_data.specs.View.{trees};
 ghost use Rattle.rules.specs.Zmint.{burn_losses, loss, minting};
 ghost use Rattle.rules.specs.world_state.Good.{IsGoodWorld};
-ghost use Rattle.escrow_calls.specs.MintParts.{burned, burning_losses};
+ghost use Rattle.escrow_calls.specs.MintParts.{burn_of_shares, burn_outcome};
 ghost use Rattle.escrow_calls.specs.SlotChanges.{IsOfSeat};
 
 use crate::slot_changes::slot_change_of_mint;
@@ -64,7 +64,7 @@ fn burn_plan(alloc: Global, seat: u32, shares: &[Share]) -> Result<CallOutcome, 
 }
 
 /// What is left of burning once the seat and the shares are read: else `NotEnough`, `NotOfferSafe`, `Limit` (Zoe).
-#[tactic(auto, unfolding(crate::specs::MintParts::burned, refusals::specs::Outcomes::bind))]
+#[tactic(auto, unfolding(crate::specs::MintParts::burn_of_shares, refusals::specs::Outcomes::bind))]
 fn burn(
     alloc: Global,
     world: &World,
@@ -74,7 +74,7 @@ fn burn(
 ) -> Result<CallOutcome, Stop>
     requires good { IsGoodWorld (world_of world.now) }
     requires seat { IsOfSeat (world_of world.now) seat slots.now shares.now }
-    ensures { GivesOutcome (burned (world_of world.now) seat slots.now shares.now) result }
+    ensures { GivesOutcome (burn_of_shares (world_of world.now) seat slots.now shares.now) result }
 {
     check_losses(slots, shares)?;
     check_safe(alloc, world, seat, slots, shares)?;
@@ -83,7 +83,7 @@ fn burn(
 }
 
 /// zmint.burnLosses(record, seat) (Zoe).
-#[tactic(auto, using(crate::proofs::Steps::burned_same), unfolding(crate::specs::MintParts::burning_losses, refusals::specs::Outcomes::bind))]
+#[tactic(auto, using(crate::proofs::Steps::burned_same), unfolding(crate::specs::MintParts::burn_outcome, refusals::specs::Outcomes::bind))]
 pub fn burn_losses(
     alloc: Global,
     world: &World,

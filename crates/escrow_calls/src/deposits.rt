@@ -6,7 +6,7 @@ ghost use Rattle.ertp_calls.specs.call_outcomes.CallOutcomes.{GivesOutcome, outc
 ghost use Rattle.rules.specs.call_arguments.Numbers.{AreApart};
 ghost use Rattle.contract_reads.specs.Known.{AreKnown};
 ghost use Rattle.rules.specs.States.{changing};
-ghost use Rattle.escrow_calls.specs.EscrowParts.{deposited, depositing};
+ghost use Rattle.escrow_calls.specs.EscrowParts.{deposit_of_shares, deposit_outcome};
 ghost use Rattle.ertp_calls.specs.host_world.Worlds.{world_of};
 ghost use Rattle.host_data.specs.Tree.{null};
 ghost use Rattle.host_data.specs.View.{trees};
@@ -48,9 +48,11 @@ fn escrowing(
     })
 }
 
-/// What is left of a deposit once the seat and the shares are read: the payments, that the shares can be added to their
-/// slots, and that these leave room: else `Overlap`, `TooMuch`, then `Limit` (Zoe).
-#[tactic(auto, unfolding(crate::specs::EscrowParts::deposited, refusals::specs::Outcomes::bind))]
+/// What is left of a deposit once the seat and the shares are read: the payments at the third place, that the shares
+/// can be added to their slots, and that these leave room: else `BadArgs` 3, `KeywordMismatch`, `WrongObject` 3,
+/// `DeadPayment`, `RepeatedPayment`, `WrongAmount`, each over all payments before the next; then `Overlap`, `TooMuch`
+/// of each share with its slot, then `Limit` (Zoe).
+#[tactic(auto, unfolding(crate::specs::EscrowParts::deposit_of_shares, refusals::specs::Outcomes::bind))]
 fn deposit(
     alloc: Global,
     world: &World,
@@ -64,7 +66,7 @@ fn deposit(
     requires fit { FitSlots slots.now shares.now }
     requires kinds { AreOfKinds (world_of world.now) shares.now }
     ensures { GivesOutcome
-        (deposited (world_of world.now) seat slots.now shares.now (trees args.now)) result }
+        (deposit_of_shares (world_of world.now) seat slots.now shares.now (trees args.now)) result }
 {
     let payments = given_payments(alloc, world, shares, args)?;
     check_fit(slots, shares)?;
@@ -73,7 +75,7 @@ fn deposit(
 }
 
 /// zcf.depositToSeat(seat, amounts, payments) (Zoe).
-#[tactic(auto, using(crate::proofs::Steps::deposited_same), unfolding(crate::specs::EscrowParts::depositing, refusals::specs::Outcomes::bind))]
+#[tactic(auto, using(crate::proofs::Steps::deposited_same), unfolding(crate::specs::EscrowParts::deposit_outcome, refusals::specs::Outcomes::bind))]
 pub fn deposit_to_seat(
     alloc: Global,
     world: &World,

@@ -12,7 +12,7 @@ ghost use Rattle.contract_reads.specs.Calls.{FitSlots};
 ghost use Rattle.rules.specs.Zmint.{gain, mint_gains, minting};
 ghost use Rattle.ertp_calls.specs.vault.Drafts.{IsClean};
 ghost use Rattle.rules.specs.world_state.Good.{IsGoodWorld};
-ghost use Rattle.escrow_calls.specs.MintParts.{minted, minting_gains};
+ghost use Rattle.escrow_calls.specs.MintParts.{mint_of_shares, mint_outcome};
 
 use crate::slot_changes::slot_change_of_mint;
 use crate::supply::check_comes_out;
@@ -81,7 +81,7 @@ fn mint_plan(
 
 /// What is left of minting once the seat and the shares are read: else `Overlap`, `TooMuch` of all of them with what is
 /// out, `TooMuch` of what was minted with them, `Overlap`, `TooMuch` of each with its slot, `Limit` (Zoe).
-#[tactic(auto, unfolding(crate::specs::MintParts::minted, refusals::specs::Outcomes::bind))]
+#[tactic(auto, unfolding(crate::specs::MintParts::mint_of_shares, refusals::specs::Outcomes::bind))]
 fn mint(
     alloc: Global,
     world: &World,
@@ -95,7 +95,7 @@ fn mint(
     requires made { brand < length (world_of world.now).rights.out }
     requires fit { FitSlots slots.now shares.now }
     ensures { GivesOutcome
-        (minted (world_of world.now) brand seat slots.now shares.now (seen given.entry)) result }
+        (mint_of_shares (world_of world.now) brand seat slots.now shares.now (seen given.entry)) result }
 {
     check_comes_out(alloc, &world.draft, brand, shares)?;
     check_gains(slots, shares)?;
@@ -104,7 +104,7 @@ fn mint(
 }
 
 /// zmint.mintGains(record, seat) (Zoe).
-#[tactic(auto, using(crate::proofs::MintBrands::maker_supply, crate::proofs::Steps::minted_same), unfolding(crate::specs::MintParts::minting_gains, refusals::specs::Outcomes::bind))]
+#[tactic(auto, using(crate::proofs::MintBrands::maker_supply, crate::proofs::Steps::minted_same), unfolding(crate::specs::MintParts::mint_outcome, refusals::specs::Outcomes::bind))]
 pub fn mint_gains(
     alloc: Global,
     world: &World,

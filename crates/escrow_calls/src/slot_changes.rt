@@ -4,7 +4,7 @@ ghost use Rattle.std.specs.Prelude.{◌≡◌, ◌<◌, IfOk, length};
 ghost use Rattle.contract_reads.specs.Calls.{AreOfKinds};
 ghost use Rattle.contract_reads.specs.Known.{AreKnown};
 ghost use Rattle.ertp_calls.specs.host_world.Worlds.{world_of};
-ghost use Rattle.escrow_calls.specs.SlotChanges.{IsOfSeat, mint_asked, slots_asked};
+ghost use Rattle.escrow_calls.specs.SlotChanges.{IsOfSeat, mint_seat_and_shares, seat_and_shares};
 ghost use Rattle.host_data.specs.View.{trees};
 ghost use Rattle.refusals.specs.Outcomes.{Gives};
 ghost use Rattle.rules.specs.Zmint.{minting};
@@ -43,7 +43,7 @@ impl Drop for SlotChange {
 /// What a deposit or a withdrawal is asked for, where the instance runs: an open seat of the instance's own at the
 /// first place, and shares at the second, of brands that it keeps: else `Closed`, then `WrongObject` 1, `WrongInstance`,
 /// `SeatExited` of the seat, then what `shares_for` refuses of the shares (Zoe).
-#[tactic(auto, unfolding(crate::specs::SlotChanges::slots_asked, refusals::specs::Outcomes::bind))]
+#[tactic(auto, unfolding(crate::specs::SlotChanges::seat_and_shares, refusals::specs::Outcomes::bind))]
 pub(crate) fn slot_change(
     alloc: Global,
     world: &World,
@@ -54,7 +54,7 @@ pub(crate) fn slot_change(
     requires hosted { instance < length (world_of world.now).tables.instances }
     requires known { AreKnown (world_of world.now) (trees args.now) }
     ensures gives { Gives (λ change. (change.seat, change.shares.items)) result
-        (slots_asked (world_of world.now) instance (trees args.now)) }
+        (seat_and_shares (world_of world.now) instance (trees args.now)) }
     ensures seat { IfOk result (λ change.
         IsOfSeat (world_of world.now) change.seat change.slots change.shares.items) }
     ensures kinds { IfOk result (λ change. AreOfKinds (world_of world.now) change.shares.items) }
@@ -86,7 +86,7 @@ fn instance_of_mint(world: &World, brand: u16) -> u32
 /// What a mint's call is asked for, where the mint's instance runs: an open seat of that instance at the second place,
 /// and shares at the first, of the mint's brand: else `Closed`, then `WrongObject` 2, `WrongInstance`, `SeatExited` of
 /// the seat, then what `shares_of_mint` refuses of the shares (Zoe).
-#[tactic(auto, unfolding(crate::specs::SlotChanges::mint_asked, refusals::specs::Outcomes::bind))]
+#[tactic(auto, unfolding(crate::specs::SlotChanges::mint_seat_and_shares, refusals::specs::Outcomes::bind))]
 pub(crate) fn slot_change_of_mint(
     alloc: Global,
     world: &World,
@@ -99,7 +99,7 @@ pub(crate) fn slot_change_of_mint(
         < length (world_of world.now).tables.instances }
     requires known { AreKnown (world_of world.now) (trees args.now) }
     ensures gives { Gives (λ change. (change.seat, change.shares.items)) result
-        (mint_asked (world_of world.now) brand (trees args.now)) }
+        (mint_seat_and_shares (world_of world.now) brand (trees args.now)) }
     ensures seat { IfOk result (λ change.
         IsOfSeat (world_of world.now) change.seat change.slots change.shares.items) }
 {

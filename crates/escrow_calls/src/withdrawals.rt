@@ -6,7 +6,7 @@ ghost use Rattle.ertp_calls.specs.call_outcomes.CallOutcomes.{GivesOutcome, outc
 ghost use Rattle.rules.specs.States.{changing};
 ghost use Rattle.contract_reads.specs.Known.{AreKnown};
 ghost use Rattle.rules.specs.ertp_mint.Stocks.{most_made};
-ghost use Rattle.escrow_calls.specs.EscrowParts.{withdrawing, withdrawn};
+ghost use Rattle.escrow_calls.specs.EscrowParts.{withdrawal_outcome, withdrawal_of_shares};
 ghost use Rattle.escrow_calls.specs.SlotChanges.{IsOfSeat};
 ghost use Rattle.ertp_calls.specs.host_world.Worlds.{world_of};
 ghost use Rattle.host_data.specs.View.{trees};
@@ -60,7 +60,7 @@ fn paying_out(
 
 /// What is left of a withdrawal once the seat and the shares are read: that the shares can be taken from their slots,
 /// that the seat's offer stays safe, and that there is room: else `NotEnough`, `NotOfferSafe`, then `Limit` (Zoe).
-#[tactic(auto, unfolding(crate::specs::EscrowParts::withdrawn, refusals::specs::Outcomes::bind))]
+#[tactic(auto, unfolding(crate::specs::EscrowParts::withdrawal_of_shares, refusals::specs::Outcomes::bind))]
 fn withdraw(
     alloc: Global,
     world: &World,
@@ -70,7 +70,7 @@ fn withdraw(
 ) -> Result<CallOutcome, Stop>
     requires good { IsGoodWorld (world_of world.now) }
     requires seat { IsOfSeat (world_of world.now) seat slots.now shares.now }
-    ensures { GivesOutcome (withdrawn (world_of world.now) seat slots.now shares.now) result }
+    ensures { GivesOutcome (withdrawal_of_shares (world_of world.now) seat slots.now shares.now) result }
 {
     check_losses(slots, shares)?;
     check_safe(alloc, world, seat, slots, shares)?;
@@ -79,7 +79,7 @@ fn withdraw(
 }
 
 /// zcf.withdrawFromSeat(seat, amounts) (Zoe).
-#[tactic(auto, using(crate::proofs::Steps::withdrawn_same), unfolding(crate::specs::EscrowParts::withdrawing, refusals::specs::Outcomes::bind))]
+#[tactic(auto, using(crate::proofs::Steps::withdrawn_same), unfolding(crate::specs::EscrowParts::withdrawal_outcome, refusals::specs::Outcomes::bind))]
 pub fn withdraw_from_seat(
     alloc: Global,
     world: &World,

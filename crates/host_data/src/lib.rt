@@ -12,7 +12,7 @@ pub mod values;
 pub mod amount_math_lib {
     pub use amount_math::{
         Amount, AmountKind, BagKind, COUNT_BOUND, Entry, Holding, Key, Kind, MINTED_BOUND,
-        MakeFault, NAT_BOUND, Outstanding, PutFault, SetKind, TooMuch, Value,
+        MakeFault, NAT_BOUND, PutFault, SetKind, TooMuch, Value,
     };
 
     pub mod shortfall {

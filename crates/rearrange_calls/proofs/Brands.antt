@@ -32,7 +32,7 @@ use Rattle.share_transfers.specs.Reading.{share_tests, transfers_at}
 use Rattle.share_transfers.specs.Views.{keywords_of}
 use Rattle.rearrange_calls.proofs.SameStates.{part_same, slots_same}
 use Rattle.rearrange_calls.proofs.Seated.{are_parts, seats_of}
-use Rattle.rearrange_calls.specs.Given.{AreStatesFor}
+use Rattle.rearrange_calls.specs.TransferStates.{AreStatesFor}
 use Rattle.rearrange_calls.specs.Steps.{AreFromData}
 use Rattle.rules.specs.world_state.Worlds.{IsOpen, State}
 

@@ -13,7 +13,7 @@ use Rattle.rules.specs.States.{state_of, unstaged}
 use Rattle.rules.specs.proposals.declared.plans.SeatState.{SeatState}
 use Rattle.rules.specs.world_state.Worlds.{State}
 use Rattle.rearrange_calls.specs.Among.{HaveAll, IsAmong}
-use Rattle.rearrange_calls.specs.Given.{AreStatesFor}
+use Rattle.rearrange_calls.specs.TransferStates.{AreStatesFor}
 
 abbrev pub is_in : ℕ → List ℕ → Bool
 is_in n ns = list_any (λ m. m == n) ns

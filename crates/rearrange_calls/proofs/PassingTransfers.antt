@@ -30,7 +30,7 @@ use Rattle.rearrange.specs.Seats as given
 use Rattle.rearrange.specs.Seats.{seats_named}
 use Rattle.rearrange.specs.Staged.{shares_of, touched_with}
 use Rattle.rearrange.specs.Transfers.{HasOneBrand, amounts_for, gains_of, once, transfers_plan, worked}
-use Rattle.rearrange_calls.specs.Given.{AreStatesFor}
+use Rattle.rearrange_calls.specs.TransferStates.{AreStatesFor}
 use Rattle.rearrange_calls.specs.Passed.{ArePassed}
 use Rattle.rearrange_calls.specs.Met.{IsMet}
 use Rattle.refusals.proofs.Steps.{after_none_such, after_wanted, ok_has}

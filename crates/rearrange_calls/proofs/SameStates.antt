@@ -21,7 +21,7 @@ use Rattle.rules.specs.proposals.declared.plans.SeatState.{SeatState}
 use Rattle.rules.specs.proposals.declared.plans.Touched.{Touched}
 use Rattle.rules.specs.proposals.declared.plans.Transfer.{Transfer}
 use Rattle.rules.specs.world_state.Worlds.{State}
-use Rattle.rearrange_calls.specs.Given.{AreStatesFor}
+use Rattle.rearrange_calls.specs.TransferStates.{AreStatesFor}
 use Rattle.rearrange_calls.specs.Steps.{changed, tested}
 
 -- what is told of each seat

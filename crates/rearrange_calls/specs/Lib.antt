@@ -2,5 +2,5 @@ pub mod Met
 pub mod Passed
 pub mod Among
 pub mod Left
-pub mod Given
+pub mod TransferStates
 pub mod Steps

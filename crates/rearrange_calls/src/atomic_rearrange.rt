@@ -10,7 +10,7 @@ ghost use Rattle.world_reads.specs.host_world.Worlds.{world_of};
 ghost use Rattle.host_data.specs.Tree.{null};
 ghost use Rattle.host_data.specs.View.{trees};
 ghost use Rattle.host_data.specs.declared.data.ObjKind.TheVariants as kinds;
-ghost use Rattle.rearrange_calls.specs.Given.{AreStatesFor};
+ghost use Rattle.rearrange_calls.specs.TransferStates.{AreStatesFor};
 ghost use Rattle.rearrange_calls.specs.Passed.{ArePassed};
 ghost use Rattle.rearrange.specs.TestedPlans.{can_take_part};
 ghost use Rattle.refusals.specs.Outcomes.{Gives, bind};

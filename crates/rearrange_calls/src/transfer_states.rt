@@ -4,7 +4,7 @@ ghost use Rattle.std.specs.Prelude.{◌≡◌, ◌<◌, All, IfOk, length};
 ghost use Rattle.std.specs.List.{AllPairs};
 ghost use Rattle.world_reads.specs.host_world.Worlds.{world_of};
 ghost use Rattle.rearrange.specs.TestedPlans.{can_take_part};
-ghost use Rattle.rearrange_calls.specs.Given.{AreStatesFor};
+ghost use Rattle.rearrange_calls.specs.TransferStates.{AreStatesFor};
 ghost use Rattle.refusals.specs.Outcomes.{Gives};
 ghost use Rattle.rules.specs.Rearranging.{states_for};
 ghost use Rattle.rules.specs.States.{state_of, unstaged};

@@ -1,5 +1,5 @@
 -- What may come out of a brand, by the test that was passed.
-use Rattle.std.proofs.Common.{◌≡◌, ◌+◌, ◌≤◌, Ok, arith}
+use Rattle.std.proofs.Common.{◌≡◌, ◌+◌, ◌≤◌, Ok}
 use Rattle.std.proofs.lemmas.Bool.{leb-true}
 use Rattle.world_laws.specs.amount_math.Content.{Content, sum}
 use Rattle.world_laws.specs.amount_math.Counted.{counted}

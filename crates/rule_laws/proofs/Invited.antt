@@ -1,11 +1,11 @@
 -- The invitation that an offer is made with, and the payments that it escrows.
-use Rattle.std.specs.Prelude.{find, is_some, not, option_and_then, unwrap_or}
+use Rattle.std.specs.Prelude.{find, option_and_then, unwrap_or}
 use Rattle.std.specs.FinMap as fin
 use Rattle.std.specs.Cmp.{tied_itself}
 use Rattle.std.specs.Cmp.Lexicographic.{nat_list_cmp_total}
 use Rattle.std.specs.Ordering.{eq_by_cmp, is_eq}
 use Rattle.std.specs.Str.{bytes_eq}
-use Rattle.std.proofs.Common.{◌≡◌, ◌==◌, ℕ, zero, suc, ◌+◌, ◌<◌, ◌≤◌, Bool, true, false, cond, List, [], ◌∷◌, length, Option, Some, None, Ok, IfOk, if◌then◌else◌, refl, sym, ap, subst, ◌∙◌, arith}
+use Rattle.std.proofs.Common.{◌≡◌, ◌==◌, ℕ, zero, suc, ◌<◌, Bool, true, false, cond, List, [], ◌∷◌, length, Some, None, Ok, IfOk, if◌then◌else◌, refl, sym, ap, subst, ◌∙◌, arith}
 use Rattle.std.proofs.lemmas.Bool.{eqb-true, false≢true}
 use Rattle.std.proofs.lemmas.Option.{same_Some}
 use Rattle.std.proofs.lemmas.Slice.Eq.{bytes_eq-Decides}
@@ -13,7 +13,6 @@ use lib.Dec.{T}
 use Rattle.world_laws.specs.amount_math.Content.{Content, count, count-of_entries, count_listed, entries, is_zero, nothing, key_cmp, listed, of_entries, of_entries-one, one_of, same_content}
 use Rattle.world_laws.specs.amount_math.Sparse.{is_something}
 use Rattle.world_laws.specs.amount_math.ValueView.{Fits, IsValue, ValueView}
-use Rattle.world_laws.specs.amount_math.declared.Kind.{Kind}
 use Rattle.world_laws.specs.amount_math.declared.Kind.TheVariants.{Nat, Set}
 use Rattle.world_laws.specs.brands.Brands.{brand_at}
 use Rattle.rules.specs.call_arguments.Arguments.{arg}
@@ -23,7 +22,7 @@ use Rattle.world_laws.specs.turn_stores.Elements.{element}
 use Rattle.world_laws.specs.host_data.Tree.{Tree}
 use Rattle.world_laws.proofs.refusals.Steps.{after_known, after_step, after_wanted, need_holds}
 use Rattle.world_laws.specs.refusals.Codes.{closed}
-use Rattle.world_laws.specs.world_state.Good.{IsAtWork, IsGoodWorld, IsValued}
+use Rattle.world_laws.specs.world_state.Good.{IsAtWork, IsGoodWorld}
 use Rattle.world_laws.specs.world_state.Known.{IsFormed}
 use Rattle.world_laws.specs.world_state.Worlds.{State, invitation_value}
 use Rattle.rules.specs.Licence.{NamesPayment}

@@ -1,7 +1,7 @@
 -- What lists give that a rule reads: live payments of a brand, each once; values of a kind; the sum of values.
-use Rattle.std.specs.Prelude.{◌==◌, is_some, not, unwrap_or}
-use Rattle.std.specs.List.{AllByRecursion, filter}
-use Rattle.std.proofs.Common.{◌≡◌, ℕ, ◌+◌, ◌<◌, ◌≤◌, nat_le, Bool, true, false, cond, List, [], ◌∷◌, length, map, Option, Some, None, Result, Ok, Err, IfOk, inl, inr, refl, sym, ap, subst, arith}
+use Rattle.std.specs.Prelude.{◌==◌, is_some, unwrap_or}
+use Rattle.std.specs.List.{AllByRecursion}
+use Rattle.std.proofs.Common.{◌≡◌, ℕ, ◌+◌, ◌<◌, ◌≤◌, nat_le, Bool, true, false, List, [], ◌∷◌, length, map, Option, Some, None, Result, Ok, Err, IfOk, inl, inr, refl, sym, ap, subst, arith}
 use Rattle.std.specs.Prelude.{option_and_then, option_map}
 use Rattle.std.proofs.lemmas.Bool.{eqb-true, false≢true, leb-true}
 use Rattle.std.proofs.lemmas.Option.{same_Some}
@@ -11,7 +11,7 @@ use Rattle.world_laws.specs.amount_math.ValueView.{Fits, HasFew, IsValue, ValueV
 use Rattle.world_laws.specs.amount_math.declared.Kind.{Kind}
 use Rattle.world_laws.specs.amount_math.declared.Kind.TheVariants.{Nat, Set, Bag}
 use Rattle.rules.specs.call_arguments.Arguments.{arg, is_kind, list_at, object_in}
-use Rattle.rules.specs.call_arguments.Numbers.{AreApart, least, least_failing, least_of}
+use Rattle.rules.specs.call_arguments.Numbers.{AreApart}
 use Rattle.rules.proofs.call_arguments.ArgumentLists.{none_twice}
 use Rattle.rules.proofs.call_arguments.Made.{read_made}
 use Rattle.world_laws.specs.host_data.Amounts.{AmountData, IsValueOf, read_all}

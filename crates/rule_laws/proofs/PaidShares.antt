@@ -1,18 +1,17 @@
 -- Payments of just what shares say, in the order of the shares: two records under the same names.
-use Rattle.std.specs.Prelude.{IfSome, find, is_some, map, not, option_and_then, unwrap_or, ◌==◌, ◌&&◌, ◌||◌}
+use Rattle.std.specs.Prelude.{is_some, not, unwrap_or, ◌==◌, ◌||◌}
 use Rattle.std.specs.Cmp.Lexicographic.{nat_list_cmp_total, slice_cmp}
 use Rattle.std.specs.List.{AllByRecursion, filter}
-use Rattle.std.specs.Ordering.{nat_cmp, ordering_reverse}
+use Rattle.std.specs.Ordering.{nat_cmp}
 use Rattle.std.specs.Str.{bytes_eq}
 use Rattle.std.specs.declared.cmp.Ordering.TheVariants.{Less}
-use Rattle.std.proofs.Common.{◌≡◌, ◌⊎◌, ℕ, ◌+◌, ◌-◌, ◌<◌, Bool, true, false, cond, List, [], ◌∷◌, length, Option, Some, None, Ok, IfOk, codes, inl, inr, refl, sym, ap, subst, ◌∙◌, arith}
+use Rattle.std.proofs.Common.{◌≡◌, ◌⊎◌, ℕ, ◌-◌, ◌<◌, Bool, true, false, cond, List, [], ◌∷◌, length, Option, Some, None, Ok, inl, inr, refl, sym, ap, subst, ◌∙◌, arith}
 use Rattle.std.proofs.lemmas.Bool.{and_parts, eqb-true, false≢true}
 use Rattle.std.proofs.lemmas.Option.{same_Some}
 use Rattle.std.proofs.lemmas.Slice.Eq.{bytes_eq-Decides}
 use Rattle.world_laws.specs.amount_math.Content.{nothing}
 use Rattle.world_laws.specs.amount_math.ValueView.{ValueView}
 use Rattle.world_laws.specs.amount_math.declared.Kind.TheVariants.{Nat}
-use Rattle.world_laws.specs.brands.declared.issuer_record.Issuer.{Issuer}
 use Rattle.rules.specs.call_arguments.Amounts.{is_same}
 use Rattle.rules.specs.call_arguments.Arguments.{arg, object_in}
 use Rattle.rules.specs.call_arguments.Numbers.{least, least_failing, least_of}
@@ -20,31 +19,24 @@ use Rattle.rules.proofs.call_arguments.Made.{read_made}
 use Rattle.rules.proofs.call_arguments.Same.{same_is}
 use Rattle.world_laws.specs.host_data.Amounts.{read_all}
 use Rattle.world_laws.specs.host_data.Nodes.{EachField, ObjectIs}
-use Rattle.rules.specs.call_arguments.Exits.{exit_in}
 use Rattle.world_laws.specs.host_data.Tree as trees
-use Rattle.world_laws.specs.host_data.Tree.{Fields, Tree, field_of, paired}
+use Rattle.world_laws.specs.host_data.Tree.{Fields, Tree, paired}
 use Rattle.world_laws.specs.host_data.declared.data.ObjKind.TheVariants as kinds
-use Rattle.rules.specs.holders.PaymentViews.{is_live}
-use Rattle.rules.specs.proposals.Shares.{AreApart, amount_under}
 use Rattle.rules.specs.proposals.declared.allocations.Share.{Share}
-use Rattle.rules.specs.proposals.declared.offers.Proposal.{Proposal}
-use Rattle.rules.specs.call_arguments.Records.{ShareData, first_ill, keywords, names, objects_under, share_in}
+use Rattle.rules.specs.call_arguments.Records.{names, objects_under}
 use Rattle.world_laws.specs.refusals.Codes.{wrong_object}
-use Rattle.world_laws.proofs.refusals.Steps.{after_need, after_none_such, after_step, after_wanted, wanted_there}
+use Rattle.world_laws.proofs.refusals.Steps.{wanted_there}
 use Rattle.rules.specs.GivenPayments.{first_wrong, held_by, is_live_in, payment_view_of, pays}
-use Rattle.rules.specs.Proposals.{Proposed, amounts_of, first_alone, first_shared, is_among, least_alone, lesser, part, proposed, valued}
-use Rattle.rules.specs.Words.{record_in}
+use Rattle.rules.specs.Proposals.{first_alone, is_among, least_alone, lesser}
 use Rattle.world_laws.proofs.Lists.{all_map}
-use Rattle.world_laws.specs.world_state.Good.{IsGoodWorld, IsRule}
+use Rattle.world_laws.specs.world_state.Good.{IsGoodWorld}
 use Rattle.world_laws.specs.world_state.Known.{IsFormed, ObjectKnown}
 use Rattle.world_laws.specs.world_state.Worlds.{State}
 use Rattle.rules.specs.Licence.{IsObject, NamesPayment, SomeField, SomeObject}
-use Rattle.rule_laws.proofs.Forms.{field_formed, null_formed}
 use Rattle.rule_laws.proofs.GivenData.{data_names, payment_below, read_named}
 use Rattle.rule_laws.proofs.Moving.{Holds, held_kind}
-use Rattle.rule_laws.proofs.Records.{fields_each, fields_in, fields_ordered, names_differ, record_is}
-use Rattle.rule_laws.proofs.SharesRead.{AreRead, IsReadShare, Rises, Rising, keywords_are, one_list, record_read, rising_names, share_names, some_has}
-use Rattle.rule_laws.proofs.ExitRules.{exit_read}
+use Rattle.rule_laws.proofs.Records.{fields_each, fields_in, names_differ}
+use Rattle.rule_laws.proofs.SharesRead.{IsReadShare, Rises, Rising, one_list}
 use Rattle.rule_laws.proofs.SlotMoves.{Pay}
 
 -- ---- names that stand in both lists

@@ -3,13 +3,11 @@ use Rattle.std.specs.Prelude.{IfSome, find, map, not, option_and_then, option_ma
 use Rattle.std.specs.Cmp.Lexicographic.{slice_cmp}
 use Rattle.std.specs.List.{AllByRecursion}
 use Rattle.std.specs.Ordering.{is_le, nat_cmp}
-use Rattle.std.specs.Str.{bytes_eq}
 use Rattle.std.specs.declared.cmp.Ordering.TheVariants.{Less}
-use Rattle.std.proofs.Common.{◌≡◌, ℕ, ◌+◌, ◌<◌, Bool, true, false, cond, List, [], ◌∷◌, length, Option, Some, None, Ok, codes, refl, sym, ap, subst, ◌∙◌, arith}
+use Rattle.std.proofs.Common.{◌≡◌, ℕ, ◌+◌, Bool, true, false, cond, List, [], ◌∷◌, Option, Some, None, Ok, codes, refl, sym, ap, subst, ◌∙◌, arith}
 use Rattle.std.proofs.lemmas.Option.{same_Some}
 use Rattle.world_laws.specs.amount_math.ValueView.{IsValue, ValueView}
 use Rattle.world_laws.specs.amount_math.declared.Kind.{Kind}
-use Rattle.world_laws.specs.amount_math.declared.Kind.TheVariants.{Nat, Set, Bag}
 use Rattle.world_laws.specs.host_data.Amounts.{AmountData, amount_fields, has_two, kind_of_brand, read_all}
 use Rattle.rule_laws.proofs.GivenData.{value_read}
 use Rattle.world_laws.specs.host_data.Nodes.{AreInOrder, EachField, EachNode, ObjectIs}
@@ -20,13 +18,11 @@ use Rattle.world_laws.specs.host_data.declared.data.Obj.{Obj}
 use Rattle.world_laws.specs.host_data.declared.data.ObjKind.{ObjKind}
 use Rattle.world_laws.specs.host_data.declared.data.ObjKind.TheVariants as kinds
 use Rattle.rules.specs.proposals.Shares.{AreApart, amount_under, keyed_share}
-use Rattle.rules.specs.proposals.Slots.{in_byte_order, is_upto, placed}
+use Rattle.rules.specs.proposals.Slots.{in_byte_order, placed}
 use Rattle.rules.specs.proposals.declared.allocations.Share.{Share}
 use Rattle.rules.specs.call_arguments.Records.{ShareData, first_ill, keywords, names, share_in, share_value, values_in}
 use Rattle.world_laws.specs.refusals.Codes.{bad_value}
 use Rattle.world_laws.specs.refusals.Outcomes.{bind, wanted}
-use Rattle.world_laws.specs.refusals.declared.codes.Refusal.{Refusal}
-use Rattle.world_laws.proofs.refusals.Steps.{wanted_there}
 use Rattle.world_laws.specs.vault_model.Lists.{amount_of}
 use Rattle.rules.specs.Proposals.{valued, with_values}
 use Rattle.world_laws.specs.world_state.Good.{AreNamed, AreSharesOf, AreSharesValued, IsGoodWorld, IsValued}

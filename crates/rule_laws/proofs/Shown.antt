@@ -1,5 +1,5 @@
 -- Terms, issuers and proposals, as they are shown: records that a caller may hold.
-use Rattle.std.proofs.Common.{ℕ, ◌+◌, ◌<◌, List, length, Option, Some, None, codes, refl, arith}
+use Rattle.std.proofs.Common.{ℕ, ◌+◌, ◌<◌, length, Option, Some, None, codes, refl, arith}
 use Rattle.world_laws.specs.brands.Brands.{brand_at}
 use Rattle.world_laws.specs.host_data.Values.{object_tree}
 use Rattle.world_laws.specs.host_data.Nodes.{FunctionIs, ObjectIs}
@@ -17,7 +17,7 @@ use Rattle.rules.specs.Records.{brand_object, brands_tree, deadline_tree, exit_t
 use Rattle.world_laws.specs.world_state.Good.{AreTerms, IsGoodWorld, IsInstance, IsProposal}
 use Rattle.world_laws.specs.world_state.Known.{FunctionKnown, IsFormed, IsHanded, ObjectKnown, known_as, made_as}
 use Rattle.world_laws.specs.world_state.Worlds.{State, placed_field}
-use Rattle.rule_laws.proofs.Amounts.{allocation_formed, brand_known, objects_formed}
+use Rattle.rule_laws.proofs.Amounts.{allocation_formed, objects_formed}
 use Rattle.rule_laws.proofs.Fields.{FormedAt, differs, formed_here, no_field_placed, none_got, placed_formed, record_formed, record_parts}
 
 -- ---- what can be handed out can be held

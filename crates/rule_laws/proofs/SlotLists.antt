@@ -3,12 +3,12 @@ use Rattle.std.specs.Prelude.{filter, is_none}
 use Rattle.std.specs.List.{All, AllByRecursion}
 use Rattle.std.specs.Option.{option_map_or}
 use Rattle.std.specs.Str.{bytes_eq}
-use Rattle.std.proofs.Common.{◌≡◌, ℕ, zero, suc, ◌+◌, ◌-◌, ◌<◌, ◌≤◌, Bool, true, false, cond, List, [], ◌∷◌, Some, None, Option, length, inl, inr, refl, sym, ◌∙◌, ap, subst, arith, if◌then◌else◌}
+use Rattle.std.proofs.Common.{◌≡◌, ℕ, suc, ◌+◌, ◌<◌, ◌≤◌, Bool, true, false, cond, List, [], ◌∷◌, Some, None, Option, length, inl, inr, refl, sym, ◌∙◌, ap, subst, arith, if◌then◌else◌}
 use Rattle.std.proofs.lemmas.List.Elements.{All-cons, All-head, All-nil, All-tail}
 use Rattle.std.proofs.lemmas.Slice.Eq.{bytes_eq-Decides}
 use Rattle.rules.specs.proposals.ChangedShares.{further}
 use Rattle.world_laws.specs.amount_math.Amount.{holding}
-use Rattle.world_laws.specs.amount_math.Content.{Content, Contains, count, count-difference, count-nothing, count-sum, nothing}
+use Rattle.world_laws.specs.amount_math.Content.{Content, Contains, count-nothing, count-sum, nothing}
 use Rattle.world_laws.specs.amount_math.ValueView.{IsValue}
 use Rattle.world_laws.specs.amount_math.declared.Amount.{Amount}
 use Rattle.rules.specs.proposals.OfferSafety.{IsCovered, IsOfferSafe}

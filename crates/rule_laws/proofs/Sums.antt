@@ -1,17 +1,11 @@
 -- What tests of values that were passed say.
-use Rattle.std.specs.Prelude.{nat_lt, unwrap_or}
-use Rattle.std.specs.FinMap as fin
-use Rattle.std.specs.List.{find}
-use Rattle.std.specs.Ordering.{eq_by_cmp}
-use Rattle.std.proofs.Common.{◌≡◌, ◌≢◌, ℕ, zero, suc, ◌≤◌, List, [], ◌∷◌, Bool, true, false, cond, Option, Some, None, Result, Ok, Err, map, refl, sym, subst, arith}
-use Rattle.std.proofs.lemmas.Bool.{leb-true, lt-ltb}
-use Rattle.world_laws.specs.amount_math.Content.{Content, count, count_listed, entries, key_cmp, listed, sum}
-use Rattle.world_laws.specs.amount_math.Entries.{Entries}
+use Rattle.std.proofs.Common.{◌≡◌, Bool, true, false, Result, Ok, Err, refl, sym, subst}
+use Rattle.std.proofs.lemmas.Bool.{leb-true}
+use Rattle.world_laws.specs.amount_math.Content.{Content, sum}
 use Rattle.world_laws.specs.amount_math.KindLaws.{value_of_sum}
 use Rattle.world_laws.specs.amount_math.ValueView.{Fits, HasFew, IsValue, ValueView, bound, keys_of, most_keys}
 use Rattle.world_laws.specs.amount_math.declared.Kind.{Kind}
 use Rattle.world_laws.specs.amount_math.declared.Kind.TheVariants.{Nat, Set, Bag}
-use Rattle.world_laws.proofs.amount_math.Listed.{same_key}
 use Rattle.world_laws.specs.refusals.Outcomes.{bind, need}
 use Rattle.world_laws.proofs.refusals.Steps.{none_is}
 use Rattle.world_laws.specs.refusals.declared.codes.Refusal.{Refusal}

@@ -1,5 +1,6 @@
 -- The brands of the shares that were seen, by seat and keyword.
-use Rattle.std.specs.Prelude.{◌≡◌, ℕ, ◌==◌, ◌&&◌, not, Bool, true, false, List, Option, None, Some, if◌then◌else◌}
+use Rattle.std.specs.Prelude.{◌≡◌, ℕ, ◌==◌, ◌&&◌, not, Bool, true, false, if◌then◌else◌}
+use Rattle.std.specs.Prelude.{List, Option, None, Some}
 use Rattle.std.specs.BTreeMap.{BTreeMap, get_by}
 use Rattle.std.specs.Borrow.{Bor}
 use Rattle.std.specs.Cmp.Lexicographic.{slice_cmp}
@@ -24,12 +25,17 @@ with_brand (Some Several) brand = Several
 
 -- what stands under a seat and a keyword
 abbrev pub brands_at : BTreeMap (ℕ × Bor (List ℕ)) Brands → ℕ → List ℕ → Option Brands
-brands_at seen seat keyword = get_by (λ k. ordering_then (nat_cmp seat k.0) (slice_cmp nat_cmp keyword k.1.now)) seen
+brands_at seen seat keyword =
+    get_by (λ k. ordering_then (nat_cmp seat k.0) (slice_cmp nat_cmp keyword k.1.now)) seen
 
 -- a share for the seat and the keyword, of another brand
 abbrev pub is_of_other : ℕ → List ℕ → ℕ → SeatShare → Bool
-is_of_other seat keyword brand s = (s.seat == seat && bytes_eq s.share.keyword keyword) && not (s.share.amount.brand == brand)
+is_of_other seat keyword brand s =
+    (s.seat == seat && bytes_eq s.share.keyword keyword) && not (s.share.amount.brand == brand)
 
--- the shares that were seen: for each seat and keyword, a brand has another beside it where one of them has
-pub record HaveSeen (seen : BTreeMap (ℕ × Bor (List ℕ)) Brands) (before : List SeatShare) : Type 0 where
-  pub each : (seat : ℕ) (keyword : List ℕ) (brand : ℕ) → has_other (brands_at seen seat keyword) brand ≡ list_any (is_of_other seat keyword brand) before
+-- the shares that were seen: for each seat and keyword, a brand has another beside it where one of
+-- them has
+pub record HaveSeen (seen : BTreeMap (ℕ × Bor (List ℕ)) Brands) (before : List SeatShare)
+    : Type 0 where
+  pub each : (seat : ℕ) (keyword : List ℕ) (brand : ℕ)
+      → has_other (brands_at seen seat keyword) brand ≡ list_any (is_of_other seat keyword brand) before

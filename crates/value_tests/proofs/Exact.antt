@@ -17,7 +17,7 @@ use Rattle.refusals.specs.declared.codes.Refusal.TheVariants.{Overlap}
 use Rattle.refusals.specs.declared.stops.Stop.TheVariants.{Refused}
 use Rattle.refusals.proofs.Steps.{none_is}
 use Rattle.transit.specs.ertp_mint.BrandSupply.{BrandSupply, MayIssue, out_with}
-use Rattle.value_tests.specs.Causes.{IsIssueCause, IsMintCause, IsOverlapCause, IsPutCause}
+use Rattle.value_tests.specs.Causes.{IsCountCause, IsMintCause, IsOverlapCause, IsPutCause}
 use Rattle.value_tests.specs.Tests.{can_come_out, counts_fit, counts_then_keys, has_few, keys_fit, minted_fits, overlap_free, past_refusal, value_fits}
 use Rattle.value_tests.proofs.Sums.{comes_out, counts_pass, mint_refused, out_refused, overlap_there, refused}
 
@@ -35,7 +35,7 @@ pub counts_fits : (kind : Kind) (c : Content) → counts_fit kind c ≡ Ok tt �
 unfolding counts_fit
 counts_fits kind c e = record { each = fits_where_none (bound kind) c (none_is (first_past (bound kind) c) (past_refusal kind c) tt e) }
 
-by_kind : (kind : Kind) (c : Content) (r : Refusal) (k : List ℕ) → first_past (bound kind) c ≡ Some k → past_refusal kind c k ≡ r → IsIssueCause kind c r
+by_kind : (kind : Kind) (c : Content) (r : Refusal) (k : List ℕ) → first_past (bound kind) c ≡ Some k → past_refusal kind c k ≡ r → IsCountCause kind c r
 by_kind Nat c r k at is =
     let past = first_is_past (bound Nat) c k at in
     (put_fault.TooMuch (record { sum = count c k; bound = bound Nat }), (λ e. cc, record { element = k; counted = refl; bounded = refl; passes = past.passes; first = past.first }), ap Refused is)
@@ -44,14 +44,14 @@ by_kind Bag c r k at is =
     let past = first_is_past (bound Bag) c k at in
     (put_fault.TooMuch (record { sum = count c k; bound = bound Bag }), (λ e. cc, record { element = k; counted = refl; bounded = refl; passes = past.passes; first = past.first }), ap Refused is)
 
-pub counts_cause : (kind : Kind) (c : Content) (r : Refusal) → counts_fit kind c ≡ Err r → IsIssueCause kind c r
+pub counts_cause : (kind : Kind) (c : Content) (r : Refusal) → counts_fit kind c ≡ Err r → IsCountCause kind c r
 unfolding counts_fit
 counts_cause kind c r e = let it = some_is (first_past (bound kind) c) (past_refusal kind c) r e in by_kind kind c r it.0 it.1 it.2
 
 same_refusal : (s r : Refusal) → Refused s ≡ Refused r → s ≡ r
 same_refusal s r e = cc
 
-pub cause_counts : (kind : Kind) (c : Content) (r : Refusal) → IsIssueCause kind c r → counts_fit kind c ≡ Err r
+pub cause_counts : (kind : Kind) (c : Content) (r : Refusal) → IsCountCause kind c r → counts_fit kind c ≡ Err r
 cause_counts kind c r (put_fault.NoMemory, cause, told) = cc
 cause_counts kind c r (put_fault.Overlap key, cause, told) = out_refused kind c (put_fault.Overlap key) cause ∙ ap Err (same_refusal _ r told)
 cause_counts kind c r (put_fault.TooMuch over, cause, told) = out_refused kind c (put_fault.TooMuch over) cause ∙ ap Err (same_refusal _ r told)
@@ -81,7 +81,7 @@ pub passes_value : (kind : Kind) (c : Content) → Fits kind c × HasFew kind c 
 unfolding value_fits bind need
 passes_value kind c (fits, few) = ap (counts_then_keys kind c) (counts_pass kind c fits) ∙ ap (keys_fit kind c) (is_few kind c few)
 
-wider : (kind : Kind) (c : Content) (r : Refusal) → IsIssueCause kind c r → IsPutCause kind c r
+wider : (kind : Kind) (c : Content) (r : Refusal) → IsCountCause kind c r → IsPutCause kind c r
 wider kind c r (put_fault.NoMemory, cause, told) = cc
 wider kind c r (put_fault.Overlap key, cause, told) = (put_fault.Overlap key, cause, told)
 wider kind c r (put_fault.TooMuch over, cause, told) = (put_fault.TooMuch over, inl cause, told)
@@ -143,7 +143,7 @@ out_passed s c e = by (counts_fit s.outstanding.kind (out_with s c)) refl e
 pub passes_out : (s : BrandSupply) (c : Content) → MayIssue s (with_content s.outstanding c) → can_come_out s c ≡ Ok tt
 passes_out s c may = comes_out s c may.fits may.minted
 
-issued_for : (s : BrandSupply) (c : Content) (r : Refusal) → IsIssueCause s.outstanding.kind (out_with s c) r → IsMintCause s c r
+issued_for : (s : BrandSupply) (c : Content) (r : Refusal) → IsCountCause s.outstanding.kind (out_with s c) r → IsMintCause s c r
 issued_for s c r (put_fault.NoMemory, cause, told) = cc
 issued_for s c r (put_fault.Overlap key, cause, told) = (put_fault.Overlap key, cause, told)
 issued_for s c r (put_fault.TooMuch over, cause, told) = (put_fault.TooMuch over, inl cause, told)

@@ -3,7 +3,7 @@ use Rattle.std.proofs.Common.{◌≡◌, ◌≢◌, ℕ, ◌+◌, ◌<◌, ◌�
 use Rattle.std.proofs.lemmas.Bool.{le-leb, lt-leb}
 use Rattle.refusals.specs.amount_math.Content.{Content}
 use Rattle.refusals.specs.amount_math.Counted.{counted}
-use Rattle.refusals.specs.amount_math.ValueView.{Fits, IsFirstPast, IsIssueRefusal, IsPutRefusal, IsValue, PassesBound, PassesKeys, ValueView, bag_bound, bound, fits_from_value, keys_of, minted_bound, most_keys, nat_bound}
+use Rattle.refusals.specs.amount_math.ValueView.{Fits, IsFirstPast, IsCountRefusal, IsPutRefusal, IsValue, PassesBound, PassesKeys, ValueView, bag_bound, bound, fits_from_value, keys_of, minted_bound, most_keys, nat_bound}
 use Rattle.refusals.specs.amount_math.declared.Kind.{Kind}
 use Rattle.refusals.specs.amount_math.declared.Kind.TheVariants.{Nat, Set, Bag}
 use Rattle.refusals.specs.amount_math.declared.PutFault.{PutFault}
@@ -14,7 +14,7 @@ use Rattle.refusals.specs.Outcomes.{Fails, bind, need, none_such}
 use Rattle.refusals.specs.Told.{put_told}
 use Rattle.refusals.specs.declared.codes.Refusal.{Refusal}
 use Rattle.refusals.specs.declared.codes.Refusal.TheVariants.{Overlap}
-use Rattle.transit.specs.ertp_mint.BrandSupply.{BrandSupply, IsMintRefusal, PassesMinted, out_with}
+use Rattle.transit.specs.ertp_mint.BrandSupply.{BrandSupply, IsMintRefusal, PassesMintedBound, out_with}
 use Rattle.value_tests.proofs.Firsts.{find_first, none_past}
 use Rattle.value_tests.specs.Tests.{can_come_out, counts_fit, counts_then_keys, from_first, has_few, keys_fit, minted_fits, overlap_free, value_fits}
 
@@ -68,7 +68,7 @@ counted_out : (kind : Kind) (c : Content) (r : _) → counts_fit kind c ≡ Err 
 unfolding value_fits bind
 counted_out kind c r e = ap (counts_then_keys kind c) e
 
-pub out_refused : (kind : Kind) (c : Content) (fault : PutFault) → IsIssueRefusal kind c fault → Fails (put_told fault) (counts_fit kind c)
+pub out_refused : (kind : Kind) (c : Content) (fault : PutFault) → IsCountRefusal kind c fault → Fails (put_told fault) (counts_fit kind c)
 out_refused kind c (put_fault.Overlap key) h = overlaps kind c key h.0 h.1
 out_refused kind c (put_fault.TooMuch over) h = passes kind c over h.0 h.1
 out_refused kind c put_fault.NoMemory h = tt
@@ -132,10 +132,10 @@ by_minted s c fits past = after_counts s c (Ok tt) (counts_pass s.outstanding.ki
 
 -- why a value isn't issued is why its content can't come out
 module _ (s : BrandSupply) (w : ValueView) (kind : s.outstanding.kind ≡ w.kind) where
-  by_issue : (fault : PutFault) → IsIssueRefusal w.kind (out_with s w.content) fault → Fails (put_told fault) (counts_fit s.outstanding.kind (out_with s w.content))
-  by_issue fault h = out_refused s.outstanding.kind (out_with s w.content) fault (subst (λ (k : Kind). IsIssueRefusal k (out_with s w.content) fault) (sym kind) h)
+  by_issue : (fault : PutFault) → IsCountRefusal w.kind (out_with s w.content) fault → Fails (put_told fault) (counts_fit s.outstanding.kind (out_with s w.content))
+  by_issue fault h = out_refused s.outstanding.kind (out_with s w.content) fault (subst (λ (k : Kind). IsCountRefusal k (out_with s w.content) fault) (sym kind) h)
 
-  past : (over : TooMuch) → PassesMinted s w over → can_come_out s w.content ≡ Err (too_much over.sum over.bound)
+  past : (over : TooMuch) → PassesMintedBound s w over → can_come_out s w.content ≡ Err (too_much over.sum over.bound)
   past over p =
       by_minted s w.content (subst (λ (k : Kind). Fits k (out_with s w.content)) (sym kind) p.fits) p.passes
       ∙ ap (λ n. Err (too_much n minted_bound)) (sym p.shown) ∙ ap (λ n. Err (too_much over.sum n)) (sym p.bounded)

@@ -1,7 +1,7 @@
 -- Why a test of a sum is refused, by the faults that a sum has.
 use Rattle.std.specs.Prelude.{◌≡◌, ◌≢◌, ◌↔◌, ℕ, List, Result, Ok, Err}
 use Rattle.refusals.specs.amount_math.Content.{Content}
-use Rattle.refusals.specs.amount_math.ValueView.{IsFirstPast, IsIssueRefusal, IsPutRefusal, with_content}
+use Rattle.refusals.specs.amount_math.ValueView.{IsFirstPast, IsCountRefusal, IsPutRefusal, with_content}
 use Rattle.refusals.specs.amount_math.declared.Kind.{Kind}
 use Rattle.refusals.specs.amount_math.declared.Kind.TheVariants.{Set}
 use Rattle.refusals.specs.amount_math.declared.PutFault.{PutFault}
@@ -16,8 +16,8 @@ abbrev pub IsPutCause : Kind → Content → Refusal → Type 0
 IsPutCause kind c r = (fault : PutFault) × IsPutRefusal kind c fault × (put_told fault ≡ Refused r)
 
 -- the refusal tells a fault that keeps values from being out together
-abbrev pub IsIssueCause : Kind → Content → Refusal → Type 0
-IsIssueCause kind c r = (fault : PutFault) × IsIssueRefusal kind c fault × (put_told fault ≡ Refused r)
+abbrev pub IsCountCause : Kind → Content → Refusal → Type 0
+IsCountCause kind c r = (fault : PutFault) × IsCountRefusal kind c fault × (put_told fault ≡ Refused r)
 
 -- the refusal tells a fault that keeps a content from being issued
 abbrev pub IsMintCause : BrandSupply → Content → Refusal → Type 0

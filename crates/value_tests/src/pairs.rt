@@ -1,6 +1,6 @@
 //! Tests of a value beside another, or beside what is out of its brand.
 
-ghost use Rattle.std.specs.Prelude.{◌≡◌, ◌↔◌, IsTrue, OnOk};
+ghost use Rattle.std.specs.Prelude.{◌≡◌, IsTrue, OnOk};
 ghost use Rattle.refusals.specs.amount_math.Content.{Contains, sum};
 ghost use Rattle.refusals.specs.amount_math.ValueView.{IsValue};
 ghost use Rattle.refusals.specs.Codes.{not_enough};

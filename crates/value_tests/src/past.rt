@@ -3,7 +3,6 @@
 ghost use Rattle.std.specs.Prelude.{◌≡◌};
 ghost use Rattle.refusals.specs.amount_math.Content.{Content, count};
 ghost use Rattle.refusals.specs.amount_math.ValueView.{bound, keys_of};
-ghost use Rattle.refusals.specs.Codes.{too_much};
 ghost use Rattle.refusals.specs.Outcomes.{Gives, Refuses};
 ghost use Rattle.refusals.specs.declared.codes.Refusal.TheVariants as refusals;
 ghost use Rattle.value_tests.specs.Tests.{has_few, keys_fit, past_refusal};

@@ -17,13 +17,13 @@ pub struct WideSum {
 impl Model for WideSum {
     ghost use Rattle.std.specs.Prelude.{ℕ, ◌<◌, ◌^◌};
     ghost use Rattle.std.specs.Coded.{coded_ℕ};
-    ghost use Rattle.value_tests.specs.Wide.{joined};
+    ghost use Rattle.value_tests.specs.Wide.{number_of_parts};
 
     ghost Value = { ℕ };
 
     ghost coded = { coded_ℕ };
 
-    ghost view = { λ sum. joined sum.high sum.low };
+    ghost view = { λ sum. number_of_parts sum.high sum.low };
 
     ghost invariant = { λ sum. sum.low < 2 ^ 128 };
 }

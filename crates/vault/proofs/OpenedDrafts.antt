@@ -1,5 +1,5 @@
 -- A draft after a purse was opened, and after a brand was taken in.
-use Rattle.std.proofs.Common.{◌≡◌, ◌≢◌, inl, inr, ℕ, zero, suc, ◌+◌, ◌-◌, ◌<◌, ◌≤◌, Bool, false, List, [], ◌∷◌, ◌++◌, length, map, reverse, refl, sym, ◌∙◌, ap, subst, arith}
+use Rattle.std.proofs.Common.{◌≡◌, ◌≢◌, inl, inr, ℕ, zero, suc, ◌+◌, ◌-◌, ◌≤◌, Bool, false, List, [], ◌∷◌, ◌++◌, length, map, reverse, refl, sym, ◌∙◌, ap, subst, arith}
 use Rattle.std.specs.Prelude.{slice_index_or}
 use Rattle.std.proofs.lemmas.Bool.{cases_eq}
 use Rattle.vault_model.specs.amount_math.Content.{Contains, Content, nothing}
@@ -28,7 +28,7 @@ use Rattle.transit.specs.Transit.{TransitView, empty_hand, held_at}
 use Rattle.vault.specs.Memory.{amount_in, kept_of, lists_of, rooms_of, staged_of, store_of, supply_of}
 use Rattle.vault.specs.Drafts.{IsDraft, by_number, draft_of, given_list, opened, table_now, with_brand}
 use Rattle.vault.specs.declared.stores.Stores.{Stores}
-use Rattle.vault.proofs.GivenUp.{has_none, none_given, numbered_push}
+use Rattle.vault.proofs.GivenUp.{numbered_push}
 use Rattle.vault.proofs.Steps.{brands_there, given_long, keys_none, last_first, room_for_none}
 
 -- ---- a purse

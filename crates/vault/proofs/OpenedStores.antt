@@ -19,7 +19,7 @@ use Rattle.vault_model.specs.Backwards.{HasEmptyLast, HasEmptySlot, HasFreshLast
 use Rattle.vault_model.specs.Lists.{with_closed_seat, with_new_seat, with_outs, with_purses, with_reopened_seat, without_last_brand, without_last_purse, without_last_seat, without_last_slot_of}
 use Rattle.vault_model.specs.Seats.{HasEmptyShare, HasShare, HasSlotOf, KeptSeat, kept_seat_at, new_kept_seat, no_kept_seat, empty_share, with_slots}
 use Rattle.seats.specs.Seats.{SeatView, closed_seat, new_seat, open_slots_in, reopened_seat, stored_in, without_last_slot}
-use Rattle.seats.specs.Slots.{HasSlot, SlotView, empty_slot, no_slot, share_in, shares_in}
+use Rattle.seats.specs.Slots.{HasSlot, empty_slot, no_slot, share_in, shares_in}
 use Rattle.seats.specs.Slots as slots
 use Rattle.seats.specs.Staging.{without_staged}
 use Rattle.seats.specs.Store.{IsNew, SeatsView, at_seat, changed_at, no_seat, seat_at, seat_in, slot_store, with_closed, without_last}

@@ -33,7 +33,7 @@ use Rattle.vault.specs.Memory.{HasBecome, IsForward, IsGivenFurther, kept_of, li
 use Rattle.vault.specs.declared.stores.Stores.{Stores}
 use Rattle.vault.specs.Drafts.{DraftState, HandKeeps, IsDraft, after, draft_of, given_list, opened, table_now, with_staging}
 use Rattle.vault.proofs.Made.{put_after_so, put_keeps_so}
-use Rattle.vault.proofs.Steps.{brands_there, given_long, last_first, same_given, same_store}
+use Rattle.vault.proofs.Steps.{brands_there, given_long, last_first, same_given}
 
 -- ---- any step that moves nothing
 

@@ -23,7 +23,7 @@ use Rattle.vault_model.proofs.SlotShares.{pushed_there, slot_stays}
 use Rattle.vault_model.proofs.SlotShares.{slot_there as slot_written_there}
 use Rattle.vault_model.specs.rights_model.declared.Holder.TheVariants.{Slot}
 use Rattle.seats.specs.Seats.{SeatView, put_in, stored_in, sum_with, with_further, with_less, with_more, with_room, with_stored}
-use Rattle.seats.specs.Slots.{HasSlot, SlotView, place_of, shares_in}
+use Rattle.seats.specs.Slots.{HasSlot, place_of, shares_in}
 use Rattle.seats.specs.Slots as slots
 use Rattle.seats.specs.Store.{HasSlotIn, SeatsView, at_seat, seat_in, slot_store}
 use Rattle.vault.specs.Asked.{IsSlotFor, IsSlotOf, MayOpenSlot}

@@ -15,7 +15,7 @@ ghost use Rattle.vault_model.specs.Seats.{IsOpenSeat, kept_seat_at};
 ghost use Rattle.vault_model.specs.Tables.{table_of};
 ghost use Rattle.vault_model.specs.rights_model.Table.{movement};
 ghost use Rattle.transit.specs.Transit.{in_store};
-ghost use Rattle.vault.specs.Drafts.{HandGoes, HandKeeps, IsClean, IsOfBrand, IsStored, IsValid, MayPut, MayPutInSlot, after, begun, given_at, given_up_too, held_too, let_out, opened, slotted, table_now, with_brand, with_staging};
+ghost use Rattle.vault.specs.Drafts.{HandGoes, HandKeeps, IsClean, IsOfBrand, IsStored, IsValid, MayPut, after, begun, given_at, given_up_too, held_too, let_out, opened, slotted, table_now, with_brand, with_staging};
 ghost use Rattle.vault.specs.Working.{IsWorking};
 ghost use Rattle.vault.specs.Asked.{IsPutFault, IsSeatTooMany, IsSource, IsTarget, MayOpenSlot, TakesIn, brand_of, held_by};
 ghost use Rattle.vault.specs.Forgetting.{IsForgetting, IsForgotten};

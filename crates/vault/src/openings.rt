@@ -1,20 +1,18 @@
 //! What opens and closes in the stores of a vault: purses, brands, seats.
 
-ghost use Rattle.std.specs.Prelude.{◌≡◌, ◌<◌, ◌+◌, [], length, IfErr, IfOk, IsOk, OnErr, OnOk};
-ghost use Rattle.vault_model.specs.ertp_mint.Stocks.{most_made};
+ghost use Rattle.std.specs.Prelude.{◌≡◌, ◌+◌, [], length, IfErr, IfOk, OnErr, OnOk};
 ghost use Rattle.vault_model.specs.proposals.Slots.{FitsSeat};
 ghost use Rattle.vault_model.specs.Backwards.{HasEmptyLast, HasEmptySlot, HasFreshLast, HasNewLast, MayReopen};
-ghost use Rattle.vault_model.specs.Lists.{with_closed_seat, with_new_brand, with_new_purse, with_new_seat, with_reopened_seat, without_last_brand, without_last_purse, without_last_seat, without_last_slot_of};
+ghost use Rattle.vault_model.specs.Lists.{with_closed_seat, with_new_seat, with_reopened_seat, without_last_brand, without_last_purse, without_last_seat, without_last_slot_of};
 ghost use Rattle.vault_model.specs.Seats.{kept_seat_at};
 ghost use Rattle.seats.specs.Staging.{without_staged};
 ghost use Rattle.vault.specs.Asked.{IsSeatTooMany, MayClose};
-ghost use Rattle.vault.specs.Memory.{HasBecome, IsBack, IsForward, IsRoomed, kept_of, lists_of, staged_of};
+ghost use Rattle.vault.specs.Memory.{HasBecome, IsBack, IsForward, kept_of, lists_of, staged_of};
 
 use crate::stores::Stores;
 use seats::seat_slots::CloseFault;
 use seats::seats::OpenFault;
 use std::alloc::AllocError;
-use vault_model::amount_math_lib::Kind;
 use vault_model::proposals_lib::allocations::Allocation;
 use vault_model::proposals_lib::offers::Proposal;
 

@@ -1,5 +1,5 @@
 use Rattle.std.proofs.Common.{◌≡◌, true, false, ap, arith, length, refl, subst, sym, ◌∙◌}
-use Rattle.std.specs.Prelude.{IsErr, is_none, is_some}
+use Rattle.std.specs.Prelude.{IsErr, is_none}
 use Rattle.draft_reads.proofs.lemmas.ListEdits.{length_map}
 use Rattle.draft_reads.specs.vault_model.Seats.{kept_seat_at}
 use Rattle.draft_reads.specs.seats.Staging.{without_staged}

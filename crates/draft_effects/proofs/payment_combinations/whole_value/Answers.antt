@@ -2,7 +2,7 @@ use Rattle.std.proofs.Common.{◌∙◌, ap, subst}
 use Rattle.draft_reads.specs.amount_math.Content.{sum}
 use Rattle.draft_reads.specs.amount_math.ValueView.{ValueView, with_content}
 use Rattle.draft_effects.specs.Sums.{IsAdding}
-use Rattle.draft_effects.proofs.AddedValues.{adds_all, adds_first, adds_next, next_left, none_left}
+use Rattle.draft_effects.proofs.AddedValues.{adds_all, adds_next, next_left, none_left}
 use Rattle.draft_effects.proofs.payment_combinations.whole_value.Goals as goal
 
 pub loop-movement-preserved : goal.loop-movement-preserved

@@ -1,7 +1,7 @@
 use Rattle.std.proofs.Common.{subst, sym}
 use Rattle.std.proofs.lemmas.Result.{on_ok_weaker}
 use Rattle.draft_effects.specs.HandStore.{StoresAll}
-use Rattle.draft_effects.proofs.Splits.{can_put, live, payment_is, split_now, stores_all, took_so}
+use Rattle.draft_effects.proofs.Splits.{can_put, payment_is, split_now, stores_all, took_so}
 use Rattle.draft_effects.proofs.payment_splits.split.Goals as goal
 
 pub store_payment-requires-clause-stores : goal.store_payment-requires-clause-stores

@@ -1,6 +1,6 @@
 use Rattle.std.proofs.Common.{◌≡◌, ap, arith, length, refl, subst, sym, ◌∙◌}
 use Rattle.std.proofs.lemmas.Result.{on_ok_weaker}
-use Rattle.draft_reads.specs.proposals.Shares.{AreApart, AreShares}
+use Rattle.draft_reads.specs.proposals.Shares.{AreShares}
 use Rattle.draft_reads.specs.seats.Store.{AreOpen}
 use Rattle.draft_reads.specs.vault.Drafts.{DraftState}
 use Rattle.draft_reads.specs.world_state.Rights.{slots_at}

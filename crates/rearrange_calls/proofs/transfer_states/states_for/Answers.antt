@@ -4,7 +4,7 @@ use Rattle.world_reads.specs.host_world.Worlds.{world_of}
 use Rattle.rearrange.specs.Seats as given
 use Rattle.rules.specs.Rearranging.{states_for}
 use Rattle.rules.specs.proposals.declared.plans.SeatState.{SeatState}
-use Rattle.rearrange_calls.specs.Given.{AreStatesFor}
+use Rattle.rearrange_calls.specs.TransferStates.{AreStatesFor}
 use Rattle.rearrange_calls.proofs.Once.{AreSame, all_once, is_in, states_once}
 use Rattle.rearrange_calls.proofs.transfer_states.states_for.Goals as goal
 

@@ -1,6 +1,6 @@
 use Rattle.draft_reads.specs.rights_model.declared.Holder.TheVariants.{Outside}
 use Rattle.draft_reads.proofs.Undoing.{none_given}
-use Rattle.draft_effects.proofs.CarriedMovements.{carrying_after, issue_memory}
+use Rattle.draft_effects.proofs.CarriedMovements.{carrying_after}
 use Rattle.draft_effects.proofs.movements.halves.issue.Goals as goal
 
 pub issue-requires-clause-empty : goal.issue-requires-clause-empty

@@ -1,12 +1,10 @@
-use Rattle.std.proofs.Common.{◌≡◌, ap, refl, sym, ◌∙◌, subst}
+use Rattle.std.proofs.Common.{◌≡◌, ap, refl, sym, ◌∙◌}
 use Rattle.std.proofs.lemmas.Result.{on_ok_weaker}
 use Rattle.draft_reads.specs.amount_math.ValueView.{ValueView}
-use Rattle.draft_reads.specs.amount_math.declared.Amount.{Amount}
 use Rattle.draft_reads.specs.ertp_mint.Stocks.{empty_amount}
 use Rattle.draft_reads.specs.vault_model.Lists.{amount_of}
-use Rattle.draft_reads.specs.rights_model.declared.Holder.TheVariants.{Slot}
 use Rattle.draft_reads.proofs.Undoing.{clean_back}
-use Rattle.draft_effects.specs.Steps.{MayReach, moved_amount}
+use Rattle.draft_effects.specs.Steps.{moved_amount}
 use Rattle.draft_effects.proofs.EmptySlots.{fits_none, may_none, opened_after_so, reach_empty, same_after, slot_is, still_may}
 use Rattle.draft_effects.proofs.movements.halves.open_slot.Goals as goal
 

@@ -1,6 +1,5 @@
 use Rattle.std.proofs.Common.{refl, subst, sym}
 use Rattle.std.proofs.lemmas.Result.{on_err_weaker}
-use Rattle.draft_reads.specs.vault.Drafts.{DraftState}
 use Rattle.draft_reads.specs.Views.{CanGoBack}
 use Rattle.draft_reads.proofs.Undoing.{clean_back}
 use Rattle.draft_effects.proofs.EmptySlots.{on_err_anyhow}

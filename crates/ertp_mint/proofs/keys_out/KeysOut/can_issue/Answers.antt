@@ -1,6 +1,6 @@
 use Rattle.std.proofs.Common.{IfErr, IsOk}
 use Rattle.amount_math.specs.Content.{Content}
-use Rattle.amount_math.specs.ValueView.{Fits, IsIssueRefusal}
+use Rattle.amount_math.specs.ValueView.{Fits, IsCountRefusal}
 use Rattle.amount_math.specs.declared.Kind.{Kind}
 use Rattle.ertp_mint.proofs.Placed.{said_of_value, value_rises}
 use Rattle.ertp_mint.proofs.keys_out.KeysOut.can_issue.Goals as goal
@@ -15,4 +15,4 @@ pub returns-in-Some-clause-sure : goal.returns-in-Some-clause-sure
 returns-in-Some-clause-sure c = said_of_value (λ (kind : Kind) (whole : Content). Fits kind whole → IsOk c.can_issue_keys.result) c.args.value.now.kind c.kind-kind.result c.args.self.now c.self.inside.places.entries c.args.value.now.content c.in-Some.entries.now c.self.view_is c.in-Some.ensures.entries c.kind-kind.ensures.kind c.can_issue_keys.ensures.sure
 
 pub returns-in-Some-clause-refused : goal.returns-in-Some-clause-refused
-returns-in-Some-clause-refused c = said_of_value (λ (kind : Kind) (whole : Content). IfErr c.can_issue_keys.result (IsIssueRefusal kind whole)) c.args.value.now.kind c.kind-kind.result c.args.self.now c.self.inside.places.entries c.args.value.now.content c.in-Some.entries.now c.self.view_is c.in-Some.ensures.entries c.kind-kind.ensures.kind c.can_issue_keys.ensures.refused
+returns-in-Some-clause-refused c = said_of_value (λ (kind : Kind) (whole : Content). IfErr c.can_issue_keys.result (IsCountRefusal kind whole)) c.args.value.now.kind c.kind-kind.result c.args.self.now c.self.inside.places.entries c.args.value.now.content c.in-Some.entries.now c.self.view_is c.in-Some.ensures.entries c.kind-kind.ensures.kind c.can_issue_keys.ensures.refused
