@@ -4,6 +4,7 @@ ghost use Rattle.jessie_machine.specs.host_data.View.{tree, trees};
 ghost use Rattle.jessie_machine.specs.jessie_grammar.Syntax.{routines, variable_names};
 ghost use Rattle.jessie_machine.specs.jessie_semantics.Play.{Follows};
 ghost use Rattle.jessie_machine.specs.jessie_semantics.Rules.{play};
+ghost use Rattle.jessie_machine.specs.jessie_semantics.Charges.{FitsMeter};
 ghost use Rattle.jessie_machine.specs.jessie_semantics.Keeping.{Licensed, Within, AllHave, FunctionsKnown};
 ghost use Rattle.jessie_machine.specs.jessie_semantics.Hosts.{Granted};
 ghost use Rattle.jessie_machine.specs.Machine.{changes};
@@ -72,6 +73,8 @@ pub fn evaluate<P: Powers>(
     requires { length state.old.items ≡ length (variable_names «module».now) }
     ensures follows { IfOk result (λ r. Follows P.answers (play (routines «module».now) (variable_names «module».now) f.now (trees args.items) (trees state.old.items) meter) powers.old powers.new (outcome r (trees state.new.items))) }
     ensures licensed { IfOk result (λ r. Licensed P.answers powers.old powers.new (trees args.items) (trees state.old.items) (length (variable_names «module».now)) (outcome r (trees state.new.items))) }
+    ensures fits { IfOk result (λ r.
+        FitsMeter P.answers powers.old powers.new meter (outcome r (trees state.new.items))) }
     ensures granted { FunctionsKnown (P.known powers.old) (routines «module».now) → AllHave (Within (P.known powers.old)) (trees args.items) → AllHave (Within (P.known powers.old)) (trees state.old.items) → IfOk result (λ r. Granted P.answers P.known powers.old powers.new (length (variable_names «module».now)) (outcome r (trees state.new.items))) }
     ensures spent { result ≡ Ok Outcome.Spent → state.new ≡ state.old }
     ensures memory { OnErr result (state.new ≡ state.old) }

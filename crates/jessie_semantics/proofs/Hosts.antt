@@ -86,6 +86,6 @@ pub granted : {W : Type 0} (step : W → Exchange → W → Type 0) (known : W �
 granted step known keeps old new rs variables f vs values meter r g h i l =
     let p = play rs variables f vs values meter in
     let came = going step known keeps old p (length variables)
-    (λ K k answers w. safe_after (Within K) (length variables) p answers (play_safe (Within K) (length variables) AnyName rs (closed_within K rs (functions_more _ K k rs g)) (any_names rs) variables f vs values meter (all_more _ K k vs h) (all_more _ K k values i) refl) w)
+    (λ K k answers w. safe_after (Within K) (length variables) meter 0 p answers (play_safe (Within K) (length variables) meter AnyName rs (closed_within K rs (functions_more _ K k rs g)) (any_names rs) variables f vs values (all_more _ K k vs h) (all_more _ K k values i) refl) w)
     l.since old new p r [] refl (λ o k. k) tt l.answered l.path in
     record { since = l.since; answered = l.answered; allowed = came.allowed; keeps = came.grown; ends = came.ends }

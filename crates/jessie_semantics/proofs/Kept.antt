@@ -1,11 +1,11 @@
 -- What a fact about trees must be so that all that functions of values make keeps to it.
-use Rattle.std.proofs.Common.{◌≡◌, ℕ, ℤ, zero, suc, ◌*ℤ◌, ◌+ℤ◌, ◌-ℤ◌, List, [], ◌∷◌, ◌++◌, Bool, true, false, cond, Option, Some, None, refl, ap, sym, subst, length, map}
+use Rattle.std.proofs.Common.{◌≡◌, ℕ, ℤ, zero, suc, ◌+◌, ◌≤◌, ◌*ℤ◌, ◌+ℤ◌, ◌-ℤ◌, List, [], ◌∷◌, ◌++◌, Bool, true, false, cond, Option, Some, None, refl, ap, sym, subst, length, take, map, arith}
 use Rattle.std.specs.Prelude.{Result, Ok, Err, slice_get, slice_set, option_map, option_and_then, neg_ℤ, int_div, int_rem, not, pos}
 use Rattle.std.specs.Prelude.{nat_le}
 use Rattle.std.specs.Ordering.{int_eq}
 use Rattle.std.specs.Str.{bytes_eq}
 use Rattle.host_data.specs.host_text.Numbers.{fits}
-use Rattle.host_data.specs.Tree.{Tree, null, boolean, number, text, array, fields, function, object, Items, Fields, no_fields, field, listed, paired, get, number_of, text_of, function_of, list_of, pairs_of, nesting}
+use Rattle.host_data.specs.Tree.{Tree, null, boolean, number, text, array, fields, function, object, Items, Fields, no_fields, field, listed, paired, get, number_of, text_of, function_of, list_of, pairs_of, size, items_size, fields_size, nesting}
 use Rattle.host_data.specs.View.{items_of}
 use Rattle.host_data.specs.declared.data.Obj.{Obj}
 use Rattle.jessie_values.specs.jessie_grammar.declared.syntax.Literal.{Literal}
@@ -27,10 +27,11 @@ use Rattle.jessie_values.specs.BuiltIns.{first, second, third, keys_in, length_i
 use Rattle.jessie_values.specs.Requests.{is_promise, promise_of, facet_name, functions_in, methods_of, when_call, far_call}
 use Rattle.jessie_semantics.specs.AmountMath.{amount_call}
 use Rattle.jessie_values.specs.Literals.{literal_tree}
+use Rattle.jessie_semantics.specs.Charges.{cost, held_size, methods_size}
 use Rattle.jessie_semantics.specs.Actions.{Bindings}
 use Rattle.jessie_semantics.specs.Rules.{find_routine, when_asks, far_asks}
 use Rattle.jessie_semantics.specs.Keeping.{AllHave, CallHas, method_fields}
-use Rattle.jessie_semantics.proofs.Safe.{BoundHave, NamedBy, ResultHas, AmountHas, Closed}
+use Rattle.jessie_semantics.proofs.Safe.{BoundHave, NamedBy, ResultHas, AmountHas, Payable, Closed}
 
 -- values without parts have it, and with their parts arrays and records do, as far as they may be made
 pub record Kept (W : Tree → Type 0) (X : List ℕ → Type 0) (rs : List Routine) : Type 0 where
@@ -94,6 +95,19 @@ chosen P false x y h i = i
 mapped : {A B : Type 0} (P : A → Type 0) (Q : B → Type 0) (f : A → B) (x : Option A) → OptionHas P x → ((a : A) → P a → Q (f a)) → OptionHas Q (option_map f x)
 mapped P Q f None h g = tt
 mapped P Q f (Some a) h g = g a h
+
+held_least : (v : Tree) → held_size v ≤ size v
+held_least null = omega arith
+held_least (boolean b) = omega arith
+held_least (number z) = omega arith
+held_least (text t) = omega arith
+held_least (array ts) = omega arith
+held_least (fields fs) = omega arith
+held_least (object o) = omega arith
+held_least (function f) = omega arith
+
+no_data : (x : ℕ) → x + 0 ≤ x + (0 + 0)
+no_data x = omega arith
 
 module _ (W : Tree → Type 0) (X : List ℕ → Type 0) (rs : List Routine) (k : Kept W X rs) where
   -- parts
@@ -238,11 +252,11 @@ module _ (W : Tree → Type 0) (X : List ℕ → Type 0) (rs : List Routine) (k 
 
   -- requests
 
-  promise_chosen : (b : Bool) (p : Obj) → (b ≡ true → is_promise p.kind ≡ true) → W (object p) → OptionHas (λ q. (is_promise q.kind ≡ true) × W (object q)) (cond b (Some p) None)
-  promise_chosen true p e h = (e refl, h)
+  promise_chosen : (b : Bool) (p : Obj) → (b ≡ true → is_promise p.kind ≡ true) → W (object p) → OptionHas (λ q. (is_promise q.kind ≡ true) × W (object q) × (size (object p) ≡ 1)) (cond b (Some p) None)
+  promise_chosen true p e h = (e refl, h, refl)
   promise_chosen false p e h = tt
 
-  promise_has : (v : Tree) → W v → OptionHas (λ p. (is_promise p.kind ≡ true) × W (object p)) (promise_of v)
+  promise_has : (v : Tree) → W v → OptionHas (λ p. (is_promise p.kind ≡ true) × W (object p) × (size v ≡ 1)) (promise_of v)
   promise_has null h = tt
   promise_has (boolean b) h = tt
   promise_has (number z) h = tt
@@ -252,7 +266,7 @@ module _ (W : Tree → Type 0) (X : List ℕ → Type 0) (rs : List Routine) (k 
   promise_has (object p) h = promise_chosen (is_promise p.kind) p (λ e. e) h
   promise_has (function f) h = tt
 
-  function_has : (v : Tree) → W v → OptionHas (λ f. W (function f)) (function_of v)
+  function_has : (v : Tree) → W v → OptionHas (λ f. W (function f) × (size v ≡ 1)) (function_of v)
   function_has null h = tt
   function_has (boolean b) h = tt
   function_has (number z) h = tt
@@ -260,11 +274,21 @@ module _ (W : Tree → Type 0) (X : List ℕ → Type 0) (rs : List Routine) (k 
   function_has (array ts) h = tt
   function_has (fields fs) h = tt
   function_has (object p) h = tt
-  function_has (function f) h = h
+  function_has (function f) h = (h, refl)
+
+  name_has : (v : Tree) → OptionHas (λ x. 1 + length x ≡ size v) (facet_name v)
+  name_has null = tt
+  name_has (boolean b) = tt
+  name_has (number z) = tt
+  name_has (text t) = chosen (λ x. 1 + length x ≡ 1 + length t) _ (Some t) None refl tt
+  name_has (array ts) = tt
+  name_has (fields fs) = tt
+  name_has (object p) = tt
+  name_has (function f) = tt
 
   -- a record of functions is that of the methods that are read of it
-  functions_have : (fs : Fields) → OptionHas (λ ms. method_fields ms ≡ fs) (functions_in (paired fs))
-  functions_have no_fields = refl
+  functions_have : (fs : Fields) → OptionHas (λ ms. (method_fields ms ≡ fs) × (methods_size ms ≡ fields_size fs)) (functions_in (paired fs))
+  functions_have no_fields = (refl, refl)
   functions_have (field x null fs) = tt
   functions_have (field x (boolean b) fs) = tt
   functions_have (field x (number z) fs) = tt
@@ -272,9 +296,9 @@ module _ (W : Tree → Type 0) (X : List ℕ → Type 0) (rs : List Routine) (k 
   functions_have (field x (array ts) fs) = tt
   functions_have (field x (fields gs) fs) = tt
   functions_have (field x (object p) fs) = tt
-  functions_have (field x (function f) fs) = mapped _ (λ ms. method_fields ms ≡ field x (function f) fs) (λ ms. (x, f) ∷ ms) (functions_in (paired fs)) (functions_have fs) (λ ms q. ap (λ gs. field x (function f) gs) q)
+  functions_have (field x (function f) fs) = mapped _ (λ ms. (method_fields ms ≡ field x (function f) fs) × (methods_size ms ≡ length x + 1 + fields_size fs)) (λ ms. (x, f) ∷ ms) (functions_in (paired fs)) (functions_have fs) (λ ms q. (ap (λ gs. field x (function f) gs) q.0, ap (λ n. length x + 1 + n) q.1))
 
-  methods_have : (v : Tree) → W v → OptionHas (λ ms. W (fields (method_fields ms))) (methods_of v)
+  methods_have : (v : Tree) → W v → OptionHas (λ ms. W (fields (method_fields ms)) × (1 + methods_size ms ≡ size v)) (methods_of v)
   methods_have null h = tt
   methods_have (boolean b) h = tt
   methods_have (number z) h = tt
@@ -282,45 +306,51 @@ module _ (W : Tree → Type 0) (X : List ℕ → Type 0) (rs : List Routine) (k 
   methods_have (array ts) h = tt
   methods_have (fields fs) h = more (functions_in (paired fs)) (functions_have fs)
     where
-      more : (x : Option (List (List ℕ × List ℕ))) → OptionHas (λ ms. method_fields ms ≡ fs) x → OptionHas (λ ms. W (fields (method_fields ms))) x
+      more : (x : Option (List (List ℕ × List ℕ))) → OptionHas (λ ms. (method_fields ms ≡ fs) × (methods_size ms ≡ fields_size fs)) x → OptionHas (λ ms. W (fields (method_fields ms)) × (1 + methods_size ms ≡ 1 + fields_size fs)) x
       more None q = tt
-      more (Some ms) q = subst (λ gs. W (fields gs)) (sym q) h
+      more (Some ms) q = (subst (λ gs. W (fields gs)) (sym q.0) h, ap (λ n. 1 + n) q.1)
   methods_have (object p) h = tt
   methods_have (function f) h = tt
 
-  when_parts : (a b v : Tree) → W a → W b → W v
-      → ResultHas (λ w. CallHas W (when_asks w)) (of_kind (promise_of a) >>= λ p. (of_kind (function_of b) >>= λ f. Ok (record { promise = p; function = f; held = v })))
-  when_parts a b v h i j =
-      chained (λ p. (is_promise p.kind ≡ true) × W (object p)) _ (of_kind (promise_of a)) _ (kind_has _ (promise_of a) (promise_has a h))
-      (λ p x. chained (λ f. W (function f)) _ (of_kind (function_of b)) _ (kind_has _ (function_of b) (function_has b i))
-      (λ f y. (x.0, x.1, y, j)))
+  when_parts : (a b v : Tree) (n : ℕ) → W a → W b → W v → size a + (size b + held_size v) ≤ n
+      → ResultHas (λ w. CallHas W (when_asks w) × (cost (when_asks w) ≤ 100 + n)) (of_kind (promise_of a) >>= λ p. (of_kind (function_of b) >>= λ f. Ok (record { promise = p; function = f; held = v })))
+  when_parts a b v n h i j q =
+      chained (λ p. (is_promise p.kind ≡ true) × W (object p) × (size a ≡ 1)) _ (of_kind (promise_of a)) _ (kind_has _ (promise_of a) (promise_has a h))
+      (λ p x. chained (λ f. W (function f) × (size b ≡ 1)) _ (of_kind (function_of b)) _ (kind_has _ (function_of b) (function_has b i))
+      (λ f y. ((x.0, x.1, y.0, j), omega (arith, x.2, y.1, q))))
 
-  far_parts : (a b v : Tree) → W b → W v
-      → ResultHas (λ f. CallHas W (far_asks f)) (of_kind (facet_name a) >>= λ x. (of_kind (methods_of b) >>= λ ms. Ok (record { name = x; methods = ms; held = v })))
-  far_parts a b v i j =
-      chained Any _ (of_kind (facet_name a)) _ (any _)
-      (λ x _. chained (λ ms. W (fields (method_fields ms))) _ (of_kind (methods_of b)) _ (kind_has _ (methods_of b) (methods_have b i))
-      (λ ms y. (y, j)))
+  far_parts : (a b v : Tree) (n : ℕ) → W a → W b → W v → size a + (size b + held_size v) ≤ n
+      → ResultHas (λ f. CallHas W (far_asks f) × (cost (far_asks f) ≤ 100 + n)) (of_kind (facet_name a) >>= λ x. (of_kind (methods_of b) >>= λ ms. Ok (record { name = x; methods = ms; held = v })))
+  far_parts a b v n h i j q =
+      chained (λ x. 1 + length x ≡ size a) _ (of_kind (facet_name a)) _ (kind_has _ (facet_name a) (name_has a))
+      (λ x e. chained (λ ms. W (fields (method_fields ms)) × (1 + methods_size ms ≡ size b)) _ (of_kind (methods_of b)) _ (kind_has _ (methods_of b) (methods_have b i))
+      (λ ms y. ((y.0, j), omega (arith, e, y.1, q))))
 
-  when_has : (vs : List Tree) → AllHave W vs → ResultHas (λ w. CallHas W (when_asks w)) (when_call vs)
+  shown_two : (a b : Tree) → size a + (size b + held_size null) ≤ items_size (items_of (a ∷ b ∷ []))
+  shown_two a b = omega arith
+
+  shown_three : (a b v : Tree) (vs : List Tree) → size a + (size b + held_size v) ≤ items_size (items_of (take 3 (a ∷ b ∷ v ∷ vs)))
+  shown_three a b v vs = let h = held_least v in omega (arith, h)
+
+  when_has : (vs : List Tree) → AllHave W vs → ResultHas (λ w. Payable W vs (when_asks w)) (when_call vs)
   when_has [] h = tt
   when_has (a ∷ []) h = nothing_follows (of_kind (promise_of a))
     where
-      nothing_follows : (r : Result Obj Reason) → ResultHas (λ w. CallHas W (when_asks w)) (r >>= λ p. (of_kind (function_of null) >>= λ f. Ok (record { promise = p; function = f; held = null })))
+      nothing_follows : (r : Result Obj Reason) → ResultHas (λ w. Payable W (a ∷ []) (when_asks w)) (r >>= λ p. (of_kind (function_of null) >>= λ f. Ok (record { promise = p; function = f; held = null })))
       nothing_follows (Ok p) = tt
       nothing_follows (Err r) = tt
-  when_has (a ∷ b ∷ []) h = when_parts a b null h.0 h.1.0 k.nothing
-  when_has (a ∷ b ∷ v ∷ vs) h = when_parts a b v h.0 h.1.0 h.1.1.0
+  when_has (a ∷ b ∷ []) h = when_parts a b null _ h.0 h.1.0 k.nothing (shown_two a b)
+  when_has (a ∷ b ∷ v ∷ vs) h = when_parts a b v _ h.0 h.1.0 h.1.1.0 (shown_three a b v vs)
 
-  far_has : (vs : List Tree) → AllHave W vs → ResultHas (λ f. CallHas W (far_asks f)) (far_call vs)
+  far_has : (vs : List Tree) → AllHave W vs → ResultHas (λ f. Payable W vs (far_asks f)) (far_call vs)
   far_has [] h = tt
   far_has (a ∷ []) h = nothing_follows (of_kind (facet_name a))
     where
-      nothing_follows : (r : Result (List ℕ) Reason) → ResultHas (λ f. CallHas W (far_asks f)) (r >>= λ x. (of_kind (methods_of null) >>= λ ms. Ok (record { name = x; methods = ms; held = null })))
+      nothing_follows : (r : Result (List ℕ) Reason) → ResultHas (λ f. Payable W (a ∷ []) (far_asks f)) (r >>= λ x. (of_kind (methods_of null) >>= λ ms. Ok (record { name = x; methods = ms; held = null })))
       nothing_follows (Ok x) = tt
       nothing_follows (Err r) = tt
-  far_has (a ∷ b ∷ []) h = far_parts a b null h.1.0 k.nothing
-  far_has (a ∷ b ∷ v ∷ vs) h = far_parts a b v h.1.0 h.1.1.0
+  far_has (a ∷ b ∷ []) h = far_parts a b null _ h.0 h.1.0 k.nothing (shown_two a b)
+  far_has (a ∷ b ∷ v ∷ vs) h = far_parts a b v _ h.0 h.1.0 h.1.1.0 (shown_three a b v vs)
 
   pub closed : Closed W X rs
   closed = record {

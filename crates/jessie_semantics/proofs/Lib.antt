@@ -10,6 +10,7 @@ pub mod Within
 pub mod FormKept
 pub mod NamesKept
 pub mod Licence
+pub mod Charges
 pub mod Hosts
 pub use Rattle.host_data.proofs as host_data
 pub use Rattle.jessie_values.proofs.jessie_grammar

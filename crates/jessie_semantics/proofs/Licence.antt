@@ -6,7 +6,7 @@ use Rattle.host_data.specs.declared.data.Obj.{Obj}
 use Rattle.jessie_values.specs.jessie_grammar.Syntax.{Routine}
 use Rattle.jessie_semantics.specs.Play.{Reply, given, refused, Exchange, Play, after, Follows, replies}
 use Rattle.jessie_semantics.specs.Rules.{play}
-use Rattle.jessie_semantics.specs.Keeping.{Known, to_object, to_function, Within, ItemsWithin, FieldsWithin, AllHave, RepliesHave, NextHas, FunctionsKnown, Occurs, OccursItems, OccursFields, OccursAny, Handed, reply_tree, handed, Licensed}
+use Rattle.jessie_semantics.specs.Keeping.{Known, to_object, to_function, Within, ItemsWithin, FieldsWithin, AllHave, ReplyHas, RepliesHave, NextHas, FunctionsKnown, Occurs, OccursItems, OccursFields, OccursAny, Handed, reply_tree, handed, Licensed}
 use Rattle.jessie_semantics.proofs.Safe.{safe_after, play_safe}
 use Rattle.jessie_semantics.proofs.Within.{closed_within}
 use Rattle.jessie_semantics.proofs.Writes.{AnyName, any_names}
@@ -14,7 +14,7 @@ use Rattle.jessie_semantics.proofs.Writes.{AnyName, any_names}
 -- what a tree holds stands in it
 
 mutual
-  held : (K : Known) (t : Tree) → ((o : Obj) → Occurs o t → K (to_object o)) → ((f : List ℕ) → K (to_function f)) → Within K t
+  pub held : (K : Known) (t : Tree) → ((o : Obj) → Occurs o t → K (to_object o)) → ((f : List ℕ) → K (to_function f)) → Within K t
   held K null h g = tt
   held K (boolean b) h g = tt
   held K (number z) h g = tt
@@ -32,7 +32,7 @@ mutual
   held_fields K no_fields h g = tt
   held_fields K (field x t fs) h g = (held K t (λ o i. h o (inl i)) g, held_fields K fs (λ o i. h o (inr i)) g)
 
-held_all : (K : Known) (vs : List Tree) → ((o : Obj) → OccursAny o vs → K (to_object o)) → ((f : List ℕ) → K (to_function f)) → AllHave (Within K) vs
+pub held_all : (K : Known) (vs : List Tree) → ((o : Obj) → OccursAny o vs → K (to_object o)) → ((f : List ℕ) → K (to_function f)) → AllHave (Within K) vs
 held_all K [] h g = tt
 held_all K (v ∷ vs) h g = (held K v (λ o i. h o (inl i)) g, held_all K vs (λ o i. h o (inr i)) g)
 
@@ -44,6 +44,10 @@ replies_held : (W : Tree → Type 0) (rs : List Reply) → AllHave W (map reply_
 replies_held W [] h = tt
 replies_held W (given v ∷ rs) h = (h.0, replies_held W rs h.1)
 replies_held W (refused v ∷ rs) h = (h.0, replies_held W rs h.1)
+
+pub reply_all : (W : Tree → Type 0) → ((t : Tree) → W t) → (r : Reply) → ReplyHas W r
+reply_all W h (given v) = h v
+reply_all W h (refused v) = h v
 
 pub all_functions : (K : Known) → ((f : List ℕ) → K (to_function f)) → (rs : List Routine) → FunctionsKnown K rs
 all_functions K h [] = tt
@@ -57,8 +61,8 @@ licence rs variables f vs values meter answers =
     let parts = parted (Within K) vs _ all in
     let rest = parted (Within K) values (map reply_tree answers) parts.1 in
     let p = play rs variables f vs values meter in
-    safe_after (Within K) (length variables) p answers
-    (play_safe (Within K) (length variables) AnyName rs (closed_within K rs (all_functions K (λ f. tt) rs)) (any_names rs) variables f vs values meter parts.0 rest.0 refl) (replies_held (Within K) answers rest.1)
+    safe_after (Within K) (length variables) meter 0 p answers
+    (play_safe (Within K) (length variables) meter AnyName rs (closed_within K rs (all_functions K (λ f. tt) rs)) (any_names rs) variables f vs values parts.0 rest.0 refl) (replies_held (Within K) answers rest.1)
 
 pub licensed : {W : Type 0} {step : W → Exchange → W → Type 0} {old new : W} {r : Play} (rs : List Routine) (variables : List (List ℕ)) (f : List ℕ) (vs values : List Tree) (meter : ℕ)
     → Follows step (play rs variables f vs values meter) old new r → Licensed step old new vs values (length variables) r

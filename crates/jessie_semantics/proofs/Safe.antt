@@ -1,8 +1,10 @@
--- One walk over the rules. Where all that an evaluation was handed has W, and what the rules make of it
--- has W: all that it asks has W, and what it comes to has W, with as many state values as before.
-use Rattle.std.proofs.Common.{◌≡◌, ℕ, zero, suc, ◌+◌, ◌-◌, List, [], ◌∷◌, ◌++◌, Bool, true, false, cond, Option, Some, None, refl, ap, ◌∙◌, length, take}
+-- One walk over the rules. Where all that an evaluation was handed has W, what the rules make of it has
+-- W, and what was taken is within the meter, with what is left of it: all that it asks has W and is within
+-- the meter, and so is what it comes to, with as many state values as before.
+use Rattle.std.proofs.Common.{◌≡◌, ℕ, zero, suc, ◌+◌, ◌-◌, ◌≤◌, List, [], ◌∷◌, ◌++◌, Bool, true, false, cond, Option, Some, None, refl, ap, ◌∙◌, length, take, arith}
 use Rattle.std.specs.Prelude.{nat_le, Result, Ok, Err}
 use Rattle.std.specs.Str.{bytes_eq}
+use Rattle.std.proofs.lemmas.Bool.Decides.{nat_tests}
 use Rattle.host_data.specs.Tree.{Tree, null, boolean, number, text, array, fields, function, object, object_of, size, items_size}
 use Rattle.host_data.specs.View.{items_of}
 use Rattle.jessie_values.specs.jessie_grammar.declared.syntax.Literal.{Literal}
@@ -28,6 +30,7 @@ use Rattle.refusals.specs.Codes.{refusal_tree}
 use Rattle.refusals.specs.declared.codes.Refusal.{Refusal}
 use Rattle.jessie_values.specs.Literals.{literal_tree}
 use Rattle.jessie_semantics.specs.Play.{Call, Reply, given, refused, Play, Ends, Spends, Asks, after}
+use Rattle.jessie_semantics.specs.Charges.{cost, reply_size}
 use Rattle.jessie_semantics.specs.Actions.{Bindings, State, Flow, went, fails, Then, Action, pure, throw, spend, onward, ◌>>=◌, otherwise, caught, charge, ask, metered, first_of, look, is_bound, rebind, bind, paid, named, put, scoped, within}
 use Rattle.jessie_semantics.specs.Rules.{worked, counted, Program, find_routine, function_named, heard, host, host_call, host_send, when_asks, far_asks, host_when, host_far, apply_built_in, right_side, operator_rule, either, expr, exprs, named_exprs, links, one_link, operands, End, next, leaves, going_on, test, one_round, rounds, walk, with_name, form, branches, block, pairs, given_back, enter, calls_of, values_in, finish, play}
 use Rattle.jessie_semantics.specs.Keeping.{AllHave, CallHas, ReplyHas, RepliesHave, EndingHas, NextHas}
@@ -51,6 +54,10 @@ abbrev pub AmountHas : (Tree → Type 0) → Result Tree Refusal → Type 0
 AmountHas W (Ok v) = W v
 AmountHas W (Err r) = W (refusal_tree r)
 
+-- a call that what is shown can pay
+abbrev pub Payable : (Tree → Type 0) → List Tree → Call → Type 0
+Payable W vs c = CallHas W c × (cost c ≤ 100 + items_size (items_of (take 3 vs)))
+
 -- What the rules make by themselves, and what they make of what has W, has W.
 pub record Closed (W : Tree → Type 0) (X : List ℕ → Type 0) (rs : List Routine) : Type 0 where
   pub nothing : W null
@@ -70,22 +77,23 @@ pub record Closed (W : Tree → Type 0) (X : List ℕ → Type 0) (rs : List Rou
   pub pushes : (vs : List Tree) → AllHave W vs → ResultHas W (push vs)
   pub puts : (vs : List Tree) → AllHave W vs → ResultHas W (put_part vs)
   pub amounts : (x : List ℕ) (vs : List Tree) → AllHave W vs → AmountHas W (amount_call x vs)
-  pub whens : (vs : List Tree) → AllHave W vs → ResultHas (λ w. CallHas W (when_asks w)) (when_call vs)
-  pub fars : (vs : List Tree) → AllHave W vs → ResultHas (λ f. CallHas W (far_asks f)) (far_call vs)
+  pub whens : (vs : List Tree) → AllHave W vs → ResultHas (λ w. Payable W vs (when_asks w)) (when_call vs)
+  pub fars : (vs : List Tree) → AllHave W vs → ResultHas (λ f. Payable W vs (far_asks f)) (far_call vs)
 
-module _ (W : Tree → Type 0) (N : ℕ) where
-  abbrev pub Safe : Play → Type 0
-  Safe (Ends e values) = EndingHas W e × (AllHave W values × (length values ≡ N))
-  Safe Spends = Unit {0}
-  Safe (Asks c go) = CallHas W c × ((r : Reply) → ReplyHas W r → Safe (go r))
+module _ (W : Tree → Type 0) (N meter : ℕ) where
+  -- so much was taken of the meter; whatever is answered
+  abbrev pub Safe : ℕ → Play → Type 0
+  Safe m (Ends e values) = (m ≤ meter) × (EndingHas W e × (AllHave W values × (length values ≡ N)))
+  Safe m Spends = Unit {0}
+  Safe m (Asks c go) = CallHas W c × ((m + cost c ≤ meter) × ((r : Reply) → ReplyHas W r → Safe (m + cost c + reply_size r) (go r)))
 
-  pub safe_after : (p : Play) (rs : List Reply) → Safe p → RepliesHave W rs → NextHas W N (after p rs)
-  safe_after (Ends e s) [] h q = h
-  safe_after Spends [] h q = h
-  safe_after (Asks c go) [] h q = h.0
-  safe_after (Ends e s) (r ∷ rs) h q = h
-  safe_after Spends (r ∷ rs) h q = h
-  safe_after (Asks c go) (r ∷ rs) h q = safe_after (go r) rs (h.1 r q.0) q.1
+  pub safe_after : (m : ℕ) (p : Play) (rs : List Reply) → Safe m p → RepliesHave W rs → NextHas W N (after p rs)
+  safe_after m (Ends e s) [] h q = h.1
+  safe_after m Spends [] h q = h
+  safe_after m (Asks c go) [] h q = h.0
+  safe_after m (Ends e s) (r ∷ rs) h q = h.1
+  safe_after m Spends (r ∷ rs) h q = h
+  safe_after m (Asks c go) (r ∷ rs) h q = safe_after (m + cost c + reply_size r) (go r) rs (h.1.1 r q.0) q.1
 
   pub record StateHas (s : State) : Type 0 where
     pub locals : BoundHave W s.locals
@@ -97,10 +105,10 @@ module _ (W : Tree → Type 0) (N : ℕ) where
   FlowHas P (fails t) = W t
 
   abbrev pub SafeThen : {A : Type 0} → (A → Type 0) → Then A → Type 0
-  SafeThen {A} P k = (f : Flow A) (s : State) → FlowHas P f → StateHas s → Safe (k f s)
+  SafeThen {A} P k = (f : Flow A) (s : State) (m : ℕ) → FlowHas P f → StateHas s → m + s.meter ≤ meter → Safe m (k f s)
 
   pub record SafeAction {A : Type 0} (P : A → Type 0) (a : Action A) : Type 0 where
-    pub safe : (s : State) (k : Then A) → StateHas s → SafeThen P k → Safe (a s k)
+    pub safe : (s : State) (m : ℕ) (k : Then A) → StateHas s → m + s.meter ≤ meter → SafeThen P k → Safe m (a s k)
 
   abbrev pub Anything : {A : Type 0} → A → Type 0
   Anything a = Unit {0}
@@ -109,43 +117,46 @@ module _ (W : Tree → Type 0) (N : ℕ) where
 
   pure_safe : {A : Type 0} (P : A → Type 0) (a : A) → P a → SafeAction P (pure a)
   unfolding pure
-  pure_safe P a h = record { safe = λ s k i g. g (went a) s h i }
+  pure_safe P a h = record { safe = λ s m k i q g. g (went a) s m h i q }
 
   throw_safe : {A : Type 0} (P : A → Type 0) (t : Tree) → W t → SafeAction P (throw t)
   unfolding throw
-  throw_safe P t h = record { safe = λ s k i g. g (fails t) s h i }
+  throw_safe P t h = record { safe = λ s m k i q g. g (fails t) s m h i q }
 
   spend_safe : {A : Type 0} (P : A → Type 0) → SafeAction P spend
   unfolding spend
-  spend_safe P = record { safe = λ s k i g. tt }
+  spend_safe P = record { safe = λ s m k i q g. tt }
 
   onward_safe : {A B : Type 0} (P : A → Type 0) (Q : B → Type 0) (f : A → Action B) (k : Then B) → ((x : A) → P x → SafeAction Q (f x)) → SafeThen Q k → SafeThen P (onward f k)
-  onward_safe P Q f k h g (went a) s w i = (h a w).safe s k i g
-  onward_safe P Q f k h g (fails t) s w i = g (fails t) s w i
+  onward_safe P Q f k h g (went a) s m w i q = (h a w).safe s m k i q g
+  onward_safe P Q f k h g (fails t) s m w i q = g (fails t) s m w i q
 
   bind_safe : {A B : Type 0} {P : A → Type 0} {Q : B → Type 0} {a : Action A} (f : A → Action B) → SafeAction P a → ((x : A) → P x → SafeAction Q (f x)) → SafeAction Q (a >>= f)
   unfolding ◌>>=◌
-  bind_safe {P = P} {Q = Q} f h g = record { safe = λ s k i z. h.safe s (onward f k) i (onward_safe P Q f k g z) }
+  bind_safe {P = P} {Q = Q} f h g = record { safe = λ s m k i q z. h.safe s m (onward f k) i q (onward_safe P Q f k g z) }
 
   otherwise_safe : {A : Type 0} (P : A → Type 0) (f : Tree → Action A) (k : Then A) → ((t : Tree) → W t → SafeAction P (f t)) → SafeThen P k → SafeThen P (otherwise f k)
-  otherwise_safe P f k h g (went a) s w i = g (went a) s w i
-  otherwise_safe P f k h g (fails t) s w i = (h t w).safe s k i g
+  otherwise_safe P f k h g (went a) s m w i q = g (went a) s m w i q
+  otherwise_safe P f k h g (fails t) s m w i q = (h t w).safe s m k i q g
 
   caught_safe : {A : Type 0} {P : A → Type 0} {a : Action A} (f : Tree → Action A) → SafeAction P a → ((t : Tree) → W t → SafeAction P (f t)) → SafeAction P (caught a f)
   unfolding caught
-  caught_safe {P = P} f h g = record { safe = λ s k i z. h.safe s (otherwise f k) i (otherwise_safe P f k g z) }
+  caught_safe {P = P} f h g = record { safe = λ s m k i q z. h.safe s m (otherwise f k) i q (otherwise_safe P f k g z) }
 
-  picked : (b : Bool) (p q : Play) → Safe p → Safe q → Safe (cond b p q)
-  picked true p q h i = h
-  picked false p q h i = i
+  picked : (b : Bool) (m : ℕ) (p q : Play) → (b ≡ true → Safe m p) → Safe m q → Safe m (cond b p q)
+  picked true m p q h i = h refl
+  picked false m p q h i = i
+
+  less : (n x m : ℕ) → m + x ≤ meter → m + (x - n) ≤ meter
+  less n x m h = omega arith
 
   charge_safe : (n : ℕ) → SafeAction Anything (charge n)
   unfolding charge
-  charge_safe n = record { safe = λ s k i g. picked (nat_le n s.meter) _ Spends (g (went tt) _ tt (record { locals = i.locals; globals = i.globals; count = i.count })) tt }
+  charge_safe n = record { safe = λ s m k i q g. picked (nat_le n s.meter) m _ Spends (λ e. g (went tt) _ m tt (record { locals = i.locals; globals = i.globals; count = i.count }) (less n s.meter m q)) tt }
 
   metered_safe : {A : Type 0} {P : A → Type 0} (f : ℕ → Action A) → ((n : ℕ) → SafeAction P (f n)) → SafeAction P (metered f)
   unfolding metered
-  metered_safe f h = record { safe = λ s k i g. (h s.meter).safe s k i g }
+  metered_safe f h = record { safe = λ s m k i q g. (h s.meter).safe s m k i q g }
 
   taken : (n : ℕ) (bs : Bindings) → BoundHave W bs → BoundHave W (take n bs)
   taken zero bs h = tt
@@ -154,11 +165,11 @@ module _ (W : Tree → Type 0) (N : ℕ) where
 
   scoped_safe : {A : Type 0} {P : A → Type 0} {a : Action A} → SafeAction P a → SafeAction P (scoped a)
   unfolding scoped
-  scoped_safe h = record { safe = λ s k i g. h.safe s _ i (λ f t w j. g f _ w (record { locals = taken (length s.locals) t.locals j.locals; globals = j.globals; count = j.count })) }
+  scoped_safe h = record { safe = λ s m k i q g. h.safe s m _ i q (λ f t n w j r. g f _ n w (record { locals = taken (length s.locals) t.locals j.locals; globals = j.globals; count = j.count }) r) }
 
   within_safe : {A : Type 0} {P : A → Type 0} {a : Action A} (bs : Bindings) → BoundHave W bs → SafeAction P a → SafeAction P (within bs a)
   unfolding within
-  within_safe bs h g = record { safe = λ s k i z. g.safe _ _ (record { locals = h; globals = i.globals; count = i.count }) (λ f t w j. z f _ w (record { locals = i.locals; globals = j.globals; count = j.count })) }
+  within_safe bs h g = record { safe = λ s m k i q z. g.safe _ m _ (record { locals = h; globals = i.globals; count = i.count }) q (λ f t n w j r. z f _ n w (record { locals = i.locals; globals = j.globals; count = j.count }) r) }
 
   all_both : (vs ws : List Tree) → AllHave W vs → AllHave W ws → AllHave W (vs ++ ws)
   all_both [] ws h i = i
@@ -170,7 +181,7 @@ module _ (W : Tree → Type 0) (N : ℕ) where
 
   declared_safe : (x : List ℕ) (v : Tree) → W v → SafeAction Anything (bind x v)
   unfolding bind
-  declared_safe x v h = record { safe = λ s k i g. g (went tt) _ tt (record { locals = bound_both s.locals ((x, v) ∷ []) i.locals (h, tt); globals = i.globals; count = i.count }) }
+  declared_safe x v h = record { safe = λ s m k i q g. g (went tt) _ m tt (record { locals = bound_both s.locals ((x, v) ∷ []) i.locals (h, tt); globals = i.globals; count = i.count }) q }
 
   -- names
 
@@ -192,12 +203,12 @@ module _ (W : Tree → Type 0) (N : ℕ) where
 
   named_safe : (x : List ℕ) (other : Option Tree) → FoundHas other → SafeAction FoundHas (named x other)
   unfolding named
-  named_safe x other h = record { safe = λ s k i g. g (went _) s (first_has (look x s.locals) _ (look_has x s.locals i.locals) (first_has (look x s.globals) other (look_has x s.globals i.globals) h)) i }
+  named_safe x other h = record { safe = λ s m k i q g. g (went _) s m (first_has (look x s.locals) _ (look_has x s.locals i.locals) (first_has (look x s.globals) other (look_has x s.globals i.globals) h)) i q }
 
   paid_safe : (t : Tree) (o : Option Tree) → W t → FoundHas o → SafeAction W (paid t o)
   unfolding paid
-  paid_safe t None w h = record { safe = λ s k i g. g (fails t) s w i }
-  paid_safe t (Some v) w h = record { safe = λ s k i g. picked (nat_le (size v) s.meter) _ Spends (g (went v) _ h (record { locals = i.locals; globals = i.globals; count = i.count })) tt }
+  paid_safe t None w h = record { safe = λ s m k i q g. g (fails t) s m w i q }
+  paid_safe t (Some v) w h = record { safe = λ s m k i q g. picked (nat_le (size v) s.meter) m _ Spends (λ e. g (went v) _ m h (record { locals = i.locals; globals = i.globals; count = i.count }) (less (size v) s.meter m q)) tt }
 
   bound_either : (b : Bool) (bs cs : Bindings) → BoundHave W bs → BoundHave W cs → BoundHave W (cond b bs cs)
   bound_either true bs cs h i = h
@@ -218,41 +229,51 @@ module _ (W : Tree → Type 0) (N : ℕ) where
   put_safe : (t : Tree) (x : List ℕ) (v : Tree) → W t → W v → SafeAction Anything (put t x v)
   unfolding put
   put_safe t x v w h = record {
-    safe = λ s k i g. picked (is_bound x s.locals) _ _
-        (g (went tt) _ tt (record { locals = rebound_has x v s.locals h i.locals; globals = i.globals; count = i.count }))
-        (picked (is_bound x s.globals) _ _
-        (g (went tt) _ tt (record { locals = i.locals; globals = rebound_has x v s.globals h i.globals; count = rebound_length x v s.globals ∙ i.count }))
-        (g (fails t) s w i));
+    safe = λ s m k i q g. picked (is_bound x s.locals) m _ _
+        (λ e. g (went tt) _ m tt (record { locals = rebound_has x v s.locals h i.locals; globals = i.globals; count = i.count }) q)
+        (picked (is_bound x s.globals) m _ _
+        (λ e. g (went tt) _ m tt (record { locals = i.locals; globals = rebound_has x v s.globals h i.globals; count = rebound_length x v s.globals ∙ i.count }) q)
+        (g (fails t) s m w i q));
   }
 
-  -- calls of the host: the charge is taken before it, and its answer's size after it
+  -- calls of the host: what a call costs is taken before it, and its answer's size after it
 
-  settled : (x : Flow Tree) (n a : ℕ) (s : State) (k : Then Tree) → StateHas s → SafeThen W k → FlowHas W x
-      → Safe (cond (nat_le a (s.meter - n)) (k x (record s { meter = (s.meter - n) - a })) Spends)
-  settled x n a s k i g w = picked (nat_le a (s.meter - n)) _ Spends (g x _ w (record { locals = i.locals; globals = i.globals; count = i.count })) tt
+  fits_in : (c n x m : ℕ) → c ≤ n → nat_le n x ≡ true → m + x ≤ meter → m + c ≤ meter
+  fits_in c n x m b e h = grind (arith, nat_tests)
 
-  answer_safe : (n : ℕ) (r : Reply) (s : State) (k : Then Tree) → StateHas s → SafeThen W k → ReplyHas W r → Safe (heard r (record s { meter = s.meter - n }) k)
+  rest_fits : (c n a x m : ℕ) → c ≤ n → nat_le n x ≡ true → nat_le a (x - n) ≡ true → m + x ≤ meter → m + c + a + ((x - n) - a) ≤ meter
+  rest_fits c n a x m b e f h = grind (arith, nat_tests)
+
+  settled : (x : Flow Tree) (c n a : ℕ) (s : State) (m : ℕ) (k : Then Tree) → c ≤ n → StateHas s → m + s.meter ≤ meter → SafeThen W k → nat_le n s.meter ≡ true → FlowHas W x
+      → Safe (m + c + a) (cond (nat_le a (s.meter - n)) (k x (record s { meter = (s.meter - n) - a })) Spends)
+  settled x c n a s m k b i q g e w = picked (nat_le a (s.meter - n)) _ _ Spends (λ f. g x _ _ w (record { locals = i.locals; globals = i.globals; count = i.count }) (rest_fits c n a s.meter m b e f q)) tt
+
+  answer_safe : (c n : ℕ) (r : Reply) (s : State) (m : ℕ) (k : Then Tree) → c ≤ n → StateHas s → m + s.meter ≤ meter → SafeThen W k → nat_le n s.meter ≡ true → ReplyHas W r
+      → Safe (m + c + reply_size r) (heard r (record s { meter = s.meter - n }) k)
   unfolding ◌>>=◌ charge pure throw
-  answer_safe n (given v) s k i g w = settled (went v) n (size v) s k i g w
-  answer_safe n (refused v) s k i g w = settled (fails v) n (size v) s k i g w
+  answer_safe c n (given v) s m k b i q g e w = settled (went v) c n (size v) s m k b i q g e w
+  answer_safe c n (refused v) s m k b i q g e w = settled (fails v) c n (size v) s m k b i q g e w
 
-  host_safe : (c : Call) (shown : List Tree) → CallHas W c → SafeAction W (host c shown)
+  host_safe : (c : Call) (shown : List Tree) → CallHas W c → cost c ≤ 100 + items_size (items_of shown) → SafeAction W (host c shown)
   unfolding host ◌>>=◌ charge ask
-  host_safe c shown h = record {
-    safe = λ s k i g.
+  host_safe c shown h b = record {
+    safe = λ s m k i q g.
         let n = 100 + items_size (items_of shown) in
-        picked (nat_le n s.meter) _ Spends (h, λ r w. answer_safe n r s k i g w) tt;
+        picked (nat_le n s.meter) m _ Spends (λ e. (h, (fits_in (cost c) n s.meter m b e q, λ r w. answer_safe (cost c) n r s m k b i q g e w))) tt;
   }
+
+  itself : (n : ℕ) → n ≤ n
+  itself n = omega arith
 
   worked_safe : {A : Type 0} (P : A → Type 0) (r : Result A Reason) → ((x : Reason) → W (bad_step x)) → ResultHas P r → SafeAction P (worked r)
   unfolding worked
-  worked_safe P (Ok a) b h = record { safe = λ s k i g. (pure_safe P a h).safe s k i g }
-  worked_safe P (Err r) b h = record { safe = λ s k i g. (throw_safe P (bad_step r) (b r)).safe s k i g }
+  worked_safe P (Ok a) b h = record { safe = λ s m k i q g. (pure_safe P a h).safe s m k i q g }
+  worked_safe P (Err r) b h = record { safe = λ s m k i q g. (throw_safe P (bad_step r) (b r)).safe s m k i q g }
 
   counted_safe : (r : Result Tree Refusal) → AmountHas W r → SafeAction W (counted r)
   unfolding counted
-  counted_safe (Ok v) h = record { safe = λ s k i g. (pure_safe W v h).safe s k i g }
-  counted_safe (Err r) h = record { safe = λ s k i g. (throw_safe W (refusal_tree r) h).safe s k i g }
+  counted_safe (Ok v) h = record { safe = λ s m k i q g. (pure_safe W v h).safe s m k i q g }
+  counted_safe (Err r) h = record { safe = λ s m k i q g. (throw_safe W (refusal_tree r) h).safe s m k i q g }
 
   target_has : (v : Tree) → W v → ResultHas (λ o. W (object o)) (of_kind (object_of v))
   target_has null h = tt
@@ -293,16 +314,16 @@ module _ (W : Tree → Type 0) (N : ℕ) where
     step_safe P r h = worked_safe P r c.bad_steps h
 
     host_call_safe : (v : Tree) (x : List ℕ) (vs : List Tree) → W v → AllHave W vs → SafeAction W (host_call v x vs)
-    host_call_safe v x vs h i = bind_safe _ (step_safe (λ o. W (object o)) _ (target_has v h)) (λ o w. host_safe _ vs (w, i))
+    host_call_safe v x vs h i = bind_safe _ (step_safe (λ o. W (object o)) _ (target_has v h)) (λ o w. host_safe _ vs (w, i) (itself _))
 
     host_send_safe : (v : Tree) (x : List ℕ) (vs : List Tree) → W v → AllHave W vs → SafeAction W (host_send v x vs)
-    host_send_safe v x vs h i = bind_safe _ (step_safe (λ o. W (object o)) _ (target_has v h)) (λ o w. host_safe _ vs (w, i))
+    host_send_safe v x vs h i = bind_safe _ (step_safe (λ o. W (object o)) _ (target_has v h)) (λ o w. host_safe _ vs (w, i) (itself _))
 
     host_when_safe : (vs : List Tree) → AllHave W vs → SafeAction W (host_when vs)
-    host_when_safe vs h = bind_safe _ (step_safe (λ w. CallHas W (when_asks w)) _ (c.whens vs h)) (λ w p. host_safe _ (take 3 vs) p)
+    host_when_safe vs h = bind_safe _ (step_safe (λ w. Payable W vs (when_asks w)) _ (c.whens vs h)) (λ w p. host_safe _ (take 3 vs) p.0 p.1)
 
     host_far_safe : (vs : List Tree) → AllHave W vs → SafeAction W (host_far vs)
-    host_far_safe vs h = bind_safe _ (step_safe (λ f. CallHas W (far_asks f)) _ (c.fars vs h)) (λ f p. host_safe _ (take 3 vs) p)
+    host_far_safe vs h = bind_safe _ (step_safe (λ f. Payable W vs (far_asks f)) _ (c.fars vs h)) (λ f p. host_safe _ (take 3 vs) p.0 p.1)
 
     built_in_safe : (f : BuiltIn) (vs : List Tree) → AllHave W vs → SafeAction W (apply_built_in f vs)
     built_in_safe b.When vs h = host_when_safe vs h
@@ -451,10 +472,13 @@ module _ (W : Tree → Type 0) (N : ℕ) where
     pairs_length (x ∷ xs) [] = ap suc (pairs_length xs [])
     pairs_length (x ∷ xs) (v ∷ vs) = ap suc (pairs_length xs vs)
 
-    finish_safe : SafeThen W finish
-    finish_safe (went v) s w i = (w, (values_have s.globals i.globals, values_length s.globals ∙ i.count))
-    finish_safe (fails v) s w i = (w, (values_have s.globals i.globals, values_length s.globals ∙ i.count))
+    least : (m x : ℕ) → m + x ≤ meter → m ≤ meter
+    least m x h = omega arith
 
-    pub play_safe : (variables : List (List ℕ)) (f : List ℕ) (vs values : List Tree) (meter : ℕ) → AllHave W vs → AllHave W values → length variables ≡ N → Safe (play rs variables f vs values meter)
-    play_safe variables f vs values meter h i n =
-        (calls_safe 32 f vs h).safe (record { locals = []; globals = pairs variables values; meter = meter }) finish (record { locals = tt; globals = pairs_have variables values i; count = pairs_length variables values ∙ n }) finish_safe
+    finish_safe : SafeThen W finish
+    finish_safe (went v) s m w i q = (least m s.meter q, (w, (values_have s.globals i.globals, values_length s.globals ∙ i.count)))
+    finish_safe (fails v) s m w i q = (least m s.meter q, (w, (values_have s.globals i.globals, values_length s.globals ∙ i.count)))
+
+    pub play_safe : (variables : List (List ℕ)) (f : List ℕ) (vs values : List Tree) → AllHave W vs → AllHave W values → length variables ≡ N → Safe 0 (play rs variables f vs values meter)
+    play_safe variables f vs values h i n =
+        (calls_safe 32 f vs h).safe (record { locals = []; globals = pairs variables values; meter = meter }) 0 finish (record { locals = tt; globals = pairs_have variables values i; count = pairs_length variables values ∙ n }) (omega arith) finish_safe

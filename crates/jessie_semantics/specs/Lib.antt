@@ -8,6 +8,7 @@ pub mod Keeping
 pub mod Hosts
 pub mod Form
 pub mod Runs
+pub mod Charges
 pub mod Naming
 pub use Rattle.host_data.specs as host_data
 pub use Rattle.refusals.specs as refusals

@@ -3,9 +3,11 @@
 ghost use Rattle.std.specs.Prelude.{ℕ, List, length};
 ghost use Rattle.host_data.specs.Tree.{Tree};
 ghost use Rattle.jessie_values.specs.jessie_grammar.Syntax.{Routine};
-ghost use Rattle.jessie_semantics.specs.Play.{Reply, after};
+ghost use Rattle.jessie_semantics.specs.Play.{Exchange, Play, Reply, after};
 ghost use Rattle.jessie_semantics.specs.Rules.{play};
 ghost use Rattle.jessie_semantics.specs.Keeping.{AllHave, RepliesHave, NextHas, Within, Handed, handed};
+ghost use Rattle.jessie_semantics.specs.Runs.{Path};
+ghost use Rattle.jessie_semantics.specs.Charges.{charges, Fits};
 ghost use Rattle.jessie_semantics.specs.Form.{InForm};
 ghost use Rattle.jessie_semantics.specs.Naming.{HasFieldNames, IsFieldName, RoutinesNamed, RoutinesWrite};
 
@@ -14,6 +16,14 @@ ghost use Rattle.jessie_semantics.specs.Naming.{HasFieldNames, IsFieldName, Rout
 pub fn objects_were_handed()
     ensures { (rs : List Routine) (variables : List (List ℕ)) (f : List ℕ) (vs values : List Tree) (meter : ℕ) (answers : List Reply)
         → NextHas (Within (Handed (handed vs values answers))) (length variables) (after (play rs variables f vs values meter) answers) }
+{}
+
+/// Wherever an evaluation stands, whatever the host has answered: what its calls cost and their answers
+/// take, the next call's cost too, is within the meter, or the meter is spent.
+pub fn calls_fit_the_meter()
+    ensures { (rs : List Routine) (variables : List (List ℕ)) (f : List ℕ) (vs values : List Tree)
+        (meter : ℕ) (asked : List Exchange) (rest : Play)
+        → Path (play rs variables f vs values meter) asked rest → Fits meter (charges asked) rest }
 {}
 
 /// Where arguments, state values and answers have the fields of their records in byte order, each name

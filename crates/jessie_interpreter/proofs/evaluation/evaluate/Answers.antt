@@ -4,6 +4,7 @@ use Rattle.jessie_machine.specs.jessie_grammar.Syntax.{routines, variable_names}
 use Rattle.jessie_machine.specs.jessie_semantics.Play.{Ends, returned, threw}
 use Rattle.jessie_machine.specs.jessie_semantics.Runs.{came, halted, throws, spends}
 use Rattle.jessie_machine.proofs.jessie_semantics.Licence.{licensed}
+use Rattle.jessie_machine.proofs.jessie_semantics.Charges.{fits}
 use Rattle.jessie_machine.proofs.jessie_semantics.Plays.{follows, leads_to}
 use Rattle.jessie_machine.proofs.jessie_semantics.Hosts.{granted}
 use Rattle.jessie_machine.proofs.jessie_semantics.Runs.{runs_to}
@@ -24,6 +25,7 @@ returns-in-Ok g c =
     record {
       follows = follows e;
       licensed = licensed rs xs c.args.f.now vs (trees old) c.args.meter (follows e);
+      fits = fits rs xs c.args.f.now vs (trees old) c.args.meter e;
       granted = λ k h i. granted g.P.Powers.answers g.P.Powers.known g.met.P.Powers.keeps _ _ rs xs c.args.f.now vs (trees old) c.args.meter _ k h i e;
       spent = λ h. cc;
       memory = tt;
@@ -42,6 +44,7 @@ returns-in_ok-data-in-Throws g c =
     record {
       follows = follows e;
       licensed = licensed rs xs c.args.f.now vs (trees old) c.args.meter (follows e);
+      fits = fits rs xs c.args.f.now vs (trees old) c.args.meter e;
       granted = λ k h i. granted g.P.Powers.answers g.P.Powers.known g.met.P.Powers.keeps _ _ rs xs c.args.f.now vs (trees old) c.args.meter _ k h i e;
       spent = λ h. cc;
       memory = tt;
@@ -60,6 +63,7 @@ returns-in-Spent g c =
     record {
       follows = follows e;
       licensed = licensed rs xs c.args.f.now vs (trees old) c.args.meter (follows e);
+      fits = fits rs xs c.args.f.now vs (trees old) c.args.meter e;
       granted = λ k h i. granted g.P.Powers.answers g.P.Powers.known g.met.P.Powers.keeps _ _ rs xs c.args.f.now vs (trees old) c.args.meter _ k h i e;
       spent = λ h. refl;
       memory = tt;

@@ -8,5 +8,5 @@ use Rattle.jessie_semantics.proofs.laws.data_stays_in_form.Goals as goal
 
 pub returns : goal.returns
 returns c = λ rs variables f vs values meter answers h i j.
-    safe_after InForm (length variables) (play rs variables f vs values meter) answers
-    (play_safe InForm (length variables) AnyName rs (closed_form rs) (any_names rs) variables f vs values meter h i refl) j
+    safe_after InForm (length variables) meter 0 (play rs variables f vs values meter) answers
+    (play_safe InForm (length variables) meter AnyName rs (closed_form rs) (any_names rs) variables f vs values h i refl) j
