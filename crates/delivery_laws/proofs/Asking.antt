@@ -1,14 +1,13 @@
 -- A function of an instance of a good world asks the host for nothing but what its instance may name, whatever the
 -- host answers of such; and so is what it comes to.
 use Rattle.std.specs.List.{AllByRecursion}
-use Rattle.std.proofs.Common.{◌≡◌, ◌⊎◌, inl, inr, ℕ, ◌+◌, ◌≤◌, ◌<◌, true, List, [], ◌∷◌, ◌++◌, Option, Some, None, length, refl, ap, subst, arith}
+use Rattle.std.proofs.Common.{◌≡◌, inl, inr, ℕ, ◌<◌, true, List, [], ◌∷◌, Some, length, refl}
 use Rattle.turn_writer.specs.host_text.Words.{is_field_name}
 use Rattle.delivery_turns.specs.actors.Tables.{instance_at, no_module}
 use Rattle.rule_laws.specs.jessie_semantics.Form.{InForm}
-use Rattle.rule_laws.specs.jessie_semantics.Keeping.{AllHave, CallHas, EndingHas, FunctionsKnown, NextHas, RepliesHave, ReplyHas, Within, to_function}
-use Rattle.rule_laws.specs.jessie_semantics.Naming.{HasFieldNames, IsFieldName, RoutinesNamed, RoutinesWrite}
+use Rattle.rule_laws.specs.jessie_semantics.Keeping.{AllHave, CallHas, EndingHas, FunctionsKnown, NextHas, RepliesHave, ReplyHas, Within}
+use Rattle.rule_laws.specs.jessie_semantics.Naming.{HasFieldNames, IsFieldName, RoutinesNamed}
 use Rattle.rule_laws.specs.jessie_semantics.Play.{Asks, Call, Ending, Ends, Play, Reply, Spends, after, call, far, given, refused, returned, send, threw, when}
-use Rattle.rule_laws.specs.jessie_semantics.Rules.{play}
 use Rattle.rule_laws.proofs.jessie_semantics.FormKept.{closed_form}
 use Rattle.rule_laws.proofs.jessie_semantics.NamesKept.{closed_named}
 use Rattle.rule_laws.proofs.jessie_semantics.Safe.{play_safe, safe_after}
@@ -100,16 +99,16 @@ module _ (w : State) (i : ℕ) (good : IsGoodWorld w) (made : i < length w.table
         let kept_then : AllHave (IsKnownTo v i) values = all_so (formed_grows w v g (Some i)) values kept in
         let functions : FunctionsKnown (Refers v i) (routines m) = functions_refer v i (routines m) (λ q is. function_grows w v g i q (function_there w i q good made is)) in
         let within : NextHas (Within (Refers v i)) n (after p rs) =
-        safe_after (Within (Refers v i)) n p rs
-        (play_safe (Within (Refers v i)) n AnyName (routines m) (closed_within (Refers v i) (routines m) functions) (any_names (routines m)) (variable_names m) f args values meter
+        safe_after (Within (Refers v i)) n meter 0 p rs
+        (play_safe (Within (Refers v i)) n meter AnyName (routines m) (closed_within (Refers v i) (routines m) functions) (any_names (routines m)) (variable_names m) f args values
         (all_so (within_of v i) args known_then) (all_so (within_of v i) values kept_then) refl) (replies_so (within_of v i) rs h) in
         let form : NextHas InForm n (after p rs) =
-        safe_after InForm n p rs
-        (play_safe InForm n AnyName (routines m) (closed_form (routines m)) (any_names (routines m)) (variable_names m) f args values meter
+        safe_after InForm n meter 0 p rs
+        (play_safe InForm n meter AnyName (routines m) (closed_form (routines m)) (any_names (routines m)) (variable_names m) f args values
         (all_so (form_of v i) args known_then) (all_so (form_of v i) values kept_then) refl) (replies_so (form_of v i) rs h) in
         let names : NextHas HasFieldNames n (after p rs) =
-        safe_after HasFieldNames n p rs
-        (play_safe HasFieldNames n IsFieldName (routines m) (closed_named (routines m) (routines_named (routines m) (module_is w i good made).named)) (module_is w i good made).writes (variable_names m) f args values meter
+        safe_after HasFieldNames n meter 0 p rs
+        (play_safe HasFieldNames n meter IsFieldName (routines m) (closed_named (routines m) (routines_named (routines m) (module_is w i good made).named)) (module_is w i good made).writes (variable_names m) f args values
         (all_so (names_of v i) args known_then) (all_so (names_of v i) values kept_then) refl) (replies_so (names_of v i) rs h) in
         join_next (known_of v i) n (after p rs) within form names
 

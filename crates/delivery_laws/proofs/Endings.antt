@@ -1,6 +1,6 @@
 -- With which answer the turn of a delivery ends.
 use Rattle.std.specs.Prelude.{cond, nat_lt}
-use Rattle.std.proofs.Common.{◌≡◌, ℕ, Bool, true, false, List, [], ◌∷◌, Result, Ok, Err, refl}
+use Rattle.std.proofs.Common.{ℕ, Bool, true, false, List, [], ◌∷◌, Result, Ok, Err, refl}
 use Rattle.delivery_turns.specs.rules.Outcomes.{Outcome}
 use Rattle.turn_writer.specs.host_data.Tree.{Tree}
 use Rattle.turn_writer.specs.host_data.declared.data.Obj.{Obj}
@@ -11,13 +11,13 @@ use Rattle.turn_writer.specs.refusals.declared.codes.Refusal.TheVariants.{Backwa
 use Rattle.delivery_turns.specs.rules.Zoe.{TextReader}
 use Rattle.delivery_turns.specs.turn_records.Ends.{CanEnd, CanEndCall, CanEndGift, CanEndOn, CanEndTick, IsAnswered}
 use Rattle.delivery_turns.specs.turn_records.Deliveries as deliveries
-use Rattle.delivery_turns.specs.turn_records.Deliveries.{Delivery, Reading}
+use Rattle.delivery_turns.specs.turn_records.Deliveries.{Delivery}
 use Rattle.delivery_turns.specs.turn_records.Messages.{LineGift}
 use Rattle.delivery_turns.specs.world_state.Worlds.{State, set_time}
 use Rattle.delivery_turns.specs.rules.Methods.{serve as serve_call}
 use Rattle.delivery_turns.specs.HostCalls.{answer_of}
 use Rattle.delivery_turns.specs.Messages.{Addressed, addressed, gift_of, sent_to}
-use Rattle.delivery_turns.specs.Tasks.{beginning, call_beginning, do_all, gift_beginning, refuse, task_on, task_work, tick_task}
+use Rattle.delivery_turns.specs.Tasks.{beginning, call_beginning, do_all, gift_beginning, refuse, task_on, task_work}
 
 row_answers : (row : Outcome) → IsAnswered (answer_of row)
 row_answers (Ok (answer, es)) = tt

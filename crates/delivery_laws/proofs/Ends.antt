@@ -1,8 +1,7 @@
 -- How a turn ends is good: its promise can be resolved, seats that are left are open, labels are free.
 use Rattle.std.specs.Prelude.{IfSome, ◌==◌, cond, is_none, unwrap_or, codes}
-use Rattle.std.specs.List.{AllByRecursion}
 use Rattle.std.specs.Option.{option_map_or}
-use Rattle.std.proofs.Common.{◌≡◌, inl, inr, ℕ, ◌+◌, ◌≤◌, ◌<◌, Bool, true, false, List, [], ◌∷◌, ◌++◌, Option, Some, None, length, refl, sym, ap, ◌∙◌, subst, arith}
+use Rattle.std.proofs.Common.{◌≡◌, ℕ, ◌<◌, Bool, true, false, List, [], ◌∷◌, ◌++◌, Option, Some, None, length, refl, sym, ap, ◌∙◌, arith}
 use Rattle.std.proofs.lemmas.Bool.{eq-eqb, eqb-true}
 use Rattle.delivery_turns.specs.actors.Labels.{bound_to}
 use Rattle.delivery_turns.specs.rules.Traces.{all_open}
@@ -10,9 +9,9 @@ use Rattle.rule_laws.proofs.Fields.{FormedAt, formed_here, record_formed}
 use Rattle.rule_laws.proofs.Forms.{field_formed, got, null_formed}
 use Rattle.rule_laws.proofs.OpenSeats.{AreAllOpen, all_are_open, others_are_open}
 use Rattle.turn_writer.specs.host_data.Tree as trees
-use Rattle.turn_writer.specs.host_data.Tree.{Fields, Tree, field, fields, field_of, get, no_fields, null}
+use Rattle.turn_writer.specs.host_data.Tree.{Tree, fields, field_of, get, null}
 use Rattle.delivery_turns.specs.promise_store.Linked.{IsForest, LeadsTo, here, leader, through}
-use Rattle.delivery_turns.specs.promise_store.States.{SettlementView, broken, ok}
+use Rattle.delivery_turns.specs.promise_store.States.{SettlementView, broken}
 use Rattle.delivery_turns.specs.promise_store.declared.links.Following.{Following}
 use Rattle.turn_writer.specs.proposals.declared.allocations.Share.{Share}
 use Rattle.turn_writer.specs.refusals.Codes.{promise_cycle, refusal_tree}
@@ -27,11 +26,11 @@ use Rattle.delivery_turns.specs.world_state.Good.{AreGood, CanPublish, CanResolv
 use Rattle.delivery_turns.specs.world_state.Known.{IsFormed, IsHanded}
 use Rattle.delivery_turns.specs.world_state.Promises.{target_of}
 use Rattle.delivery_turns.specs.world_state.Rights.{slots_at}
-use Rattle.delivery_turns.specs.world_state.Worlds.{Effect, IsOpen, State, after, after_all, bind_label, end_staging, exit, halt, in_front, publish, resolve, seat_at}
+use Rattle.delivery_turns.specs.world_state.Worlds.{Effect, State, after, end_staging, exit, halt, in_front, publish, resolve, seat_at}
 use Rattle.rule_laws.proofs.world_laws.Forms.{formed_grows}
 use Rattle.rule_laws.proofs.world_laws.Growing.{grows-after}
 use Rattle.rule_laws.proofs.world_laws.Fronts.{due_behind, front-after, good_behind, in_hand}
-use Rattle.delivery_turns.specs.Endings.{binds, binds_to, departs, ending, last_followed, leads_back, publishes, settles, without_cycle}
+use Rattle.delivery_turns.specs.Endings.{binds, binds_to, departs, ending, last_followed, leads_back, settles, without_cycle}
 use Rattle.delivery_turns.specs.Tasks.{exit_if_open, exits_with, halt_with}
 use Rattle.delivery_laws.specs.Works.{IsOut, LabelIsFree}
 use Rattle.delivery_laws.proofs.Replies.{refusal_formed}

@@ -1,7 +1,8 @@
 -- What holds of each event that good effects tell, where it holds of the calls that they tell.
 use Rattle.std.specs.Prelude.{IfSome}
+use Rattle.std.proofs.lemmas.List.Elements.{recursion_from_All}
 use Rattle.std.specs.List.{AllByRecursion}
-use Rattle.std.proofs.Common.{◌≡◌, ℕ, ◌<◌, List, [], ◌∷◌, ◌++◌, Option, Some, None, length, map, refl, ap, arith}
+use Rattle.std.proofs.Common.{◌≡◌, ℕ, List, [], ◌∷◌, ◌++◌, Option, Some, None, length, map, refl, ap, arith}
 use Rattle.delivery_turns.specs.actors.SeatPromises.{pair_at}
 use Rattle.turn_writer.specs.host_data.Tree.{null}
 use Rattle.delivery_turns.specs.promise_store.States.{SettlementView, broken, ok}
@@ -12,7 +13,8 @@ use Rattle.turn_writer.specs.Printing.{CanPrintOpening, CanPrintSettlement}
 use Rattle.delivery_turns.specs.turn_records.Deliveries.{Delivery}
 use Rattle.delivery_turns.specs.turn_records.Events.{Event, Leaving, Opening, called, exited, moved, opened, settled}
 use Rattle.delivery_turns.specs.turn_records.Tellable.{IsTellableRule}
-use Rattle.turn_writer.specs.proposals.Shares.{AreShares}
+use Rattle.turn_writer.specs.proposals.Shares.{AreShares, amount_under}
+use Rattle.turn_writer.specs.proposals.declared.allocations.Share.{Share}
 use Rattle.delivery_turns.specs.world_state.Good.{AreGood, AreNamed, IsGoodEffect, IsGoodWorld, IsRule, IsSettled, IsSettling}
 use Rattle.delivery_turns.specs.world_state.Known.{IsHanded}
 use Rattle.delivery_turns.specs.world_state.Promises.{CascadeStep, Flow, PromiseBook, all_stepped, cascade, flowing, following, no_promise, notifies, resolving, resolving_to, settlement_at, settles, settling, stepped, target_of}
@@ -94,10 +96,10 @@ module _ (Q : Event → Type 0) (move : (m : Movement) → Q (moved m)) (leave :
     effect_so (moves ms) can told log = all_append Q w.log (map moved ms) log (moves_so ms)
     effect_so (offer o) can told log =
         all_append Q w.log (offer_events w o) log
-        (start _ (record { few = omega (arith, can.proposal.fits.few); rule = rule_tells o.proposal.exit can.proposal.rule }), moves_so (burn_and_escrows o))
+        (start _ (record { few = omega (arith, can.proposal.fits.few); apart = recursion_from_All (λ (r : Share). amount_under r.keyword o.proposal.want ≡ None) o.proposal.give can.proposal.fits.apart; rule = rule_tells o.proposal.exit can.proposal.rule }), moves_so (burn_and_escrows o))
     effect_so (empty_seat i rule) can told log =
         all_append Q w.log (opening_of w i (of_own rule) ∷ settled (promises_made w) (ok null) ∷ []) log
-        (start _ (record { few = omega arith; rule = rule_tells rule can.timely }), (settle (promises_made w) (ok null) tt, tt))
+        (start _ (record { few = omega arith; apart = tt; rule = rule_tells rule can.timely }), (settle (promises_made w) (ok null) tt, tt))
     effect_so (exit seat cause) can told log =
         let v = after w (exit seat cause) in
         let is = payouts_are_handed w seat v good refl in

@@ -1,7 +1,7 @@
 -- A step keeps a host good.
 use Rattle.std.specs.Prelude.{IfSome, cond, is_none}
 use Rattle.std.specs.List.{AllByRecursion}
-use Rattle.std.proofs.Common.{◌≡◌, ℕ, ◌+◌, ◌-◌, Bool, true, false, List, [], ◌∷◌, ◌++◌, Option, Some, None, refl, subst}
+use Rattle.std.proofs.Common.{◌≡◌, ℕ, Bool, true, false, List, [], ◌∷◌, ◌++◌, Option, Some, None, refl, subst}
 use Rattle.delivery_turns.specs.actors.Tables.{instance_at}
 use Rattle.delivery_turns.specs.promise_store.States.{SettlementView}
 use Rattle.delivery_turns.specs.promise_store.declared.links.Following.{Following}

@@ -1,18 +1,16 @@
 -- What an instance may hold, as the rules of evaluation speak of it: what it refers to is known, it is in form, and
 -- its names are.
-use Rattle.std.specs.List.{AllByRecursion}
-use Rattle.std.proofs.Common.{◌≡◌, ℕ, ◌+◌, ◌≤◌, ◌<◌, true, false, List, [], ◌∷◌, Option, Some, None, length, refl, arith}
-use Rattle.turn_writer.specs.host_data.Nodes.{Both, EachField, EachItem, EachNode, FunctionIs, HasFieldsInOrder, IsFree, IsShallow, ObjectIs}
+use Rattle.std.proofs.Common.{◌≡◌, ℕ, ◌+◌, false, Some, None, arith}
+use Rattle.turn_writer.specs.host_data.Nodes.{Both, EachField, EachItem, EachNode, FunctionIs, IsFree, ObjectIs}
 use Rattle.turn_writer.proofs.host_data.Nodes.{both, free, in_order_throughout, nested, ordered, shallow, weaker}
 use Rattle.delivery_turns.specs.turn_records.Printable.{HaveFieldNames}
 use Rattle.rule_laws.specs.jessie_semantics.Form.{InForm}
-use Rattle.rule_laws.specs.jessie_semantics.Keeping.{AllHave, FieldsWithin, ItemsWithin, Known, Reference, Within, to_function, to_object}
-use Rattle.rule_laws.specs.jessie_semantics.Naming.{FieldNamesAre, HasFieldNames, IsFieldName, ItemNamesAre, NamesAre}
-use Rattle.turn_writer.specs.host_data.Tree.{Tree, null, boolean, number, text, array, fields, object, function, Items, no_items, item, Fields, no_fields, field, is_local, nesting, stays}
-use Rattle.turn_writer.specs.host_data.declared.data.Obj.{Obj}
+use Rattle.rule_laws.specs.jessie_semantics.Keeping.{FieldsWithin, ItemsWithin, Known, Within, to_function, to_object}
+use Rattle.rule_laws.specs.jessie_semantics.Naming.{FieldNamesAre, HasFieldNames, IsFieldName, ItemNamesAre}
+use Rattle.turn_writer.specs.host_data.Tree.{Tree, null, boolean, number, text, array, fields, object, function, Items, no_items, item, Fields, no_fields, field, is_local, stays}
 use Rattle.turn_writer.specs.host_data.declared.data.ObjKind.{ObjKind}
 use Rattle.turn_writer.specs.host_data.declared.data.ObjKind.TheVariants as kinds
-use Rattle.delivery_turns.specs.world_state.Known.{FunctionKnown, HasNames, IsFormed, IsHanded, IsKnownTo, ObjectKnown, known_as, made_as}
+use Rattle.delivery_turns.specs.world_state.Known.{FunctionKnown, HasNames, IsHanded, IsKnownTo, ObjectKnown, known_as, made_as}
 use Rattle.delivery_turns.specs.world_state.Worlds.{State}
 
 -- ---- what data refers to

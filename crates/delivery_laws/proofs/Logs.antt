@@ -1,5 +1,5 @@
 -- What was told in the turn changes nothing of what effects do and of what they need.
-use Rattle.std.proofs.Common.{◌≡◌, ℕ, ◌+◌, List, [], ◌∷◌, Option, Some, None, length, ◌++◌, refl, sym, ap, subst, arith}
+use Rattle.std.proofs.Common.{◌≡◌, ℕ, List, [], ◌∷◌, Option, Some, None, length, ◌++◌, refl, sym, ap, subst, arith}
 use Rattle.delivery_turns.specs.actors.SeatPromises.{pair_at}
 use Rattle.delivery_turns.specs.promise_store.States.{SettlementView, ok}
 use Rattle.delivery_turns.specs.turn_records.Deliveries.{Delivery}

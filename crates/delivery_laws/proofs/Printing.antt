@@ -1,6 +1,6 @@
 -- What the world's objects and functions are named, and what is held, can be printed.
 use Rattle.std.specs.List.{AllByRecursion}
-use Rattle.std.proofs.Common.{ℕ, ◌<◌, List, [], ◌∷◌, Option, Some, None, arith}
+use Rattle.std.proofs.Common.{ℕ, List, [], ◌∷◌, Option, Some, None, arith}
 use Rattle.turn_writer.specs.host_data.Nodes.{Both, IsShallow, ObjectIs}
 use Rattle.turn_writer.proofs.host_data.Nodes.{both, weaker}
 use Rattle.turn_writer.specs.host_data.Tree as trees

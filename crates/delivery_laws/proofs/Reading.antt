@@ -1,12 +1,12 @@
 -- What a party's message comes to, and the target of a call that was sent, can be handed out.
 use Rattle.std.specs.Prelude.{IfOk, IfSome, cond, nat_le, nat_lt, not, is_some, slice_get, option_and_then, codes}
 use Rattle.std.specs.List.{AllByRecursion}
-use Rattle.std.proofs.Common.{◌≡◌, ℕ, zero, suc, ◌+◌, ◌≤◌, ◌<◌, max, Bool, true, false, List, [], ◌∷◌, Option, Some, None, Result, Ok, Err, length, refl, sym, ap, ◌∙◌, subst, arith}
+use Rattle.std.proofs.Common.{◌≡◌, ℕ, zero, suc, ◌+◌, ◌≤◌, max, Bool, true, false, List, [], ◌∷◌, Option, Some, None, Result, Ok, Err, refl, subst, arith}
 use Rattle.std.proofs.lemmas.Bool.{leb-true, ltb-true}
 use Rattle.std.specs.Option.{ok_or, option_map_or}
 use Rattle.std.specs.Str.{bytes_eq}
-use Rattle.delivery_turns.specs.actors.Labels.{Bound, bound_to, is_of, label_in, service_of}
-use Rattle.delivery_turns.specs.actors.Paths.{Found, and_then, followed, fulfilled, item_at, part_at, part_met, stands_at, steps_of, walked, walked_from}
+use Rattle.delivery_turns.specs.actors.Labels.{Bound, bound_to, is_of, label_in}
+use Rattle.delivery_turns.specs.actors.Paths.{Found, and_then, followed, fulfilled, part_at, part_met, steps_of, walked, walked_from}
 use Rattle.delivery_turns.specs.actors.declared.paths.ResolveFault.{ResolveFault}
 use Rattle.delivery_turns.specs.actors.declared.paths.ResolveFault.TheVariants.{UnknownName}
 use Rattle.rule_laws.proofs.Forms.{field_formed, object_formed, raised}
@@ -19,14 +19,14 @@ use Rattle.turn_writer.specs.host_data.declared.data.Obj.{Obj}
 use Rattle.turn_writer.specs.host_data.declared.data.ObjKind.TheVariants as kinds
 use Rattle.delivery_turns.specs.promise_store.Linked.{leader}
 use Rattle.delivery_turns.specs.promise_store.States.{SettlementView, broken, is_promise_kind, ok, pending}
-use Rattle.turn_writer.specs.refusals.Outcomes.{◌>>=◌, ◌>>◌, bind, need, wanted}
+use Rattle.turn_writer.specs.refusals.Outcomes.{◌>>=◌, bind}
 use Rattle.turn_writer.specs.refusals.declared.codes.Refusal.{Refusal}
 use Rattle.turn_writer.proofs.refusals.Steps.{after_known, after_need, after_wanted, need_holds}
 use Rattle.delivery_turns.specs.turn_records.Deliveries.{Send}
 use Rattle.delivery_turns.specs.turn_records.Messages as parts
 use Rattle.delivery_turns.specs.turn_records.Messages.{FieldParts, LineCall, LineGift, Part, Parts}
 use Rattle.delivery_turns.specs.world_state.Good.{IsGoodWorld, IsLabel, IsSend, IsSettled}
-use Rattle.delivery_turns.specs.world_state.Known.{FunctionKnown, HasNames, IsFormed, IsHanded, ObjectKnown}
+use Rattle.delivery_turns.specs.world_state.Known.{FunctionKnown, HasNames, IsHanded, ObjectKnown}
 use Rattle.delivery_turns.specs.world_state.Lines.{AreFormedFields, AreFormedParts, IsBefore, IsFormedCall, IsFormedPart}
 use Rattle.delivery_turns.specs.world_state.Promises.{no_promise, settlement_at, state_by}
 use Rattle.delivery_turns.specs.world_state.Worlds.{State, promises_made}

@@ -1,6 +1,6 @@
 -- What a turn tells of its delivery can be printed: the delivery itself, what was read for it, and the arguments.
 use Rattle.std.specs.Prelude.{IfOk}
-use Rattle.std.proofs.Common.{ℕ, ◌<◌, List, Option, None, Result, Ok, Err, length}
+use Rattle.std.proofs.Common.{None, Result, Ok, Err}
 use Rattle.turn_writer.specs.host_data.Tree.{Tree}
 use Rattle.turn_writer.specs.refusals.declared.codes.Refusal.{Refusal}
 use Rattle.turn_writer.specs.Printing.{CanPrintAll, CanPrintDelivery, CanPrintReading}

@@ -1,7 +1,7 @@
 -- What the host does for a call of an instance's function is good, and what it answers the instance may know.
 use Rattle.std.specs.Prelude.{IfOk}
 use Rattle.std.specs.List.{AllByRecursion}
-use Rattle.std.proofs.Common.{◌≡◌, ℕ, ◌+◌, ◌-◌, ◌<◌, Bool, true, false, not, ◌||◌, List, [], ◌∷◌, ◌++◌, Option, Some, None, Ok, Err, length, refl, sym, ap, subst, arith}
+use Rattle.std.proofs.Common.{◌≡◌, ℕ, ◌-◌, ◌<◌, Bool, true, false, not, ◌||◌, List, [], ◌∷◌, ◌++◌, Option, Some, None, Ok, Err, length, refl, sym, ap, subst, arith}
 use Rattle.delivery_turns.specs.rules.Acts.{MayAct}
 use Rattle.delivery_turns.specs.rules.Obligations.{CanCall, IsRule}
 use Rattle.delivery_turns.specs.rules.Outcomes.{Outcome}

@@ -1,7 +1,7 @@
 -- What the function of an instance comes to is good: each of its calls, one after another, what it gives or throws,
 -- and the values of its state.
 use Rattle.std.specs.List.{AllByRecursion}
-use Rattle.std.proofs.Common.{◌≡◌, ℕ, ◌+◌, ◌-◌, ◌<◌, List, [], ◌∷◌, ◌++◌, Some, length, refl, sym, ap, subst, arith}
+use Rattle.std.proofs.Common.{◌≡◌, ℕ, ◌<◌, List, [], ◌∷◌, ◌++◌, Some, length, refl, sym, ap, subst, arith}
 use Rattle.rule_laws.specs.jessie_semantics.Keeping.{AllHave, CallHas, EndingHas, NextHas, RepliesHave, ReplyHas}
 use Rattle.rule_laws.specs.jessie_semantics.Play.{Asks, Call, Ends, Play, Reply, Spends, after}
 use Rattle.delivery_turns.specs.world_state.Good.{AreGood, IsGoodWorld}

@@ -43,7 +43,7 @@ quiet_prints (note_call c) is = absurd is
 quiet_prints e is = tt
 
 module _ (read : TextReader) (served : AreGoodServices (serve_call read)) (called : AreGoodHostCalls) where
-  turn_prints : (number meter : ℕ) (w : State) (d : Delivery) → w.log ≡ [] → IsGoodWorld (in_front d w)
+  pub turn_prints : (number meter : ℕ) (w : State) (d : Delivery) → w.log ≡ [] → IsGoodWorld (in_front d w)
       → let turn = delivery_turn read meter w d in CanPrint (told_turn number d turn (after_all w turn.effects))
   unfolding delivery_turn
   turn_prints number meter w d untold good =

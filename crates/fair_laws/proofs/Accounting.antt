@@ -217,7 +217,7 @@ module _ (n : ℕ) (w : State) (es : List Effect) (t : Turn) (good : IsGoodWorld
     minted_is = λ b. is.accounts.minted_is b ∙ sym (ap (λ l. (world_in n w).minted b + size l) (ap (λ l. minted l b) moves_are ∙ minted_plain b ms));
     burned_is = λ b. is.accounts.burned_is b ∙ sym (ap (λ l. (world_in n w).burned b + size l) (ap (λ l. burned l b) moves_are ∙ burned_plain b ms));
     fits = λ b. all_read_or IsInBounds u.rights.out b (new_supply Nat) good_then.bounded (record { each = λ k. omega (arith, count-nothing k) });
-    few_minted = λ b. all_read_or IsMintedInBounds u.rights.out b (new_supply Nat) good_then.minted (omega arith);
+    minted_bounded = λ b. all_read_or IsMintedInBounds u.rights.out b (new_supply Nat) good_then.minted (omega arith);
     sums = tells.sums
         ∙ ap (λ l. map (sum_of u.rights) (brands_of (moves_in l))) log_is
         ∙ ap (map (sum_of u.rights)) (sym (ap brands_of moves_are ∙ brands_plain ms));

@@ -1,5 +1,5 @@
 -- Amounts that are answered, as rows print them: each as the amount itself, those of slots as a map in byte order.
-use Rattle.std.specs.Prelude.{◌≡◌, ◌++◌, ℕ, suc, Bool, true, false, cond, codes, List, [], ◌∷◌, Some, None, length, map, refl, unwrap_or, decimal, if◌then◌else◌}
+use Rattle.std.specs.Prelude.{◌≡◌, ◌<◌, ◌^◌, ◌==◌, ◌&&◌, ◌++◌, ℕ, suc, Bool, true, false, cond, codes, List, [], ◌∷◌, Some, None, length, map, refl, unwrap_or, decimal, if◌then◌else◌}
 use Rattle.std.specs.Cmp.Lexicographic.{slice_cmp}
 use Rattle.std.specs.FinMap.{nat_cmp-IsAntisymmetric, slice_cmp-IsAntisymmetric}
 use Rattle.std.specs.List.{AllByRecursion, AllZip}
@@ -8,8 +8,10 @@ use Rattle.std.specs.Str.{bytes_eq}
 use Rattle.std.specs.declared.cmp.Ordering.{Ordering}
 use Rattle.std.specs.declared.cmp.Ordering.TheVariants.{Equal, Greater, Less}
 use Rattle.std.proofs.Common.{sym, ◌∙◌, ap, subst, arith}
+use Rattle.std.proofs.lemmas.Bool.{eq-eqb}
 use Rattle.std.proofs.lemmas.Cmp.{nat_list_cmp_total}
 use Rattle.std.proofs.lemmas.Slice.Eq.{bytes_eq-Decides}
+use Rattle.fair_rows.specs.amount_math.Content.{Content}
 use Rattle.fair_rows.specs.amount_math.declared.Amount.{Amount}
 use Rattle.delivery_laws.specs.host_data.Values.{amount_tree}
 use Rattle.delivery_laws.proofs.rule_laws.Amounts.{allocation_formed}
@@ -21,11 +23,13 @@ use Rattle.delivery_laws.specs.turn_records.PrintedData.{printed, printed_fields
 use Rattle.delivery_laws.specs.turn_records.Values.{printed_value}
 use Rattle.delivery_laws.proofs.turn_records.Values.{values_alike}
 use Rattle.fair_laws.specs.Places.{slot_content, slot_name}
-use Rattle.fair_laws.proofs.HeldEffects.{each_under}
+use Rattle.fair_laws.proofs.HeldEffects.{each_printed, each_under}
 use Rattle.fair_laws.proofs.Openings.{rows_ordered}
 use Rattle.fair_laws.proofs.Values.{printed_is}
-use Rattle.fair_rows.specs.Amounts.{IsAllocation, IsAmountOf, IsPrinted, IsSlotAmount}
-use Rattle.fair_rows.specs.Amounts as told
+use Rattle.fair_rows.specs.Amounts.{IfAmount, IfOkAnswer, InRecord, IsPrinted, content_under}
+use Rattle.fair_rows.specs.Strict.{IsAllocation, IsAmountOf, IsSlotAmount}
+use Rattle.fair_rows.specs.Strict as told
+use Rattle.fair_rows.proofs.Amounts.{each_member, if_amount}
 use Rattle.delivery_laws.specs.host_data.Tree.{Before, Fields, Tree, field, no_fields}
 use Rattle.delivery_laws.specs.proposals.Shares.{AreApart, amount_under}
 use Rattle.delivery_laws.proofs.proposals.SlotLists.{AreApart-in_byte_order}
@@ -37,9 +41,9 @@ use Rattle.serde_json.specs.Data as json
 use Rattle.delivery_laws.specs.turn_records.Printed.{printed_share, printed_shares}
 use Rattle.fair_rows.proofs.turn_rows.Order.{puts_amount}
 use Rattle.fair_rows.specs.turn_rows.Rows.{amount_json, amounts_json}
-use Rattle.fair_rows.specs.turn_rows.Turns.{KeywordAmount, ok}
+use Rattle.fair_rows.specs.turn_rows.Turns.{KeywordAmount, ok, Value}
 use Rattle.delivery_laws.proofs.world_laws.Lists.{all_map, length_map}
-use Rattle.delivery_laws.specs.world_state.Good.{AreNamed, AreSharesOf, AreSharesValued, IsAmountValued, IsGoodWorld}
+use Rattle.delivery_laws.specs.world_state.Good.{AreNamed, AreSharesOf, AreSharesValued, IsAmountValued, IsGoodWorld, IsOfKind}
 use Rattle.delivery_laws.specs.world_state.Worlds.{State, placed_field}
 
 -- ---- one amount
@@ -61,7 +65,7 @@ amount_read t h a is held = record {
 
 -- ---- the fields of a record as the members of a map
 
-members_of : Fields → json.Members
+unfoldable pub members_of : Fields → json.Members
 members_of no_fields = json.no_members
 members_of (field name t fs) = json.member name (printed t) (members_of fs)
 
@@ -147,6 +151,11 @@ none_before : (fs : Fields) → AllBefore json.no_members fs
 none_before no_fields = tt
 none_before (field k t fs) = tt
 
+-- a record whose fields stand in order is printed field by field
+pub record_printed : (fs : Fields) → AreInOrder fs → printed_fields fs json.no_members ≡ members_of fs
+unfolding onto
+record_printed fs order = fields_printed fs json.no_members order (none_before fs)
+
 -- ---- an allocation
 
 pub allocation_printed : (w : State) (rs : List Share) → IsGoodWorld w → AreApart rs → AreNamed rs → AreSharesOf w.rights.out rs → printed (allocation_tree rs) ≡ json.object (amounts_json (printed_shares rs))
@@ -215,3 +224,48 @@ allocation_is w rs good apart named kinds valued = record {
   as_many = ap length (rows_ordered rs apart) ∙ length_map printed_share (in_byte_order rs) ∙ length_ordered rs ∙ sym (length_map slot_name rs);
   each = each_slot (printed_shares rs) rs valued (each_stands rs apart);
 }
+
+-- ---- each amount of an allocation
+
+pub brand_wide : (w : State) (a : Amount) → IsGoodWorld w → IsOfKind w.rights.out a → a.brand < 2 ^ 128
+brand_wide w a good of = omega (arith, of.made, good.brands.supplies, good.brands.few)
+
+shares_if : (P : List ℕ → ℕ → Value → Type 0) (w : State) (rs : List Share) → IsGoodWorld w → AreSharesOf w.rights.out rs → AreSharesValued rs
+    → AllByRecursion (λ (r : Share). P r.keyword r.amount.brand (printed_value r.amount.value)) rs
+    → AllByRecursion (λ (r : Share). IfAmount (P r.keyword) (amount_json r.amount.brand (printed_value r.amount.value))) rs
+shares_if P w [] good kinds valued all = tt
+shares_if P w (r ∷ rs) good kinds valued all =
+    (if_amount (P r.keyword) r.amount.value.content r.amount.brand (printed_value r.amount.value) (brand_wide w r.amount good kinds.0) (amount_printed r.amount valued.0) all.0, shares_if P w rs good kinds.1 valued.1 all.1)
+
+-- what holds of each share holds of each amount that is answered
+pub allocation_holds : (P : List ℕ → ℕ → Value → Type 0) (w : State) (rs : List Share) → IsGoodWorld w → AreApart rs → AreNamed rs → AreSharesOf w.rights.out rs → AreSharesValued rs
+    → AllByRecursion (λ (r : Share). P r.keyword r.amount.brand (printed_value r.amount.value)) rs
+    → IfOkAnswer (InRecord (λ keyword. IfAmount (P keyword))) (ok (printed (allocation_tree rs)))
+allocation_holds P w rs good apart named kinds valued all =
+    subst (InRecord (λ keyword. IfAmount (P keyword))) (sym (allocation_printed w rs good apart named kinds))
+    (each_member P (printed_shares rs) (each_printed (λ (a : KeywordAmount). IfAmount (P a.keyword) (amount_json a.brand a.value)) rs apart (shares_if P w rs good kinds valued all)))
+
+-- of slots by their names, and their contents, that of a keyword and its brand is what stands under it
+found_under : (k : List ℕ) (rs : List Share) (a : Amount) → amount_under k rs ≡ Some a → content_under k a.brand (map slot_name rs) (map slot_content rs) ≡ a.value.content
+found_under k [] a is = cc
+found_under k (r ∷ rs) a is = by (bytes_eq k r.keyword) is (found_under k rs a)
+  where
+    by : (b : Bool) → cond b (Some r.amount) (amount_under k rs) ≡ Some a → (amount_under k rs ≡ Some a → content_under k a.brand (map slot_name rs) (map slot_content rs) ≡ a.value.content)
+        → (if b && (a.brand == r.amount.brand) then r.amount.value.content else content_under k a.brand (map slot_name rs) (map slot_content rs)) ≡ a.value.content
+    by true at rest =
+        let amount : r.amount ≡ a = ap (λ o. unwrap_or o a) at in
+        ap (λ t. if t then r.amount.value.content else content_under k a.brand (map slot_name rs) (map slot_content rs)) (eq-eqb a.brand r.amount.brand (ap (λ (x : Amount). x.brand) (sym amount)))
+        ∙ ap (λ (x : Amount). x.value.content) amount
+    by false at rest = rest at
+
+all_found : (rs qs : List Share) → AllByRecursion (λ (r : Share). amount_under r.keyword rs ≡ Some r.amount) qs → AllByRecursion (λ (r : Share). content_under r.keyword r.amount.brand (map slot_name rs) (map slot_content rs) ≡ slot_content r) qs
+all_found rs [] all = tt
+all_found rs (q ∷ qs) all = (found_under q.keyword rs q.amount all.0, all_found rs qs all.1)
+
+pub contents_found : (rs : List Share) → AreApart rs → AllByRecursion (λ (r : Share). content_under r.keyword r.amount.brand (map slot_name rs) (map slot_content rs) ≡ slot_content r) rs
+contents_found rs a = all_found rs rs (each_under rs a)
+
+-- printed as such
+pub all_printed_as : (found : Share → Content) (rs : List Share) → AreSharesValued rs → AllByRecursion (λ (r : Share). found r ≡ slot_content r) rs → AllByRecursion (λ (r : Share). IsPrinted (found r) (printed_value r.amount.value)) rs
+all_printed_as found [] valued all = tt
+all_printed_as found (r ∷ rs) valued all = (subst (λ c. IsPrinted c (printed_value r.amount.value)) (sym all.0) (amount_printed r.amount valued.0), all_printed_as found rs valued.1 all.1)

@@ -22,8 +22,9 @@ use Rattle.fair_rows.specs.turn_rows.Turns as rows
 use Rattle.delivery_laws.specs.host_data.Tree.{Tree}
 use Rattle.delivery_laws.proofs.world_laws.Lists.{all_append}
 use Rattle.delivery_laws.specs.world_state.Worlds.{IsOpen, Seat, State, after, note_call, seat_at}
-use Rattle.fair_laws.specs.Owed.{OpensBelow, Owes, Tells, answered, cause_in}
+use Rattle.fair_laws.specs.Owed.{IsLeft, OpensBelow, Owes, Tells, answered, cause_in}
 use Rattle.fair_laws.proofs.Owing.{other_number, same_number}
+use Rattle.fair_laws.proofs.Exited.{left_rows}
 use Rattle.fair_laws.proofs.Shown.{either_none, shown_more}
 
 -- ---- names of numbers
@@ -60,8 +61,7 @@ zcf_named k n k_wide n_wide = number_is k n k_wide n_wide
 -- by whether its target is the seat, and the zcf of its instance, and which method it is
 shape : Bool → Bool → Bool → Bool → Bool → Bool → Option Cause
 shape seat zcf is_exit is_fail down failing =
-    either (cause_if (seat && is_exit) causes.exit)
-    (either (cause_if (seat && is_fail) causes.fail) (cause_if (zcf && down || zcf && failing) causes.halted))
+    either (either (cause_if (seat && is_exit) causes.exit) (cause_if (seat && is_fail) causes.fail)) (cause_if (zcf && down || zcf && failing) causes.halted)
 
 shape_of : (o : Obj) (m : List ℕ) (args : List Tree) (answer : Tree) (i n : ℕ) →
     cause_of_call i n (printed_call (answered o m args answer))
@@ -172,10 +172,11 @@ owes_called w o m args answer tells owes = record {
       let i = (seat_at w.seats n).instance in
       let row = rows.called (printed_call (answered o m args answer)) in
       ap (λ l. cause_by_calls i n (while_open n l)) (rows_append w.log (events.called (answered o m args answer) ∷ []))
-      ∙ shown_more i n (rows_of w.log) (row ∷ []) refl
+      ∙ shown_more i n (rows_of w.log) (row ∷ []) refl (left_rows w.seats n opens w.log owes.left)
       ∙ ap (λ x. either x (cause_by_calls i n (row ∷ []))) (owes.shown n opens)
       ∙ either_none (cause_of_call i n (printed_call (answered o m args answer)))
       ∙ shows_what_it_leaves w m args answer n opens o.kind o.number tells;
   made = tells.made;
   opened = all_append (OpensBelow (length w.seats)) w.log (events.called (answered o m args answer) ∷ []) owes.opened (tt, tt);
+  left = all_append (IsLeft w.seats) w.log (events.called (answered o m args answer) ∷ []) owes.left (tt, tt);
 }

@@ -17,7 +17,7 @@ use Rattle.delivery_laws.specs.vault_model.Lists.{amount_of, less, more}
 use Rattle.delivery_laws.specs.turn_records.Printed.{printed_move}
 use Rattle.fair_rows.specs.turn_rows.Turns.{Move}
 use Rattle.fair_rows.specs.Seats as told
-use Rattle.fair_rows.specs.Seats.{SlotName, brand_under, with_holder, with_move, with_slot}
+use Rattle.fair_rows.specs.Seats.{brand_under, with_holder, with_move, with_slot}
 use Rattle.delivery_laws.specs.world_state.Rights.{Rights, changed_share, given, moved, shares_with, slots_at, taken}
 use Rattle.delivery_laws.specs.world_state.Worlds.{Seat}
 use Rattle.fair_laws.specs.Places.{seat_told, seats_from, slot_name}

@@ -32,14 +32,14 @@ use Rattle.delivery_laws.proofs.world_laws.Lists.{all_read_or, length_append, le
 use Rattle.delivery_laws.specs.world_state.Good.{AreSharesOf, AreSharesValued, IsGoodWorld}
 use Rattle.delivery_laws.specs.world_state.Rights.{kind_at, slots_at}
 use Rattle.delivery_laws.specs.world_state.Worlds as worlds
-use Rattle.delivery_laws.specs.world_state.Worlds.{IsOpen, Seat, State, after, exit, left_seat, leaving_events, moves_out, no_seat, paid_out, payouts_at, payouts_from, payouts_tree, seat_at, seats_left}
+use Rattle.delivery_laws.specs.world_state.Worlds.{IsOpen, Seat, State, after, exit, left_seat, leaving_events, moves_out, paid_out, payouts_at, payouts_tree, seat_at}
 use Rattle.delivery_laws.specs.world_laws.Tables.{table_of}
 use Rattle.delivery_laws.proofs.world_laws.LeftTables.{table_left}
 use Rattle.fair_laws.specs.Places.{opening_told, place_of, rows_of, seat_told, seats_from, seats_told, slot_content, slot_name}
 use Rattle.fair_laws.specs.ShownEffects.{TellsActs}
 use Rattle.fair_laws.proofs.HeldEffects.{open_safe, slots_hold}
 use Rattle.fair_laws.proofs.Moves.{open_told}
-use Rattle.fair_laws.proofs.Payouts.{payouts_count, payouts_named}
+use Rattle.fair_laws.proofs.Payouts.{payouts_count, payouts_fresh, payouts_named}
 use Rattle.fair_laws.proofs.Rows.{Settles, move_rows, movements_of_rows, resolving_settles, rows_append, rows_of_moves, settle_acts, settlements_are_acts, settlements_stay, settlements_told, table_told}
 use Rattle.fair_laws.proofs.Values.{printed_is}
 
@@ -182,6 +182,7 @@ module _ (owners : Owners) (t : Turn) (w : State) (s : ℕ) (cause : Cause) (goo
     values = out_values w.rights.out (table_of w.rights) s slots hold of valued;
     as_many = payouts_count first slots are.apart;
     named = payouts_named first slots are.apart;
+    fresh = payouts_fresh first slots;
   }
 
   abbrev told_moves : List Move

@@ -7,6 +7,7 @@ use Rattle.delivery_laws.specs.delivery_turns.Hosts.{HostState, Step, step_of}
 use Rattle.fair_laws.specs.Accounts.{burned_of, minted_of, out_of}
 use Rattle.fair_rows.specs.SoFar.{nothing_so_far}
 use Rattle.fair_rows.specs.Steps.{Leaves, so_far_after}
+use Rattle.fair_rows.specs.Strict.{AreStrict}
 use Rattle.fair_rows.specs.Turns.{AreFair}
 use Rattle.fair_rows.proofs.Steps as steps
 use Rattle.fair_laws.specs.Views.{IsSteady, world_of}
@@ -14,9 +15,10 @@ use Rattle.fair_rows.specs.rights_model.Table.{no_holdings}
 use Rattle.delivery_laws.specs.world_laws.Tables.{table_of}
 use Rattle.delivery_laws.specs.rules.Zoe.{TextReader}
 use Rattle.delivery_laws.specs.turn_records.Printed.{printed}
+use Rattle.fair_rows.specs.turn_rows.Editions.{written}
 use Rattle.fair_rows.specs.turn_rows.Turns.{Turn}
 use Rattle.delivery_laws.specs.world_laws.First.{first_world}
-use Rattle.fair_laws.specs.Turns.{IsTurnStep, StaysFair, new_host}
+use Rattle.fair_laws.specs.Turns.{IsTurnStep, StaysFair, StaysStrict, new_host}
 
 -- ---- a new host
 
@@ -60,14 +62,21 @@ steady_first = record {
 
 -- ---- one turn more
 
-one_more : (s : HostState) (ts : List Turn) (step : Step) → AreFair ts → Leaves (so_far_after ts nothing_so_far) (world_of s) → IsTurnStep s step → StaysFair ts step
+one_more : (s : HostState) (ts : List Turn) (step : Step) → AreFair written ts → Leaves (so_far_after ts nothing_so_far) (world_of s) → IsTurnStep s step → StaysFair ts step
 one_more s ts step fair leaves is =
     let then = steps.stay_fair (world_of s) (world_of step.next) (printed step.turn) ts is.is_step fair leaves in
     record { fair = then.0; leaves = then.1; steady = is.steady }
 
-pub stay_fair : (read : TextReader) (s : HostState) (ts : List Turn) → AreFair ts → Leaves (so_far_after ts nothing_so_far) (world_of s) → IfSome (step_of read s) (IsTurnStep s) → IfSome (step_of read s) (StaysFair ts)
+pub stay_fair : (read : TextReader) (s : HostState) (ts : List Turn) → AreFair written ts → Leaves (so_far_after ts nothing_so_far) (world_of s) → IfSome (step_of read s) (IsTurnStep s) → IfSome (step_of read s) (StaysFair ts)
 stay_fair read s ts fair leaves is = by (step_of read s) is
   where
     by : (o : Option Step) → IfSome o (IsTurnStep s) → IfSome o (StaysFair ts)
     by None is = tt
     by (Some step) is = one_more s ts step fair leaves is
+
+pub stay_strict : (read : TextReader) (s : HostState) (ts : List Turn) → AreStrict ts → Leaves (so_far_after ts nothing_so_far) (world_of s) → IfSome (step_of read s) (IsTurnStep s) → IfSome (step_of read s) (StaysStrict ts)
+stay_strict read s ts strict leaves is = by (step_of read s) is
+  where
+    by : (o : Option Step) → IfSome o (IsTurnStep s) → IfSome o (StaysStrict ts)
+    by None is = tt
+    by (Some step) is = steps.stay_strict (world_of s) (world_of step.next) (printed step.turn) ts is.is_step strict leaves

@@ -10,7 +10,7 @@ use Rattle.fair_rows.specs.amount_math.Amount.{Meet}
 use Rattle.fair_rows.specs.amount_math.Content.{Contains, Content, nothing}
 use Rattle.fair_rows.specs.amount_math.declared.Amount.{Amount}
 use Rattle.delivery_laws.specs.proposals.OfferSafety as proposals
-use Rattle.delivery_laws.specs.proposals.OfferSafety.{AreCovered, IsOfferSafe}
+use Rattle.delivery_laws.specs.proposals.OfferSafety.{IsOfferSafe}
 use Rattle.delivery_laws.specs.proposals.Shares.{AreApart, amount_under}
 use Rattle.delivery_laws.specs.proposals.Slots.{in_byte_order, is_upto, placed}
 use Rattle.delivery_laws.specs.proposals.declared.allocations.Share.{Share}

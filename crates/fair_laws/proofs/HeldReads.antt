@@ -1,11 +1,12 @@
 -- What is answered of holdings is what is held.
 use Rattle.std.specs.Prelude.{◌≡◌, ◌+◌, ◌^◌, ◌<◌, ◌==◌, ◌&&◌, ℕ, Bool, true, false, cond, codes, List, [], ◌∷◌, Option, Some, None, IfSome, Result, Ok, Err, IfOk, length, map, unwrap_or, refl}
 use Rattle.std.specs.List.{AllByRecursion}
-use Rattle.std.specs.Option.{option_map}
+use Rattle.std.specs.Option.{option_map, option_map_or}
 use Rattle.std.specs.Str.{bytes_eq}
 use Rattle.std.proofs.Common.{sym, ◌∙◌, ap, subst, arith}
 use Rattle.std.proofs.lemmas.Bool.{eqb-true}
 use Rattle.std.proofs.lemmas.Slice.Eq.{bytes_eq-Decides}
+use Rattle.fair_rows.specs.amount_math.Content.{nothing}
 use Rattle.fair_rows.specs.amount_math.KindLaws.{nothing_is_value}
 use Rattle.fair_rows.specs.amount_math.declared.Amount.{Amount}
 use Rattle.fair_rows.specs.amount_math.declared.Kind.TheVariants.{Nat}
@@ -25,11 +26,14 @@ use Rattle.fair_laws.specs.Owed.{answered}
 use Rattle.fair_laws.specs.Places.{seat_told, seats_told, slot_content, slot_name}
 use Rattle.fair_laws.proofs.HeldEffects.{held_there, slots_hold}
 use Rattle.fair_laws.proofs.EffectSeats.{seat_read}
-use Rattle.fair_rows.specs.Amounts.{IsAllocation, IsAmountOf, IsCurrentAllocation, IsFinalAllocation, IsPaymentAmount, IsPurseAmount, IsReadByCall, IsReadByTurn, IsSlotRead}
+use Rattle.fair_rows.specs.Amounts.{IfAmount, IfOkAnswer, InRecord, IsOfExit, IsOfNamedSlot, IsOfPayment, IsOfPurse, IsOfSlot, content_under, moved_at_exit}
+use Rattle.fair_rows.proofs.Amounts.{if_answer}
+use Rattle.fair_rows.specs.Strict.{IsAllocation, IsAmountOf, IsCurrentAllocation, IsFinalAllocation, IsPaymentAmount, IsPurseAmount, IsSlotRead}
+use Rattle.fair_rows.specs.Seats as told
 use Rattle.fair_rows.specs.ExitCauses.{calls, is_ok, name, serves}
 use Rattle.fair_rows.specs.host_text.Words.{is_keyword}
 use Rattle.delivery_laws.specs.host_data.Tree as trees
-use Rattle.delivery_laws.specs.host_data.Tree.{Tree, object_of, text_of}
+use Rattle.delivery_laws.specs.host_data.Tree.{Tree, text_of}
 use Rattle.delivery_laws.specs.host_data.View.{items_of}
 use Rattle.delivery_laws.specs.host_data.declared.data.Obj.{Obj}
 use Rattle.delivery_laws.specs.host_data.declared.data.ObjKind.{ObjKind}
@@ -54,18 +58,19 @@ use Rattle.delivery_laws.specs.rules.Purse.{get_current_amount, purse_of}
 use Rattle.delivery_laws.specs.rules.Methods.{of_own_kind, serve as service, serve_own}
 use Rattle.delivery_laws.specs.turn_records.Printed.{object, printed_call, printed_trees}
 use Rattle.fair_rows.specs.turn_rows.Rows.{brand_name, only, payment_name}
+use Rattle.fair_rows.specs.turn_rows.Turns as rows
 use Rattle.fair_rows.specs.turn_rows.Turns.{Turn, ok}
 use Rattle.delivery_laws.specs.rules.Zoe.{TextReader}
 use Rattle.delivery_laws.specs.rules.Methods as methods
 use Rattle.delivery_laws.specs.rules.Seat.{get_final_allocation}
 use Rattle.delivery_laws.proofs.world_laws.Lists.{all_read, all_read_or}
-use Rattle.delivery_laws.specs.world_state.Good.{AreNamed, AreSharesOf, AreSharesValued, IsAmountValued, IsGoodWorld, IsLast, IsPaymentValued, IsValued}
-use Rattle.delivery_laws.specs.world_state.Known.{known_as, made_as}
+use Rattle.delivery_laws.specs.world_state.Good.{AreNamed, AreSharesOf, AreSharesValued, IsAmountValued, IsGoodWorld, IsLast, IsPaymentValued, IsOfKind, IsValued}
+use Rattle.delivery_laws.specs.world_state.Known.{IsFormed, known_as, made_as}
 use Rattle.delivery_laws.specs.world_state.Rights.{slots_at}
 use Rattle.delivery_laws.specs.world_state.Worlds.{Effect, State, no_seat, seat_at}
-use Rattle.fair_laws.specs.Reads.{CallsRead, IsAnsweredTurn, ServicesRead}
+use Rattle.fair_laws.specs.Reads.{CallsRead, IsAnsweredTurn, IsTold, IsTurnTold, ServicesRead}
 use Rattle.fair_laws.specs.Views.{IsCounted, IsSteady, LeftNamed}
-use Rattle.fair_laws.proofs.Amounts.{allocation_is, amount_read}
+use Rattle.fair_laws.proofs.Amounts.{all_printed_as, allocation_holds, allocation_is, amount_read, brand_wide, contents_found}
 use Rattle.fair_laws.proofs.Names.{and_first, and_second, issuer_is, purse_is, seat_is, zseat_is}
 
 -- ---- rows that only read
@@ -177,6 +182,11 @@ module _ (w : State) (good : IsGoodWorld w) (n : ℕ) (made : n < length w.seats
     allocation = subst (λ c. IsAllocation (map slot_name rows_there) c (ok (printed (allocation_tree rows_there)))) (sym (contents_same (table_of w.rights) n rows_there (slots_hold w.rights n apart))) (allocation_is w rows_there good apart named kinds_are valued);
   }
 
+  current_holds : IfOkAnswer (InRecord (λ keyword. IfAmount (IsOfSlot (table_of w.rights) n keyword))) (ok (printed (allocation_tree rows_there)))
+  current_holds =
+      allocation_holds (IsOfSlot (table_of w.rights) n) w rows_there good apart named kinds_are valued
+      (all_printed_as (λ r. holds (table_of w.rights) (Slot n r.keyword) r.amount.brand) rows_there valued (slots_hold w.rights n apart))
+
 -- ---- zseat.getCurrentAllocation()
 
 allocation_answer : (w : State) (n : ℕ) → IfOk (get_current_allocation w n) (λ t. t ≡ allocation_tree (allocation_of w n))
@@ -216,19 +226,30 @@ two_named [] k o b first second named = cc
 two_named (x ∷ []) k o b first second named = cc
 two_named (x ∷ y ∷ rest) k o b first second named = (printed_items (items_of rest), (λ i. json.item (printed (first i)) (json.item (printed (second i)) (printed_items (items_of rest)))) ∙ ap (λ s. json.item (json.string k) (json.item (only (codes "@") (json.string s)) (printed_items (items_of rest)))) named)
 
-slot_read : (w : State) (n : ℕ) (args : List Tree) (t : Tree) → IsGoodWorld w → n < length w.seats → IsSlotAnswer w n args t → IsSlotRead (table_of w.rights) n (printed_trees args) (ok (printed t))
-slot_read w n args t good made is =
+brand_named : (i : ℕ) (w : State) (kind : ObjKind) (n : ℕ) → is_kind (kinds.Brand Nat) kind ≡ true → known_as i w kind n → n < length w.brands
+brand_named i w (kinds.Brand assets) n e known = known.made
+brand_named i w kind n e known = absurd (cc)
+
+brand_there : (w : State) (i : ℕ) (args : List Tree) (b : ℕ) → IsFormed w (Some i) (arg 2 args) → IsObjectAt (kinds.Brand Nat) b (arg 2 args) → b < length w.brands
+brand_there w i args b formed at =
+    let known : known_as i w at.obj.kind at.obj.number = (subst (IsFormed w (Some i)) at.is formed).objects in
+    subst (λ n. n < length w.brands) at.number (brand_named i w at.obj.kind at.obj.number at.of known)
+
+-- the answer of a slot, told whole, and so that each amount in it is that of the slot
+slot_read : (w : State) (i n : ℕ) (args : List Tree) (t : Tree) → IsGoodWorld w → n < length w.seats → IsFormed w (Some i) (arg 2 args) → IsSlotAnswer w n args t
+    → IsSlotRead (table_of w.rights) n (printed_trees args) (ok (printed t)) × IfOkAnswer (IfAmount (IsOfNamedSlot (table_of w.rights) n (printed_trees args))) (ok (printed t))
+slot_read w i n args t good made formed is =
     let at = object_there (kinds.Brand Nat) 2 args is.brand is.brand_there in
     let two = two_named args is.keyword at.obj is.brand (keyword_is 1 args is.keyword is.keyword_there) at.is (brand_kind at.obj.kind at.obj.number at.of ∙ ap brand_name at.number) in
     let rs = slots_at w.rights.slots n in
-    record {
-      keyword = is.keyword;
-      brand = is.brand;
-      more = two.0;
-      named = two.1;
-      amount = subst (λ x. IsAmountOf (table_of w.rights) (Slot n is.keyword) is.brand (ok (printed x))) (sym is.is)
-          (by (amount_under is.keyword rs) refl (under_valued is.keyword rs (valued w good n made)) is.same);
-    }
+    let amount : IsAmountOf (table_of w.rights) (Slot n is.keyword) is.brand (ok (printed t)) =
+    subst (λ x. IsAmountOf (table_of w.rights) (Slot n is.keyword) is.brand (ok (printed x))) (sym is.is)
+    (by (amount_under is.keyword rs) refl (under_valued is.keyword rs (valued w good n made)) is.same) in
+    let wide : is.brand < 2 ^ 128 = omega (arith, brand_there w i args is.brand formed at, good.brands.few) in (
+      record { keyword = is.keyword; brand = is.brand; more = two.0; named = two.1; amount = amount },
+      if_answer (IsOfNamedSlot (table_of w.rights) n (printed_trees args)) (table_of w.rights) (Slot n is.keyword) is.brand (ok (printed t)) wide amount
+          (record { keyword = is.keyword; more = json.item (only (codes "@") (json.string (brand_name is.brand))) two.0; named = two.1; held = amount.printed }),
+    )
   where
     by : (o : Option Amount) → amount_under is.keyword (slots_at w.rights.slots n) ≡ o → IfSome o IsAmountValued → ((amount_or_none w is.brand o).brand == is.brand) ≡ true
         → IsAmountOf (table_of w.rights) (Slot n is.keyword) is.brand (ok (printed (amount_tree (amount_or_none w is.brand o))))
@@ -263,17 +284,29 @@ module _ (w : State) (i : ℕ) (o : Obj) (m : List ℕ) (args : List Tree) (answ
     row : of_zseat w n method args ≡ Ok (answer, es)
     row = sym (ap (λ (x : Obj). of_own_kind w x.kind x.number m args) here ∙ ap (λ x. of_zseat w n x args) of_method) ∙ so_by_kind
 
-  reads_calls : IsReadByCall (table_of w.rights) (seats_told w) (printed_call (answered o m args answer))
+  current_so : (n : ℕ) → calls (name (codes "zseat") n) (codes "getCurrentAllocation") (printed_call (answered o m args answer)) ≡ true → answer ≡ allocation_tree (allocation_of w n)
+  current_so n e =
+      let read = reading_is (get_current_allocation w n) (answer, es) (row n (codes "getCurrentAllocation") e) in
+      ok_has (λ t. t ≡ allocation_tree (allocation_of w n)) (get_current_allocation w n) answer read (allocation_answer w n)
+
+  allocated_so : (n : ℕ) → calls (name (codes "zseat") n) (codes "getAmountAllocated") (printed_call (answered o m args answer)) ≡ true
+      → IsSlotRead (table_of w.rights) n (printed_trees args) (ok (printed answer)) × IfOkAnswer (IfAmount (IsOfNamedSlot (table_of w.rights) n (printed_trees args))) (ok (printed answer))
+  allocated_so n e =
+      let read = reading_is (get_amount_allocated w n args) (answer, es) (row n (codes "getAmountAllocated") e) in
+      slot_read w i n args answer can.good (made n (codes "getAmountAllocated") e) (can.arguments 2) (ok_has (IsSlotAnswer w n args) (get_amount_allocated w n args) answer read (slot_answer w n args))
+
+  reads_calls : IsTold w (printed_call (answered o m args answer))
   reads_calls = record {
-    current = λ n e.
-        let there = made n (codes "getCurrentAllocation") e in
-        let read = reading_is (get_current_allocation w n) (answer, es) (row n (codes "getCurrentAllocation") e) in
-        let is = ok_has (λ t. t ≡ allocation_tree (allocation_of w n)) (get_current_allocation w n) answer read (allocation_answer w n) in
-        subst (λ t. IsCurrentAllocation (table_of w.rights) (seats_told w) n (ok (printed t))) (sym is) (current_is w can.good n there);
-    allocated = λ n e.
-        let there = made n (codes "getAmountAllocated") e in
-        let read = reading_is (get_amount_allocated w n args) (answer, es) (row n (codes "getAmountAllocated") e) in
-        slot_read w n args answer can.good there (ok_has (IsSlotAnswer w n args) (get_amount_allocated w n args) answer read (slot_answer w n args));
+    read = record {
+      current = λ n e.
+          let there = made n (codes "getCurrentAllocation") e in
+          subst (λ t. IfOkAnswer (InRecord (λ keyword. IfAmount (IsOfSlot (table_of w.rights) n keyword))) (ok (printed t))) (sym (current_so n e)) (current_holds w can.good n there);
+      allocated = λ n e. (allocated_so n e).1;
+    };
+    told = record {
+      current = λ n e. subst (λ t. IsCurrentAllocation (table_of w.rights) (seats_told w) n (ok (printed t))) (sym (current_so n e)) (current_is w can.good n (made n (codes "getCurrentAllocation") e));
+      allocated = λ n e. (allocated_so n e).0;
+    };
   }
 
 pub calls_read : CallsRead
@@ -285,14 +318,16 @@ amount_answer : (w : State) (n : ℕ) → IfOk (get_current_amount w n) (λ t. t
 unfolding get_current_amount
 amount_answer w n = refl
 
-purse_read : (w : State) (n : ℕ) → IsGoodWorld w → n < length w.rights.purses → IsPurseAmount (table_of w.rights) n (ok (printed (amount_tree (purse_of w n))))
+purse_read : (w : State) (n : ℕ) → IsGoodWorld w → n < length w.rights.purses
+    → IsPurseAmount (table_of w.rights) n (ok (printed (amount_tree (purse_of w n)))) × IfOkAnswer (IfAmount (IsOfPurse (table_of w.rights) n)) (ok (printed (amount_tree (purse_of w n))))
 purse_read w n good made =
     let a = purse_of w n in
-    record {
-      brand = a.brand;
-      amount = amount_read (table_of w.rights) (Purse n) a (all_read IsAmountValued w.rights.purses n no_amount good.valued.purses made) ((table_agrees w.rights).each (Purse n) a.brand ∙ of_brand (right_in a) a.brand refl);
-      alone = λ b not. (table_agrees w.rights).each (Purse n) b ∙ of_other (right_in a) b (λ e. not (sym e));
-    }
+    let amount : IsAmountOf (table_of w.rights) (Purse n) a.brand (ok (printed (amount_tree a))) =
+    amount_read (table_of w.rights) (Purse n) a (all_read IsAmountValued w.rights.purses n no_amount good.valued.purses made) ((table_agrees w.rights).each (Purse n) a.brand ∙ of_brand (right_in a) a.brand refl) in
+    let wide = brand_wide w a good (all_read (IsOfKind w.rights.out) w.rights.purses n no_amount good.purse_kinds made) in (
+      record { brand = a.brand; amount = amount; alone = λ b not. (table_agrees w.rights).each (Purse n) b ∙ of_other (right_in a) b (λ e. not (sym e)) },
+      if_answer (IsOfPurse (table_of w.rights) n) (table_of w.rights) (Purse n) a.brand (ok (printed (amount_tree a))) wide amount amount.printed,
+    )
 
 -- ---- issuer.getAmountOf(payment)
 
@@ -328,20 +363,21 @@ one_named : (args : List Tree) (o : Obj) (p : ℕ) → arg 1 args ≡ trees.obje
 one_named [] o p first named = cc
 one_named (x ∷ rest) o p first named = (printed_items (items_of rest), ap (λ y. json.item (printed y) (printed_items (items_of rest))) first ∙ ap (λ s. json.item (only (codes "@") (json.string s)) (printed_items (items_of rest))) named)
 
-payment_read : (w : State) (brand : ℕ) (args : List Tree) (t : Tree) → IsGoodWorld w → IsPaymentAnswer w brand args t → IsPaymentAmount (table_of w.rights) brand (printed_trees args) (ok (printed t))
-payment_read w brand args t good is =
+payment_read : (w : State) (brand : ℕ) (args : List Tree) (t : Tree) → IsGoodWorld w → brand < length w.brands → IsPaymentAnswer w brand args t
+    → IsPaymentAmount (table_of w.rights) brand (printed_trees args) (ok (printed t)) × IfOkAnswer (IfAmount (IsOfPayment (table_of w.rights) (printed_trees args))) (ok (printed t))
+payment_read w brand args t good few is =
     let p = is.given.number in
     let at = object_there kinds.Payment 1 args p is.live.payment.at in
     let one = one_named args at.obj p at.is (payment_kind at.obj.kind at.obj.number at.of ∙ ap payment_name at.number) in
     let valued : IsValued is.given.value = subst (λ o. IfSome o IsValued) is.live.held (all_read_or IsPaymentValued w.rights.payments p (spent_payment 0) good.valued.payments tt) in
-    record {
-      payment = p;
-      more = one.0;
-      named = one.1;
-      amount = subst (λ x. IsAmountOf (table_of w.rights) (Payment p) brand (ok (printed x))) (sym is.is)
-          (amount_read (table_of w.rights) (Payment p) (amount_of brand is.given.value) valued
-          ((table_agrees w.rights).each (Payment p) brand ∙ of_brand (right_on (payment_view_of w p)) brand is.live.payment.of ∙ ap content_held is.live.held));
-    }
+    let amount : IsAmountOf (table_of w.rights) (Payment p) brand (ok (printed t)) =
+    subst (λ x. IsAmountOf (table_of w.rights) (Payment p) brand (ok (printed x))) (sym is.is)
+    (amount_read (table_of w.rights) (Payment p) (amount_of brand is.given.value) valued
+    ((table_agrees w.rights).each (Payment p) brand ∙ of_brand (right_on (payment_view_of w p)) brand is.live.payment.of ∙ ap content_held is.live.held)) in (
+      record { payment = p; more = one.0; named = one.1; amount = amount },
+      if_answer (IsOfPayment (table_of w.rights) (printed_trees args)) (table_of w.rights) (Payment p) brand (ok (printed t)) (omega (arith, few, good.brands.few)) amount
+          (record { payment = p; more = one.0; named = one.1; held = amount.printed }),
+    )
 
 -- ---- seat.getFinalAllocation()
 
@@ -368,6 +404,29 @@ final_read w n t good names made is =
           (subst (λ x. IsAllocation x (map slot_content is.rows) (ok (printed (allocation_tree is.rows)))) (sym (names.each n is.rows made is.left))
           (allocation_is w is.rows good last.apart.apart last.named last.of_kinds last.valued));
     }
+
+-- what the exit moved from each slot
+module _ (w : State) (n : ℕ) (good : IsGoodWorld w) (names : LeftNamed w) (made : n < length w.seats) (rows : List Share) (left : (seat_at w.seats n).last ≡ Some rows) where
+  last_is : IsLast w.rights.out (seat_at w.seats n).proposal rows
+  last_is = subst (λ o. IfSome o (IsLast w.rights.out (seat_at w.seats n).proposal)) left (good.proposed.each n made).last
+
+  moved_is : (k : List ℕ) (b : ℕ) → moved_at_exit (seats_told w) n k b ≡ content_under k b (map slot_name rows) (map slot_content rows)
+  moved_is k b =
+      let rs = slots_at w.rights.slots n in
+      let there = seat_read 0 n w.seats w.rights.slots no_seat made good.seats.slotted ∙ ap (λ m. Some (seat_told m (seat_at w.seats n) rs)) (let e : 0 + n ≡ n = omega arith in e) in
+      ap (λ o. option_map_or (λ (s : told.Seat). option_map_or (content_under k b s.slots) s.last nothing) o nothing) there
+      ∙ ap (λ l. option_map_or (content_under k b (map slot_name rs)) (option_map (map slot_content) l) nothing) left
+      ∙ ap (λ ss. content_under k b ss (map slot_content rows)) (names.each n rows made left)
+
+  all_moved : (qs : List Share) → AllByRecursion (λ (r : Share). content_under r.keyword r.amount.brand (map slot_name rows) (map slot_content rows) ≡ slot_content r) qs
+      → AllByRecursion (λ (r : Share). moved_at_exit (seats_told w) n r.keyword r.amount.brand ≡ slot_content r) qs
+  all_moved [] all = tt
+  all_moved (q ∷ qs) all = (moved_is q.keyword q.amount.brand ∙ all.0, all_moved qs all.1)
+
+  final_holds : IfOkAnswer (InRecord (λ keyword. IfAmount (IsOfExit (seats_told w) n keyword))) (ok (printed (allocation_tree rows)))
+  final_holds =
+      allocation_holds (IsOfExit (seats_told w) n) w rows good last_is.apart.apart last_is.named last_is.of_kinds last_is.valued
+      (all_printed_as (λ r. moved_at_exit (seats_told w) n r.keyword r.amount.brand) rows last_is.valued (all_moved rows (contents_found rows last_is.apart.apart)))
 
 -- ---- turns in which methods of the host's own objects are called
 
@@ -396,25 +455,40 @@ module _ (read : TextReader) (w : State) (o : Obj) (m : List ℕ) (args : List T
   made_of_kind : (kind : ObjKind) → o.kind ≡ kind → made_as w kind o.number
   made_of_kind kind e = subst (λ x. made_as w x o.number) e can.target
 
-  reads_turn : IsReadByTurn (table_of w.rights) (seats_told w) t
+  purse_so : (n : ℕ) → serves (name (codes "purse") n) (codes "getCurrentAmount") t ≡ true
+      → IsPurseAmount (table_of w.rights) n t.answer × IfOkAnswer (IfAmount (IsOfPurse (table_of w.rights) n)) t.answer
+  purse_so n e =
+      let here = purse_is n o (λ k. let made : o.number < length w.rights.purses = made_of_kind kinds.Purse k in omega (arith, made, steady.counted.purses)) (on_name n (codes "purse") (codes "getCurrentAmount") e) in
+      let got = reading_is (get_current_amount w n) (answer, es) (its_row n (codes "purse") (codes "getCurrentAmount") e kinds.Purse here) in
+      let is = ok_has (λ x. x ≡ amount_tree (purse_of w n)) (get_current_amount w n) answer got (amount_answer w n) in
+      let P : rows.Answer → Type 0 = λ a. IsPurseAmount (table_of w.rights) n a × IfOkAnswer (IfAmount (IsOfPurse (table_of w.rights) n)) a in
+      subst P (sym turned.answered) (subst (λ x. P (ok (printed x))) (sym is) (purse_read w n can.good (target_made kinds.Purse n here)))
+
+  payment_so : (b : ℕ) → serves (name (codes "issuer") b) (codes "getAmountOf") t ≡ true
+      → IsPaymentAmount (table_of w.rights) b t.arguments t.answer × IfOkAnswer (IfAmount (IsOfPayment (table_of w.rights) t.arguments)) t.answer
+  payment_so b e =
+      let here = issuer_is b o (λ k. let made : o.number < length w.brands = made_of_kind kinds.Issuer k in omega (arith, made, can.good.brands.few)) (on_name b (codes "issuer") (codes "getAmountOf") e) in
+      let got = reading_is (get_amount_of w b args) (answer, es) (its_row b (codes "issuer") (codes "getAmountOf") e kinds.Issuer here) in
+      let is = ok_has (IsPaymentAnswer w b args) (get_amount_of w b args) answer got (payment_answer w b args) in
+      let P : json.Items → rows.Answer → Type 0 = λ xs a. IsPaymentAmount (table_of w.rights) b xs a × IfOkAnswer (IfAmount (IsOfPayment (table_of w.rights) xs)) a in
+      subst (P t.arguments) (sym turned.answered) (subst (λ x. P x (ok (printed answer))) (sym turned.arguments) (payment_read w b args answer can.good (target_made kinds.Issuer b here) is))
+
+  final_so : (n : ℕ) → serves (name (codes "seat") n) (codes "getFinalAllocation") t ≡ true
+      → IsFinalAllocation (seats_told w) n t.answer × IfOkAnswer (InRecord (λ keyword. IfAmount (IsOfExit (seats_told w) n keyword))) t.answer
+  final_so n e =
+      let here = seat_is n o (λ k. let made : o.number < length w.seats = made_of_kind kinds.Seat k in omega (arith, made, steady.counted.seats)) (on_name n (codes "seat") (codes "getFinalAllocation") e) in
+      let got = reading_is (get_final_allocation w n) (answer, es) (its_row n (codes "seat") (codes "getFinalAllocation") e kinds.Seat here) in
+      let is = ok_has (IsFinalAnswer w n) (get_final_allocation w n) answer got (final_answer w n) in
+      let made = target_made kinds.Seat n here in
+      let P : rows.Answer → Type 0 = λ a. IfOkAnswer (InRecord (λ keyword. IfAmount (IsOfExit (seats_told w) n keyword))) a in (
+        subst (IsFinalAllocation (seats_told w) n) (sym turned.answered) (final_read w n answer can.good steady.left made is),
+        subst P (sym turned.answered) (subst (λ x. P (ok (printed x))) (sym is.is) (final_holds w n can.good steady.left made is.rows is.left)),
+      )
+
+  reads_turn : IsTurnTold w t
   reads_turn = record {
-    purse = λ n kind e.
-        let here = purse_is n o (λ k. let made : o.number < length w.rights.purses = made_of_kind kinds.Purse k in omega (arith, made, steady.counted.purses)) (on_name n (codes "purse") (codes "getCurrentAmount") e) in
-        let got = reading_is (get_current_amount w n) (answer, es) (its_row n (codes "purse") (codes "getCurrentAmount") e kinds.Purse here) in
-        let is = ok_has (λ x. x ≡ amount_tree (purse_of w n)) (get_current_amount w n) answer got (amount_answer w n) in
-        subst (IsPurseAmount (table_of w.rights) n) (sym turned.answered)
-        (subst (λ x. IsPurseAmount (table_of w.rights) n (ok (printed x))) (sym is) (purse_read w n can.good (target_made kinds.Purse n here)));
-    payment = λ b kind e.
-        let here = issuer_is b o (λ k. let made : o.number < length w.brands = made_of_kind kinds.Issuer k in omega (arith, made, can.good.brands.few)) (on_name b (codes "issuer") (codes "getAmountOf") e) in
-        let got = reading_is (get_amount_of w b args) (answer, es) (its_row b (codes "issuer") (codes "getAmountOf") e kinds.Issuer here) in
-        let is = ok_has (IsPaymentAnswer w b args) (get_amount_of w b args) answer got (payment_answer w b args) in
-        subst (IsPaymentAmount (table_of w.rights) b t.arguments) (sym turned.answered)
-        (subst (λ x. IsPaymentAmount (table_of w.rights) b x (ok (printed answer))) (sym turned.arguments) (payment_read w b args answer can.good is));
-    final = λ n kind e.
-        let here = seat_is n o (λ k. let made : o.number < length w.seats = made_of_kind kinds.Seat k in omega (arith, made, steady.counted.seats)) (on_name n (codes "seat") (codes "getFinalAllocation") e) in
-        let got = reading_is (get_final_allocation w n) (answer, es) (its_row n (codes "seat") (codes "getFinalAllocation") e kinds.Seat here) in
-        let is = ok_has (IsFinalAnswer w n) (get_final_allocation w n) answer got (final_answer w n) in
-        subst (IsFinalAllocation (seats_told w) n) (sym turned.answered) (final_read w n answer can.good steady.left (target_made kinds.Seat n here) is);
+    read = record { purse = λ n kind e. (purse_so n e).1; payment = λ b kind e. (payment_so b e).1; final = λ n kind e. (final_so n e).1 };
+    told = record { purse = λ n kind e. (purse_so n e).0; payment = λ b kind e. (payment_so b e).0; final = λ n kind e. (final_so n e).0 };
   }
 
 pub services_read : (read : TextReader) → ServicesRead read

@@ -8,7 +8,8 @@ use Rattle.fair_laws.specs.Accounts.{AreStoredEffects, IsStoredEffect}
 use Rattle.fair_laws.specs.ShownEffects.{AreShown, IsShown}
 use Rattle.delivery_laws.specs.rules.Licence.{IsStored}
 use Rattle.fair_rows.specs.ExitCauses.{Owners, cause_by_row, either}
-use Rattle.fair_rows.specs.Rows.{is_offer}
+use Rattle.fair_laws.specs.Places.{rows_of}
+use Rattle.fair_rows.specs.Rows.{FollowsKit, is_offer}
 use Rattle.fair_rows.specs.turn_rows.Causes.{Cause}
 use Rattle.fair_rows.specs.turn_rows.Turns.{Turn}
 use Rattle.delivery_laws.proofs.world_laws.Kept.{good-after}
@@ -43,7 +44,7 @@ row_of owners t i n = cause_by_row t.kind t.answer owners t i n
 
 abbrev pub IsFit : Turn → Showing → State → Effect → Type 0
 IsFit t row w (moves ms) = AllByRecursion IsStored ms
-IsFit t row w (offer o) = is_offer t ≡ true
+IsFit t row w (offer o) = (is_offer t ≡ true) × (FollowsKit (rows_of w.log) → ⊥)
 IsFit t row w (empty_seat i rule) = ⊥
 IsFit t row w (exit s cause) = row (seat_at w.seats s).instance s ≡ Some cause
 IsFit t row w (make_facet f) = ⊥

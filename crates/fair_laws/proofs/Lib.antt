@@ -12,6 +12,7 @@ pub mod Supplies
 pub mod PaymentViews
 pub mod Accounted
 pub mod Shown
+pub mod Exited
 pub mod Owing
 pub mod CauseCalls
 pub mod Others

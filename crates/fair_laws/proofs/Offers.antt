@@ -21,13 +21,13 @@ use Rattle.delivery_laws.specs.turn_records.Printed.{printed_move, printed_share
 use Rattle.fair_rows.specs.turn_rows.Turns as rows
 use Rattle.fair_rows.specs.turn_rows.Turns.{KeywordAmount, Move, Opening, Turn}
 use Rattle.fair_rows.specs.Acts as fair
-use Rattle.fair_rows.specs.Acts.{Act, AreActs, IsAct, OfferIsAct, Place, offer_rows, place_after, rows_of_acts}
+use Rattle.fair_rows.specs.Acts.{offer_rows}
 use Rattle.fair_rows.specs.ExitCauses.{Owners}
 use Rattle.fair_rows.specs.Movements.{is_payment_at, movement_of, movements_in, names}
 use Rattle.fair_rows.specs.Rows as fair_rules
-use Rattle.fair_rows.specs.Rows.{is_offer}
+use Rattle.fair_rows.specs.Rows.{FollowsKit, is_offer}
 use Rattle.fair_rows.specs.Seats as told
-use Rattle.fair_rows.specs.Seats.{brand_under, with_slot}
+use Rattle.fair_rows.specs.Seats.{brand_under}
 use Rattle.fair_rows.proofs.Acts.{offer_is_act}
 use Rattle.delivery_laws.proofs.world_laws.Lists.{all_push}
 use Rattle.delivery_laws.specs.world_state.Good.{AreEscrows, AreSharesValued, AreValues, CanOffer, IsEscrow, IsGoodWorld, IsValued, rights_for}
@@ -178,7 +178,7 @@ opened_valued w o good = record { purses = good.valued.purses; payments = good.v
 pub offer_stored : (w : State) (o : Offering) → CanOffer w o → AllByRecursion IsStored (burn_and_escrows o)
 offer_stored w o can = (inl (subst IsStore (sym can.burn.from) tt), escrows_stored (length w.seats) (in_byte_order o.proposal.give) o.escrows can.escrows)
 
-module _ (owners : Owners) (t : Turn) (w : State) (o : Offering) (good : IsGoodWorld w) (can : CanOffer w o) (offers : is_offer t ≡ true) where
+module _ (owners : Owners) (t : Turn) (w : State) (o : Offering) (good : IsGoodWorld w) (can : CanOffer w o) (offers : (is_offer t ≡ true) × (FollowsKit (rows_of w.log) → ⊥)) where
   abbrev seat : ℕ
   seat = length w.seats
 
@@ -234,14 +234,15 @@ module _ (owners : Owners) (t : Turn) (w : State) (o : Offering) (good : IsGoodW
       (ap (λ b. b || is_payment_at p o.burn.to) (from_made rights no_hand o.burn.from o.burn.brand o.burn.value can.moves.can.0.from p le) ∙ ap (is_payment_at p) can.burn.to)
       (escrows_name (moved rights o.burn) (hand_after no_hand o.burn) seat p gives o.escrows can.moves.can.1 can.escrows (subst (λ n. n ≤ p) (sym (burned_payments rights o.burn can.burn.payment can.burn.from can.burn.to)) le))
 
-  can_offer : fair.CanOffer t (place_of w) opening burn escrows
+  can_offer : fair.CanOffer t (rows_of w.log) (place_of w) opening burn escrows
   can_offer = record {
     opens = record {
       next = sym (seats_counted 0 w.seats w.rights.slots good.seats.slotted);
       of_brand = brands_opened o.proposal can.proposal.fits can.proposal.give can.proposal.want seat (offered_by w o).instance;
       alone = others_before 0 seat w.seats w.rights.slots (omega arith);
     };
-    offers = offers;
+    offers = offers.0;
+    no_kit = offers.1;
     burns = is_burn;
     escrowed = subst (λ l. fair.AreEscrows seat l escrows) (sym ordered) (escrows_told seat gives o.escrows can.escrows);
     made = named;

@@ -25,7 +25,8 @@ use Rattle.delivery_laws.specs.world_state.Rights.{slots_at}
 use Rattle.delivery_laws.specs.world_state.Worlds.{Effect, IsOpen, Seat, State, after, after_all, burn_and_escrows, empty_seat, exit, invitation_move, invite, leaving_events, left_seat, moves, moves_out, new_seat, no_seat, note_call, of_own, offer, offered_by, payouts_tree, promises_made, resolve, seat_at}
 use Rattle.delivery_laws.specs.host_data.Tree.{null}
 use Rattle.delivery_laws.specs.proposals.declared.allocations.Share.{Share}
-use Rattle.fair_laws.specs.Owed.{AreUncalled, HasCause, HaveCauses, IsUncalled, OpensBelow, Owes, cause_in, cause_shown}
+use Rattle.fair_laws.specs.Owed.{AreUncalled, HasCause, HaveCauses, IsLeft, IsUncalled, OpensBelow, Owes, cause_in, cause_shown}
+use Rattle.fair_laws.proofs.Exited.{IsExitAt, IsNoExit, left_more, left_none, left_then, moves_keep, none_at, settlements_keep}
 use Rattle.fair_laws.proofs.Shown.{IsNoCall, shown_new, shown_still}
 
 -- ---- numbers
@@ -97,8 +98,8 @@ settlements_quiet (p ∷ ps) = (tt, settlements_quiet ps)
 -- ---- worlds after quiet events
 
 -- where the seats are as they were
-owes_still : (w next : State) (ds : List Departure) (es : List Event) → next.seats ≡ w.seats → next.log ≡ w.log ++ es → AllByRecursion IsQuiet es → Owes w ds → Owes next ds
-owes_still w next ds es seats told quiet owes = record {
+owes_still : (w next : State) (ds : List Departure) (es : List Event) → next.seats ≡ w.seats → next.log ≡ w.log ++ es → AllByRecursion IsQuiet es → AllByRecursion IsNoExit es → Owes w ds → Owes next ds
+owes_still w next ds es seats told quiet kept owes = record {
   shown = λ n opens.
       let was : IsOpen (seat_at w.seats n) = subst (λ (s : List Seat). IsOpen (seat_at s n)) seats opens in
       let i = (seat_at w.seats n).instance in
@@ -109,6 +110,8 @@ owes_still w next ds es seats told quiet owes = record {
   made = subst (λ (s : List Seat). AllByRecursion (λ (d : Departure). d.seat < length s) ds) (sym seats) owes.made;
   opened = subst (λ l. AllByRecursion (OpensBelow (length next.seats)) l) (sym told)
       (all_append (OpensBelow (length next.seats)) w.log es (subst (λ (s : List Seat). AllByRecursion (OpensBelow (length s)) w.log) (sym seats) owes.opened) (quiet_below (length next.seats) es quiet));
+  left = subst (AllByRecursion (IsLeft next.seats)) (sym told)
+      (all_append (IsLeft next.seats) w.log es (subst (λ (s : List Seat). AllByRecursion (IsLeft s) w.log) (sym seats) owes.left) (left_none next.seats es kept));
 }
 
 -- ---- a seat that is opened
@@ -125,16 +128,21 @@ some_none : (rows : List Share) → Some rows ≡ None → ⊥
 some_none rows e = cc
 
 module _ (w next : State) (ds : List Departure) (new : Seat) (o : events.Opening) (es : List Event) where
-  owes_opened : next.seats ≡ w.seats ++ new ∷ [] → next.log ≡ w.log ++ events.opened o ∷ es → o.seat ≡ length w.seats → AllByRecursion IsQuiet es → Owes w ds → Owes next ds
-  owes_opened seats told is quiet owes = record {
+  owes_opened : next.seats ≡ w.seats ++ new ∷ [] → next.log ≡ w.log ++ events.opened o ∷ es → o.seat ≡ length w.seats → AllByRecursion IsQuiet es → AllByRecursion IsNoExit es → Owes w ds → Owes next ds
+  owes_opened seats told is quiet kept owes = record {
     shown = λ n opens. by n opens (n == length w.seats) refl;
     made = subst (λ (s : List Seat). AllByRecursion (λ (d : Departure). d.seat < length s) ds) (sym seats) (longer w.seats new ds owes.made);
     opened = subst (λ l. AllByRecursion (OpensBelow (length next.seats)) l) (sym told)
         (all_append (OpensBelow (length next.seats)) w.log (events.opened o ∷ es)
         (more_below (length w.seats) (length next.seats) w.log (omega (arith, more)) owes.opened)
         (omega (arith, more, is), quiet_below (length next.seats) es quiet));
+    left = subst (AllByRecursion (IsLeft next.seats)) (sym told)
+        (all_append (IsLeft next.seats) w.log (events.opened o ∷ es) (left_more w.seats next.seats (omega (arith, more)) was_open w.log owes.left) (tt, left_none next.seats es kept));
   }
     where
+      was_open : (m : ℕ) → m < length w.seats → IsOpen (seat_at next.seats m) → IsOpen (seat_at w.seats m)
+      was_open m lt opens = subst IsOpen (ap (λ l. seat_at l m) seats ∙ read_before w.seats new no_seat m (λ e. omega (arith, e, lt))) opens
+
       more : length next.seats ≡ length w.seats + 1
       more = ap length seats ∙ length_push w.seats new
 
@@ -165,14 +173,15 @@ module _ (w next : State) (ds : List Departure) (new : Seat) (o : events.Opening
 -- ---- a seat that is left
 
 module _ (w next : State) (s : ℕ) (cause : Cause) (ds : List Departure) (es : List Event) where
-  owes_left : IsOpen (seat_at w.seats s) → (rows : List Share) → next.seats ≡ slice_set w.seats s (left_seat (seat_at w.seats s) rows) → next.log ≡ w.log ++ es → AllByRecursion IsQuiet es → Owes w (departure s cause ∷ ds) → Owes next ds
-  owes_left before rows seats told quiet owes = record {
+  owes_left : IsOpen (seat_at w.seats s) → (rows : List Share) → next.seats ≡ slice_set w.seats s (left_seat (seat_at w.seats s) rows) → next.log ≡ w.log ++ es → AllByRecursion IsQuiet es → AllByRecursion (IsExitAt s) es → Owes w (departure s cause ∷ ds) → Owes next ds
+  owes_left before rows seats told quiet exits owes = record {
     shown = λ n opens. by n opens (s == n) refl;
     made = subst (λ m. AllByRecursion (λ (d : Departure). d.seat < m) ds) (sym as_many) owes.made.1;
     opened = subst (λ l. AllByRecursion (OpensBelow (length next.seats)) l) (sym told)
         (all_append (OpensBelow (length next.seats)) w.log es
         (subst (λ m. AllByRecursion (OpensBelow m) w.log) (sym as_many) owes.opened)
         (quiet_below (length next.seats) es quiet));
+    left = subst (λ (p : List Seat × List Event). AllByRecursion (IsLeft p.0) p.1) (λ i. (sym seats i, sym told i)) (left_then w.seats s rows (open_made w.seats s before) w.log es owes.left exits);
   }
     where
       left : Seat
@@ -200,23 +209,24 @@ module _ (w next : State) (s : ℕ) (cause : Cause) (ds : List Departure) (es : 
 -- ---- by effect
 
 owes_alike : (w next : State) (ds : List Departure) → next.seats ≡ w.seats → next.log ≡ w.log → Owes w ds → Owes next ds
-owes_alike w next ds seats log owes = owes_still w next ds [] seats (log ∙ sym (append-nil w.log)) tt owes
+owes_alike w next ds seats log owes = owes_still w next ds [] seats (log ∙ sym (append-nil w.log)) tt tt owes
 
 owes_after : (w : State) (e : Effect) (es : List Effect) → IsGoodEffect w e → IsUncalled e → Owes w (departures_in (e ∷ es)) → Owes (after w e) (departures_in es)
-owes_after w (moves ms) es good un owes = owes_still w (after w (moves ms)) (departures_in es) (map events.moved ms) refl refl (moves_quiet ms) owes
-owes_after w (offer o) es good un owes = owes_opened w (after w (offer o)) (departures_in es) (new_seat (offered_by w o).instance o.proposal) (record { seat = length w.seats; instance = (offered_by w o).instance; proposal = o.proposal }) (map events.moved (burn_and_escrows o)) refl refl refl (moves_quiet (burn_and_escrows o)) owes
-owes_after w (empty_seat i rule) es good un owes = owes_opened w (after w (empty_seat i rule)) (departures_in es) (new_seat i (of_own rule)) (record { seat = length w.seats; instance = i; proposal = of_own rule }) (events.settled (promises_made w) (ok null) ∷ []) refl refl refl (tt, tt) owes
+owes_after w (moves ms) es good un owes = owes_still w (after w (moves ms)) (departures_in es) (map events.moved ms) refl refl (moves_quiet ms) (moves_keep ms) owes
+owes_after w (offer o) es good un owes = owes_opened w (after w (offer o)) (departures_in es) (new_seat (offered_by w o).instance o.proposal) (record { seat = length w.seats; instance = (offered_by w o).instance; proposal = o.proposal }) (map events.moved (burn_and_escrows o)) refl refl refl (moves_quiet (burn_and_escrows o)) (moves_keep (burn_and_escrows o)) owes
+owes_after w (empty_seat i rule) es good un owes = owes_opened w (after w (empty_seat i rule)) (departures_in es) (new_seat i (of_own rule)) (record { seat = length w.seats; instance = i; proposal = of_own rule }) (events.settled (promises_made w) (ok null) ∷ []) refl refl refl (tt, tt) (tt, tt) owes
 owes_after w (exit s cause) es good un owes =
     let settled = resolving_settles (pair_at w.pairs s).payouts (ok (payouts_tree w s)) w.promises w.waiting (w.log ++ leaving_events w s cause) in
     let settlements : List Event = map (λ p. events.settled p.0 p.1) settled.promises in
     owes_left w (after w (exit s cause)) s cause (departures_in es) (leaving_events w s cause ++ settlements) good (slots_at w.rights.slots s) refl
     (settled.told ∙ append_assoc w.log (leaving_events w s cause) settlements)
     (all_append IsQuiet (leaving_events w s cause) settlements (tt, moves_quiet (moves_out w s)) (settlements_quiet settled.promises))
+    (all_append (IsExitAt s) (leaving_events w s cause) settlements (refl, none_at s (map events.moved (moves_out w s)) (moves_keep (moves_out w s))) (none_at s settlements (settlements_keep settled.promises)))
     owes
-owes_after w (invite d) es good un owes = owes_still w (after w (invite d)) (departures_in es) (events.moved (invitation_move w) ∷ []) refl refl (tt, tt) owes
+owes_after w (invite d) es good un owes = owes_still w (after w (invite d)) (departures_in es) (events.moved (invitation_move w) ∷ []) refl refl (tt, tt) (tt, tt) owes
 owes_after w (resolve p v) es good un owes =
     let settled = resolving_settles p v w.promises w.waiting w.log in
-    owes_still w (after w (resolve p v)) (departures_in es) (map (λ p. events.settled p.0 p.1) settled.promises) refl settled.told (settlements_quiet settled.promises) owes
+    owes_still w (after w (resolve p v)) (departures_in es) (map (λ p. events.settled p.0 p.1) settled.promises) refl settled.told (settlements_quiet settled.promises) (settlements_keep settled.promises) owes
 owes_after w (note_call c) es good un owes = absurd un
 owes_after w e es good un owes = owes_alike w (after w e) (departures_in es) refl refl owes
 

@@ -1,7 +1,8 @@
 -- The payouts that an exit row names: one for each slot, each under its keyword, whatever their order.
-use Rattle.std.specs.Prelude.{◌≡◌, ◌+◌, ℕ, suc, Bool, true, false, cond, List, [], ◌∷◌, Option, Some, None, length, map, refl}
+use Rattle.std.specs.Prelude.{◌≡◌, ◌≤◌, ◌+◌, ℕ, suc, Bool, true, false, cond, List, [], ◌∷◌, Option, Some, None, length, map, refl}
 use Rattle.std.specs.Cmp.Lexicographic.{slice_cmp}
 use Rattle.std.specs.FinMap.{nat_cmp-IsAntisymmetric, slice_cmp-IsAntisymmetric}
+use Rattle.std.specs.List.{AllByRecursion}
 use Rattle.std.specs.Ordering.{match_ordering, nat_cmp}
 use Rattle.std.specs.Str.{bytes_eq}
 use Rattle.std.specs.declared.cmp.Ordering.{Ordering}
@@ -129,3 +130,21 @@ named_by ps f same n (r ∷ rs) are = (same r.keyword ∙ are.0, named_by ps f s
 
 pub payouts_named : (n : ℕ) (rs : List Share) → AreApart rs → AreNamed (printed_payouts (payouts_from n rs)) n (map slot_name rs)
 payouts_named n rs a = named_by (printed_payouts (payouts_from n rs)) (λ k. payment_under k (payouts_from n rs)) (λ k. read_printed k n rs a) n rs (own_from n rs a)
+
+-- ---- they are of payments from a number on
+
+put_fresh : (first : ℕ) (p : Payout) (us : List Payout) → first ≤ p.payment → AllByRecursion (λ (u : Payout). first ≤ u.payment) us → AllByRecursion (λ (u : Payout). first ≤ u.payment) (put_payout p us)
+put_fresh first p [] le all = (le, tt)
+put_fresh first p (u ∷ us) le all = by (slice_cmp nat_cmp p.keyword u.keyword) (put_fresh first p us le all.1)
+  where
+    by : (o : Ordering) → AllByRecursion (λ (v : Payout). first ≤ v.payment) (put_payout p us) → AllByRecursion (λ (v : Payout). first ≤ v.payment) (match_ordering o (p ∷ u ∷ us) (record p { keyword = u.keyword } ∷ us) (u ∷ put_payout p us))
+    by Less later = (le, all)
+    by Equal later = (le, all.1)
+    by Greater later = (all.0, later)
+
+fresh_from : (first n : ℕ) (rs : List Share) → first ≤ n → AllByRecursion (λ (u : Payout). first ≤ u.payment) (printed_payouts (payouts_from n rs))
+fresh_from first n [] le = tt
+fresh_from first n (r ∷ rs) le = put_fresh first (record { keyword = r.keyword; payment = n }) (printed_payouts (payouts_from (suc n) rs)) le (fresh_from first (suc n) rs (omega (arith, le)))
+
+pub payouts_fresh : (first : ℕ) (rs : List Share) → AllByRecursion (λ (u : Payout). first ≤ u.payment) (printed_payouts (payouts_from first rs))
+payouts_fresh first rs = fresh_from first first rs (omega arith)

@@ -1,7 +1,7 @@
 -- A call of an instance's function shows what it does: its row shows the causes of the seats that it leaves, an empty
 -- seat stands right behind it, and a facet that is made is named by it.
-use Rattle.std.specs.Prelude.{◌⊎◌, decimal, ◌≡◌, ◌-◌, ◌^◌, ◌<◌, ◌++◌, ◌&&◌, ◌||◌, ℕ, Bool, true, false, cond, List, [], ◌∷◌, Option, Some, Ok, Err, IfOk, codes, length, map, refl}
-use Rattle.std.specs.List.{AllByRecursion}
+use Rattle.std.specs.Prelude.{◌⊎◌, decimal, ◌≡◌, ◌+◌, ◌-◌, ◌^◌, ◌<◌, ◌++◌, ◌&&◌, ◌||◌, ℕ, Bool, true, false, cond, List, [], ◌∷◌, Option, Some, Ok, Err, IfOk, codes, is_some, length, map, refl, unwrap_or}
+use Rattle.std.specs.List.{AllByRecursion, slice_get}
 use Rattle.std.specs.Str.{bytes_eq}
 use Rattle.std.proofs.Common.{inl, inr, sym, ◌∙◌, ap, subst, arith}
 use Rattle.delivery_laws.specs.call_arguments.Arguments.{arg}
@@ -23,20 +23,20 @@ use Rattle.delivery_laws.specs.delivery_turns.HostCalls.{call_effects, told_call
 use Rattle.delivery_laws.specs.rules.PromisesAndFacets.{far_rule, send_rule, when_rule}
 use Rattle.delivery_laws.specs.ertp_mint.Stocks.{most_made}
 use Rattle.delivery_laws.specs.call_arguments.Exits as exits
-use Rattle.fair_laws.specs.Owed.{AreUncalled, HasCause, HaveCauses, IsNoUserSeat, IsUncalled, Owes, ShowsNothing, answered}
+use Rattle.fair_laws.specs.Owed.{AreUncalled, HasCause, HaveCauses, IsNoUserSeat, IsUncalled, Owes, ShowsNothing, answered, cause_shown}
 use Rattle.fair_laws.specs.Owed as owed
 use Rattle.fair_laws.proofs.CauseCalls.{owes_called}
 use Rattle.fair_laws.proofs.Others.{owes_nothing_more}
 use Rattle.fair_laws.proofs.Owing.{causes, owes_none}
 use Rattle.fair_laws.specs.Accounts.{AreStoredEffects}
-use Rattle.fair_laws.specs.Places.{rows_of, seats_told}
+use Rattle.fair_laws.specs.Places.{place_of, rows_of, seat_told, seats_told}
 use Rattle.fair_laws.specs.ShownEffects.{AreShown}
 use Rattle.fair_laws.proofs.Rows.{rows_append}
-use Rattle.fair_rows.specs.Amounts.{IsReadByCall}
+use Rattle.fair_rows.specs.Acts.{IsAnsweredCall}
+use Rattle.fair_rows.specs.Strict.{IsShownByCalls}
 use Rattle.fair_rows.specs.Seats as told
 use Rattle.delivery_laws.specs.actors.Facets.{FacetView}
-use Rattle.fair_rows.specs.rights_model.Table.{Table}
-use Rattle.fair_rows.specs.ExitCauses.{Owners, calls, facets_at, name}
+use Rattle.fair_rows.specs.ExitCauses.{Owners, calls, cause_by_calls, facets_at, name, while_open}
 use Rattle.fair_rows.specs.Rows.{is_offer}
 use Rattle.delivery_laws.specs.jessie_semantics.Keeping.{CallHas}
 use Rattle.delivery_laws.specs.jessie_semantics.Play.{Call, call, far, send, when}
@@ -50,7 +50,6 @@ use Rattle.delivery_laws.specs.proposals.declared.offers.Exit.{Exit}
 use Rattle.delivery_laws.specs.refusals.Codes.{limit}
 use Rattle.delivery_laws.specs.refusals.declared.codes.Refusal.{Refusal}
 use Rattle.delivery_laws.proofs.refusals.Steps.{after_check, after_need, after_step, ok_has}
-use Rattle.delivery_laws.specs.world_laws.Tables.{table_of}
 use Rattle.serde_json.specs.Data as json
 use Rattle.delivery_laws.specs.rules.Zcf.{make_empty_seat_kit}
 use Rattle.delivery_laws.specs.rules.Methods as methods
@@ -66,16 +65,19 @@ use Rattle.delivery_laws.proofs.world_laws.Kept.{good-after}
 use Rattle.delivery_laws.proofs.world_laws.Lists.{all_read, all_read_or}
 use Rattle.delivery_laws.specs.world_state.Good.{AreGood, IsGoodWorld, IsPlaced}
 use Rattle.delivery_laws.specs.world_state.Known.{IsKnownTo, IsSeatOf, known_as}
+use Rattle.delivery_laws.specs.world_state.Rights.{slots_at}
 use Rattle.delivery_laws.specs.world_state.Worlds as worlds
-use Rattle.delivery_laws.specs.world_state.Worlds.{Effect, Seat, State, after, after_all, empty_seat, exit, make_facet, moves, no_seat, note_call, offer, promises_made}
-use Rattle.fair_laws.specs.Reads.{CallsRead}
+use Rattle.delivery_laws.specs.world_state.Worlds.{Effect, Seat, State, after, after_all, empty_seat, exit, make_facet, moves, no_seat, note_call, offer, promises_made, seat_at}
+use Rattle.fair_laws.specs.Reads.{CallsRead, IsTold}
 use Rattle.fair_laws.specs.Views.{IsCounted}
 use Rattle.fair_laws.proofs.Counts.{counted_after}
 use Rattle.fair_laws.proofs.Left.{left_after}
 use Rattle.fair_laws.proofs.Holding.{AreFit, Holds, Shows, fit_all, holds_after}
 use Rattle.fair_laws.proofs.Names.{same_bytes}
 use Rattle.fair_laws.proofs.Owned.{FacetsTold, IsNoFacet, facets_called, facets_far}
-use Rattle.fair_laws.proofs.Telling.{LeavesFor, causes_after, causes_called, none_shown, owes_after_it}
+use Rattle.fair_laws.proofs.EffectSeats.{seat_read}
+use Rattle.fair_laws.proofs.Shown.{either_none}
+use Rattle.fair_laws.proofs.Telling.{AllHaveCauses, HasItsCause, LeavesFor, causes_after, causes_called, none_shown, owes_after_it}
 
 -- ---- lists
 
@@ -96,7 +98,7 @@ stored_of (offer o ∷ es) all = (tt, stored_of es (second_all IsStored (worlds.
 stored_of (e ∷ es) all = (tt, stored_of es all)
 
 module _ (w : State) (caller : Option ℕ) (o : Obj) (m : List ℕ) where
-  act_uncalled : (e : Effect) → MayAct w caller o m e → IsUncalled e
+  pub act_uncalled : (e : Effect) → MayAct w caller o m e → IsUncalled e
   act_uncalled (note_call c) is = is
   act_uncalled e is = tt
 
@@ -200,6 +202,32 @@ opens_as w kinds.Zseat n m args answer es is opens = inr opens
 opens_as w kinds.Zmint n m args answer es is opens = inr opens
 opens_as w kind n m args answer es is opens = cc
 
+-- ---- a call's row
+
+module _ (w : State) (good : IsGoodWorld w) where
+  seat_is : (n : ℕ) → n < length w.seats → slice_get (seats_told w) n ≡ Some (seat_told n (seat_at w.seats n) (slots_at w.rights.slots n))
+  seat_is n made =
+      seat_read 0 n w.seats w.rights.slots no_seat made good.seats.slotted
+      ∙ ap (λ m. Some (seat_told m (seat_at w.seats n) (slots_at w.rights.slots n))) (let e : 0 + n ≡ n = omega arith in e)
+
+  -- seats that were left before it were so for calls
+  left_shown : (es : List events.Event) → AllByRecursion (HasItsCause none_shown w) es → AllByRecursion (IsShownByCalls (seats_told w) (rows_of w.log)) (rows_of es)
+  left_shown [] all = tt
+  left_shown (events.exited x ∷ es) all = (
+    λ s found.
+        let same : s ≡ seat_told x.seat (seat_at w.seats x.seat) (slots_at w.rights.slots x.seat) = ap (λ o. unwrap_or o s) (sym found ∙ seat_is x.seat all.0.0) in
+        ap (λ (u : told.Seat). is_some (cause_by_calls u.opening.instance x.seat (while_open x.seat (rows_of w.log)))) same
+        ∙ ap is_some (sym (either_none (cause_shown w x.seat)) ∙ all.0.1),
+    left_shown es all.1,
+  )
+  left_shown (events.called c ∷ es) all = (tt, left_shown es all.1)
+  left_shown (events.opened o ∷ es) all = (tt, left_shown es all.1)
+  left_shown (events.moved m ∷ es) all = (tt, left_shown es all.1)
+  left_shown (events.settled p r ∷ es) all = (tt, left_shown es all.1)
+
+  call_shown : AllHaveCauses none_shown w → (c : rows.Call) → IsTold w c → IsAnsweredCall (rows_of w.log) (place_of w) c
+  call_shown have c is = record { read = is.read; told = is.told; shown = left_shown w.log have }
+
 -- ---- what a call's effects show
 
 module _ (owners : Owners) (t : Turn) where
@@ -230,7 +258,7 @@ module _ (owners : Owners) (t : Turn) where
   }
 
   -- a call of a method that is answered
-  module _ (w : State) (i : ℕ) (o : Obj) (m : List ℕ) (args : List Tree) (answer : Tree) (es : List Effect) (is : Holds none_shown owners (Some (named kinds.Instance i)) w) (owes : Owes w []) (runs_none : is_offer t ≡ false) (can : CanCall w (Some i) o args) (served_so : serve_own w o m args ≡ Ok (answer, es)) (row : IsRule w (Some i) o m args answer es) (reads : IsReadByCall (table_of w.rights) (seats_told w) (printed_call (answered o m args answer))) where
+  module _ (w : State) (i : ℕ) (o : Obj) (m : List ℕ) (args : List Tree) (answer : Tree) (es : List Effect) (is : Holds none_shown owners (Some (named kinds.Instance i)) w) (owes : Owes w []) (runs_none : is_offer t ≡ false) (can : CanCall w (Some i) o args) (served_so : serve_own w o m args ≡ Ok (answer, es)) (row : IsRule w (Some i) o m args answer es) (reads : IsTold w (printed_call (answered o m args answer))) where
     abbrev c : events.Call
     c = answered o m args answer
 
@@ -284,7 +312,7 @@ module _ (owners : Owners) (t : Turn) where
 
     pub answered_shows : Shows owners t none_shown (Some (named kinds.Instance i)) w (note_call c ∷ es)
     answered_shows = record {
-      shown = (reads, shown_behind (opens_as w o.kind o.number m args answer es of_kind row.opens));
+      shown = (call_shown w is.good is.causes (printed_call c) reads, shown_behind (opens_as w o.kind o.number m args answer es of_kind row.opens));
       stored = (tt, stored_of es row.stored);
       owes = owes_none behind es good un owed_now;
       holds = held_on w (Some i) o m (Some (named kinds.Instance i)) behind es
@@ -294,11 +322,22 @@ module _ (owners : Owners) (t : Turn) where
 
 -- ---- a call that is refused
 
-none_refused : (t : Table) (seats : List told.Seat) (c : Call) (r : Refusal) → IsReadByCall t seats (printed_call (told_call c (events.refused r)))
-none_refused t seats (call o m args) r = record { current = λ n is. cc; allocated = λ n is. cc }
-none_refused t seats (send o m args) r = record { current = λ n is. cc; allocated = λ n is. cc }
-none_refused t seats (when o f held) r = record { current = λ n is. cc; allocated = λ n is. cc }
-none_refused t seats (far x ms held) r = record { current = λ n is. cc; allocated = λ n is. cc }
+abbrev IsOtherCall : Call → Type 0
+IsOtherCall (call o m args) = ⊥
+IsOtherCall _ = Unit {0}
+
+none_refused : (w : State) (c : Call) (r : Refusal) → IsTold w (printed_call (told_call c (events.refused r)))
+none_refused w (call o m args) r = record { read = record { current = λ n is. cc; allocated = λ n is. cc }; told = record { current = λ n is. cc; allocated = λ n is. cc } }
+none_refused w (send o m args) r = record { read = record { current = λ n is. cc; allocated = λ n is. cc }; told = record { current = λ n is. cc; allocated = λ n is. cc } }
+none_refused w (when o f held) r = record { read = record { current = λ n is. cc; allocated = λ n is. cc }; told = record { current = λ n is. cc; allocated = λ n is. cc } }
+none_refused w (far x ms held) r = record { read = record { current = λ n is. cc; allocated = λ n is. cc }; told = record { current = λ n is. cc; allocated = λ n is. cc } }
+
+-- sends, requests and facets tell nothing of holdings
+none_told : (w : State) (c : Call) (a : events.Answer) → IsOtherCall c → IsTold w (printed_call (told_call c a))
+none_told w (call o m args) a other = absurd other
+none_told w (send o m args) a other = record { read = record { current = λ n is. cc; allocated = λ n is. cc }; told = record { current = λ n is. cc; allocated = λ n is. cc } }
+none_told w (when o f held) a other = record { read = record { current = λ n is. cc; allocated = λ n is. cc }; told = record { current = λ n is. cc; allocated = λ n is. cc } }
+none_told w (far x ms held) a other = record { read = record { current = λ n is. cc; allocated = λ n is. cc }; told = record { current = λ n is. cc; allocated = λ n is. cc } }
 
 refused_quiet : (c : Call) (r : Refusal) → ShowsNothing (told_call c (events.refused r)).how (events.refused r)
 refused_quiet (call o m args) r = tt
@@ -323,7 +362,7 @@ module _ (owners : Owners) (t : Turn) (i : Option (List ℕ)) (w : State) (is : 
   refused_shows c r =
       let x = told_call c (events.refused r) in
       record {
-        shown = (none_refused (table_of w.rights) (seats_told w) c r, tt);
+        shown = (call_shown w is.good is.causes (printed_call x) (none_refused w c r), tt);
         stored = (tt, tt);
         owes = owes_nothing_more w x (subst (ShowsNothing x.how) (sym (told_refused c r)) (refused_quiet c r)) owes;
         holds = held_called owners t i w x is (facets_called owners i w is.facets x (refused_facets c r));
@@ -331,13 +370,13 @@ module _ (owners : Owners) (t : Turn) (i : Option (List ℕ)) (w : State) (is : 
 
   -- ---- sends, requests and facets
 
-  module _ (x : events.Call) (none : IsReadByCall (table_of w.rights) (seats_told w) (printed_call x)) (silent : ShowsNothing x.how x.answer) (unfaceted : facets_at (rows.called (printed_call x)) ≡ []) where
+  module _ (x : events.Call) (none : IsTold w (printed_call x)) (silent : ShowsNothing x.how x.answer) (unfaceted : facets_at (rows.called (printed_call x)) ≡ []) where
     -- behind it, effects that need nothing to be shown
     pub plain_shows : (es : List Effect) → AreGood (after w (note_call x)) es → AreFit t none_shown (after w (note_call x)) es → Shows owners t none_shown i w (note_call x ∷ es)
     plain_shows es good fit =
         let behind = after w (note_call x) in
         let rest = fit_all owners t none_shown (λ j n cause e. cc) i behind es (held_called owners t i w x is (facets_called owners i w is.facets x unfaceted)) (owes_nothing_more w x silent owes) good fit in
-        record { shown = (none, rest.shown); stored = (tt, rest.stored); owes = rest.owes; holds = rest.holds }
+        record { shown = (call_shown w is.good is.causes (printed_call x) none, rest.shown); stored = (tt, rest.stored); owes = rest.owes; holds = rest.holds }
 
   pub far_shows : (name : List ℕ) (ms : List (List ℕ × List ℕ)) (held : Tree) (n : ℕ) → n ≡ length w.facets → (j : ℕ) → i ≡ Some (named kinds.Instance j)
       → AreGood w (told_effects (far name ms held) (Ok (object_tree kinds.Facet n, make_facet (record { instance = j; methods = ms; held = held }) ∷ [])))
@@ -348,7 +387,7 @@ module _ (owners : Owners) (t : Turn) (i : Option (List ℕ)) (w : State) (is : 
       let behind = after w (note_call x) in
       let owes_behind = owes_nothing_more w x tt owes in
       record {
-        shown = (record { current = λ k e. cc; allocated = λ k e. cc }, (tt, tt));
+        shown = (call_shown w is.good is.causes (printed_call x) (none_told w (far name ms held) (events.given (object_tree kinds.Facet n)) tt), (tt, tt));
         stored = (tt, (tt, tt));
         owes = owes_after_it behind (make_facet f) good.1.0 tt owes_behind;
         holds = record {
@@ -407,13 +446,13 @@ module _ (served : AreGoodHostCalls) (reads : CallsRead) (owners : Owners) (t : 
   sent_row o m args (Err r) fit good = refused_shows owners t ours w is owes (send o m args) r
   sent_row o m args (Ok (answer, es)) fit good =
       let x = told_call (send o m args) (events.given answer) in
-      plain_shows owners t ours w is owes x (record { current = λ n e. cc; allocated = λ n e. cc }) tt refl es good.1 (fit t (after w (note_call x)))
+      plain_shows owners t ours w is owes x (none_told w (send o m args) (events.given answer) tt) tt refl es good.1 (fit t (after w (note_call x)))
 
   asked_row : (o : Obj) (f : List ℕ) (held : Tree) (row : Outcome) → IfOk row (λ d. (t : Turn) (v : State) → AreFit t none_shown v d.1) → Showing (when o f held) row
   asked_row o f held (Err r) fit good = refused_shows owners t ours w is owes (when o f held) r
   asked_row o f held (Ok (answer, es)) fit good =
       let x = told_call (when o f held) (events.given answer) in
-      plain_shows owners t ours w is owes x (record { current = λ n e. cc; allocated = λ n e. cc }) tt refl es good.1 (fit t (after w (note_call x)))
+      plain_shows owners t ours w is owes x (none_told w (when o f held) (events.given answer) tt) tt refl es good.1 (fit t (after w (note_call x)))
 
   made_row : (x : List ℕ) (ms : List (List ℕ × List ℕ)) (held : Tree) (row : Outcome) → IfOk row (IsFar w i ms held) → Showing (far x ms held) row
   made_row x ms held (Err r) so good = refused_shows owners t ours w is owes (far x ms held) r

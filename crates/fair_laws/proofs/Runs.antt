@@ -1,5 +1,5 @@
 -- What the function of an instance does is shown by the rows of its calls, one after another.
-use Rattle.std.specs.Prelude.{Option, ◌≡◌, ◌+◌, ◌-◌, ◌<◌, ◌++◌, ℕ, false, List, [], ◌∷◌, Some, length, refl}
+use Rattle.std.specs.Prelude.{Option, ◌≡◌, ◌<◌, ◌++◌, ℕ, false, List, [], ◌∷◌, Some, length, refl}
 use Rattle.std.specs.List.{AllByRecursion}
 use Rattle.std.proofs.Common.{sym, ◌∙◌, ap, subst, arith}
 use Rattle.std.proofs.lemmas.List.{append-nil}

@@ -17,7 +17,7 @@ use Rattle.fair_rows.proofs.Acts.{acts_show_rows}
 use Rattle.delivery_laws.specs.proposals.declared.allocations.Share.{Share}
 use Rattle.delivery_laws.specs.world_laws.Tables.{table_of}
 use Rattle.fair_rows.specs.turn_rows.Turns as rows
-use Rattle.fair_rows.specs.turn_rows.Turns.{Opening, Turn}
+use Rattle.fair_rows.specs.turn_rows.Turns.{Turn}
 use Rattle.delivery_laws.proofs.world_laws.Kept.{good-after_all}
 use Rattle.delivery_laws.specs.world_state.Good.{AreGood, IsGoodWorld}
 use Rattle.delivery_laws.specs.world_state.Rights.{slots_at}

@@ -4,12 +4,15 @@ use Rattle.std.specs.List.{AllByRecursion}
 use Rattle.std.proofs.Common.{append_assoc, sym, ◌∙◌, ap, subst, arith}
 use Rattle.std.proofs.lemmas.Bool.{ne_eqb}
 use Rattle.std.proofs.lemmas.List.{append-nil}
-use Rattle.fair_laws.specs.Owed.{IsUncalled, OpensBelow, Owes, cause_shown}
+use Rattle.fair_laws.specs.Owed.{IsLeft, IsUncalled, OpensBelow, Owes, cause_shown}
+use Rattle.fair_laws.proofs.Exited.{IsExitAt, left_then}
 use Rattle.fair_laws.proofs.Owing.{other_number, owes_none, same_number}
-use Rattle.fair_laws.proofs.Shown.{IsNoCall, either_none, shown_more, shown_still}
+use Rattle.fair_laws.proofs.Shown.{IsNoCall, either_none, first_stays, shown_still}
 use Rattle.fair_laws.specs.Places.{rows_of}
 use Rattle.fair_laws.proofs.Rows.{resolving_settles, rows_append}
 use Rattle.fair_rows.specs.ExitCauses.{cause_by_calls, either, since_opening, while_open}
+use Rattle.fair_rows.specs.Rows.{FollowsKit}
+use Rattle.fair_rows.proofs.Lists.{all_second}
 use Rattle.delivery_laws.specs.actors.SeatPromises.{pair_at}
 use Rattle.delivery_laws.proofs.lemmas.ListEdits.{length_set, read_other, read_set}
 use Rattle.delivery_laws.specs.promise_store.States.{SettlementView, ok}
@@ -93,6 +96,37 @@ effect_told w (resolve p v) un =
     }
 effect_told w (note_call c) un = absurd un
 effect_told w e un = record { events = []; told = sym (append-nil w.log); are = tt }
+
+-- ---- turns in which no call is told
+
+abbrev pub IsNoCalled : Event → Type 0
+IsNoCalled (events.called c) = ⊥
+IsNoCalled _ = Unit {0}
+
+told_uncalled : (e : Effect) (m : ℕ) (es : List Event) → AllByRecursion (IsToldBy e m) es → AllByRecursion IsNoCalled es
+told_uncalled e m [] all = tt
+told_uncalled e m (events.called c ∷ es) all = absurd all.0
+told_uncalled e m (events.opened o ∷ es) all = (tt, told_uncalled e m es all.1)
+told_uncalled e m (events.moved x ∷ es) all = (tt, told_uncalled e m es all.1)
+told_uncalled e m (events.exited x ∷ es) all = (tt, told_uncalled e m es all.1)
+told_uncalled e m (events.settled p s ∷ es) all = (tt, told_uncalled e m es all.1)
+
+pub still_uncalled : (w : State) (e : Effect) → IsUncalled e → AllByRecursion IsNoCalled w.log → AllByRecursion IsNoCalled (after w e).log
+still_uncalled w e un all =
+    let t = effect_told w e un in
+    subst (AllByRecursion IsNoCalled) (sym t.told) (all_append IsNoCalled w.log t.events all (told_uncalled e (length w.seats) t.events t.are))
+
+no_call_rows : (es : List Event) → AllByRecursion IsNoCalled es → AllByRecursion IsNoCall (rows_of es)
+no_call_rows [] all = tt
+no_call_rows (events.called c ∷ es) all = absurd all.0
+no_call_rows (events.opened o ∷ es) all = (tt, no_call_rows es all.1)
+no_call_rows (events.moved m ∷ es) all = (tt, no_call_rows es all.1)
+no_call_rows (events.exited x ∷ es) all = (tt, no_call_rows es all.1)
+no_call_rows (events.settled p s ∷ es) all = (tt, no_call_rows es all.1)
+
+-- where no call is told, no kit's is
+pub no_kit : (es : List Event) → AllByRecursion IsNoCalled es → FollowsKit (rows_of es) → ⊥
+no_kit es all kit = (all_second IsNoCall kit.more (rows.called kit.call ∷ []) (subst (AllByRecursion IsNoCall) kit.last (no_call_rows es all))).0
 
 -- ---- what calls show of a seat stays
 
@@ -207,8 +241,7 @@ causes_called w c all =
         let i = (seat_at w.seats n).instance in
         let row : rows.Event = rows.called (printed_call c) in
         ap (λ l. cause_by_calls i n (while_open n l)) (rows_append w.log (events.called c ∷ []))
-        ∙ shown_more i n (rows_of w.log) (row ∷ []) refl
-        ∙ ap (λ x. either x (cause_by_calls i n (row ∷ []))) is
+        ∙ first_stays i n (rows_of w.log) (row ∷ []) cause refl is
 
     still : (x : Event) → HasItsCause none_shown w x → HasItsCause none_shown (after w (note_call c)) x
     still (events.exited x) h = (h.0, ap (λ o. either o None) (shown x.seat x.cause (sym (either_none (cause_shown w x.seat)) ∙ h.1)))
@@ -234,12 +267,21 @@ module _ (w : State) (s : ℕ) (cause : Cause) (opens : IsOpen (seat_at w.seats 
   none_opened (events.exited x ∷ es) all = (tt, none_opened es all.1)
   none_opened (events.settled p r ∷ es) all = (tt, none_opened es all.1)
 
+  exits_at : (es : List Event) → AllByRecursion (IsToldBy (exit s cause) (length w.seats)) es → AllByRecursion (IsExitAt s) es
+  exits_at [] all = tt
+  exits_at (events.called c ∷ es) all = absurd all.0
+  exits_at (events.opened o ∷ es) all = absurd all.0
+  exits_at (events.moved m ∷ es) all = (tt, exits_at es all.1)
+  exits_at (events.exited x ∷ es) all = (all.0.0, exits_at es all.1)
+  exits_at (events.settled p r ∷ es) all = (tt, exits_at es all.1)
+
   exit_owes : Owes w [] → Owes left []
   exit_owes owes = record {
     shown = λ n is. by n is (s == n) refl;
     made = tt;
     opened = subst (AllByRecursion (OpensBelow (length left.seats))) (sym t.told)
         (all_append (OpensBelow (length left.seats)) w.log t.events (subst (λ m. AllByRecursion (OpensBelow m) w.log) (sym as_many) owes.opened) (none_opened t.events t.are));
+    left = subst (AllByRecursion (IsLeft left.seats)) (sym t.told) (left_then w.seats s (slots_at w.rights.slots s) (open_made w.seats s opens) w.log t.events owes.left (exits_at t.events t.are));
   }
     where
       t : Tells w (exit s cause)

@@ -1,12 +1,16 @@
 -- The turn of the delivery in front is a step from the world of the host to that of the host after it.
-use Rattle.std.specs.Prelude.{◌≡◌, ◌+◌, ◌-◌, ◌<◌, ◌≤◌, ◌++◌, ℕ, List, [], ◌∷◌, Option, Some, None, IfSome, length, map, refl}
+use Rattle.std.specs.Prelude.{◌≡◌, ◌+◌, ◌<◌, ◌≤◌, ◌++◌, ℕ, Bool, List, [], ◌∷◌, Option, Some, None, IfSome, length, map, refl}
 use Rattle.std.specs.List.{AllByRecursion}
 use Rattle.std.proofs.Common.{sym, ◌∙◌, ap, subst, arith}
 use Rattle.std.proofs.lemmas.List.{append-nil}
 use Rattle.delivery_laws.specs.Hosts.{IsGoodHost}
 use Rattle.delivery_laws.specs.Works.{AreGoodHostCalls, IsTurnWork}
+use Rattle.delivery_laws.specs.turn_writer.Printing.{CanPrint, CanPrintEvent, CanPrintOpening}
 use Rattle.delivery_laws.proofs.Ends.{ending_good}
 use Rattle.delivery_laws.proofs.Runs.{after_both}
+use Rattle.delivery_laws.proofs.Steps.{turn_prints}
+use Rattle.delivery_laws.proofs.turn_records.Ordered.{shares_count}
+use Rattle.delivery_laws.proofs.world_laws.Lists.{length_append}
 use Rattle.delivery_laws.proofs.Works.{turn_good, work_is}
 use Rattle.delivery_laws.specs.delivery_turns.Endings.{ending, without_cycle}
 use Rattle.delivery_laws.specs.delivery_turns.Hosts.{HostState, step_after, step_from, step_of, sums_of}
@@ -35,8 +39,10 @@ use Rattle.delivery_laws.specs.turn_records.Settlements.{settled_after}
 use Rattle.delivery_laws.specs.turn_records.Deliveries as deliveries
 use Rattle.delivery_laws.specs.turn_records.Deliveries.{Delivery, Reading}
 use Rattle.delivery_laws.specs.turn_records.Events as events
-use Rattle.delivery_laws.specs.turn_records.Events.{Answer, Event, given, moves_in, refused, spent, threw}
-use Rattle.delivery_laws.specs.turn_records.Printed.{printed_answer}
+use Rattle.delivery_laws.specs.turn_records.Events.{Answer, Event, Opening, given, moves_in, refused, spent, threw}
+use Rattle.delivery_laws.specs.turn_records.Printed.{printed_answer, printed_event, printed_opening, printed_shares}
+use Rattle.fair_rows.specs.turn_rows.Form.{MayStand}
+use Rattle.fair_rows.specs.turn_rows.HostForms.{HasFewKeywords, HasHostForm, runs_function}
 use Rattle.fair_rows.specs.turn_rows.Turns as rows
 use Rattle.fair_rows.specs.turn_rows.Turns.{Turn}
 use Rattle.delivery_laws.proofs.world_laws.Fronts.{begins, good_behind}
@@ -77,6 +83,23 @@ refused_end (deliveries.send s) e u = resolving_settles s.promise (without_cycle
 refused_end (deliveries.start s) e u = resolving_settles s.promise (without_cycle u.promises.follows s.promise (settled_after (deliveries.start s) (refused e))) u.promises u.waiting u.log
 refused_end (deliveries.offer o) e u = resolving_settles o.promise (without_cycle u.promises.follows o.promise (settled_after (deliveries.offer o) (refused e))) u.promises u.waiting u.log
 refused_end (deliveries.notify n) e u = resolving_settles n.answer (without_cycle u.promises.follows n.answer (settled_after (deliveries.notify n) (refused e))) u.promises u.waiting u.log
+
+-- ---- the form of its rows
+
+calls_stand : (runs : Bool) (es : List Event) → AllByRecursion (λ e. MayStand runs (printed_event e)) es → AllByRecursion (MayStand runs) (rows_of es)
+calls_stand runs [] all = tt
+calls_stand runs (e ∷ es) all = (all.0, calls_stand runs es all.1)
+
+few_printed : (o : Opening) → CanPrintOpening o → HasFewKeywords (rows.opened (printed_opening o))
+few_printed o can = omega (arith, can.few, length_append (printed_shares o.proposal.give) (printed_shares o.proposal.want), shares_count o.proposal.give, shares_count o.proposal.want)
+
+keywords_are_few : (es : List Event) → AllByRecursion CanPrintEvent es → AllByRecursion HasFewKeywords (rows_of es)
+keywords_are_few [] all = tt
+keywords_are_few (events.opened o ∷ es) all = (few_printed o all.0, keywords_are_few es all.1)
+keywords_are_few (events.called c ∷ es) all = (tt, keywords_are_few es all.1)
+keywords_are_few (events.moved m ∷ es) all = (tt, keywords_are_few es all.1)
+keywords_are_few (events.exited x ∷ es) all = (tt, keywords_are_few es all.1)
+keywords_are_few (events.settled p s ∷ es) all = (tt, keywords_are_few es all.1)
 
 -- ---- a whole turn
 
@@ -190,6 +213,18 @@ module _ (read : TextReader) (served : AreGoodServices (serve_call read)) (calle
       by (threw x) same is = cc
       by (spent m) same is = cc
 
+  -- the turn can be printed, and so has the form that a host's turns have
+  can_print : CanPrint (record { number = k + 1; delivery = d; reading = r; answer = a; events = z.log; sums = sums })
+  unfolding delivery_turn
+  can_print = turn_prints read served called (k + 1) meter w d empty good
+
+  form : HasHostForm t
+  form = record {
+    answered = can_print.answered;
+    calls = calls_stand (runs_function t.kind t.answer) z.log can_print.calls;
+    few = keywords_are_few z.log can_print.events;
+  }
+
   pub is_step : IsStep (world_in k w) t (world_in (k + 1) z)
   is_step = record {
     number = refl;
@@ -201,7 +236,7 @@ module _ (read : TextReader) (served : AreGoodServices (serve_call read)) (calle
     minted_is = accounts.minted_is;
     burned_is = accounts.burned_is;
     fits = accounts.fits;
-    few_minted = accounts.few_minted;
+    minted_bounded = accounts.minted_bounded;
     sums = accounts.sums;
     brands = accounts.brands;
     kinds = accounts.kinds;
@@ -218,7 +253,9 @@ module _ (read : TextReader) (served : AreGoodServices (serve_call read)) (calle
     caused = caused_all z.log all.holds.causes;
     owners = all.holds.facets;
     refusal = refusal;
-    read = turned.held;
+    read = turned.held.read;
+    told = turned.held.told;
+    form = form;
   }
 
   pub steady_then : IsSteady z

@@ -28,9 +28,7 @@ use Rattle.delivery_laws.specs.delivery_turns.Tasks.{Beginning, Work, answer_of_
 use Rattle.fair_laws.specs.Owed.{Owes}
 use Rattle.fair_laws.proofs.Others.{owes_at_start}
 use Rattle.fair_laws.proofs.Shown.{either_none}
-use Rattle.fair_laws.specs.Places.{seats_told}
-use Rattle.fair_rows.specs.Amounts.{IsReadByTurn}
-use Rattle.delivery_laws.specs.world_laws.Tables.{table_of}
+use Rattle.fair_laws.specs.Reads.{IsTurnTold}
 use Rattle.fair_rows.specs.ExitCauses.{Owners, cause_by_row, cause_if, either, instance_of, is_of, name, owner_in, serves}
 use Rattle.fair_rows.specs.Rows.{is_offer, is_service}
 use Rattle.delivery_laws.specs.actors.Facets.{FacetView, facet_at, no_facet}
@@ -72,12 +70,12 @@ use Rattle.delivery_laws.specs.world_state.Worlds.{Effect, IsOpen, Seat, State, 
 use Rattle.delivery_laws.specs.rules.Methods.{serve as serve_call}
 use Rattle.fair_laws.specs.Reads.{CallsRead, ServicesRead}
 use Rattle.fair_laws.specs.Views.{IsSteady, owners_from, owners_told}
-use Rattle.fair_laws.proofs.RunCalls.{act_no_facet, first_all, second_all}
+use Rattle.fair_laws.proofs.RunCalls.{act_no_facet, act_uncalled, first_all, second_all}
 use Rattle.fair_laws.proofs.Ends.{IsClosed, closed_if, deadline_same, halts_fit, handler_closed, if_fit, instance_same, none_open, one_closed, open_or_left, seat_same, second_good, spent_same, start_left, turn_with}
 use Rattle.fair_laws.proofs.Holding.{AreFit, Holds, Shows, fit_all, row_of, shows_both}
 use Rattle.fair_laws.proofs.Names.{and_first, and_second, numbers_same, same_bytes, seat_is}
 use Rattle.fair_laws.proofs.Runs.{RunShows, holds_at_start, run_shows}
-use Rattle.fair_laws.proofs.Telling.{HasItsCause, Showing, none_shown}
+use Rattle.fair_laws.proofs.Telling.{HasItsCause, IsNoCalled, Showing, no_kit, none_shown, still_uncalled}
 
 -- ---- what rows of turns show
 
@@ -173,17 +171,23 @@ weaker_shows os t row i w es is = record { shown = is.shown; stored = is.stored;
 -- ---- rows of the host's own objects
 
 -- such effects need no more than that the turn's row shows what they leave and open
-row_fit : (t : Turn) (row : Showing) (w : State) (o : Obj) (m : List ℕ) (v : State) (es : List Effect) → AllByRecursion (MayAct w None o m) es → AllByRecursion IsStored (movements_in es) → (openings_in es ≡ 0) ⊎ (is_offer t ≡ true)
+row_fit : (t : Turn) (row : Showing) (w : State) (o : Obj) (m : List ℕ) (v : State) (es : List Effect) → AllByRecursion IsNoCalled v.log → AllByRecursion (MayAct w None o m) es → AllByRecursion IsStored (movements_in es) → (openings_in es ≡ 0) ⊎ (is_offer t ≡ true)
     → AllByRecursion (λ (d : Departure). (i : ℕ) → row i d.seat ≡ Some d.cause) (departures_in es) → AreFit t row v es
-row_fit t row w o m v [] acts stored opens exits = tt
-row_fit t row w o m v (moves ms ∷ es) acts stored opens exits = (first_all IsStored ms (movements_in es) stored, row_fit t row w o m (after v (moves ms)) es acts.1 (second_all IsStored ms (movements_in es) stored) opens exits)
-row_fit t row w o m v (offer x ∷ es) acts stored (inl none) exits = cc
-row_fit t row w o m v (offer x ∷ es) acts stored (inr is) exits = (is, row_fit t row w o m (after v (offer x)) es acts.1 (second_all IsStored (burn_and_escrows x) (movements_in es) stored) (inr is) exits)
-row_fit t row w o m v (empty_seat i rule ∷ es) acts stored opens exits = let none = acts.0 in cc
-row_fit t row w o m v (exit s cause ∷ es) acts stored opens exits = (exits.0 (seat_at v.seats s).instance, row_fit t row w o m (after v (exit s cause)) es acts.1 stored opens exits.1)
-row_fit t row w o m v (make_facet f ∷ es) acts stored opens exits = absurd (act_no_facet w None o m (make_facet f) acts.0)
-row_fit t row w o m v (note_call c ∷ es) acts stored opens exits = absurd acts.0
-row_fit t row w o m v (e ∷ es) acts stored opens exits = (tt, row_fit t row w o m (after v e) es acts.1 stored opens exits)
+row_fit t row w o m v [] none acts stored opens exits = tt
+row_fit t row w o m v (moves ms ∷ es) none acts stored opens exits = (
+  first_all IsStored ms (movements_in es) stored,
+  row_fit t row w o m (after v (moves ms)) es (still_uncalled v (moves ms) tt none) acts.1 (second_all IsStored ms (movements_in es) stored) opens exits,
+)
+row_fit t row w o m v (offer x ∷ es) none acts stored (inl opened) exits = cc
+row_fit t row w o m v (offer x ∷ es) none acts stored (inr is) exits = (
+  (is, no_kit v.log none),
+  row_fit t row w o m (after v (offer x)) es (still_uncalled v (offer x) tt none) acts.1 (second_all IsStored (burn_and_escrows x) (movements_in es) stored) (inr is) exits,
+)
+row_fit t row w o m v (empty_seat i rule ∷ es) none acts stored opens exits = let nothing = acts.0 in cc
+row_fit t row w o m v (exit s cause ∷ es) none acts stored opens exits = (exits.0 (seat_at v.seats s).instance, row_fit t row w o m (after v (exit s cause)) es (still_uncalled v (exit s cause) tt none) acts.1 stored opens exits.1)
+row_fit t row w o m v (make_facet f ∷ es) none acts stored opens exits = absurd (act_no_facet w None o m (make_facet f) acts.0)
+row_fit t row w o m v (note_call c ∷ es) none acts stored opens exits = absurd acts.0
+row_fit t row w o m v (e ∷ es) none acts stored opens exits = (tt, row_fit t row w o m (after v e) es (still_uncalled v e (act_uncalled w None o m e acts.0) none) acts.1 stored opens exits)
 
 zoe_name : (n : ℕ) → object_name (object kinds.Zoe n) ≡ codes "zoe"
 unfolding object_name
@@ -247,7 +251,7 @@ module _ (read : TextReader) (served : AreGoodServices (serve_call read)) (calle
     pub stays : Stays r a es
     -- what is refused does nothing; what is answered of holdings is held
     pub quiet : (e : Refusal) → a ≡ refused e → es ≡ []
-    pub held : IsReadByTurn (table_of w.rights) (seats_told w) (turn r a)
+    pub held : IsTurnTold w (turn r a)
 
   abbrev TurnsBy : Reading → Work → Type 0
   TurnsBy r work = Turns r work.answer work.effects
@@ -262,8 +266,11 @@ module _ (read : TextReader) (served : AreGoodServices (serve_call read)) (calle
   owes = owes_at_start w empty
 
   -- turns of other kinds read nothing
-  unread : (r : Reading) (a : Answer) → ((turn r a).kind ≡ turn_kinds.service → ⊥) → IsReadByTurn (table_of w.rights) (seats_told w) (turn r a)
-  unread r a bare = record { purse = λ n e is. absurd (bare e); payment = λ n e is. absurd (bare e); final = λ n e is. absurd (bare e) }
+  unread : (r : Reading) (a : Answer) → ((turn r a).kind ≡ turn_kinds.service → ⊥) → IsTurnTold w (turn r a)
+  unread r a bare = record {
+    read = record { purse = λ n e is. absurd (bare e); payment = λ n e is. absurd (bare e); final = λ n e is. absurd (bare e) };
+    told = record { purse = λ n e is. absurd (bare e); payment = λ n e is. absurd (bare e); final = λ n e is. absurd (bare e) };
+  }
 
   fits : (r : Reading) (a : Answer) (es : List Effect) → AreGood w es → AreFit (turn r a) (row r a) w es → Shows os (turn r a) (row r a) (ours r a) w es
   fits r a es are fit = fit_all os (turn r a) (row r a) (λ i n c e. e) (ours r a) w es (starts (row r a) (ours r a)) owes are fit
@@ -273,7 +280,7 @@ module _ (read : TextReader) (served : AreGoodServices (serve_call read)) (calle
     shows = record { shown = tt; stored = tt; owes = owes; holds = starts (row r (refused e)) (ours r (refused e)) };
     stays = λ n opens. none_by_refused (kind_of d r) un os (turn r (refused e)) (seat_at (last (refused e) []).seats n).instance n (code_of e) (printed_trees (shown_trees (shown_by e)));
     quiet = λ f is. refl;
-    held = record { purse = λ n e is. cc; payment = λ n e is. cc; final = λ n e is. cc };
+    held = record { read = record { purse = λ n e is. cc; payment = λ n e is. cc; final = λ n e is. cc }; told = record { purse = λ n e is. cc; payment = λ n e is. cc; final = λ n e is. cc } };
   }
 
   -- a seat that was left is so at the end
@@ -335,7 +342,7 @@ module _ (read : TextReader) (served : AreGoodServices (serve_call read)) (calle
 
     answered_turn : (answer : Tree) (es : List Effect) → CanCall w None o args → serve_call read w o m args ≡ Ok (answer, es) → IsRule w None o m args answer es → Turns at (given answer) es
     answered_turn answer es can so is = record {
-      shows = fits at (given answer) es is.good (row_fit (turn at (given answer)) (row at (given answer)) w o m w es is.acts is.stored
+      shows = fits at (given answer) es is.good (row_fit (turn at (given answer)) (row at (given answer)) w o m w es (subst (AllByRecursion IsNoCalled) (sym empty) tt) is.acts is.stored
           (opens_by answer (openings_in es) o.kind refl known is.opens)
           (subst (AllByRecursion (Asked answer)) (sym is.leaves) (asked answer o.kind refl known)));
       stays = λ n opens. ap (λ x. cause_by_row x (answered answer).answer os (answered answer) (seat_at (last (given answer) es).seats n).instance n) (kind_is (given answer)) ∙ by n opens (serves (name (codes "seat") n) (codes "tryExit") (answered answer)) refl;
@@ -593,7 +600,7 @@ module _ (read : TextReader) (served : AreGoodServices (serve_call read)) (calle
         (if_fit (dated seat) (row_of (owners_told w) (dated seat)) w (is_none (seat_at w.seats seat).last) (exit seat causes.deadline) (ap (λ b. cause_if b causes.deadline) (seat_same seat)));
     stays = λ n opens. by n opens (bytes_eq (named kinds.Seat seat) (name (codes "seat") n)) refl;
     quiet = λ e is. cc;
-    held = record { purse = λ n e is. cc; payment = λ n e is. cc; final = λ n e is. cc };
+    held = record { read = record { purse = λ n e is. cc; payment = λ n e is. cc; final = λ n e is. cc }; told = record { purse = λ n e is. cc; payment = λ n e is. cc; final = λ n e is. cc } };
   }
     where
       by : (n : ℕ) → IsOpen (seat_at (at_end (deliveries.deadline seat) (given null) (left_if seat)).seats n) → (b : Bool) → bytes_eq (named kinds.Seat seat) (name (codes "seat") n) ≡ b → cause_if b causes.deadline ≡ None

@@ -5,15 +5,15 @@ use Rattle.delivery_laws.specs.rules.Traces.{Departure, departures_by}
 use Rattle.delivery_laws.specs.host_data.Tree.{Tree}
 use Rattle.delivery_laws.specs.host_data.declared.data.Obj.{Obj}
 use Rattle.delivery_laws.specs.host_data.declared.data.ObjKind.{ObjKind}
-use Rattle.delivery_laws.specs.host_data.declared.data.ObjKind.TheVariants.{Seat}
+use Rattle.delivery_laws.specs.host_data.declared.data.ObjKind.TheVariants as kinds
 use Rattle.fair_rows.specs.turn_rows.Kinds as hows
 use Rattle.fair_rows.specs.turn_rows.Kinds.{How}
 use Rattle.fair_laws.specs.Places.{rows_of}
 use Rattle.fair_rows.specs.ExitCauses.{Owners, cause_by_calls, first_cause, while_open}
-use Rattle.delivery_laws.specs.turn_records.Events.{Answer, Call, Event, given, opened}
+use Rattle.delivery_laws.specs.turn_records.Events.{Answer, Call, Event, exited, given, opened}
 use Rattle.fair_rows.specs.turn_rows.Causes.{Cause}
 use Rattle.fair_rows.specs.turn_rows.Turns.{Turn}
-use Rattle.delivery_laws.specs.world_state.Worlds.{Effect, IsOpen, State, after, exit, note_call, seat_at}
+use Rattle.delivery_laws.specs.world_state.Worlds.{Effect, IsOpen, Seat, State, after, exit, note_call, seat_at}
 
 -- the first of the departures that is of the seat
 abbrev pub cause_in : ℕ → List Departure → Option Cause
@@ -29,11 +29,17 @@ abbrev pub OpensBelow : ℕ → Event → Type 0
 OpensBelow n (opened o) = o.seat < n
 OpensBelow n _ = Unit {0}
 
+-- a seat that was left in the turn isn't open
+abbrev pub IsLeft : List Seat → Event → Type 0
+IsLeft seats (exited x) = (x.seat < length seats) × (IsOpen (seat_at seats x.seat) → ⊥)
+IsLeft seats _ = Unit {0}
+
 -- the departures that are still to come are just what calls show of open seats
 pub record Owes (w : State) (ds : List Departure) : Type 0 where
   pub shown : (n : ℕ) → IsOpen (seat_at w.seats n) → cause_shown w n ≡ cause_in n ds
   pub made : AllByRecursion (λ (d : Departure). d.seat < length w.seats) ds
   pub opened : AllByRecursion (OpensBelow (length w.seats)) w.log
+  pub left : AllByRecursion (IsLeft w.seats) w.log
 
 -- a seat that is left is left for the first cause that the turn's rows show
 abbrev pub HasCause : Owners → Turn → State → Effect → Type 0
@@ -66,7 +72,7 @@ answered o m args answer = record {
 
 -- seats of users are no target of a contract's calls
 abbrev pub IsNoUserSeat : ObjKind → Type 0
-IsNoUserSeat Seat = ⊥
+IsNoUserSeat kinds.Seat = ⊥
 IsNoUserSeat _ = Unit {0}
 
 -- what is named has numbers that are told apart by their texts

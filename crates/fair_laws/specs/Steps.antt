@@ -33,7 +33,7 @@ pub record AccountsFor (w : World) (t : Turn) (next : World) : Type 0 where
   pub minted_is : (b : ℕ) → next.minted b ≡ w.minted b + size (minted (movements_in t.events) b)
   pub burned_is : (b : ℕ) → next.burned b ≡ w.burned b + size (burned (movements_in t.events) b)
   pub fits : (b : ℕ) → Fits (next.kind_of b) (next.out b)
-  pub few_minted : (b : ℕ) → next.minted b ≤ minted_bound
+  pub minted_bounded : (b : ℕ) → next.minted b ≤ minted_bound
   pub sums : t.sums ≡ map (sum_in next) (brands_of (movements_in t.events))
   pub brands : w.brands ≤ next.brands
   pub kinds : (b : ℕ) → b < w.brands → next.kind_of b ≡ w.kind_of b

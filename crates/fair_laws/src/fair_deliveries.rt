@@ -3,12 +3,14 @@
 ghost use Rattle.std.specs.Prelude.{ℕ, List, IfSome};
 ghost use Rattle.delivery_laws.specs.Hosts.{IsGoodHost};
 ghost use Rattle.delivery_laws.specs.delivery_turns.Hosts.{HostState, step_of};
-ghost use Rattle.fair_laws.specs.Turns.{IsTurnStep, StaysFair, new_host};
+ghost use Rattle.fair_laws.specs.Turns.{IsTurnStep, StaysFair, StaysStrict, new_host};
 ghost use Rattle.fair_rows.specs.SoFar.{nothing_so_far};
 ghost use Rattle.fair_rows.specs.Steps.{Leaves, so_far_after};
+ghost use Rattle.fair_rows.specs.Strict.{AreStrict};
 ghost use Rattle.fair_rows.specs.Turns.{AreFair};
 ghost use Rattle.fair_laws.specs.Views.{IsSteady, world_of};
 ghost use Rattle.delivery_laws.specs.rules.Zoe.{ReadsModules, TextReader};
+ghost use Rattle.fair_rows.specs.turn_rows.Editions.{written};
 ghost use Rattle.fair_rows.specs.turn_rows.Turns.{Turn};
 
 /// The turn of the delivery in front is a step of what makes turns fair, where the host is good and what is read of
@@ -31,6 +33,14 @@ pub fn new_hosts_leave_nothing()
 pub fn turns_of_deliveries_stay_fair()
     ensures step { (read : TextReader) (s : HostState) (ts : List Turn)
         → ReadsModules read → IsGoodHost s → IsSteady s.world
-        → AreFair ts → Leaves (so_far_after ts nothing_so_far) (world_of s)
+        → AreFair written ts → Leaves (so_far_after ts nothing_so_far) (world_of s)
         → IfSome (step_of read s) (StaysFair ts) }
+{}
+
+/// So it is with all that a host keeps to beyond fairness.
+pub fn turns_of_deliveries_stay_strict()
+    ensures step { (read : TextReader) (s : HostState) (ts : List Turn)
+        → ReadsModules read → IsGoodHost s → IsSteady s.world
+        → AreStrict ts → Leaves (so_far_after ts nothing_so_far) (world_of s)
+        → IfSome (step_of read s) (StaysStrict ts) }
 {}

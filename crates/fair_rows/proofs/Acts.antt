@@ -15,9 +15,10 @@ use Rattle.turn_rows.specs.Turns.{called, Event, exited, KeywordAmount, moved, M
 use Rattle.fair_rows.specs.Acts.{Act, ActsShowRows, AreActs, AreEscrows, AreNamed, ExitIsAct, IsAt, OfferIsAct, Place, SinglesAreActs, after_empty, after_exit, after_move, after_offer, exit_rows, offer_rows, payout_move, payout_moves, place_after, place_in, rows_of_acts}
 use Rattle.fair_rows.specs.ExitCauses.{Owners}
 use Rattle.fair_rows.specs.Movements.{is_payment_at, movement_of, movements_in, names}
-use Rattle.fair_rows.specs.Rows.{Due, burn as burn_due, InTurn, IsEscrow, after_event, escrow, is_offer, payment_under, payout, slots_at}
+use Rattle.fair_rows.specs.Rows.{Due, FollowsKit, burn as burn_due, InTurn, IsEscrow, after_event, escrow, is_offer, payment_under, payout, slots_at}
 use Rattle.fair_rows.specs.Seats.{Seat, SlotName, brand_under, contents_of, new_seat, with_exit, with_move}
 use Rattle.fair_rows.specs.SoFar.{SoFar, with_row, with_rows}
+use Rattle.fair_rows.specs.Strict.{IsEmptySeat}
 use Rattle.fair_rows.specs.Steps.{AreInPlace, AreMade, so_far_in}
 use Rattle.fair_rows.specs.Turns.{after_events, after_turn_row}
 use Rattle.fair_rows.specs.Values.{Named}
@@ -94,13 +95,17 @@ module _ (owners : Owners) (t : Turn) (here : List Event) (w : Place) (i : InTur
 
 -- ---- acts of one row
 
+behind_kit : (here : List Event) (o : Opening) → IsEmptySeat here o → FollowsKit here
+behind_kit here o is = record { more = is.more; call = is.call; last = is.last; instance = o.instance; made = is.made }
+
 pub singles_are_acts : (owners : Owners) (t : Turn) (here : List Event) (w : Place) → SinglesAreActs owners t here w
 singles_are_acts owners t here w = record {
-  move = λ m payments can i at. carried owners t here w i at (moved m ∷ []) (after_move w m payments) (can.slots, tt) refl refl refl can.more can.made;
+  move = λ m payments can i at. carried owners t here w i at (moved m ∷ []) (after_move w m payments) ((can.slots, tt), tt) refl refl refl can.more can.made;
   empty_seat = λ o can i at. carried owners t here w i at (opened o ∷ []) (after_empty w o)
-      (record { next = can.opens.next; of_brand = can.opens.of_brand; by = inr can.empty }, tt) (no_offer o can.runs i) refl refl (omega arith) (λ p past. refl);
-  call = λ c read i at. carried owners t here w i at (called c ∷ []) w (read, tt) refl refl refl (omega arith) (λ p past. refl);
-  settlement = λ promise result i at. carried owners t here w i at (settled promise result ∷ []) w (tt, tt) refl refl refl (omega arith) (λ p past. refl);
+      ((record { next = can.opens.next; of_brand = can.opens.of_brand; by = inr (behind_kit here o can.empty); empty = λ follows. (can.empty.gives, can.empty.wants) }, λ none. can.empty), tt)
+      (no_offer o can.runs i) refl refl (omega arith) (λ p past. refl);
+  call = λ c is i at. carried owners t here w i at (called c ∷ []) w ((is.read, (is.told, is.shown)), tt) refl refl refl (omega arith) (λ p past. refl);
+  settlement = λ promise result i at. carried owners t here w i at (settled promise result ∷ []) w ((tt, tt), tt) refl refl refl (omega arith) (λ p past. refl);
 }
   where
     no_offer : (o : Opening) → is_offer t ≡ false → (i : InTurn) → (after_event (at_place owners t here w i) (opened o)).due ≡ []
@@ -128,7 +133,7 @@ payouts_in_place kind_of t seat p payouts (s ∷ ss) j values named new =
     let m : Move = payout_move kind_of t seat p s in
     let rest = payouts_in_place kind_of t seat (p + 1) payouts ss (record j { here = j.here ++ moved m ∷ []; now = with_row j.now (moved m) }) values.1 named.1
     (λ q past. still_new p q j.now.moves m seat s.keyword refl refl (new q (omega (arith, past))) past) in (
-      (record { payment = p; named = named.0; brand = refl; from = refl; to = refl; whole = whole (kind_of s.brand) _ values.0; new = new p (omega arith) }, rest.0),
+      ((record { payment = p; named = named.0; brand = refl; from = refl; to = refl; whole = whole (kind_of s.brand) _ values.0; new = new p (omega arith) }, tt), rest.0),
       rest.1,
     )
 
@@ -215,8 +220,20 @@ exit_is_act kind_of owners t here w x can i at =
     λ j. record after { due = dues w.table x.seat x.payouts (slots_there w.seats x.seat seat can.is_open.was_opened j) } in
     let paid = payouts_in_place kind_of w.table x.seat w.payments x.payouts seat.slots after can.values can.named at.made in
     let ms : List Event = map moved (payout_moves kind_of w.table x.seat w.payments seat.slots) in
-    carried owners t here w i at (exit_rows kind_of w seat x) (after_exit kind_of w seat x)
-    (record { is_open = can.is_open; cause = can.cause; safe = can.safe; as_many = can.as_many; named = each_named x.payouts w.payments seat.slots can.named }, subst (λ (j : InTurn). AreInPlace j ms) (sym due) paid.0)
+    carried owners t here w i at (exit_rows kind_of w seat x) (after_exit kind_of w seat x) (
+      (
+        record {
+          is_open = can.is_open;
+          cause = can.cause;
+          safe = can.safe;
+          as_many = can.as_many;
+          named = each_named x.payouts w.payments seat.slots can.named;
+          fresh = all_weaker (λ (p : Payout). w.payments ≤ p.payment) (λ (p : Payout). names p.payment i.now.moves ≡ false) (λ p past. at.made p.payment past) x.payouts can.fresh;
+        },
+        tt,
+      ),
+      subst (λ (j : InTurn). AreInPlace j ms) (sym due) paid.0,
+    )
     (ap (λ (j : InTurn). (after_events j ms).due) due ∙ paid.1)
     refl
     (seats_kept (with_row there.now (exited x)) (map (with_exit w.table x.seat) w.seats) (payout_moves kind_of w.table x.seat w.payments seat.slots) refl
@@ -279,7 +296,7 @@ escrows_in_place seat [] (m ∷ ms) j escrows = absurd escrows
 escrows_in_place seat (a ∷ amounts) [] j escrows = absurd escrows
 escrows_in_place seat (a ∷ amounts) (m ∷ ms) j escrows =
     let rest = escrows_in_place seat amounts ms (record j { here = j.here ++ moved m ∷ []; now = with_row j.now (moved m) }) escrows.1 in
-    ((escrows.0, rest.0), rest.1)
+    (((escrows.0, tt), rest.0), rest.1)
 
 pub offer_is_act : OfferIsAct
 offer_is_act owners t here w o burn escrows can i at =
@@ -293,7 +310,7 @@ offer_is_act owners t here w o burn escrows can i at =
     let burned : map (with_move burn) seats ≡ seats = same_all (with_move burn) seats (each_one (λ u. with_move burn u ≡ u) (burns_seat burn can.burns.payment can.burns.from can.burns.to) seats) in
     let kept = escrows_keep o w.seats can.opens.alone o.give escrows (all_first (λ (r : KeywordAmount). brand_under r.keyword (new_seat o).slots ≡ Some r.brand) o.give o.want can.opens.of_brand) can.escrowed in
     carried owners t here w i at (offer_rows o burn escrows) (after_offer w o burn escrows)
-    (record { next = can.opens.next; of_brand = can.opens.of_brand; by = inl can.offers }, subst (λ (j : InTurn). AreInPlace j ms) (sym due) (can.burns, rest.0))
+    ((record { next = can.opens.next; of_brand = can.opens.of_brand; by = inl can.offers; empty = λ follows. absurd (can.no_kit follows) }, λ none. absurd (cc)), subst (λ (j : InTurn). AreInPlace j ms) (sym due) ((can.burns, tt), rest.0))
     (ap (λ (j : InTurn). (after_events j ms).due) due ∙ rest.1)
     refl
     (seats_kept (with_row there.now (opened o)) seats (burn ∷ escrows) refl (burned, kept))

@@ -2,10 +2,11 @@
 use Rattle.std.proofs.Common.{◌≡◌, ◌<◌, ◌≤◌, ℕ, ◌+◌, None, Bool, true, false, cond, ◌&&◌, ◌||◌, ◌==◌, List, [], ◌∷◌, ◌++◌, map, refl, sym, ap, subst, ◌∙◌, append_assoc, append-nil, arith}
 use Rattle.std.specs.List.{AllByRecursion, flat_map}
 use Rattle.std.proofs.lemmas.List.Folds.{list_any-append}
-use Rattle.turn_rows.specs.amount_math.Content.{difference, difference-sum, nothing, nothing-sum, sum, sum-assoc, sum-comm}
+use Rattle.turn_rows.specs.amount_math.Content.{Content, difference, difference-sum, nothing, nothing-sum, sum, sum-assoc, sum-comm}
 use Rattle.turn_rows.specs.amount_math.Counted.{counted as size, counted-sum}
 use Rattle.turn_rows.specs.amount_math.ValueView.{Fits, minted_bound}
 use Rattle.turn_rows.specs.amount_math.declared.Kind.{Kind}
+use Rattle.turn_rows.specs.amount_math.declared.Kind.TheVariants.{Nat}
 use Rattle.turn_rows.proofs.rights_model.SupplyLaws.{balanced_after}
 use Rattle.turn_rows.specs.rights_model.Supply.{Balanced, burned, is_outside, minted, moved_where, supply}
 use Rattle.turn_rows.specs.rights_model.Table.{CanMoveAll, Table, holds, moved as table_moved, no_holdings, table_after}
@@ -14,6 +15,7 @@ use Rattle.turn_rows.specs.rights_model.declared.Holder.{Holder}
 use Rattle.turn_rows.specs.rights_model.declared.Holder.TheVariants.{Hand, Payment}
 use Rattle.turn_rows.specs.rights_model.declared.Movement.{Movement}
 use Rattle.serde_json.specs.Data.{Items}
+use Rattle.turn_rows.specs.Editions.{written}
 use Rattle.turn_rows.specs.Turns.{called, Event, exited, moved, opened, refused, settled, Turn}
 use Rattle.fair_rows.specs.Amounts.{IsReadByTurn}
 use Rattle.fair_rows.specs.ExitCauses.{Owners, facets_made, first_cause, instance_of}
@@ -21,8 +23,9 @@ use Rattle.fair_rows.specs.Movements.{is_payment_at, movement_of, movements_in, 
 use Rattle.fair_rows.specs.Rows.{ChangesNothing, InTurn, after_event}
 use Rattle.fair_rows.specs.Seats.{IsOpen, IsSafe, Seat}
 use Rattle.fair_rows.specs.SoFar.{SoFar, amounts_at, nothing_so_far, sum_so_far, with_row, with_rows, with_turn}
-use Rattle.fair_rows.specs.Steps.{AreInPlace, IsKnown, IsStep, Leaves, StepsAreFair, TurnsStayFair, World, at_end, so_far_after, so_far_in, sum_in}
-use Rattle.fair_rows.specs.Turns.{AreFairFrom, AreFairRows, IsCaused, IsFairEnd, IsFairTurn, after_events, after_turn_row}
+use Rattle.fair_rows.specs.Strict.{AreStrictFrom, AreStrictRows, IsStrictTurn, IsToldByTurn}
+use Rattle.fair_rows.specs.Steps.{AreInPlace, IsKnown, IsStep, Leaves, StepsAreFair, StepsAreStrict, TurnsStayFair, TurnsStayStrict, World, at_end, so_far_after, so_far_in, sum_in}
+use Rattle.fair_rows.specs.Turns.{AreFairFrom, AreFairRows, IsCaused, IsFairEnd, IsFairTurn, IsWithin, after_events, after_turn_row}
 use Rattle.fair_rows.specs.Values.{AreOfKinds, IsValueOf, Named}
 use Rattle.fair_rows.proofs.Lists.{all_both, all_first, all_second, all_weaker, neither, neither_first, neither_second}
 
@@ -106,28 +109,28 @@ module _ (kind_of : ℕ → Kind) where
       → AreFairRows i es
   rows_are_fair i [] place can live told values refusal few = tt
   rows_are_fair i (called c ∷ es) place can live told values refusal few = (
-    record { place = place.0; moves = tt; kinds = record { kind_of = kind_of; values = told }; refusal = λ code shown is. tt },
+    record { place = place.0.0; moves = tt; kinds = record { kind_of = kind_of; values = told }; refusal = λ code shown is. tt },
     rows_are_fair (after_event i (called c)) es place.1 can live told values (λ code shown is. (refusal code shown is).1) few,
   )
   rows_are_fair i (settled p r ∷ es) place can live told values refusal few = (
-    record { place = place.0; moves = tt; kinds = record { kind_of = kind_of; values = told }; refusal = λ code shown is. tt },
+    record { place = place.0.0; moves = tt; kinds = record { kind_of = kind_of; values = told }; refusal = λ code shown is. tt },
     rows_are_fair (after_event i (settled p r)) es place.1 can live told values (λ code shown is. (refusal code shown is).1) few,
   )
   rows_are_fair i (exited x ∷ es) place can live told values refusal few = (
-    record { place = place.0; moves = tt; kinds = record { kind_of = kind_of; values = told }; refusal = λ code shown is. (refusal code shown is).0 },
+    record { place = place.0.0; moves = tt; kinds = record { kind_of = kind_of; values = told }; refusal = λ code shown is. (refusal code shown is).0 },
     rows_are_fair (after_event i (exited x)) es place.1 can live told values (λ code shown is. (refusal code shown is).1) few,
   )
   rows_are_fair i (opened o ∷ es) place can live told values refusal few =
       let P = λ (a : Named). IsValueOf (kind_of a.0) a.1 in
       let both = all_both P i.now.amounts (amounts_at (opened o)) told (all_first P (amounts_at (opened o)) (flat_map amounts_at es) values) in (
-        record { place = place.0; moves = tt; kinds = record { kind_of = kind_of; values = both }; refusal = λ code shown is. (refusal code shown is).0 },
+        record { place = place.0.0; moves = tt; kinds = record { kind_of = kind_of; values = both }; refusal = λ code shown is. (refusal code shown is).0 },
         rows_are_fair (after_event i (opened o)) es place.1 can live both (all_second P (amounts_at (opened o)) (flat_map amounts_at es) values) (λ code shown is. (refusal code shown is).1) few,
       )
   rows_are_fair i (moved m ∷ es) place can live told values refusal few =
       let P = λ (a : Named). IsValueOf (kind_of a.0) a.1 in
       let both = all_both P i.now.amounts ((m.brand, m.value) ∷ []) told (values.0, tt) in (
         record {
-          place = place.0;
+          place = place.0.0;
           moves = record { defined = can.0; minted = omega (arith, few m.brand, no_less_minted (with_row i.now (moved m)) es m.brand); live = λ p takes. neither_first (is_payment_at p m.from || is_payment_at p m.to) (names p (movements_in es)) (live p takes) };
           kinds = record { kind_of = kind_of; values = both };
           refusal = λ code shown is. (refusal code shown is).0;
@@ -135,7 +138,17 @@ module _ (kind_of : ℕ → Kind) where
         rows_are_fair (after_event i (moved m)) es place.1 can.1 (λ p takes. neither_second (is_payment_at p m.from || is_payment_at p m.to) (names p (movements_in es)) (live p takes)) both values.1 (λ code shown is. (refusal code shown is).1) few,
       )
 
+-- rows in place are strict
+rows_are_strict : (i : InTurn) (es : List Event) → AreInPlace i es → AreStrictRows i es
+rows_are_strict i [] place = tt
+rows_are_strict i (e ∷ es) place = (place.0.1, rows_are_strict (after_event i e) es place.1)
+
 -- ---- a step
+
+-- what fits a value of a kind is within what a run writes
+within_written : (kind : Kind) (c : Content) → Fits kind c → IsWithin written kind c
+within_written Nat c fits = λ k. omega (arith, fits.each k)
+within_written _ c fits = tt
 
 still_known : (w next : World) → w.brands ≤ next.brands → ((b : ℕ) → b < w.brands → next.kind_of b ≡ w.kind_of b) → (a : Named) → IsKnown w a → IsKnown next a
 still_known w next more same a h =
@@ -242,25 +255,32 @@ module _ (w next : World) (t : Turn) (s : SoFar) (step : IsStep w t next) (leave
   end_is : end ≡ record { before = s; row = t; here = t.events; now = with_rows s t.events; due = end.due }
   end_is = λ i. record { before = before_is start t.events i; row = row_is start t.events i; here = here_all i; now = now_all i; due = end.due }
 
-  fair_end : IsFairEnd (record { before = s; row = t; here = t.events; now = with_rows s t.events; due = end.due }) t.sums
+  fair_end : IsFairEnd written (record { before = s; row = t; here = t.events; now = with_rows s t.events; due = end.due }) t.sums
   fair_end = record {
     complete = ap (λ (i : InTurn). i.due) same_end ∙ step.rows.complete s.moves s.amounts leaves.made;
     sums = step.sums ∙ sums_are (brands_of ms);
-    balanced = record { kind_of = next.kind_of; values = of_kinds (with_turn s t).amounts values_known; adds_up = balanced_so };
+    balanced = record { kind_of = next.kind_of; values = of_kinds (with_turn s t).amounts values_known; adds_up = balanced_so; within = λ b. within_written (next.kind_of b) (supply (with_turn s t).moves b) (balanced_so.bounded b) };
     safe = subst (λ (p : List Seat × Table). (seat : ℕ) (is_open : IsOpen p.0 seat) → IsSafe p.1 is_open.seat.opening) (λ i. (sym seats_are i, sym table_is i)) step.safe;
     stays = subst (λ (p : List Seat × Owners). (seat : ℕ) (is_open : IsOpen p.0 seat) → first_cause p.1 t t.events is_open.seat.opening.instance seat ≡ None) (λ i. (sym seats_are i, sym leaves.owners i)) step.stays;
     caused = subst (λ (p : List Seat × Owners). AllByRecursion (IsCaused p.0 p.1 t t.events) t.events) (λ i. (sym seats_are i, sym leaves.owners i)) step.caused;
     emptied = λ p b takes. subst (λ u. holds u (Payment p) b ≡ nothing) (sym table_is) (step.emptied p b takes);
   }
 
-  fair_turn : IsFairTurn s t
+  fair_turn : IsFairTurn written s t
   fair_turn = record {
     row = record { number = omega (arith, step.number, leaves.turns); read = subst (λ (p : Table × List Seat). IsReadByTurn p.0 p.1 t) (λ i. (sym leaves.table i, sym leaves.seats i)) step.read };
     events = rows_are_fair next.kind_of start t.events
         (subst (λ (u : SoFar). AreInPlace (after_turn_row u t) t.events) (sym (told_is s w leaves)) (step.rows.place s.moves s.amounts leaves.made))
         defined_here taken_here (of_kinds s.amounts values_before) (of_kinds (flat_map amounts_at t.events) step.values) step.refusal
-        (λ b. subst (λ n. n ≤ minted_bound) (minted_is b) (step.few_minted b));
-    end = subst (λ (i : InTurn). IsFairEnd i t.sums) (sym end_is) fair_end;
+        (λ b. subst (λ n. n ≤ minted_bound) (minted_is b) (step.minted_bounded b));
+    end = subst (λ (i : InTurn). IsFairEnd written i t.sums) (sym end_is) fair_end;
+  }
+
+  strict_turn : IsStrictTurn s t
+  strict_turn = record {
+    form = step.form;
+    told = subst (λ (p : Table × List Seat). IsToldByTurn p.0 p.1 t) (λ i. (sym leaves.table i, sym leaves.seats i)) step.told;
+    rows = rows_are_strict start t.events (subst (λ (u : SoFar). AreInPlace (after_turn_row u t) t.events) (sym (told_is s w leaves)) (step.rows.place s.moves s.amounts leaves.made));
   }
 
   taken_by : (p : ℕ) (a b : Bool) → a ≡ takes_from p s.moves → b ≡ takes_from p ms → w.is_taken p ≡ a → next.is_taken p ≡ (a || b)
@@ -287,11 +307,18 @@ module _ (w next : World) (t : Turn) (s : SoFar) (step : IsStep w t next) (leave
 pub steps_are_fair : StepsAreFair
 steps_are_fair w next t s step leaves = (fair_turn w next t s step leaves, leaves_next w next t s step leaves)
 
+pub steps_are_strict : StepsAreStrict
+steps_are_strict w next t s step leaves = strict_turn w next t s step leaves
+
 -- ---- lists of turns
 
-push_fair : (s : SoFar) (ts : List Turn) (t : Turn) → AreFairFrom s ts → IsFairTurn (so_far_after ts s) t → AreFairFrom s (ts ++ t ∷ [])
+push_fair : (s : SoFar) (ts : List Turn) (t : Turn) → AreFairFrom written s ts → IsFairTurn written (so_far_after ts s) t → AreFairFrom written s (ts ++ t ∷ [])
 push_fair s [] t fair last = (last, tt)
 push_fair s (u ∷ ts) t fair last = (fair.0, push_fair (with_turn s u) ts t fair.1 last)
+
+push_strict : (s : SoFar) (ts : List Turn) (t : Turn) → AreStrictFrom s ts → IsStrictTurn (so_far_after ts s) t → AreStrictFrom s (ts ++ t ∷ [])
+push_strict s [] t strict last = (last, tt)
+push_strict s (u ∷ ts) t strict last = (strict.0, push_strict (with_turn s u) ts t strict.1 last)
 
 push_told : (s : SoFar) (ts : List Turn) (t : Turn) → so_far_after (ts ++ t ∷ []) s ≡ with_turn (so_far_after ts s) t
 push_told s [] t = refl
@@ -301,3 +328,6 @@ pub stay_fair : TurnsStayFair
 stay_fair w next t ts step fair leaves =
     let s = so_far_after ts nothing_so_far in
     (push_fair nothing_so_far ts t fair (fair_turn w next t s step leaves), subst (λ (u : SoFar). Leaves u next) (sym (push_told nothing_so_far ts t)) (leaves_next w next t s step leaves))
+
+pub stay_strict : TurnsStayStrict
+stay_strict w next t ts step strict leaves = push_strict nothing_so_far ts t strict (strict_turn w next t (so_far_after ts nothing_so_far) step leaves)

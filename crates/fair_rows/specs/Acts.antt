@@ -9,8 +9,9 @@ use Rattle.turn_rows.specs.Turns.{Call, Event, called, exited, KeywordAmount, mo
 use Rattle.fair_rows.specs.Amounts.{IsReadByCall}
 use Rattle.fair_rows.specs.ExitCauses.{Owners, first_cause}
 use Rattle.fair_rows.specs.Movements.{movement_of, movements_in, names}
-use Rattle.fair_rows.specs.Rows.{InTurn, IsBurn, IsEmptySeat, IsEscrow, NamesOpenSlots, is_offer, payment_under}
+use Rattle.fair_rows.specs.Rows.{FollowsKit, InTurn, IsBurn, IsEscrow, NamesOpenSlots, is_offer, payment_under}
 use Rattle.fair_rows.specs.Seats.{IsOpen, IsSafe, Seat, SlotName, brand_under, new_seat, with_exit, with_move}
+use Rattle.fair_rows.specs.Strict.{AreShownByCalls, IsEmptySeat, IsToldByCall}
 use Rattle.fair_rows.specs.Steps.{AreInPlace, ShowsRows, World}
 use Rattle.fair_rows.specs.Turns.{after_events}
 use Rattle.fair_rows.specs.Values.{value_of}
@@ -100,6 +101,7 @@ pub record CanExit (kind_of : ℕ → Kind) (owners : Owners) (t : Turn) (here :
   pub values : AllByRecursion (λ s. IsValue (kind_of s.brand) (holds w.table (Slot x.seat s.keyword) s.brand)) is_open.seat.slots
   pub as_many : length x.payouts ≡ length is_open.seat.slots
   pub named : AreNamed x.payouts w.payments is_open.seat.slots
+  pub fresh : AllByRecursion (λ (p : Payout). w.payments ≤ p.payment) x.payouts
 
 abbrev pub ExitIsAct : Type 0
 ExitIsAct =
@@ -124,10 +126,11 @@ pub record IsNext (w : Place) (o : Opening) : Type 0 where
   pub of_brand : AllByRecursion (λ a. brand_under a.keyword (new_seat o).slots ≡ Some a.brand) (o.give ++ o.want)
   pub alone : AllByRecursion (λ (s : Seat). (o.seat == s.opening.seat) ≡ false) w.seats
 
--- by an offer that is answered; its movements name no payment past those made
-pub record CanOffer (t : Turn) (w : Place) (o : Opening) (burn : Move) (escrows : List Move) : Type 0 where
+-- by an offer that is answered, and not behind a kit's call; its movements name no payment past those made
+pub record CanOffer (t : Turn) (here : List Event) (w : Place) (o : Opening) (burn : Move) (escrows : List Move) : Type 0 where
   pub opens : IsNext w o
   pub offers : is_offer t ≡ true
+  pub no_kit : FollowsKit here → ⊥
   pub burns : IsBurn burn
   pub escrowed : AreEscrows o.seat o.give escrows
   pub made : (p : ℕ) → w.payments ≤ p → names p (movements_in (offer_rows o burn escrows)) ≡ false
@@ -142,7 +145,7 @@ after_offer w o burn escrows = record {
 abbrev pub OfferIsAct : Type 0
 OfferIsAct =
     (owners : Owners) (t : Turn) (here : List Event) (w : Place) (o : Opening) (burn : Move) (escrows : List Move)
-    → CanOffer t w o burn escrows
+    → CanOffer t here w o burn escrows
     → IsAct owners t here w (offer_rows o burn escrows) (after_offer w o burn escrows)
 
 -- ---- acts of one row
@@ -165,8 +168,14 @@ pub record CanOpenEmpty (t : Turn) (here : List Event) (w : Place) (o : Opening)
   pub runs : is_offer t ≡ false
   pub empty : IsEmptySeat here o
 
+-- what a call answers is what there is, and is told whole; seats that have exited did so for calls
+pub record IsAnsweredCall (here : List Event) (w : Place) (c : Call) : Type 0 where
+  pub read : IsReadByCall w.table c
+  pub told : IsToldByCall w.table w.seats c
+  pub shown : AreShownByCalls w.seats here
+
 pub record SinglesAreActs (owners : Owners) (t : Turn) (here : List Event) (w : Place) : Type 0 where
   pub move : (m : Move) (payments : ℕ) → CanMoveHere w m payments → IsAct owners t here w (moved m ∷ []) (after_move w m payments)
   pub empty_seat : (o : Opening) → CanOpenEmpty t here w o → IsAct owners t here w (opened o ∷ []) (after_empty w o)
-  pub call : (c : Call) → IsReadByCall w.table w.seats c → IsAct owners t here w (called c ∷ []) w
+  pub call : (c : Call) → IsAnsweredCall here w c → IsAct owners t here w (called c ∷ []) w
   pub settlement : (promise : ℕ) (result : Settlement) → IsAct owners t here w (settled promise result ∷ []) w

@@ -8,7 +8,7 @@ use Rattle.turn_rows.specs.Causes.{Cause}
 use Rattle.turn_rows.specs.Kinds as kinds
 use Rattle.turn_rows.specs.Kinds.{How, Kind}
 use Rattle.turn_rows.specs.Rows.{instance_name}
-use Rattle.turn_rows.specs.Turns.{Answer, ok, threw, spent, Call, Event, called, opened, Turn}
+use Rattle.turn_rows.specs.Turns.{Answer, ok, threw, spent, Call, Event, called, exited, opened, Turn}
 
 -- `seat4`, `zseat4`, `zcf0`
 abbrev pub name : List ℕ → ℕ → List ℕ
@@ -35,17 +35,29 @@ is_call _ = false
 abbrev pub calls : List ℕ → List ℕ → Call → Bool
 calls on method c = is_call c.how && is_ok c.answer && bytes_eq c.on on && bytes_eq c.method method
 
+-- a call on the seat
+abbrev pub cause_of_own_call : ℕ → Call → Option Cause
+cause_of_own_call seat c =
+    either (cause_if (calls (name (codes "zseat") seat) (codes "exit") c) causes.exit)
+    (cause_if (calls (name (codes "zseat") seat) (codes "fail") c) causes.fail)
+
 -- a call on the seat, or one that halts its instance
 abbrev pub cause_of_call : ℕ → ℕ → Call → Option Cause
 cause_of_call instance seat c =
-    either (cause_if (calls (name (codes "zseat") seat) (codes "exit") c) causes.exit)
-    (either (cause_if (calls (name (codes "zseat") seat) (codes "fail") c) causes.fail)
-    (cause_if (calls (name (codes "zcf") instance) (codes "shutdown") c || calls (name (codes "zcf") instance) (codes "shutdownWithFailure") c) causes.halted))
+    either (cause_of_own_call seat c)
+    (cause_if (calls (name (codes "zcf") instance) (codes "shutdown") c || calls (name (codes "zcf") instance) (codes "shutdownWithFailure") c) causes.halted)
 
--- the first that call rows show
+-- the first that call rows show of a seat that has exited: to be halted it would have to be open
+abbrev pub cause_behind_exit : ℕ → List Event → Option Cause
+cause_behind_exit seat [] = None
+cause_behind_exit seat (called c ∷ es) = either (cause_of_own_call seat c) (cause_behind_exit seat es)
+cause_behind_exit seat (_ ∷ es) = cause_behind_exit seat es
+
+-- the first that call rows show of a seat
 abbrev pub cause_by_calls : ℕ → ℕ → List Event → Option Cause
 cause_by_calls instance seat [] = None
 cause_by_calls instance seat (called c ∷ es) = either (cause_of_call instance seat c) (cause_by_calls instance seat es)
+cause_by_calls instance seat (exited x ∷ es) = if x.seat == seat then cause_behind_exit seat es else cause_by_calls instance seat es
 cause_by_calls instance seat (_ ∷ es) = cause_by_calls instance seat es
 
 -- the rows since the seat was opened, where it was opened among them

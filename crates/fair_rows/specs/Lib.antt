@@ -6,6 +6,7 @@ pub mod SoFar
 pub mod Amounts
 pub mod Rows
 pub mod Turns
+pub mod Strict
 pub mod Steps
 pub mod Acts
 pub use Rattle.turn_rows.specs.amount_math

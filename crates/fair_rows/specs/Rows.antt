@@ -123,36 +123,39 @@ pub record IsFairMove (i : InTurn) (m : Move) : Type 0 where
 
 -- ---- openings
 
--- the call row of makeEmptySeatKit stands right before, by the instance of the seat; it gives and wants nothing
-pub record IsEmptySeat (here : List Event) (o : Opening) : Type 0 where
+-- a call row of makeEmptySeatKit, of whichever instance, stands right before
+pub record FollowsKit (here : List Event) : Type 0 where
   pub more : List Event
   pub call : Call
   pub last : here ≡ more ++ called call ∷ []
-  pub made : calls (name (codes "zcf") o.instance) (codes "makeEmptySeatKit") call ≡ true
-  pub gives : o.give ≡ []
-  pub wants : o.want ≡ []
+  pub instance : ℕ
+  pub made : calls (name (codes "zcf") instance) (codes "makeEmptySeatKit") call ≡ true
 
--- the next seat is opened, each of its slots is of one brand, by an offer that is answered or as an empty seat
+-- the next seat is opened, each of its slots is of one brand, by an offer that is answered or behind a kit's call, and
+-- behind that it gives and wants nothing
 pub record IsFairOpening (i : InTurn) (o : Opening) : Type 0 where
   pub next : o.seat ≡ length i.now.seats
   pub of_brand : AllByRecursion (λ a. brand_under a.keyword (new_seat o).slots ≡ Some a.brand) (o.give ++ o.want)
-  pub by : (is_offer i.row ≡ true) ⊎ IsEmptySeat i.here o
+  pub by : (is_offer i.row ≡ true) ⊎ FollowsKit i.here
+  pub empty : FollowsKit i.here → (o.give ≡ []) × (o.want ≡ [])
 
 -- ---- exits
 
--- an open seat exits, with the first cause that the rows so far show; it is covered, and a payment stands for each slot
+-- an open seat exits, with the first cause that the rows so far show; it is covered, and a payment stands for each slot,
+-- which no movement so far names
 pub record IsFairExit (i : InTurn) (x : SeatExit) : Type 0 where
   pub is_open : IsOpen i.now.seats x.seat
   pub cause : first_cause i.before.owners i.row i.here is_open.seat.opening.instance x.seat ≡ Some x.cause
   pub safe : IsSafe i.now.table is_open.seat.opening
   pub as_many : length x.payouts ≡ length is_open.seat.slots
   pub named : AllByRecursion (λ slot. is_some (payment_under slot.keyword x.payouts) ≡ true) is_open.seat.slots
+  pub fresh : AllByRecursion (λ (p : Payout). names p.payment i.now.moves ≡ false) x.payouts
 
 -- ---- rows
 
 -- where movements are due, the first of them; else what the row is
 abbrev pub IsInPlace : List Due → InTurn → Event → Type 0
-IsInPlace [] i (called c) = IsReadByCall i.now.table i.now.seats c
+IsInPlace [] i (called c) = IsReadByCall i.now.table c
 IsInPlace [] i (opened o) = IsFairOpening i o
 IsInPlace [] i (moved m) = NamesOpenSlots i.now.seats m
 IsInPlace [] i (exited x) = IsFairExit i x

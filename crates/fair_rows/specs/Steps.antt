@@ -12,6 +12,8 @@ use Rattle.turn_rows.specs.rights_model.declared.Holder.TheVariants.{Hand, Payme
 use Rattle.turn_rows.specs.rights_model.declared.Movement.{Movement}
 use Rattle.turn_rows.specs.rights_model.declared.Sum.{Sum}
 use Rattle.serde_json.specs.Data.{Items}
+use Rattle.turn_rows.specs.Editions.{written}
+use Rattle.turn_rows.specs.HostForms.{HasHostForm}
 use Rattle.turn_rows.specs.Turns.{Event, refused, Turn}
 use Rattle.fair_rows.specs.Amounts.{IsReadByTurn}
 use Rattle.fair_rows.specs.ExitCauses.{Owners, facets_made, first_cause, instance_of}
@@ -19,6 +21,7 @@ use Rattle.fair_rows.specs.Movements.{movements_in, names, takes_from}
 use Rattle.fair_rows.specs.Rows.{ChangesNothing, InTurn, IsInPlace, after_event}
 use Rattle.fair_rows.specs.Seats.{IsOpen, IsSafe, Seat}
 use Rattle.fair_rows.specs.SoFar.{SoFar, amounts_at, nothing_so_far, with_turn}
+use Rattle.fair_rows.specs.Strict.{AreStrict, IsStrictRow, IsStrictTurn, IsToldByTurn}
 use Rattle.fair_rows.specs.Turns.{AreFair, IsCaused, IsFairTurn, after_events, after_turn_row}
 use Rattle.fair_rows.specs.Values.{IsValueOf, Named}
 
@@ -80,10 +83,10 @@ so_far_in w moves amounts = record { turns = w.turns; table = w.table; moves = m
 abbrev pub AreMade : World → List Movement → Type 0
 AreMade w moves = (p : ℕ) → w.payments ≤ p → names p moves ≡ false
 
--- each row is in its place after those before it
+-- each row is in its place after those before it, and is strict there
 abbrev pub AreInPlace : InTurn → List Event → Type 0
 AreInPlace i [] = Unit {0}
-AreInPlace i (e ∷ es) = IsInPlace i.due i e × AreInPlace (after_event i e) es
+AreInPlace i (e ∷ es) = (IsInPlace i.due i e × IsStrictRow i e) × AreInPlace (after_event i e) es
 
 -- where a turn stands after all its rows
 abbrev pub at_end : World → Turn → List Movement → List Named → InTurn
@@ -108,7 +111,7 @@ pub record IsStep (w : World) (t : Turn) (next : World) : Type 0 where
   pub minted_is : (b : ℕ) → next.minted b ≡ w.minted b + size (minted (movements_in t.events) b)
   pub burned_is : (b : ℕ) → next.burned b ≡ w.burned b + size (burned (movements_in t.events) b)
   pub fits : (b : ℕ) → Fits (next.kind_of b) (next.out b)
-  pub few_minted : (b : ℕ) → next.minted b ≤ minted_bound
+  pub minted_bounded : (b : ℕ) → next.minted b ≤ minted_bound
   pub sums : t.sums ≡ map (sum_in next) (brands_of (movements_in t.events))
   -- brands and values
   pub brands : w.brands ≤ next.brands
@@ -130,12 +133,18 @@ pub record IsStep (w : World) (t : Turn) (next : World) : Type 0 where
   -- the turn row
   pub refusal : (code : List ℕ) (shown : Items) → t.answer ≡ refused code shown → AllByRecursion ChangesNothing t.events
   pub read : IsReadByTurn w.table w.seats t
+  pub told : IsToldByTurn w.table w.seats t
+  pub form : HasHostForm t
 
 -- ---- the law
 
--- after whatever leaves the world the step's turn is fair, and leaves the next world
+-- after whatever leaves the world the step's turn is fair, as one of the text that a run writes, and leaves the next world
 abbrev pub StepsAreFair : Type 0
-StepsAreFair = (w next : World) (t : Turn) (s : SoFar) → IsStep w t next → Leaves s w → IsFairTurn s t × Leaves (with_turn s t) next
+StepsAreFair = (w next : World) (t : Turn) (s : SoFar) → IsStep w t next → Leaves s w → IsFairTurn written s t × Leaves (with_turn s t) next
+
+-- and it is strict
+abbrev pub StepsAreStrict : Type 0
+StepsAreStrict = (w next : World) (t : Turn) (s : SoFar) → IsStep w t next → Leaves s w → IsStrictTurn s t
 
 abbrev pub so_far_after : List Turn → SoFar → SoFar
 so_far_after [] s = s
@@ -146,6 +155,15 @@ abbrev pub TurnsStayFair : Type 0
 TurnsStayFair =
     (w next : World) (t : Turn) (ts : List Turn)
     → IsStep w t next
-    → AreFair ts
+    → AreFair written ts
     → Leaves (so_far_after ts nothing_so_far) w
-    → AreFair (ts ++ t ∷ []) × Leaves (so_far_after (ts ++ t ∷ []) nothing_so_far) next
+    → AreFair written (ts ++ t ∷ []) × Leaves (so_far_after (ts ++ t ∷ []) nothing_so_far) next
+
+-- for every strict list of turns that leaves the world, the list with this turn is strict
+abbrev pub TurnsStayStrict : Type 0
+TurnsStayStrict =
+    (w next : World) (t : Turn) (ts : List Turn)
+    → IsStep w t next
+    → AreStrict ts
+    → Leaves (so_far_after ts nothing_so_far) w
+    → AreStrict (ts ++ t ∷ [])

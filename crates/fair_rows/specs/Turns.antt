@@ -1,13 +1,15 @@
 -- When a turn is fair after the turns before it, and a list of turns.
-use Rattle.std.specs.Prelude.{◌≡◌, ℕ, ◌+◌, true, List, [], ◌∷◌, None, Some, map}
+use Rattle.std.specs.Prelude.{◌≡◌, ◌<◌, ℕ, ◌+◌, true, List, [], ◌∷◌, None, Some, map}
 use Rattle.std.specs.List.{AllByRecursion, slice_get}
-use Rattle.turn_rows.specs.amount_math.Content.{nothing}
+use Rattle.turn_rows.specs.amount_math.Content.{Content, count, nothing}
 use Rattle.turn_rows.specs.amount_math.declared.Kind.{Kind}
+use Rattle.turn_rows.specs.amount_math.declared.Kind.TheVariants.{Nat}
 use Rattle.turn_rows.specs.rights_model.Supply.{Balanced, supply}
 use Rattle.turn_rows.specs.rights_model.Table.{holds}
 use Rattle.turn_rows.specs.rights_model.Totals.{brands_of}
 use Rattle.turn_rows.specs.rights_model.declared.Holder.TheVariants.{Payment}
 use Rattle.turn_rows.specs.rights_model.declared.Sum.{Sum}
+use Rattle.turn_rows.specs.Editions.{nat_end}
 use Rattle.turn_rows.specs.declared.editions.Edition.{Edition}
 use Rattle.turn_rows.specs.Form.{AreInForm}
 use Rattle.turn_rows.specs.Texts.{journal_text}
@@ -46,11 +48,17 @@ AreFairRows i (e ∷ es) = IsFairRow i e × AreFairRows (after_event i e) es
 abbrev pub sums_due : InTurn → List Sum
 sums_due i = map (sum_so_far i.now) (brands_of (movements_in i.here))
 
--- each brand's purses, payments and slots add up to minted less burned
-pub record IsBalanced (s : SoFar) : Type 0 where
+-- no count of a nat brand's supply passes what a nat value may be in the edition; of a set and of a bag both have one bound
+abbrev pub IsWithin : Edition → Kind → Content → Type 0
+IsWithin e Nat c = (k : List ℕ) → count c k < nat_end e
+IsWithin e _ c = Unit {0}
+
+-- each brand's purses, payments and slots add up to minted less burned, and that is within the edition's bounds
+pub record IsBalanced (e : Edition) (s : SoFar) : Type 0 where
   pub kind_of : ℕ → Kind
   pub values : AreOfKinds kind_of s.amounts
   pub adds_up : Balanced s.table kind_of (supply s.moves)
+  pub within : (b : ℕ) → IsWithin e (kind_of b) (supply s.moves b)
 
 -- what these rows of a turn show first for a seat is the cause that its exit row told
 pub record HasFirstCause (seats : List Seat) (owners : Owners) (t : Turn) (es : List Event) (x : SeatExit) : Type 0 where
@@ -62,11 +70,11 @@ abbrev pub IsCaused : List Seat → Owners → Turn → List Event → Event →
 IsCaused seats owners t es (exited x) = HasFirstCause seats owners t es x
 IsCaused seats owners t es _ = Unit {0}
 
-pub record IsFairEnd (i : InTurn) (told : List Sum) : Type 0 where
+pub record IsFairEnd (e : Edition) (i : InTurn) (told : List Sum) : Type 0 where
   -- no movement is still due
   pub complete : i.due ≡ []
   pub sums : told ≡ sums_due i
-  pub balanced : IsBalanced i.now
+  pub balanced : IsBalanced e i.now
   -- every open seat is covered, and no cause was shown for it; every seat that exited did so for the first cause
   pub safe : (seat : ℕ) (is_open : IsOpen i.now.seats seat) → IsSafe i.now.table is_open.seat.opening
   pub stays : (seat : ℕ) (is_open : IsOpen i.now.seats seat) → first_cause i.before.owners i.row i.here is_open.seat.opening.instance seat ≡ None
@@ -76,21 +84,22 @@ pub record IsFairEnd (i : InTurn) (told : List Sum) : Type 0 where
 
 -- ---- turns
 
-pub record IsFairTurn (s : SoFar) (t : Turn) : Type 0 where
+pub record IsFairTurn (e : Edition) (s : SoFar) (t : Turn) : Type 0 where
   pub row : IsFairTurnRow s t
   pub events : AreFairRows (after_turn_row s t) t.events
-  pub end : IsFairEnd (after_events (after_turn_row s t) t.events) t.sums
+  pub end : IsFairEnd e (after_events (after_turn_row s t) t.events) t.sums
 
 -- each turn is fair after what those before it tell
-abbrev pub AreFairFrom : SoFar → List Turn → Type 0
-AreFairFrom s [] = Unit {0}
-AreFairFrom s (t ∷ ts) = IsFairTurn s t × AreFairFrom (with_turn s t) ts
+abbrev pub AreFairFrom : Edition → SoFar → List Turn → Type 0
+AreFairFrom e s [] = Unit {0}
+AreFairFrom e s (t ∷ ts) = IsFairTurn e s t × AreFairFrom e (with_turn s t) ts
 
-abbrev pub AreFair : List Turn → Type 0
-AreFair ts = AreFairFrom nothing_so_far ts
+-- as turns of a text of the edition
+abbrev pub AreFair : Edition → List Turn → Type 0
+AreFair e ts = AreFairFrom e nothing_so_far ts
 
 -- the bytes are the text of a fair journal in this edition: of turns in form, which are fair, with so many deliveries left
 pub record IsFairJournal (e : Edition) (bytes : List ℕ) (ts : List Turn) (left : ℕ) : Type 0 where
   pub text : bytes ≡ journal_text e ts left
   pub form : AreInForm e ts left
-  pub fair : AreFair ts
+  pub fair : AreFair e ts

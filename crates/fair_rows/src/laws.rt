@@ -5,15 +5,18 @@ ghost use Rattle.turn_rows.specs.amount_math.Content.{Content};
 ghost use Rattle.turn_rows.specs.amount_math.ValueView.{IsValue};
 ghost use Rattle.turn_rows.specs.amount_math.declared.Kind.{Kind};
 ghost use Rattle.turn_rows.specs.Turns.{Event, Turn};
+ghost use Rattle.turn_rows.specs.declared.editions.Edition.{Edition};
 ghost use Rattle.fair_rows.specs.Acts.{ActsShowRows, ExitIsAct, OfferIsAct, Place, SinglesAreActs};
 ghost use Rattle.fair_rows.specs.ExitCauses.{Owners};
-ghost use Rattle.fair_rows.specs.Steps.{StepsAreFair, TurnsStayFair};
+ghost use Rattle.fair_rows.specs.Steps.{StepsAreFair, StepsAreStrict, TurnsStayFair, TurnsStayStrict};
+ghost use Rattle.fair_rows.specs.Strict.{AreStrict};
 ghost use Rattle.fair_rows.specs.Turns.{AreFair};
 ghost use Rattle.fair_rows.specs.Values.{content_of, value_of};
 
-/// No turns are fair.
+/// No turns are fair, and strict.
 pub fn no_turns_are_fair()
-    ensures { AreFair [] }
+    ensures fair { (e : Edition) → AreFair e [] }
+    ensures strict { AreStrict [] }
 {}
 
 /// Where a step shows of its world what it must, its turn is fair after whatever leaves that world, and
@@ -22,6 +25,13 @@ pub fn no_turns_are_fair()
 pub fn turns_stay_fair()
     ensures steps { StepsAreFair }
     ensures turns { TurnsStayFair }
+{}
+
+/// Such a turn keeps to all that a host keeps to beyond fairness, and so do the turns with it where those
+/// before it do.
+pub fn turns_stay_strict()
+    ensures steps { StepsAreStrict }
+    ensures turns { TurnsStayStrict }
 {}
 
 /// A value of its kind is told whole by how it is printed.

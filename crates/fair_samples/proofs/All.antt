@@ -3,6 +3,7 @@ use Rattle.std.proofs.Common.{◌≡◌, ◌≢◌, ℕ, zero, suc, Bool, true, 
 use Rattle.std.proofs.lemmas.Bool.{and_parts, true≢false}
 use Rattle.std.specs.List.{list_all, slice_get}
 use Rattle.fair_rows.specs.turn_rows.Turns.{Turn}
+use Rattle.fair_rows.specs.turn_rows.declared.editions.Edition.{Edition}
 use Rattle.fair_samples.specs.Sentences.{Sentence, turns_are_numbered, purse_amounts, payment_amounts, final_amounts, movements_are_defined, payments_stay_spent, values_are_of_one_kind, slots_are_of_one_brand, seats_are_in_order, offers_burn, offers_escrow, kits_are_empty, openings_are_called_for, exits_are_of_open_seats, exits_follow_their_cause, causes_are_the_first, causes_are_followed, payouts_follow, payouts_are_named, payouts_are_new, exits_are_covered, seats_stay_covered, refusals_change_nothing, slots_are_of_opened_seats, slots_are_of_no_exited_seat, payments_are_emptied, tables_balance, supplies_are_bounded, sums_are_told, current_amounts, slot_amounts, minted_totals_are_bounded}
 use Rattle.fair_samples.specs.Sentences.{Meets}
 use Rattle.fair_samples.proofs.Together.{same_some}
@@ -96,18 +97,18 @@ abbrev pub is_sentence : Sentence → Sentence → Bool
 is_sentence x y = sentence_number y == sentence_number x
 
 -- each sentence that isn't skipped passes
-abbrev pub all_but : (Sentence → Bool) → List Turn → Bool
-all_but skips ts = list_all (λ y. skips y || passes y ts) sentences
+abbrev pub all_but : Edition → (Sentence → Bool) → List Turn → Bool
+all_but d skips ts = list_all (λ y. skips y || passes d y ts) sentences
 
 pub behind : (a b : Bool) → (a || b) ≡ true → a ≡ false → b ≡ true
 behind true b h is = absurd (true≢false is)
 behind false b h is = h
 
-pub tested : (skips : Sentence → Bool) (ts : List Turn) → all_but skips ts ≡ true → (y : Sentence) → skips y ≡ false → Meets y ts
-tested skips ts all y kept = sound y ts (behind (skips y) (passes y ts) (each_of_all (λ z. skips z || passes z ts) all y) kept)
+pub tested : (d : Edition) (skips : Sentence → Bool) (ts : List Turn) → all_but d skips ts ≡ true → (y : Sentence) → skips y ≡ false → Meets d y ts
+tested d skips ts all y kept = sound d y ts (behind (skips y) (passes d y ts) (each_of_all (λ z. skips z || passes d z ts) all y) kept)
 
 pub other : (x y : Sentence) → y ≢ x → is_sentence x y ≡ false
 other x y apart = ne_eqb (sentence_number y) (sentence_number x) (λ e. apart (same_sentence y x e))
 
-pub others_met : (x : Sentence) (ts : List Turn) → all_but (is_sentence x) ts ≡ true → (y : Sentence) → y ≢ x → Meets y ts
-others_met x ts all y apart = tested (is_sentence x) ts all y (other x y apart)
+pub others_met : (d : Edition) (x : Sentence) (ts : List Turn) → all_but d (is_sentence x) ts ≡ true → (y : Sentence) → y ≢ x → Meets d y ts
+others_met d x ts all y apart = tested d (is_sentence x) ts all y (other x y apart)

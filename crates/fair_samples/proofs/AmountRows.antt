@@ -12,6 +12,7 @@ use Rattle.fair_rows.specs.rights_model.Table.{Table, holds}
 use Rattle.fair_rows.specs.rights_model.declared.Holder.{Holder}
 use Rattle.fair_rows.specs.rights_model.declared.Sum.{Sum}
 use Rattle.fair_rows.specs.turn_rows.Turns.{Call, Event, Move, Turn, Value, called, exited, moved, opened, settled, Opening, SeatExit, Settlement}
+use Rattle.fair_rows.specs.turn_rows.declared.editions.Edition.{Edition}
 use Rattle.fair_rows.specs.Amounts.{IsPrinted}
 use Rattle.fair_rows.specs.ExitCauses.{calls, is_call, is_ok, name, serves}
 use Rattle.fair_rows.specs.Rows.{InTurn, after_event}
@@ -76,18 +77,18 @@ rows_of_nothing : (y : Sentence) → ((i : InTurn) (e : Event) → AtRow y i e) 
 rows_of_nothing y so i [] = tt
 rows_of_nothing y so i (e ∷ es) = (so i e, rows_of_nothing y so (after_event i e) es)
 
-reads_met : (method : List ℕ) (y : Sentence) → ((s : SoFar) (t : Turn) → is_read method t ≡ false → AtTurnRow y s t) → ((i : InTurn) (e : Event) → AtRow y i e) → ((i : InTurn) (sums : List Sum) → AtEnd y i sums) → (s : SoFar) (ts : List Turn) → ReadsMet method y s ts → MeetsFrom y s ts
-reads_met method y others rows ends s [] h = tt
-reads_met method y others rows ends s (t ∷ ts) h = ((match _ (is_read method t) (others s t) h.0, rows_of_nothing y rows (after_turn_row s t) t.events, ends (after_events (after_turn_row s t) t.events) t.sums), reads_met method y others rows ends (with_turn s t) ts h.1)
+reads_met : (d : Edition) (method : List ℕ) (y : Sentence) → ((s : SoFar) (t : Turn) → is_read method t ≡ false → AtTurnRow y s t) → ((i : InTurn) (e : Event) → AtRow y i e) → ((i : InTurn) (sums : List Sum) → AtEnd d y i sums) → (s : SoFar) (ts : List Turn) → ReadsMet method y s ts → MeetsFrom d y s ts
+reads_met d method y others rows ends s [] h = tt
+reads_met d method y others rows ends s (t ∷ ts) h = ((match _ (is_read method t) (others s t) h.0, rows_of_nothing y rows (after_turn_row s t) t.events, ends (after_events (after_turn_row s t) t.events) t.sums), reads_met d method y others rows ends (with_turn s t) ts h.1)
 
-pub purses_met : (s : SoFar) (ts : List Turn) → ReadsMet (codes "getCurrentAmount") purse_amounts s ts → MeetsFrom purse_amounts s ts
-purses_met = reads_met (codes "getCurrentAmount") purse_amounts (λ s t other n is served. no_read (codes "getCurrentAmount") (name (codes "purse") n) t (ap not other) is served) (λ i e. tt) (λ i sums. tt)
+pub purses_met : (d : Edition) (s : SoFar) (ts : List Turn) → ReadsMet (codes "getCurrentAmount") purse_amounts s ts → MeetsFrom d purse_amounts s ts
+purses_met d = reads_met d (codes "getCurrentAmount") purse_amounts (λ s t other n is served. no_read (codes "getCurrentAmount") (name (codes "purse") n) t (ap not other) is served) (λ i e. tt) (λ i sums. tt)
 
-pub payments_met : (s : SoFar) (ts : List Turn) → ReadsMet (codes "getAmountOf") payment_amounts s ts → MeetsFrom payment_amounts s ts
-payments_met = reads_met (codes "getAmountOf") payment_amounts (λ s t other n is served. no_read (codes "getAmountOf") (name (codes "issuer") n) t (ap not other) is served) (λ i e. tt) (λ i sums. tt)
+pub payments_met : (d : Edition) (s : SoFar) (ts : List Turn) → ReadsMet (codes "getAmountOf") payment_amounts s ts → MeetsFrom d payment_amounts s ts
+payments_met d = reads_met d (codes "getAmountOf") payment_amounts (λ s t other n is served. no_read (codes "getAmountOf") (name (codes "issuer") n) t (ap not other) is served) (λ i e. tt) (λ i sums. tt)
 
-pub finals_met : (s : SoFar) (ts : List Turn) → ReadsMet (codes "getFinalAllocation") final_amounts s ts → MeetsFrom final_amounts s ts
-finals_met = reads_met (codes "getFinalAllocation") final_amounts (λ s t other n is served. no_read (codes "getFinalAllocation") (name (codes "seat") n) t (ap not other) is served) (λ i e. tt) (λ i sums. tt)
+pub finals_met : (d : Edition) (s : SoFar) (ts : List Turn) → ReadsMet (codes "getFinalAllocation") final_amounts s ts → MeetsFrom d final_amounts s ts
+finals_met d = reads_met d (codes "getFinalAllocation") final_amounts (λ s t other n is served. no_read (codes "getFinalAllocation") (name (codes "seat") n) t (ap not other) is served) (λ i e. tt) (λ i sums. tt)
 
 -- ---- call rows
 
@@ -117,15 +118,15 @@ calls_in : (method : List ℕ) (y : Sentence) → ((i : InTurn) (e : Event) → 
 calls_in method y so i [] h = tt
 calls_in method y so i (e ∷ es) h = (so i e h.0, calls_in method y so (after_event i e) es h.1)
 
-calls_met : (method : List ℕ) (y : Sentence) → ((i : InTurn) (e : Event) → CallMet method y i e → AtRow y i e) → ((s : SoFar) (t : Turn) → AtTurnRow y s t) → ((i : InTurn) (sums : List Sum) → AtEnd y i sums) → (s : SoFar) (ts : List Turn) → CallsMet method y s ts → MeetsFrom y s ts
-calls_met method y so rows ends s [] h = tt
-calls_met method y so rows ends s (t ∷ ts) h = ((rows s t, calls_in method y so (after_turn_row s t) t.events h.0, ends (after_events (after_turn_row s t) t.events) t.sums), calls_met method y so rows ends (with_turn s t) ts h.1)
+calls_met : (d : Edition) (method : List ℕ) (y : Sentence) → ((i : InTurn) (e : Event) → CallMet method y i e → AtRow y i e) → ((s : SoFar) (t : Turn) → AtTurnRow y s t) → ((i : InTurn) (sums : List Sum) → AtEnd d y i sums) → (s : SoFar) (ts : List Turn) → CallsMet method y s ts → MeetsFrom d y s ts
+calls_met d method y so rows ends s [] h = tt
+calls_met d method y so rows ends s (t ∷ ts) h = ((rows s t, calls_in method y so (after_turn_row s t) t.events h.0, ends (after_events (after_turn_row s t) t.events) t.sums), calls_met d method y so rows ends (with_turn s t) ts h.1)
 
-pub currents_met : (s : SoFar) (ts : List Turn) → CallsMet (codes "getCurrentAllocation") current_amounts s ts → MeetsFrom current_amounts s ts
-currents_met = calls_met (codes "getCurrentAllocation") current_amounts (call_met (codes "getCurrentAllocation") current_amounts (λ i c other n made. no_call (codes "getCurrentAllocation") (name (codes "zseat") n) c (ap not other) made) (λ i m. tt) (λ i o. tt) (λ i x. tt) (λ i p r. tt)) (λ s t. tt) (λ i sums. tt)
+pub currents_met : (d : Edition) (s : SoFar) (ts : List Turn) → CallsMet (codes "getCurrentAllocation") current_amounts s ts → MeetsFrom d current_amounts s ts
+currents_met d = calls_met d (codes "getCurrentAllocation") current_amounts (call_met (codes "getCurrentAllocation") current_amounts (λ i c other n made. no_call (codes "getCurrentAllocation") (name (codes "zseat") n) c (ap not other) made) (λ i m. tt) (λ i o. tt) (λ i x. tt) (λ i p r. tt)) (λ s t. tt) (λ i sums. tt)
 
-pub slots_met : (s : SoFar) (ts : List Turn) → CallsMet (codes "getAmountAllocated") slot_amounts s ts → MeetsFrom slot_amounts s ts
-slots_met = calls_met (codes "getAmountAllocated") slot_amounts (call_met (codes "getAmountAllocated") slot_amounts (λ i c other n made. no_call (codes "getAmountAllocated") (name (codes "zseat") n) c (ap not other) made) (λ i m. tt) (λ i o. tt) (λ i x. tt) (λ i p r. tt)) (λ s t. tt) (λ i sums. tt)
+pub slots_met : (d : Edition) (s : SoFar) (ts : List Turn) → CallsMet (codes "getAmountAllocated") slot_amounts s ts → MeetsFrom d slot_amounts s ts
+slots_met d = calls_met d (codes "getAmountAllocated") slot_amounts (call_met (codes "getAmountAllocated") slot_amounts (λ i c other n made. no_call (codes "getAmountAllocated") (name (codes "zseat") n) c (ap not other) made) (λ i m. tt) (λ i o. tt) (λ i x. tt) (λ i p r. tt)) (λ s t. tt) (λ i sums. tt)
 
 -- ---- names
 

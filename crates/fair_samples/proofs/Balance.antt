@@ -7,6 +7,7 @@ use Rattle.fair_rows.specs.rights_model.declared.Holder.TheVariants.{Hand}
 use Rattle.fair_rows.proofs.rights_model.SupplyLaws.{adds_up_after}
 use Rattle.fair_rows.proofs.rights_model.TableLaws.{CanMoveAll-push, table_after-push}
 use Rattle.fair_rows.specs.turn_rows.Turns.{Event, Turn, called, exited, moved, opened, settled}
+use Rattle.fair_rows.specs.turn_rows.declared.editions.Edition.{Edition}
 use Rattle.fair_rows.specs.Movements.{movement_of}
 use Rattle.fair_rows.specs.Rows.{InTurn, after_event}
 use Rattle.fair_rows.specs.SoFar.{SoFar, nothing_so_far, with_turn}
@@ -40,14 +41,14 @@ sums_up s traced empty = record {
   hand_empty = empty;
 }
 
-from : (s : SoFar) (ts : List Turn) → IsTraced s → MeetsFrom movements_are_defined s ts → LeaveNothing s ts → MeetsFrom tables_balance s ts
-from s [] traced h empty = tt
-from s (t ∷ ts) traced h empty =
+from : (d : Edition) (s : SoFar) (ts : List Turn) → IsTraced s → MeetsFrom d movements_are_defined s ts → LeaveNothing s ts → MeetsFrom d tables_balance s ts
+from d s [] traced h empty = tt
+from d s (t ∷ ts) traced h empty =
     let i = after_turn_row s t in
     let end = traced_after i t.events (record { can = traced.can; made_of = traced.made_of }) h.0.1 in
     let same = now_is i t.events in
     let next : IsTraced (with_turn s t) = record { can = subst (λ (n : SoFar). CanMoveAll no_holdings n.moves) same end.can; made_of = subst (λ (n : SoFar). n.table ≡ table_after no_holdings n.moves) same end.made_of } in
-    ((tt, nothing_asked i t.events, sums_up (after_events i t.events).now end (λ b. ap (λ (n : SoFar). holds n.table Hand b) same ∙ empty.0 b)), from (with_turn s t) ts next h.1 empty.1)
+    ((tt, nothing_asked i t.events, sums_up (after_events i t.events).now end (λ b. ap (λ (n : SoFar). holds n.table Hand b) same ∙ empty.0 b)), from d (with_turn s t) ts next h.1 empty.1)
 
 pub stores_add_up : StoresAddUp
-stores_add_up ts h empty = from nothing_so_far ts (record { can = tt; made_of = refl }) h empty
+stores_add_up d ts h empty = from d nothing_so_far ts (record { can = tt; made_of = refl }) h empty

@@ -17,7 +17,7 @@ use Rattle.fair_rows.specs.amount_math.ValueView.{bag_bound, most_keys, nat_boun
 use Rattle.fair_rows.specs.rights_model.declared.Holder.{Holder}
 use Rattle.fair_rows.specs.rights_model.declared.Holder.TheVariants.{Hand, Outside, Payment, Purse, Slot}
 use Rattle.fair_rows.specs.rights_model.declared.Sum.{Sum}
-use Rattle.fair_rows.specs.turn_rows.Form.{AreAmounts, AreData, AreElements, AreFields, AreInForm, HasAmountForm, HasAnswerForm, HasCallForm, HasElementForm, HasEventForm, HasExitForm, HasExitRuleForm, HasHolderForm, HasOpeningForm, HasSumForm, HasValueForm, IsAnswerOf, IsCalled, IsCallAnswer, IsCaller, IsData, IsDelivered, IsInForm, IsKey, IsMark, IsNumbered, IsNumberedBy, IsObjectName, IsOneItem, MayStand, brand_words, brands_end, is_key, key_of, most_keywords, names_of, object_words, objects_end, refusal_codes, runs_function, single_names, times_end, totals_end, AreTwoItems, IsAnyData, IsNotice, IsRefusal, IsSmallNumber, IsTickAnswer, IsTime}
+use Rattle.fair_rows.specs.turn_rows.Form.{AreAmounts, AreData, AreElements, AreFields, AreInForm, HasAmountForm, HasAnswerForm, HasCallForm, HasElementForm, HasEventForm, HasExitForm, HasExitRuleForm, HasHolderForm, HasOpeningForm, HasSumForm, HasValueForm, IsAnswerOf, IsCalled, IsCallAnswer, IsCaller, IsData, IsDelivered, IsInForm, IsKey, IsMark, IsNumbered, IsNumberedBy, IsObjectName, IsOneItem, MayStand, brand_words, brands_end, is_key, key_of, names_of, object_words, objects_end, refusal_codes, single_names, times_end, totals_end, AreTwoItems, IsAnyData, IsNotice, IsRefusal, IsSmallNumber, IsTickAnswer, IsTime, IsServiceTarget, has_keyword, may_call}
 use Rattle.fair_rows.specs.turn_rows.Kinds as kinds
 use Rattle.fair_rows.specs.turn_rows.Kinds.{How, Kind}
 use Rattle.fair_rows.specs.turn_rows.Rows.{rows_of}
@@ -268,8 +268,15 @@ notice_is : (d : json.Data) → is_notice d ≡ true → IsNotice d
 notice_is (json.object (json.member k (json.boolean b) (json.member l d json.no_members))) h = let p = and_parts (bytes_eq k (codes "ok")) (bytes_eq l (codes "value")) h in (bytes_same k (codes "ok") p.0, bytes_same l (codes "value") p.1)
 notice_is _ h = absurd (true≢false (sym h))
 
+-- an object, but no facet
+abbrev is_target : List ℕ → Bool
+is_target s = is_object s && not (starts_with (λ m n. m == n) s (codes "facet"))
+
+target_is : (s : List ℕ) → is_target s ≡ true → IsServiceTarget s
+target_is s h = let p = and_parts (is_object s) (not (starts_with (λ m n. m == n) s (codes "facet"))) h in (object_is s p.0, false_from_ne_true _ (λ t. true≢false (sym p.1 ∙ ap not t)))
+
 abbrev delivered : Kind → List ℕ → List ℕ → List ℕ → json.Items → Bool
-delivered kinds.service by on method args = is_caller by && (is_object on && is_plain_text method)
+delivered kinds.service by on method args = is_caller by && (is_target on && is_plain_text method)
 delivered kinds.facet by on method args = is_caller by && (numbered (codes "facet") objects_end on && is_plain_text method)
 delivered kinds.handler by on method args = numbered (codes "instance") objects_end by && (numbered (codes "zseat") objects_end on && (is_field_name method && is_one any_data args))
 delivered kinds.wake by on method args = numbered (codes "instance") objects_end by && (bytes_eq on (codes "timer") && (is_field_name method && is_one is_time args))
@@ -291,7 +298,7 @@ one_of_any : (ds : json.Items) → is_one any_data ds ≡ true → IsOneItem IsA
 one_of_any = one_is IsAnyData any_data (λ d h. tt)
 
 delivered_is : (k : Kind) (by on method : List ℕ) (args : json.Items) → delivered k by on method args ≡ true → IsDelivered k by on method args
-delivered_is kinds.service by on method args h = three (is_caller by) (is_object on) (is_plain_text method) (caller_is by) (object_is on) (text_is method) h
+delivered_is kinds.service by on method args h = three (is_caller by) (is_target on) (is_plain_text method) (caller_is by) (target_is on) (text_is method) h
 delivered_is kinds.facet by on method args h = three (is_caller by) (numbered (codes "facet") objects_end on) (is_plain_text method) (caller_is by) (numbered_is (codes "facet") objects_end on) (text_is method) h
 delivered_is kinds.handler by on method args h = four (numbered (codes "instance") objects_end by) (numbered (codes "zseat") objects_end on) (is_field_name method) (is_one any_data args) (numbered_is (codes "instance") objects_end by) (numbered_is (codes "zseat") objects_end on) (λ e. e) (one_of_any args) h
 delivered_is kinds.wake by on method args h = four (numbered (codes "instance") objects_end by) (bytes_eq on (codes "timer")) (is_field_name method) (is_one is_time args) (numbered_is (codes "instance") objects_end by) (bytes_same on (codes "timer")) (λ e. e) (one_is IsTime is_time time_is args) h
@@ -407,15 +414,26 @@ rule_is on_demand h = tt
 rule_is waived h = tt
 rule_is (after_deadline time) h = ltb-true time times_end h
 
+apart_is : (give want : List KeywordAmount) → list_all (λ (a : KeywordAmount). not (has_keyword a.keyword want)) give ≡ true → (k : List ℕ) → has_keyword k give ≡ true → has_keyword k want ≡ false
+apart_is [] want h k has = absurd (true≢false (sym has))
+apart_is (a ∷ give) want h k has = by (bytes_eq k a.keyword) refl has (apart_is give want (and_parts (not (has_keyword a.keyword want)) _ h).1 k)
+  where
+    parts : (not (has_keyword a.keyword want) ≡ true) × (list_all (λ (b : KeywordAmount). not (has_keyword b.keyword want)) give ≡ true)
+    parts = and_parts (not (has_keyword a.keyword want)) _ h
+
+    by : (b : Bool) → bytes_eq k a.keyword ≡ b → (b || has_keyword k give) ≡ true → (has_keyword k give ≡ true → has_keyword k want ≡ false) → has_keyword k want ≡ false
+    by true is found rest = ap (λ s. has_keyword s want) (bytes_same k a.keyword is) ∙ false_from_ne_true _ (λ t. true≢false (sym parts.0 ∙ ap not t))
+    by false is found rest = rest found
+
 abbrev has_opening : Opening → Bool
-has_opening o = (nat_lt o.seat objects_end && nat_lt o.instance objects_end) && (are_amounts o.give && (are_amounts o.want && (nat_le (length (o.give ++ o.want)) most_keywords && has_rule o.exit)))
+has_opening o = (nat_lt o.seat objects_end && nat_lt o.instance objects_end) && (are_amounts o.give && (are_amounts o.want && (list_all (λ (a : KeywordAmount). not (has_keyword a.keyword o.want)) o.give && has_rule o.exit)))
 
 opening_is : (o : Opening) → has_opening o ≡ true → HasOpeningForm written o
 opening_is o h =
     let p = and_parts (nat_lt o.seat objects_end && nat_lt o.instance objects_end) _ h in
     let q = and_parts (nat_lt o.seat objects_end) (nat_lt o.instance objects_end) p.0 in
-    let f = four (are_amounts o.give) (are_amounts o.want) (nat_le (length (o.give ++ o.want)) most_keywords) (has_rule o.exit) (amounts_are o.give) (amounts_are o.want) (leb-true (length (o.give ++ o.want)) most_keywords) (rule_is o.exit) p.1 in
-    record { seat = ltb-true o.seat objects_end q.0; instance = ltb-true o.instance objects_end q.1; give = f.0; want = f.1; few = f.2; exit = f.3 }
+    let f = four (are_amounts o.give) (are_amounts o.want) (list_all (λ (a : KeywordAmount). not (has_keyword a.keyword o.want)) o.give) (has_rule o.exit) (amounts_are o.give) (amounts_are o.want) (apart_is o.give o.want) (rule_is o.exit) p.1 in
+    record { seat = ltb-true o.seat objects_end q.0; instance = ltb-true o.instance objects_end q.1; give = f.0; want = f.1; apart = f.2; exit = f.3 }
 
 abbrev has_exit : SeatExit → Bool
 has_exit x = nat_lt x.seat objects_end && (list_all (λ (p : Payout). is_keyword p.keyword) x.payouts && (list_all (λ (p : Payout). nat_lt p.payment objects_end) x.payouts && is_rising (map (λ (p : Payout). p.keyword) x.payouts)))
@@ -463,7 +481,7 @@ stands runs _ h = tt
 
 abbrev turn_form : Turn → Bool
 turn_form t = (nat_lt t.number (2 ^ 64) && (delivered t.kind t.by t.on t.method t.arguments && (are_data t.arguments && answers t.kind t.answer)))
-    && ((has_answer t.answer && list_all (λ row. nat_le (depth row) max_depth) (rows_of written t)) && (list_all has_event t.events && (list_all (may_stand (runs_function t.kind t.answer)) t.events && list_all has_sum t.sums)))
+    && ((has_answer t.answer && list_all (λ row. nat_le (depth row) max_depth) (rows_of written t)) && (list_all has_event t.events && (list_all (may_stand (may_call t.answer)) t.events && list_all has_sum t.sums)))
 
 turn_form_is : (t : Turn) → turn_form t ≡ true → IsInForm written t
 turn_form_is t h =
@@ -471,7 +489,7 @@ turn_form_is t h =
     let f = four (nat_lt t.number (2 ^ 64)) (delivered t.kind t.by t.on t.method t.arguments) (are_data t.arguments) (answers t.kind t.answer) (ltb-true t.number (2 ^ 64)) (delivered_is t.kind t.by t.on t.method t.arguments) (data_are t.arguments) (answers_are t.kind t.answer) p.0 in
     let q = and_parts (has_answer t.answer && list_all (λ row. nat_le (depth row) max_depth) (rows_of written t)) _ p.1 in
     let r = and_parts (has_answer t.answer) (list_all (λ row. nat_le (depth row) max_depth) (rows_of written t)) q.0 in
-    let g = three (list_all has_event t.events) (list_all (may_stand (runs_function t.kind t.answer)) t.events) (list_all has_sum t.sums) (λ i. each_so (λ e. has_event e ≡ true) (HasEventForm written) event_is t.events (every has_event t.events i)) (λ i. each_so (λ e. may_stand (runs_function t.kind t.answer) e ≡ true) (MayStand (runs_function t.kind t.answer)) (stands (runs_function t.kind t.answer)) t.events (every (may_stand (runs_function t.kind t.answer)) t.events i)) (λ i. each_so (λ s. has_sum s ≡ true) HasSumForm sum_is t.sums (every has_sum t.sums i)) q.1 in
+    let g = three (list_all has_event t.events) (list_all (may_stand (may_call t.answer)) t.events) (list_all has_sum t.sums) (λ i. each_so (λ e. has_event e ≡ true) (HasEventForm written) event_is t.events (every has_event t.events i)) (λ i. each_so (λ e. may_stand (may_call t.answer) e ≡ true) (MayStand (may_call t.answer)) (stands (may_call t.answer)) t.events (every (may_stand (may_call t.answer)) t.events i)) (λ i. each_so (λ s. has_sum s ≡ true) HasSumForm sum_is t.sums (every has_sum t.sums i)) q.1 in
     record {
       number = f.0;
       delivered = f.1;

@@ -12,4 +12,5 @@ pub mod AmountRows
 pub mod Fair
 pub mod InForm
 pub mod FurtherLists
+pub mod LaxLists
 pub mod Balance

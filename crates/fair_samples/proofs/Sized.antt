@@ -1,5 +1,5 @@
 -- What printed movements come to in all, by counting: totals of holders, what was minted and burned, and balance.
-use Rattle.std.proofs.Common.{◌≡◌, ◌≤◌, ◌≢◌, ◌+◌, ◌-◌, ℕ, Bool, true, false, cond, not, ◌&&◌, ◌||◌, ◌==◌, nat_le, List, [], ◌∷◌, ◌++◌, map, refl, sym, ap, subst, ◌∙◌, inl, inr, arith, leb-true, eqb-true, eq-eqb, ne_eqb}
+use Rattle.std.proofs.Common.{◌≡◌, ◌≤◌, ◌<◌, ◌≢◌, ◌+◌, ◌-◌, ℕ, Bool, true, false, cond, not, ◌&&◌, ◌||◌, ◌==◌, nat_le, nat_lt, List, [], ◌∷◌, ◌++◌, map, refl, sym, ap, subst, ◌∙◌, inl, inr, arith, leb-true, ltb-true, eqb-true, eq-eqb, ne_eqb}
 use Rattle.std.proofs.lemmas.Bool.{and_parts, cases_eq, false_from_ne_true}
 use Rattle.std.specs.List.{list_all}
 use Rattle.fair_rows.specs.amount_math.Content.{Contains, Content, count, count-difference, count-nothing, count-sum, difference, entries, nothing, nothing-sum, of_entries, same_content, sum, sum-assoc}
@@ -8,6 +8,7 @@ use Rattle.fair_rows.specs.amount_math.Entries.{Entries}
 use Rattle.fair_rows.specs.amount_math.Totals.{total, total-empty, total-put, weighed}
 use Rattle.fair_rows.specs.amount_math.ValueView.{Fits, bound, minted_bound}
 use Rattle.fair_rows.specs.amount_math.declared.Kind.{Kind}
+use Rattle.fair_rows.specs.amount_math.declared.Kind.TheVariants.{Bag, Nat, Set}
 use Rattle.fair_rows.proofs.amount_math.Listed.{entries-of_entries}
 use Rattle.fair_rows.specs.rights_model.Place.{Place, place}
 use Rattle.fair_rows.specs.rights_model.Supply.{burned, is_hand, is_outside, is_store, minted, moved_where, supply, total_of}
@@ -18,9 +19,13 @@ use Rattle.fair_rows.specs.rights_model.declared.Holder.TheVariants.{Hand, Outsi
 use Rattle.fair_rows.specs.rights_model.declared.Movement.{Movement}
 use Rattle.fair_rows.specs.rights_model.declared.Sum.{Sum}
 use Rattle.fair_rows.proofs.rights_model.SupplyLaws.{adds_up_after}
+use Rattle.fair_rows.specs.turn_rows.Editions.{nat_end}
+use Rattle.fair_rows.specs.turn_rows.declared.editions.Edition.{Edition}
+use Rattle.fair_rows.specs.turn_rows.declared.editions.Edition.TheVariants.{First, Second}
 use Rattle.fair_rows.specs.turn_rows.Turns.{elements, Move, number, Value}
 use Rattle.fair_rows.specs.Movements.{movement_of}
 use Rattle.fair_rows.specs.SoFar.{SoFar, sum_so_far}
+use Rattle.fair_rows.specs.Turns.{IsWithin}
 use Rattle.fair_rows.specs.Values.{content_of, entry_of}
 use Rattle.fair_samples.specs.Sentences.{AddsUp}
 use Rattle.fair_samples.proofs.Held.{all_held, all_moves, at_itself, at_same, can_move, can_move_all, counts_in, count-value, everywhere, held, held_is, is_at, moves, moves_of, table_is, table_of}
@@ -250,6 +255,42 @@ bounded_is kind_of ms test b = record {
       | inl passes ↦ leb-true _ _ passes
       | inr none ↦ omega (arith, none)
     ]
+
+-- ---- bounds of an edition
+
+abbrev pub within_test : Edition → Kind → ℕ → Bool
+within_test d Nat n = nat_lt n (nat_end d)
+within_test d _ n = true
+
+abbrev pub are_within : Edition → (ℕ → Kind) → List Move → Bool
+are_within d kind_of ms = all_held (λ h b k n. within_test d (kind_of b) (n - burned_count ms b k)) (mints ms)
+
+some_end : (d : Edition) → 0 < nat_end d
+some_end First = omega arith
+some_end Second = omega arith
+
+pub within_is : (d : Edition) (kind_of : ℕ → Kind) (ms : List Move) → are_within d kind_of ms ≡ true → (b : ℕ) → IsWithin d (kind_of b) (supply (moves_of ms) b)
+within_is d kind_of ms test b = by (kind_of b) refl
+  where
+    counted : (k : List ℕ) → count (supply (moves_of ms) b) k ≡ held (mints ms) Hand b k - burned_count ms b k
+    counted k = omega (
+      arith,
+      count-difference (minted (moves_of ms) b) (burned (moves_of ms) b) k,
+      count_where_is (λ (m : Movement). m.from) (λ (m : Move). m.from) (λ m. refl) b ms k,
+      minted_held ms b k,
+      count_where_is (λ (m : Movement). m.to) (λ (m : Move). m.to) (λ m. refl) b ms k,
+    )
+
+    few : kind_of b ≡ Nat → (k : List ℕ) → held (mints ms) Hand b k - burned_count ms b k < nat_end d
+    few nat k = elim (everywhere (λ h e q n. within_test d (kind_of e) (n - burned_count ms e q)) (mints ms) test Hand b k) [
+      | inl passes ↦ ltb-true _ (nat_end d) (subst (λ x. within_test d x (held (mints ms) Hand b k - burned_count ms b k) ≡ true) nat passes)
+      | inr none ↦ omega (arith, none, some_end d)
+    ]
+
+    by : (kind : Kind) → kind_of b ≡ kind → IsWithin d kind (supply (moves_of ms) b)
+    by Nat nat = λ k. subst (λ n. n < nat_end d) (sym (counted k)) (few nat k)
+    by Set other = tt
+    by Bag other = tt
 
 -- ---- an empty hand, and balance
 

@@ -15,27 +15,29 @@ use Rattle.fair_rows.specs.rights_model.Totals.{brands_of, is_payment}
 use Rattle.fair_rows.specs.rights_model.declared.Holder.{Holder}
 use Rattle.fair_rows.specs.rights_model.declared.Holder.TheVariants.{Hand, Outside, Payment, Purse, Slot}
 use Rattle.fair_rows.specs.rights_model.declared.Sum.{Sum}
+use Rattle.serde_json.specs.Data as json
 use Rattle.serde_json.specs.Data.{Items}
 use Rattle.fair_rows.specs.turn_rows.Causes.{Cause}
 use Rattle.fair_rows.specs.turn_rows.Causes as causes
 use Rattle.fair_rows.specs.turn_rows.Kinds as kinds
-use Rattle.fair_rows.specs.turn_rows.Kinds.{How}
-use Rattle.fair_rows.specs.turn_rows.Turns.{Answer, Call, Element, Event, KeywordAmount, Move, Opening, SeatExit, Turn, Value, called, counted, elements, exited, key, moved, number, ok, opened, refused, settled, spent, threw}
+use Rattle.fair_rows.specs.turn_rows.Turns.{Answer, Call, Element, Event, KeywordAmount, Move, Opening, SeatExit, Turn, Value, called, counted, elements, exited, key, moved, number, ok, opened, Payout, refused, settled, spent, threw}
+use Rattle.fair_rows.specs.turn_rows.declared.editions.Edition.{Edition}
 use Rattle.fair_rows.specs.ExitCauses.{calls, first_cause, is_call, is_ok, name, serves}
 use Rattle.fair_rows.specs.Movements.{is_payment_at, movement_of, movements_in, names, takes_from}
-use Rattle.fair_rows.specs.Rows.{ChangesNothing, Due, InTurn, IsBurn, IsEscrow, after_event, burn, escrow, is_offer, is_service, payment_under, payout, payouts_due, slots_at, still_due}
+use Rattle.fair_rows.specs.Amounts.{IfAmount, IfOkAnswer, InRecord, IsOfExit, IsOfNamedSlot, IsOfPayment, IsOfPurse, IsOfSlot}
+use Rattle.fair_rows.specs.Rows.{ChangesNothing, Due, FollowsKit, InTurn, IsBurn, IsEscrow, after_event, burn, escrow, is_offer, is_service, payment_under, payout, payouts_due, slots_at, still_due}
 use Rattle.fair_rows.specs.Seats.{IsCovered, IsOpen, IsSafe, Seat, SlotName, brand_under, new_seat}
 use Rattle.fair_rows.specs.SoFar.{SoFar, nothing_so_far, sum_so_far, with_row, with_turn}
-use Rattle.fair_rows.specs.Turns.{IsCaused, after_events, after_turn_row}
+use Rattle.fair_rows.specs.Turns.{IsCaused, IsWithin, after_events, after_turn_row}
 use Rattle.fair_rows.specs.Values.{HaveKinds, Named, content_of, IsValueOf}
 use Rattle.fair_rows.proofs.Steps.{now_is}
 use Rattle.fair_samples.specs.Sentences.{Sentence, turns_are_numbered, purse_amounts, payment_amounts, final_amounts, movements_are_defined, payments_stay_spent, values_are_of_one_kind, slots_are_of_one_brand, seats_are_in_order, offers_burn, offers_escrow, kits_are_empty, openings_are_called_for, exits_are_of_open_seats, exits_follow_their_cause, causes_are_the_first, causes_are_followed, payouts_follow, payouts_are_named, payouts_are_new, exits_are_covered, seats_stay_covered, refusals_change_nothing, slots_are_of_opened_seats, slots_are_of_no_exited_seat, payments_are_emptied, tables_balance, supplies_are_bounded, sums_are_told, current_amounts, slot_amounts, minted_totals_are_bounded}
-use Rattle.fair_samples.specs.Sentences.{AtEnd, AtRow, AtTurnRow, IfNoneDue, IsAfterKit, IsBounded, IsNewPayout, IsNoBurn, IsNoEscrow, IsNoPayout, IsOfSlots, Meets, MeetsBurn, MeetsEscrow, MeetsFrom, MeetsPayout, MeetsRows, NamesSlot, OfCall, OfExit, OfMove, OfOpening}
+use Rattle.fair_samples.specs.Sentences.{AtEnd, AtRow, AtTurnRow, IfNoneDue, IsBounded, IsNewPayout, IsNoBurn, IsNoEscrow, IsNoPayout, IsOfSlots, Meets, MeetsBurn, MeetsEscrow, MeetsFrom, MeetsPayout, MeetsRows, NamesSlot, OfCall, OfExit, OfMove, OfOpening}
 use Rattle.fair_samples.proofs.Together.{same_some}
 use Rattle.fair_samples.proofs.Held.{all_held, can_move, contains, everywhere, has, has_just, held, held_is, just, moves, moves_of, table_of, can_move_all}
 use Rattle.fair_samples.proofs.Printed.{are_of_kinds, each_so, every, kind_at, of_kinds}
-use Rattle.fair_samples.proofs.Sized.{adds_up, are_bounded, bounded_is, can_sum, few_minted, mints_few, sum_in, sum_is}
-use Rattle.fair_samples.proofs.Tests.{Read, burn_test, cause_number, clash, covers, end_test, escrow_test, event_test, fresh, if_first, if_some, is_brand, is_burn, is_call_of, is_cause, is_emptied, is_escrow, is_first, is_new, is_nil, is_not_exited, is_numbers, is_of_brand, is_opened, is_quiet, is_read, is_safe, is_single, is_slot_of, last_is, new_test, no_burn, no_escrow, no_payout, of_call, of_exit, of_move, of_opening, open_seats, opens_of_brand, passes, payout_test, pays, read_event, read_events, refusal_test, rows_test, same_element, same_elements, same_sum, same_sums, same_value, some_and, stays, turn_row_test, turn_test, turns_test, unless_due}
+use Rattle.fair_samples.proofs.Sized.{adds_up, are_bounded, are_within, bounded_is, can_sum, few_minted, mints_few, sum_in, sum_is, within_is}
+use Rattle.fair_samples.proofs.Tests.{Read, burn_test, cause_number, clash, covers, end_test, escrow_test, event_test, fresh, if_first, if_some, is_bare, is_brand, is_burn, is_call_of, is_cause, is_emptied, is_escrow, is_first, is_kit, is_new, is_nil, is_not_exited, is_numbers, is_of_brand, is_opened, is_quiet, is_read, is_safe, is_single, is_slot_of, last_is, new_test, no_burn, no_escrow, no_payout, of_call, of_exit, of_move, of_opening, open_seats, opens_of_brand, passes, payout_test, pays, read_event, read_events, refusal_test, rows_test, same_element, same_elements, same_sum, same_sums, same_value, some_and, stays, turn_row_test, turn_test, turns_test, unless_due}
 
 same_bytes : (s t : List ℕ) → bytes_eq s t ≡ true → s ≡ t
 same_bytes s t e = (bytes_decides s t).0 e
@@ -170,11 +172,43 @@ no_read method on t other is served =
     let read : is_read method t ≡ true = and_from _ _ (is_service_of t is) (and_from _ _ b.0 a.1) in
     absurd (true≢false (sym other ∙ ap not read))
 
+or_sides : (a b : Bool) → (a || b) ≡ true → (a ≡ true) ⊎ (b ≡ true)
+or_sides true b h = inl refl
+or_sides false b h = inr h
+
+-- an answer that is no record holds no amount
+is_object : json.Data → Bool
+is_object (json.object ms) = true
+is_object _ = false
+
+no_amount : (P : ℕ → Value → Type 0) (d : json.Data) → is_object d ≡ false → IfAmount P d
+unfolding is_object
+no_amount P d bare = λ is. absurd (true≢false (sym (ap is_object is) ∙ bare))
+
+pub bare_amount : (P : ℕ → Value → Type 0) (a : Answer) → is_bare a ≡ true → IfOkAnswer (IfAmount P) a
+unfolding is_object
+bare_amount P (ok (json.object ms)) h = absurd (true≢false (sym h))
+bare_amount P (ok json.null) h = no_amount P json.null refl
+bare_amount P (ok (json.boolean b)) h = no_amount P (json.boolean b) refl
+bare_amount P (ok (json.number n)) h = no_amount P (json.number n) refl
+bare_amount P (ok (json.string x)) h = no_amount P (json.string x) refl
+bare_amount P (ok (json.array ds)) h = no_amount P (json.array ds) refl
+bare_amount P _ h = tt
+
+pub bare_record : (P : List ℕ → json.Data → Type 0) (a : Answer) → is_bare a ≡ true → IfOkAnswer (InRecord P) a
+bare_record P (ok (json.object ms)) h = absurd (true≢false (sym h))
+bare_record P (ok json.null) h = tt
+bare_record P (ok (json.boolean b)) h = tt
+bare_record P (ok (json.number n)) h = tt
+bare_record P (ok (json.string x)) h = tt
+bare_record P (ok (json.array ds)) h = tt
+bare_record P _ h = tt
+
 row_sound : (y : Sentence) (s : SoFar) (t : Turn) → turn_row_test y s t ≡ true → AtTurnRow y s t
 row_sound turns_are_numbered s t h = eqb-true _ _ h
-row_sound purse_amounts s t h = λ n is served. no_read (codes "getCurrentAmount") (name (codes "purse") n) t h is served
-row_sound payment_amounts s t h = λ b is served. no_read (codes "getAmountOf") (name (codes "issuer") b) t h is served
-row_sound final_amounts s t h = λ n is served. no_read (codes "getFinalAllocation") (name (codes "seat") n) t h is served
+row_sound purse_amounts s t h = λ n is served. elim (or_sides _ _ h) [ inl other ↦ no_read (codes "getCurrentAmount") (name (codes "purse") n) t other is served | inr bare ↦ bare_amount (IsOfPurse s.table n) t.answer bare ]
+row_sound payment_amounts s t h = λ b is served. elim (or_sides _ _ h) [ inl other ↦ no_read (codes "getAmountOf") (name (codes "issuer") b) t other is served | inr bare ↦ bare_amount (IsOfPayment s.table t.arguments) t.answer bare ]
+row_sound final_amounts s t h = λ n is served. elim (or_sides _ _ h) [ inl other ↦ no_read (codes "getFinalAllocation") (name (codes "seat") n) t other is served | inr bare ↦ bare_record (λ keyword. IfAmount (IsOfExit s.seats n keyword)) t.answer bare ]
 row_sound _ s t h = tt
 
 -- ---- rows of events
@@ -295,6 +329,11 @@ new_sound s ms is [] e h = tt
 new_sound s ms is (payout seat slot c found ∷ ds) (moved m) h = λ p to. ap (names p) is ∙ new_is ms m.to h p to
 new_sound s ms is _ _ h = tt
 
+fresh_sound : (s : SoFar) (ms : List Move) → s.moves ≡ moves_of ms → (ps : List Payout) → list_all (λ (p : Payout). not (names p.payment (moves_of ms))) ps ≡ true → AllByRecursion (λ (p : Payout). names p.payment s.moves ≡ false) ps
+fresh_sound s ms is ps h =
+    each_so (λ (p : Payout). not (names p.payment (moves_of ms)) ≡ true) (λ p. names p.payment s.moves ≡ false)
+    (λ p t. ap (names p.payment) is ∙ false_from_ne_true _ (λ named. true≢false (sym t ∙ ap not named))) ps (every (λ (p : Payout). not (names p.payment (moves_of ms))) ps h)
+
 nil_is : {A : Type 0} (xs : List A) → is_nil xs ≡ true → xs ≡ []
 nil_is [] h = refl
 nil_is (x ∷ xs) h = absurd (true≢false (sym h))
@@ -316,8 +355,45 @@ last_found test (moved m ∷ e ∷ es) h = let l = last_found test (e ∷ es) h 
 last_found test (exited x ∷ e ∷ es) h = let l = last_found test (e ∷ es) h in (exited x ∷ l.0, l.1, ap (λ (xs : List Event). exited x ∷ xs) l.2, l.3)
 last_found test (settled p r ∷ e ∷ es) h = let l = last_found test (e ∷ es) h in (settled p r ∷ l.0, l.1, ap (λ (xs : List Event). settled p r ∷ xs) l.2, l.3)
 
-called_for : (i : InTurn) (o : Opening) → (is_offer i.row || last_is (calls (name (codes "zcf") o.instance) (codes "makeEmptySeatKit")) i.here) ≡ true → (is_offer i.row ≡ true) ⊎ IsAfterKit i.here o
-called_for i o h = ⊎_elim (λ offer. inl offer) (λ other. (let l = last_found (calls (name (codes "zcf") o.instance) (codes "makeEmptySeatKit")) i.here (left_side (is_offer i.row) _ h other) in inr (record { more = l.0; call = l.1; last = l.2; made = l.3 }))) (cases_Bool (is_offer i.row))
+pub no_call : {P : Type 0} (method on : List ℕ) (c : Call) → not (is_call_of method c) ≡ true → calls on method c ≡ true → P
+no_call method on c other was_called =
+    let a = and_parts (is_call c.how && is_ok c.answer && bytes_eq c.on on) (bytes_eq c.method method) was_called in
+    let b = and_parts (is_call c.how && is_ok c.answer) (bytes_eq c.on on) a.0 in
+    let d = and_parts (is_call c.how) (is_ok c.answer) b.0 in
+    let made : is_call_of method c ≡ true = and_from _ _ d.0 (and_from _ _ d.1 a.1) in
+    absurd (true≢false (sym other ∙ ap not made))
+
+kit_found : (n : ℕ) (es : List Event) → last_is (is_kit n) es ≡ true → FollowsKit es
+kit_found n es h = let l = last_found (is_kit n) es h in record { more = l.0; call = l.1; last = l.2; instance = n; made = l.3 }
+
+called_for : (i : InTurn) (o : Opening) → (is_offer i.row || (last_is (is_kit 0) i.here || (last_is (is_kit 1) i.here || last_is (is_kit 2) i.here))) ≡ true → (is_offer i.row ≡ true) ⊎ FollowsKit i.here
+called_for i o h = elim (or_sides _ _ h) [
+  | inl offer ↦ inl offer
+  | inr kit ↦ elim (or_sides _ _ kit) [
+    | inl one ↦ inr (kit_found 0 i.here one)
+    | inr more ↦ elim (or_sides _ _ more) [ inl one ↦ inr (kit_found 1 i.here one) | inr last ↦ inr (kit_found 2 i.here last) ]
+  ]
+]
+
+-- the last of rows is the last
+last_at : (test : Call → Bool) (more : List Event) (c : Call) → last_is test (more ++ called c ∷ []) ≡ test c
+last_at test [] c = refl
+last_at test (called d ∷ []) c = refl
+last_at test (opened o ∷ []) c = refl
+last_at test (moved m ∷ []) c = refl
+last_at test (exited x ∷ []) c = refl
+last_at test (settled p r ∷ []) c = refl
+last_at test (called d ∷ e ∷ es) c = last_at test (e ∷ es) c
+last_at test (opened o ∷ e ∷ es) c = last_at test (e ∷ es) c
+last_at test (moved m ∷ e ∷ es) c = last_at test (e ∷ es) c
+last_at test (exited x ∷ e ∷ es) c = last_at test (e ∷ es) c
+last_at test (settled p r ∷ e ∷ es) c = last_at test (e ∷ es) c
+
+kit_empty : (here : List Event) (o : Opening) → (not (last_is (is_call_of (codes "makeEmptySeatKit")) here) || (is_nil o.give && is_nil o.want)) ≡ true → FollowsKit here → (o.give ≡ []) × (o.want ≡ [])
+kit_empty here o h kit = elim (or_sides _ _ h) [
+  | inl other ↦ no_call (codes "makeEmptySeatKit") (name (codes "zcf") kit.instance) kit.call (ap not (sym (ap (last_is (is_call_of (codes "makeEmptySeatKit"))) kit.last ∙ last_at (is_call_of (codes "makeEmptySeatKit")) kit.more kit.call)) ∙ other) kit.made
+  | inr empty ↦ (let parts = and_parts (is_nil o.give) (is_nil o.want) empty in (nil_is o.give parts.0, nil_is o.want parts.1))
+]
 
 open_is : (o : Option Seat) → some_and o (λ s. not (is_some s.last)) ≡ true → (s : Seat) × (o ≡ Some s) × (s.last ≡ None)
 open_is None h = absurd (true≢false (sym h))
@@ -352,14 +428,6 @@ opened_is : {A : Type 0} (o : Option A) → is_some o ≡ true → (x : A) × (o
 opened_is (Some x) h = (x, refl)
 opened_is None h = absurd (true≢false (sym h))
 
-pub no_call : {P : Type 0} (method on : List ℕ) (c : Call) → not (is_call_of method c) ≡ true → calls on method c ≡ true → P
-no_call method on c other was_called =
-    let a = and_parts (is_call c.how && is_ok c.answer && bytes_eq c.on on) (bytes_eq c.method method) was_called in
-    let b = and_parts (is_call c.how && is_ok c.answer) (bytes_eq c.on on) a.0 in
-    let d = and_parts (is_call c.how) (is_ok c.answer) b.0 in
-    let made : is_call_of method c ≡ true = and_from _ _ d.0 (and_from _ _ d.1 a.1) in
-    absurd (true≢false (sym other ∙ ap not made))
-
 event_sound : (y : Sentence) (r : Read) (i : InTurn) (e : Event) → Agrees r i → event_test y r i e ≡ true → AtRow y i e
 event_sound movements_are_defined r i e a h = move_sound (λ m. CanMove i.now.table (movement_of m)) (can_move r.now) (λ m t. subst (λ u. CanMove u (movement_of m)) (sym a.table) (moves r.now m t)) e h
 event_sound minted_totals_are_bounded r i e a h = move_sound (λ m. (sum_so_far (with_row i.now (moved m)) m.brand).minted ≤ minted_bound) (λ m. mints_few (m ∷ r.now) m.brand) (λ m t. subst (λ ms. size (minted (ms ++ movement_of m ∷ []) m.brand) ≤ minted_bound) (sym a.moves) (few_minted (m ∷ r.now) m.brand t)) e h
@@ -373,19 +441,25 @@ event_sound slots_are_of_one_brand r i e a h =
 event_sound seats_are_in_order r i e a h = opening_sound (λ o. o.seat ≡ length i.now.seats) (λ o. o.seat == length i.now.seats) (λ o t. eqb-true _ _ t) e h
 event_sound offers_burn r i e a h = burn_sound i.due e h
 event_sound offers_escrow r i e a h = escrow_sound i.due e h
-event_sound kits_are_empty r i e a h = opening_sound (λ o. is_offer i.row ≡ false → (o.give ≡ []) × (o.want ≡ [])) (λ o. is_offer i.row || (is_nil o.give && is_nil o.want)) (λ o t other. (let parts = and_parts (is_nil o.give) (is_nil o.want) (left_side (is_offer i.row) _ t other) in (nil_is o.give parts.0, nil_is o.want parts.1))) e h
-event_sound openings_are_called_for r i e a h = opening_sound (λ o. (is_offer i.row ≡ true) ⊎ IsAfterKit i.here o) (λ o. is_offer i.row || last_is (calls (name (codes "zcf") o.instance) (codes "makeEmptySeatKit")) i.here) (called_for i) e h
+event_sound kits_are_empty r i e a h = opening_sound (λ o. FollowsKit i.here → (o.give ≡ []) × (o.want ≡ [])) _ (kit_empty i.here) e h
+event_sound openings_are_called_for r i e a h = opening_sound (λ o. (is_offer i.row ≡ true) ⊎ FollowsKit i.here) _ (called_for i) e h
 event_sound exits_are_of_open_seats r i e a h = exit_sound (λ x. IsOpen i.now.seats x.seat) (λ x. some_and (slice_get i.now.seats x.seat) (λ s. not (is_some s.last))) (λ x t. (let o = open_is (slice_get i.now.seats x.seat) t in record { seat = o.0; was_opened = o.1; stays = o.2 })) e h
 event_sound exits_follow_their_cause r i e a h = exit_sound (λ x. (s : Seat) → slice_get i.now.seats x.seat ≡ Some s → first_cause i.before.owners i.row i.here s.opening.instance x.seat ≡ Some x.cause) _ (λ x t. some_sound (λ s. first_cause i.before.owners i.row i.here s.opening.instance x.seat ≡ Some x.cause) (λ s. is_cause (first_cause i.before.owners i.row i.here s.opening.instance x.seat) x.cause) (λ s u. cause_is _ x.cause u) (slice_get i.now.seats x.seat) t) e h
 event_sound payouts_follow r i e a h = payout_sound r.at_exit i.due e a.due h
 event_sound payouts_are_named r i e a h = exit_sound (λ x. (s : Seat) → slice_get i.now.seats x.seat ≡ Some s → (length x.payouts ≡ length s.slots) × AllByRecursion (λ (slot : SlotName). is_some (payment_under slot.keyword x.payouts) ≡ true) s.slots) _ (λ x t. some_sound (λ s. (length x.payouts ≡ length s.slots) × AllByRecursion (λ (slot : SlotName). is_some (payment_under slot.keyword x.payouts) ≡ true) s.slots) (λ s. length x.payouts == length s.slots && list_all (λ (slot : SlotName). is_some (payment_under slot.keyword x.payouts)) s.slots) (λ s u. (let parts = and_parts (length x.payouts == length s.slots) _ u in (eqb-true _ _ parts.0, every (λ (slot : SlotName). is_some (payment_under slot.keyword x.payouts)) s.slots parts.1))) (slice_get i.now.seats x.seat) t) e h
-event_sound payouts_are_new r i e a h = new_sound i.now r.now a.moves i.due e h
+event_sound payouts_are_new r i e a h =
+    let parts = and_parts (new_test r.now i.due e) _ h in
+    (new_sound i.now r.now a.moves i.due e parts.0, exit_sound (λ x. AllByRecursion (λ (p : Payout). names p.payment i.now.moves ≡ false) x.payouts) _ (λ x t. fresh_sound i.now r.now a.moves x.payouts t) e parts.1)
 event_sound exits_are_covered r i e a h = exit_sound (λ x. (s : Seat) → slice_get i.now.seats x.seat ≡ Some s → IsSafe i.now.table s.opening) _ (λ x t. some_sound (λ s. IsSafe i.now.table s.opening) (λ s. is_safe r.now s.opening) (λ s u. safe_sound i.now.table r.now a.table s.opening u) (slice_get i.now.seats x.seat) t) e h
 event_sound refusals_change_nothing r i e a h = refusal_sound i.row.answer e h
 event_sound slots_are_of_opened_seats r i e a h = move_sound (λ m. IfNoneDue i.due ((seat : ℕ) (keyword : List ℕ) → NamesSlot m seat keyword → (s : Seat) × (slice_get i.now.seats seat ≡ Some s))) _ (λ m t. due_sound _ (is_opened i.now.seats m.from && is_opened i.now.seats m.to) (λ u. ends_sound (λ seat keyword. (s : Seat) × (slice_get i.now.seats seat ≡ Some s)) (is_opened i.now.seats) (λ seat keyword v. opened_is (slice_get i.now.seats seat) v) m u) i.due t) e h
 event_sound slots_are_of_no_exited_seat r i e a h = move_sound (λ m. IfNoneDue i.due ((seat : ℕ) (keyword : List ℕ) → NamesSlot m seat keyword → (s : Seat) → slice_get i.now.seats seat ≡ Some s → s.last ≡ None)) _ (λ m t. due_sound _ (is_not_exited i.now.seats m.from && is_not_exited i.now.seats m.to) (λ u. ends_sound (λ seat keyword. (s : Seat) → slice_get i.now.seats seat ≡ Some s → s.last ≡ None) (is_not_exited i.now.seats) (λ seat keyword v. some_sound (λ (s : Seat). s.last ≡ None) (λ s. not (is_some s.last)) (λ s w. none_is s.last w) (slice_get i.now.seats seat) v) m u) i.due t) e h
-event_sound current_amounts r i e a h = call_sound (λ c. (n : ℕ) → calls (name (codes "zseat") n) (codes "getCurrentAllocation") c ≡ true → _) _ (λ c t n made. no_call (codes "getCurrentAllocation") (name (codes "zseat") n) c t made) e h
-event_sound slot_amounts r i e a h = call_sound (λ c. (n : ℕ) → calls (name (codes "zseat") n) (codes "getAmountAllocated") c ≡ true → _) _ (λ c t n made. no_call (codes "getAmountAllocated") (name (codes "zseat") n) c t made) e h
+event_sound current_amounts r i e a h =
+    call_sound (λ c. (n : ℕ) → calls (name (codes "zseat") n) (codes "getCurrentAllocation") c ≡ true → IfOkAnswer (InRecord (λ keyword. IfAmount (IsOfSlot i.now.table n keyword))) c.answer) _
+    (λ c t n made. elim (or_sides _ _ t) [ inl other ↦ no_call (codes "getCurrentAllocation") (name (codes "zseat") n) c other made | inr bare ↦ bare_record (λ keyword. IfAmount (IsOfSlot i.now.table n keyword)) c.answer bare ]) e h
+event_sound slot_amounts r i e a h =
+    call_sound (λ c. (n : ℕ) → calls (name (codes "zseat") n) (codes "getAmountAllocated") c ≡ true → IfOkAnswer (IfAmount (IsOfNamedSlot i.now.table n c.arguments)) c.answer) _
+    (λ c t n made. elim (or_sides _ _ t) [ inl other ↦ no_call (codes "getAmountAllocated") (name (codes "zseat") n) c other made | inr bare ↦ bare_amount (IsOfNamedSlot i.now.table n c.arguments) c.answer bare ]) e h
 event_sound _ r i e a h = tt
 
 rows_sound : (y : Sentence) (r : Read) (i : InTurn) (es : List Event) → Agrees r i → rows_test y r i es ≡ true → MeetsRows y i es
@@ -459,45 +533,50 @@ no_kinds (a ∷ b ∷ amounts) h named_kinds =
     let both = and_parts (is_numbers a.1) (not (is_numbers b.1)) parts.1 in
     no_kind (named_kinds.kind_of a.0) a.1 b.1 both.0 (false_from_ne_true _ (λ is_so. true≢false (sym both.1 ∙ ap not is_so))) named_kinds.values.0 (subst (λ n. IsValueOf (named_kinds.kind_of n) b.1) (sym (eqb-true a.0 b.0 parts.0)) named_kinds.values.1.0)
 
-bounds_sound : (r : Read) (i : InTurn) → Agrees r i → (clash i.now.amounts || (are_of_kinds i.now.amounts && are_bounded kind_at r.now)) ≡ true → HaveKinds i.now.amounts → IsBounded i.now
-bounds_sound r i a h named_kinds = ⊎_elim
+bounds_sound : (d : Edition) (r : Read) (i : InTurn) → Agrees r i → (clash i.now.amounts || (are_of_kinds i.now.amounts && (are_bounded kind_at r.now && are_within d kind_at r.now))) ≡ true → HaveKinds i.now.amounts → IsBounded d i.now
+bounds_sound d r i a h named_kinds = ⊎_elim
     (λ is_so. absurd (no_kinds i.now.amounts is_so named_kinds))
-    (λ other. (let parts = and_parts (are_of_kinds i.now.amounts) (are_bounded kind_at r.now) (left_side (clash i.now.amounts) _ h other) in record { kind_of = kind_at; values = of_kinds i.now.amounts parts.0; fits = λ b. subst (λ ms. Fits (kind_at b) (supply ms b)) (sym a.moves) (bounded_is kind_at r.now parts.1 b) }))
+    (λ other. (let parts = and_parts (are_of_kinds i.now.amounts) _ (left_side (clash i.now.amounts) _ h other) in let both = and_parts (are_bounded kind_at r.now) (are_within d kind_at r.now) parts.1 in record {
+      kind_of = kind_at;
+      values = of_kinds i.now.amounts parts.0;
+      fits = λ b. subst (λ ms. Fits (kind_at b) (supply ms b)) (sym a.moves) (bounded_is kind_at r.now both.0 b);
+      within = λ b. subst (λ ms. IsWithin d (kind_at b) (supply ms b)) (sym a.moves) (within_is d kind_at r.now both.1 b);
+    }))
     (cases_Bool (clash i.now.amounts))
 
 sums_map : (f g : ℕ → Sum) → ((b : ℕ) → f b ≡ g b) → (bs : List ℕ) → map f bs ≡ map g bs
 sums_map f g same [] = refl
 sums_map f g same (b ∷ bs) = ap (λ (s : Sum). s ∷ map f bs) (same b) ∙ ap (λ (ss : List Sum). g b ∷ ss) (sums_map f g same bs)
 
-end_sound : (y : Sentence) (r : Read) (i : InTurn) (sums : List Sum) → Agrees r i → end_test y r i sums ≡ true → AtEnd y i sums
-end_sound offers_burn r i sums a h = no_burn_sound i.due h
-end_sound offers_escrow r i sums a h = no_escrow_sound i.due h
-end_sound payouts_follow r i sums a h = no_payout_sound i.due h
-end_sound causes_are_the_first r i sums a h = each_so (λ e. is_first i e ≡ true) (IsCaused i.now.seats i.before.owners i.row i.here) (first_sound i) i.here (every (is_first i) i.here h)
-end_sound causes_are_followed r i sums a h = open_from_zero (λ n s. first_cause i.before.owners i.row i.here s.opening.instance n ≡ None) (λ n s. not (is_some (first_cause i.before.owners i.row i.here s.opening.instance n))) (λ n s t. none_is _ t) i.now.seats h
-end_sound seats_stay_covered r i sums a h = open_from_zero (λ n s. IsSafe i.now.table s.opening) (λ n s. is_safe r.now s.opening) (λ n s t. safe_sound i.now.table r.now a.table s.opening t) i.now.seats h
-end_sound payments_are_emptied r i sums a h = emptied_sound r i a h
-end_sound tables_balance r i sums a h = let parts = and_parts (can_move_all r.now) _ h in adds_up i.now r.now a.table a.moves parts.0 parts.1
-end_sound supplies_are_bounded r i sums a h = bounds_sound r i a h
-end_sound sums_are_told r i sums a h =
+end_sound : (d : Edition) (y : Sentence) (r : Read) (i : InTurn) (sums : List Sum) → Agrees r i → end_test d y r i sums ≡ true → AtEnd d y i sums
+end_sound d offers_burn r i sums a h = no_burn_sound i.due h
+end_sound d offers_escrow r i sums a h = no_escrow_sound i.due h
+end_sound d payouts_follow r i sums a h = no_payout_sound i.due h
+end_sound d causes_are_the_first r i sums a h = each_so (λ e. is_first i e ≡ true) (IsCaused i.now.seats i.before.owners i.row i.here) (first_sound i) i.here (every (is_first i) i.here h)
+end_sound d causes_are_followed r i sums a h = open_from_zero (λ n s. first_cause i.before.owners i.row i.here s.opening.instance n ≡ None) (λ n s. not (is_some (first_cause i.before.owners i.row i.here s.opening.instance n))) (λ n s t. none_is _ t) i.now.seats h
+end_sound d seats_stay_covered r i sums a h = open_from_zero (λ n s. IsSafe i.now.table s.opening) (λ n s. is_safe r.now s.opening) (λ n s t. safe_sound i.now.table r.now a.table s.opening t) i.now.seats h
+end_sound d payments_are_emptied r i sums a h = emptied_sound r i a h
+end_sound d tables_balance r i sums a h = let parts = and_parts (can_move_all r.now) _ h in adds_up i.now r.now a.table a.moves parts.0 parts.1
+end_sound d supplies_are_bounded r i sums a h = bounds_sound d r i a h
+end_sound d sums_are_told r i sums a h =
     let parts = and_parts (can_sum r.now) (same_sums sums (map (sum_in r.now) (brands_of (movements_in i.here)))) h in
     sums_same sums _ parts.1 ∙ sums_map (sum_in r.now) (sum_so_far i.now) (sum_is i.now r.now a.table a.moves parts.0) (brands_of (movements_in i.here))
-end_sound _ r i sums a h = tt
+end_sound d _ r i sums a h = tt
 
 -- ---- lists of turns
 
-turns_sound : (y : Sentence) (ms : List Move) (s : SoFar) (ts : List Turn) → s.table ≡ table_of ms → s.moves ≡ moves_of ms → turns_test y ms s ts ≡ true → MeetsFrom y s ts
-turns_sound y ms s [] table same_moves h = tt
-turns_sound y ms s (t ∷ ts) table same_moves h =
+turns_sound : (d : Edition) (y : Sentence) (ms : List Move) (s : SoFar) (ts : List Turn) → s.table ≡ table_of ms → s.moves ≡ moves_of ms → turns_test d y ms s ts ≡ true → MeetsFrom d y s ts
+turns_sound d y ms s [] table same_moves h = tt
+turns_sound d y ms s (t ∷ ts) table same_moves h =
     let i = after_turn_row s t in
-    let whole = and_parts (turn_test y ms s t) (turns_test y (read_events i (fresh ms) t.events).now (with_turn s t) ts) h in
+    let whole = and_parts (turn_test d y ms s t) (turns_test d y (read_events i (fresh ms) t.events).now (with_turn s t) ts) h in
     let row = and_parts (turn_row_test y s t) _ whole.0 in
-    let rest = and_parts (rows_test y (fresh ms) i t.events) (end_test y (read_events i (fresh ms) t.events) (after_events i t.events) t.sums) row.1 in
+    let rest = and_parts (rows_test y (fresh ms) i t.events) (end_test d y (read_events i (fresh ms) t.events) (after_events i t.events) t.sums) row.1 in
     let first : Agrees (fresh ms) i = record { table = table; moves = same_moves; before = same_moves; due = tt } in
     let last : Agrees (read_events i (fresh ms) t.events) (after_events i t.events) = agrees_at_end (fresh ms) i t.events first in (
-      (row_sound y s t row.0, rows_sound y (fresh ms) i t.events first rest.0, end_sound y (read_events i (fresh ms) t.events) (after_events i t.events) t.sums last rest.1),
-      turns_sound y (read_events i (fresh ms) t.events).now (with_turn s t) ts (ap (λ n. n.table) (sym (now_is i t.events)) ∙ last.table) (ap (λ n. n.moves) (sym (now_is i t.events)) ∙ last.moves) whole.1,
+      (row_sound y s t row.0, rows_sound y (fresh ms) i t.events first rest.0, end_sound d y (read_events i (fresh ms) t.events) (after_events i t.events) t.sums last rest.1),
+      turns_sound d y (read_events i (fresh ms) t.events).now (with_turn s t) ts (ap (λ n. n.table) (sym (now_is i t.events)) ∙ last.table) (ap (λ n. n.moves) (sym (now_is i t.events)) ∙ last.moves) whole.1,
     )
 
-pub sound : (y : Sentence) (ts : List Turn) → passes y ts ≡ true → Meets y ts
-sound y ts h = turns_sound y [] nothing_so_far ts refl refl h
+pub sound : (d : Edition) (y : Sentence) (ts : List Turn) → passes d y ts ≡ true → Meets d y ts
+sound d y ts h = turns_sound d y [] nothing_so_far ts refl refl h

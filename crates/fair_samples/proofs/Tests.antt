@@ -8,7 +8,9 @@ use Rattle.fair_rows.specs.rights_model.declared.Holder.TheVariants.{Payment, Sl
 use Rattle.fair_rows.specs.rights_model.declared.Sum.{Sum}
 use Rattle.fair_rows.specs.turn_rows.Causes.{Cause}
 use Rattle.fair_rows.specs.turn_rows.Causes as causes
-use Rattle.fair_rows.specs.turn_rows.Turns.{Answer, Call, Element, Event, KeywordAmount, Move, Opening, SeatExit, Turn, Value, called, counted, elements, exited, key, moved, number, opened, refused, settled}
+use Rattle.fair_rows.specs.turn_rows.Turns.{Answer, Call, Element, Event, KeywordAmount, Move, Opening, SeatExit, Turn, Value, called, counted, elements, exited, key, moved, number, opened, refused, settled, ok, Payout}
+use Rattle.fair_rows.specs.turn_rows.declared.editions.Edition.{Edition}
+use Rattle.serde_json.specs.Data as json
 use Rattle.fair_rows.specs.ExitCauses.{calls, first_cause, is_call, is_ok, name}
 use Rattle.fair_rows.specs.Movements.{movements_in, names, takes_from}
 use Rattle.fair_rows.specs.Rows.{Due, InTurn, after_event, burn, escrow, is_offer, is_service, payment_under, payout}
@@ -19,7 +21,7 @@ use Rattle.fair_rows.specs.Values.{Named}
 use Rattle.fair_samples.specs.Sentences.{Sentence, turns_are_numbered, purse_amounts, payment_amounts, final_amounts, movements_are_defined, payments_stay_spent, values_are_of_one_kind, slots_are_of_one_brand, seats_are_in_order, offers_burn, offers_escrow, kits_are_empty, openings_are_called_for, exits_are_of_open_seats, exits_follow_their_cause, causes_are_the_first, causes_are_followed, payouts_follow, payouts_are_named, payouts_are_new, exits_are_covered, seats_stay_covered, refusals_change_nothing, slots_are_of_opened_seats, slots_are_of_no_exited_seat, payments_are_emptied, tables_balance, supplies_are_bounded, sums_are_told, current_amounts, slot_amounts, minted_totals_are_bounded}
 use Rattle.fair_samples.proofs.Held.{all_held, can_move, can_move_all, has, has_just, moves_of}
 use Rattle.fair_samples.proofs.Printed.{are_of_kinds, kind_at}
-use Rattle.fair_samples.proofs.Sized.{are_bounded, can_sum, is_hand_empty, mints_few, sum_in}
+use Rattle.fair_samples.proofs.Sized.{are_bounded, are_within, can_sum, is_hand_empty, mints_few, sum_in}
 
 -- the movements of the turns before, of all rows so far, and as they were at the last exit row; the newest first
 pub record Read : Type 0 where
@@ -120,11 +122,16 @@ is_slot_of seat keyword _ = false
 abbrev pub is_read : List ℕ → Turn → Bool
 is_read method t = is_service t.kind && (is_ok t.answer && bytes_eq t.method method)
 
+-- an answer that is no record, and so holds no amount
+abbrev pub is_bare : Answer → Bool
+is_bare (ok (json.object ms)) = false
+is_bare _ = true
+
 abbrev pub turn_row_test : Sentence → SoFar → Turn → Bool
 turn_row_test turns_are_numbered s t = t.number == s.turns + 1
-turn_row_test purse_amounts s t = not (is_read (codes "getCurrentAmount") t)
-turn_row_test payment_amounts s t = not (is_read (codes "getAmountOf") t)
-turn_row_test final_amounts s t = not (is_read (codes "getFinalAllocation") t)
+turn_row_test purse_amounts s t = not (is_read (codes "getCurrentAmount") t) || is_bare t.answer
+turn_row_test payment_amounts s t = not (is_read (codes "getAmountOf") t) || is_bare t.answer
+turn_row_test final_amounts s t = not (is_read (codes "getFinalAllocation") t) || is_bare t.answer
 turn_row_test _ s t = true
 
 -- ---- rows of events
@@ -219,6 +226,10 @@ is_not_exited seats _ = true
 abbrev pub is_call_of : List ℕ → Call → Bool
 is_call_of method c = is_call c.how && (is_ok c.answer && bytes_eq c.method method)
 
+-- the call of an instance's kit
+abbrev pub is_kit : ℕ → Call → Bool
+is_kit instance c = calls (name (codes "zcf") instance) (codes "makeEmptySeatKit") c
+
 abbrev pub event_test : Sentence → Read → InTurn → Event → Bool
 event_test movements_are_defined r i e = of_move e (can_move r.now)
 event_test minted_totals_are_bounded r i e = of_move e (λ m. mints_few (m ∷ r.now) m.brand)
@@ -228,19 +239,19 @@ event_test slots_are_of_one_brand r i e = of_move e (λ m. unless_due i.due (is_
 event_test seats_are_in_order r i e = of_opening e (λ o. o.seat == length i.now.seats)
 event_test offers_burn r i e = burn_test i.due e
 event_test offers_escrow r i e = escrow_test i.due e
-event_test kits_are_empty r i e = of_opening e (λ o. is_offer i.row || (is_nil o.give && is_nil o.want))
-event_test openings_are_called_for r i e = of_opening e (λ o. is_offer i.row || last_is (calls (name (codes "zcf") o.instance) (codes "makeEmptySeatKit")) i.here)
+event_test kits_are_empty r i e = of_opening e (λ o. not (last_is (is_call_of (codes "makeEmptySeatKit")) i.here) || (is_nil o.give && is_nil o.want))
+event_test openings_are_called_for r i e = of_opening e (λ o. is_offer i.row || (last_is (is_kit 0) i.here || (last_is (is_kit 1) i.here || last_is (is_kit 2) i.here)))
 event_test exits_are_of_open_seats r i e = of_exit e (λ x. some_and (slice_get i.now.seats x.seat) (λ s. not (is_some s.last)))
 event_test exits_follow_their_cause r i e = of_exit e (λ x. if_some (slice_get i.now.seats x.seat) (λ s. is_cause (first_cause i.before.owners i.row i.here s.opening.instance x.seat) x.cause))
 event_test payouts_follow r i e = payout_test r.at_exit i.due e
 event_test payouts_are_named r i e = of_exit e (λ x. if_some (slice_get i.now.seats x.seat) (λ s. length x.payouts == length s.slots && list_all (λ (slot : SlotName). is_some (payment_under slot.keyword x.payouts)) s.slots))
-event_test payouts_are_new r i e = new_test r.now i.due e
+event_test payouts_are_new r i e = new_test r.now i.due e && of_exit e (λ x. list_all (λ (p : Payout). not (names p.payment (moves_of r.now))) x.payouts)
 event_test exits_are_covered r i e = of_exit e (λ x. if_some (slice_get i.now.seats x.seat) (λ s. is_safe r.now s.opening))
 event_test refusals_change_nothing r i e = refusal_test i.row.answer e
 event_test slots_are_of_opened_seats r i e = of_move e (λ m. unless_due i.due (is_opened i.now.seats m.from && is_opened i.now.seats m.to))
 event_test slots_are_of_no_exited_seat r i e = of_move e (λ m. unless_due i.due (is_not_exited i.now.seats m.from && is_not_exited i.now.seats m.to))
-event_test current_amounts r i e = of_call e (λ c. not (is_call_of (codes "getCurrentAllocation") c))
-event_test slot_amounts r i e = of_call e (λ c. not (is_call_of (codes "getAmountAllocated") c))
+event_test current_amounts r i e = of_call e (λ c. not (is_call_of (codes "getCurrentAllocation") c) || is_bare c.answer)
+event_test slot_amounts r i e = of_call e (λ c. not (is_call_of (codes "getAmountAllocated") c) || is_bare c.answer)
 event_test _ r i e = true
 
 -- ---- ends of turns
@@ -279,18 +290,18 @@ abbrev pub clash : List Named → Bool
 clash (a ∷ b ∷ amounts) = a.0 == b.0 && (is_numbers a.1 && not (is_numbers b.1))
 clash _ = false
 
-abbrev pub end_test : Sentence → Read → InTurn → List Sum → Bool
-end_test offers_burn r i sums = no_burn i.due
-end_test offers_escrow r i sums = no_escrow i.due
-end_test payouts_follow r i sums = no_payout i.due
-end_test causes_are_the_first r i sums = list_all (is_first i) i.here
-end_test causes_are_followed r i sums = open_seats (λ n s. not (is_some (first_cause i.before.owners i.row i.here s.opening.instance n))) 0 i.now.seats
-end_test seats_stay_covered r i sums = open_seats (λ n s. is_safe r.now s.opening) 0 i.now.seats
-end_test payments_are_emptied r i sums = all_held (λ h b k n. is_emptied i.here h n) r.now
-end_test tables_balance r i sums = can_move_all r.now && is_hand_empty r.now
-end_test supplies_are_bounded r i sums = clash i.now.amounts || (are_of_kinds i.now.amounts && are_bounded kind_at r.now)
-end_test sums_are_told r i sums = can_sum r.now && same_sums sums (map (sum_in r.now) (brands_of (movements_in i.here)))
-end_test _ r i sums = true
+abbrev pub end_test : Edition → Sentence → Read → InTurn → List Sum → Bool
+end_test d offers_burn r i sums = no_burn i.due
+end_test d offers_escrow r i sums = no_escrow i.due
+end_test d payouts_follow r i sums = no_payout i.due
+end_test d causes_are_the_first r i sums = list_all (is_first i) i.here
+end_test d causes_are_followed r i sums = open_seats (λ n s. not (is_some (first_cause i.before.owners i.row i.here s.opening.instance n))) 0 i.now.seats
+end_test d seats_stay_covered r i sums = open_seats (λ n s. is_safe r.now s.opening) 0 i.now.seats
+end_test d payments_are_emptied r i sums = all_held (λ h b k n. is_emptied i.here h n) r.now
+end_test d tables_balance r i sums = can_move_all r.now && is_hand_empty r.now
+end_test d supplies_are_bounded r i sums = clash i.now.amounts || (are_of_kinds i.now.amounts && (are_bounded kind_at r.now && are_within d kind_at r.now))
+end_test d sums_are_told r i sums = can_sum r.now && same_sums sums (map (sum_in r.now) (brands_of (movements_in i.here)))
+end_test d _ r i sums = true
 
 -- ---- lists of turns
 
@@ -298,12 +309,12 @@ abbrev pub rows_test : Sentence → Read → InTurn → List Event → Bool
 rows_test y r i [] = true
 rows_test y r i (e ∷ es) = event_test y r i e && rows_test y (read_event i r e) (after_event i e) es
 
-abbrev pub turn_test : Sentence → List Move → SoFar → Turn → Bool
-turn_test y ms s t = turn_row_test y s t && (rows_test y (fresh ms) (after_turn_row s t) t.events && end_test y (read_events (after_turn_row s t) (fresh ms) t.events) (after_events (after_turn_row s t) t.events) t.sums)
+abbrev pub turn_test : Edition → Sentence → List Move → SoFar → Turn → Bool
+turn_test d y ms s t = turn_row_test y s t && (rows_test y (fresh ms) (after_turn_row s t) t.events && end_test d y (read_events (after_turn_row s t) (fresh ms) t.events) (after_events (after_turn_row s t) t.events) t.sums)
 
-abbrev pub turns_test : Sentence → List Move → SoFar → List Turn → Bool
-turns_test y ms s [] = true
-turns_test y ms s (t ∷ ts) = turn_test y ms s t && turns_test y (read_events (after_turn_row s t) (fresh ms) t.events).now (with_turn s t) ts
+abbrev pub turns_test : Edition → Sentence → List Move → SoFar → List Turn → Bool
+turns_test d y ms s [] = true
+turns_test d y ms s (t ∷ ts) = turn_test d y ms s t && turns_test d y (read_events (after_turn_row s t) (fresh ms) t.events).now (with_turn s t) ts
 
-abbrev pub passes : Sentence → List Turn → Bool
-passes y ts = turns_test y [] nothing_so_far ts
+abbrev pub passes : Edition → Sentence → List Turn → Bool
+passes d y ts = turns_test d y [] nothing_so_far ts

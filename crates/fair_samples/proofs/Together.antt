@@ -4,20 +4,20 @@ use Rattle.fair_rows.specs.Amounts.{IsReadByCall}
 use Rattle.std.specs.Prelude.{is_some, length}
 use Rattle.fair_rows.specs.ExitCauses.{first_cause}
 use Rattle.fair_rows.specs.Movements.{names}
-use Rattle.std.proofs.Common.{◌≡◌, ◌⊎◌, ◌↔◌, ℕ, true, false, List, [], ◌∷◌, Some, None, unwrap_or, refl, sym, ap, subst, ◌∙◌, inl, inr, ⊎_elim}
-use Rattle.std.proofs.lemmas.Bool.{cases_Bool, true≢false}
+use Rattle.std.proofs.Common.{◌≡◌, ◌↔◌, ℕ, true, false, List, [], ◌∷◌, Some, None, unwrap_or, refl, sym, ap, subst, ◌∙◌, inl, inr}
 use Rattle.std.specs.List.{AllByRecursion, slice_get}
 use Rattle.fair_rows.specs.rights_model.declared.Holder.TheVariants.{Payment}
 use Rattle.fair_rows.specs.rights_model.declared.Sum.{Sum}
 use Rattle.fair_rows.specs.turn_rows.Turns.{Event, called, exited, moved, Move, opened, Opening, SeatExit, settled, Turn, Call, Settlement}
-use Rattle.fair_rows.specs.Rows.{AreFairMoves, Due, InTurn, IsFairExit, IsFairOpening, IsFairRow, IsInPlace, IsOpenSlot, NamesOpenSlots, after_event, burn, escrow, is_offer, payout, IsEmptySeat, payment_under}
+use Rattle.fair_rows.specs.turn_rows.declared.editions.Edition.{Edition}
+use Rattle.fair_rows.specs.Rows.{AreFairMoves, Due, InTurn, IsFairExit, IsFairOpening, IsFairRow, IsInPlace, IsOpenSlot, NamesOpenSlots, after_event, burn, escrow, payout, payment_under}
 use Rattle.fair_rows.specs.Seats.{IsSafe, Seat, brand_under, SlotName}
 use Rattle.fair_rows.specs.SoFar.{SoFar, nothing_so_far, with_turn}
 use Rattle.fair_rows.specs.Turns.{AreFair, AreFairFrom, AreFairRows, IsFairEnd, IsFairTurnRow, after_events, after_turn_row}
 use Rattle.fair_rows.specs.Values.{HaveKinds}
 use Rattle.fair_rows.proofs.Steps.{now_is}
 use Rattle.fair_samples.specs.Sentences.{Sentence, turns_are_numbered, purse_amounts, payment_amounts, final_amounts, movements_are_defined, payments_stay_spent, values_are_of_one_kind, slots_are_of_one_brand, seats_are_in_order, offers_burn, offers_escrow, kits_are_empty, openings_are_called_for, exits_are_of_open_seats, exits_follow_their_cause, causes_are_the_first, causes_are_followed, payouts_follow, payouts_are_named, payouts_are_new, exits_are_covered, seats_stay_covered, refusals_change_nothing, slots_are_of_opened_seats, slots_are_of_no_exited_seat, payments_are_emptied, tables_balance, supplies_are_bounded, sums_are_told, current_amounts, slot_amounts, minted_totals_are_bounded}
-use Rattle.fair_samples.specs.Sentences.{AtTurnRow, AtRow, AtEnd, IfNoneDue, IsAfterKit, IsNewPayout, IsNoBurn, IsNoEscrow, IsNoPayout, IsOfSlots, MeetsBurn, MeetsEscrow, MeetsPayout, Meets, MeetsFrom, MeetsRows, NamesSlot}
+use Rattle.fair_samples.specs.Sentences.{AtTurnRow, AtRow, AtEnd, IfNoneDue, IsNewPayout, IsNoBurn, IsNoEscrow, IsNoPayout, IsOfSlots, MeetsBurn, MeetsEscrow, MeetsPayout, Meets, MeetsFrom, MeetsRows, NamesSlot}
 
 pub same_some : {A : Type 0} (x y : A) → Some x ≡ Some y → x ≡ y
 same_some x y e = ap (λ o. unwrap_or o x) e
@@ -85,13 +85,6 @@ named_slot : (i : InTurn) (m : Move) → NamesOpenSlots i.now.seats m → (seat 
 named_slot i m h seat keyword (inl from) = h.from seat keyword from
 named_slot i m h seat keyword (inr to) = h.to seat keyword to
 
--- the opening of a kit gives and wants nothing
-kit_empty : (i : InTurn) (o : Opening) → IsFairOpening i o → is_offer i.row ≡ false → (o.give ≡ []) × (o.want ≡ [])
-kit_empty i o h other = elim h.by [ inl offer ↦ absurd (true≢false (sym offer ∙ other)) | inr kit ↦ (kit.gives, kit.wants) ]
-
-kit_called : (i : InTurn) (o : Opening) → IsFairOpening i o → (is_offer i.row ≡ true) ⊎ IsAfterKit i.here o
-kit_called i o h = elim h.by [ inl offer ↦ inl offer | inr kit ↦ inr (record { more = kit.more; call = kit.call; last = kit.last; made = kit.made }) ]
-
 row_each : (s : SoFar) (t : Turn) → IsFairTurnRow s t → (y : Sentence) → AtTurnRow y s t
 row_each s t h turns_are_numbered = h.number
 row_each s t h purse_amounts = h.read.purse
@@ -108,7 +101,7 @@ move_each i m h slots_are_of_one_brand = (if_none i.due (λ n. record { each = �
 move_each i m h offers_burn = burn_place i.due i (moved m) h.place
 move_each i m h offers_escrow = escrow_place i.due i (moved m) h.place
 move_each i m h payouts_follow = payout_place i.due i (moved m) h.place
-move_each i m h payouts_are_new = new_place i.due i (moved m) h.place
+move_each i m h payouts_are_new = (new_place i.due i (moved m) h.place, tt)
 move_each i m h refusals_change_nothing = h.refusal
 move_each i m h slots_are_of_opened_seats = if_none i.due (λ n seat keyword is. ((named_slot i m n seat keyword is).is_open.seat, (named_slot i m n seat keyword is).is_open.was_opened)) (move_place i.due i m h.place)
 move_each i m h slots_are_of_no_exited_seat = if_none i.due (λ n seat keyword is s found. (let o = (named_slot i m n seat keyword is).is_open in subst (λ z. z.last ≡ None) (same_some o.seat s (sym o.was_opened ∙ found)) o.stays)) (move_place i.due i m h.place)
@@ -120,10 +113,10 @@ opening_each i o h slots_are_of_one_brand = (tt, (opening_place i.due i o h.plac
 opening_each i o h seats_are_in_order = (opening_place i.due i o h.place).next
 opening_each i o h offers_burn = burn_place i.due i (opened o) h.place
 opening_each i o h offers_escrow = escrow_place i.due i (opened o) h.place
-opening_each i o h kits_are_empty = kit_empty i o (opening_place i.due i o h.place)
-opening_each i o h openings_are_called_for = kit_called i o (opening_place i.due i o h.place)
+opening_each i o h kits_are_empty = (opening_place i.due i o h.place).empty
+opening_each i o h openings_are_called_for = (opening_place i.due i o h.place).by
 opening_each i o h payouts_follow = payout_place i.due i (opened o) h.place
-opening_each i o h payouts_are_new = new_place i.due i (opened o) h.place
+opening_each i o h payouts_are_new = (new_place i.due i (opened o) h.place, tt)
 opening_each i o h refusals_change_nothing = h.refusal
 opening_each i o h _ = tt
 
@@ -136,7 +129,7 @@ exit_each i x h exits_are_of_open_seats = (exit_place i.due i x h.place).is_open
 exit_each i x h exits_follow_their_cause = λ s found. (let f = exit_place i.due i x h.place in subst (λ z. first_cause i.before.owners i.row i.here z.opening.instance x.seat ≡ Some x.cause) (same_some f.is_open.seat s (sym f.is_open.was_opened ∙ found)) f.cause)
 exit_each i x h payouts_follow = payout_place i.due i (exited x) h.place
 exit_each i x h payouts_are_named = λ s found. (let f = exit_place i.due i x h.place in subst (λ (z : Seat). (length x.payouts ≡ length z.slots) × AllByRecursion (λ (slot : SlotName). is_some (payment_under slot.keyword x.payouts) ≡ true) z.slots) (same_some f.is_open.seat s (sym f.is_open.was_opened ∙ found)) (f.as_many, f.named))
-exit_each i x h payouts_are_new = new_place i.due i (exited x) h.place
+exit_each i x h payouts_are_new = (new_place i.due i (exited x) h.place, (exit_place i.due i x h.place).fresh)
 exit_each i x h exits_are_covered = λ s found. (let f = exit_place i.due i x h.place in subst (λ z. IsSafe i.now.table z.opening) (same_some f.is_open.seat s (sym f.is_open.was_opened ∙ found)) f.safe)
 exit_each i x h refusals_change_nothing = h.refusal
 exit_each i x h _ = tt
@@ -147,16 +140,16 @@ call_each i c h slots_are_of_one_brand = (tt, tt)
 call_each i c h offers_burn = burn_place i.due i (called c) h.place
 call_each i c h offers_escrow = escrow_place i.due i (called c) h.place
 call_each i c h payouts_follow = payout_place i.due i (called c) h.place
-call_each i c h payouts_are_new = new_place i.due i (called c) h.place
+call_each i c h payouts_are_new = (new_place i.due i (called c) h.place, tt)
 call_each i c h refusals_change_nothing = h.refusal
 call_each i c h current_amounts = (call_place i.due h.place).current
   where
-    call_place : (ds : List Due) → IsInPlace ds i (called c) → IsReadByCall i.now.table i.now.seats c
+    call_place : (ds : List Due) → IsInPlace ds i (called c) → IsReadByCall i.now.table c
     call_place [] p = p
     call_place (d ∷ ds) p = absurd p
 call_each i c h slot_amounts = (call_place i.due h.place).allocated
   where
-    call_place : (ds : List Due) → IsInPlace ds i (called c) → IsReadByCall i.now.table i.now.seats c
+    call_place : (ds : List Due) → IsInPlace ds i (called c) → IsReadByCall i.now.table c
     call_place [] p = p
     call_place (d ∷ ds) p = absurd p
 call_each i c h _ = tt
@@ -167,7 +160,7 @@ settlement_each i p r h slots_are_of_one_brand = (tt, tt)
 settlement_each i p r h offers_burn = burn_place i.due i (settled p r) h.place
 settlement_each i p r h offers_escrow = escrow_place i.due i (settled p r) h.place
 settlement_each i p r h payouts_follow = payout_place i.due i (settled p r) h.place
-settlement_each i p r h payouts_are_new = new_place i.due i (settled p r) h.place
+settlement_each i p r h payouts_are_new = (new_place i.due i (settled p r) h.place, tt)
 settlement_each i p r h refusals_change_nothing = h.refusal
 settlement_each i p r h _ = tt
 
@@ -199,22 +192,22 @@ no_payout (burn ∷ ds) e = tt
 no_payout (escrow seat a ∷ ds) e = tt
 no_payout (payout seat slot c found ∷ ds) e = cc
 
-end_each : (i : InTurn) (sums : List Sum) → IsFairEnd i sums → (y : Sentence) → AtEnd y i sums
-end_each i sums h offers_burn = no_burn i.due h.complete
-end_each i sums h offers_escrow = no_escrow i.due h.complete
-end_each i sums h payouts_follow = no_payout i.due h.complete
-end_each i sums h causes_are_the_first = h.caused
-end_each i sums h causes_are_followed = h.stays
-end_each i sums h seats_stay_covered = h.safe
-end_each i sums h payments_are_emptied = h.emptied
-end_each i sums h tables_balance = record { stores = h.balanced.adds_up.adds_up; hand_empty = h.balanced.adds_up.hand_empty }
-end_each i sums h supplies_are_bounded = λ kinds. record { kind_of = h.balanced.kind_of; values = h.balanced.values; fits = h.balanced.adds_up.bounded }
-end_each i sums h sums_are_told = h.sums
-end_each i sums h _ = tt
+end_each : (d : Edition) (i : InTurn) (sums : List Sum) → IsFairEnd d i sums → (y : Sentence) → AtEnd d y i sums
+end_each d i sums h offers_burn = no_burn i.due h.complete
+end_each d i sums h offers_escrow = no_escrow i.due h.complete
+end_each d i sums h payouts_follow = no_payout i.due h.complete
+end_each d i sums h causes_are_the_first = h.caused
+end_each d i sums h causes_are_followed = h.stays
+end_each d i sums h seats_stay_covered = h.safe
+end_each d i sums h payments_are_emptied = h.emptied
+end_each d i sums h tables_balance = record { stores = h.balanced.adds_up.adds_up; hand_empty = h.balanced.adds_up.hand_empty }
+end_each d i sums h supplies_are_bounded = λ kinds. record { kind_of = h.balanced.kind_of; values = h.balanced.values; fits = h.balanced.adds_up.bounded; within = h.balanced.within }
+end_each d i sums h sums_are_told = h.sums
+end_each d i sums h _ = tt
 
-each_from : (s : SoFar) (ts : List Turn) → AreFairFrom s ts → (y : Sentence) → MeetsFrom y s ts
-each_from s [] h y = tt
-each_from s (t ∷ ts) h y = ((row_each s t h.0.row y, rows_each (after_turn_row s t) t.events h.0.events y, end_each (after_events (after_turn_row s t) t.events) t.sums h.0.end y), each_from (with_turn s t) ts h.1 y)
+each_from : (d : Edition) (s : SoFar) (ts : List Turn) → AreFairFrom d s ts → (y : Sentence) → MeetsFrom d y s ts
+each_from d s [] h y = tt
+each_from d s (t ∷ ts) h y = ((row_each s t h.0.row y, rows_each (after_turn_row s t) t.events h.0.events y, end_each d (after_events (after_turn_row s t) t.events) t.sums h.0.end y), each_from d (with_turn s t) ts h.1 y)
 
 -- ---- and the other way round
 
@@ -237,12 +230,9 @@ opening_from : (i : InTurn) (o : Opening) → ((y : Sentence) → AtRow y i (ope
 opening_from i o h = record {
   next = h seats_are_in_order;
   of_brand = (h slots_are_of_one_brand).1;
-  by = ⊎_elim (λ offer. inl offer) (λ other. inr (kit other (h openings_are_called_for))) (cases_Bool (is_offer i.row));
+  by = h openings_are_called_for;
+  empty = h kits_are_empty;
 }
-  where
-    kit : is_offer i.row ≡ false → (is_offer i.row ≡ true) ⊎ IsAfterKit i.here o → IsEmptySeat i.here o
-    kit other (inl offer) = absurd (true≢false (sym offer ∙ other))
-    kit other (inr k) = record { more = k.more; call = k.call; last = k.last; made = k.made; gives = (h kits_are_empty other).0; wants = (h kits_are_empty other).1 }
 
 exit_from : (i : InTurn) (x : SeatExit) → ((y : Sentence) → AtRow y i (exited x)) → IsFairExit i x
 exit_from i x h =
@@ -254,6 +244,7 @@ exit_from i x h =
       safe = h exits_are_covered o.seat o.was_opened;
       as_many = named.0;
       named = named.1;
+      fresh = (h payouts_are_new).1;
     }
 
 free_from : (i : InTurn) (e : Event) → ((y : Sentence) → AtRow y i e) → IfNoneDue i.due (IsInPlace [] i e)
@@ -269,7 +260,7 @@ moves_from i _ h = tt
 
 event_from : (i : InTurn) (e : Event) → ((y : Sentence) → AtRow y i e) → IsFairRow i e
 event_from i e h = record {
-  place = place_from i.due i e (h offers_burn) (h offers_escrow) (h payouts_follow) (h payouts_are_new) (free_from i e h);
+  place = place_from i.due i e (h offers_burn) (h offers_escrow) (h payouts_follow) (h payouts_are_new).0 (free_from i e h);
   moves = moves_from i e h;
   kinds = h values_are_of_one_kind;
   refusal = h refusals_change_nothing;
@@ -292,31 +283,31 @@ nothing_due (burn ∷ ds) b e p = absurd b
 nothing_due (escrow seat a ∷ ds) b e p = absurd e
 nothing_due (payout seat slot c found ∷ ds) b e p = absurd p
 
-end_from : (i : InTurn) (sums : List Sum) → HaveKinds i.now.amounts → ((y : Sentence) → AtEnd y i sums) → IsFairEnd i sums
-end_from i sums kinds h =
+end_from : (d : Edition) (i : InTurn) (sums : List Sum) → HaveKinds i.now.amounts → ((y : Sentence) → AtEnd d y i sums) → IsFairEnd d i sums
+end_from d i sums kinds h =
     let bounded = h supplies_are_bounded kinds in
     record {
       complete = nothing_due i.due (h offers_burn) (h offers_escrow) (h payouts_follow);
       sums = h sums_are_told;
-      balanced = record { kind_of = bounded.kind_of; values = bounded.values; adds_up = record { adds_up = (h tables_balance).stores; hand_empty = (h tables_balance).hand_empty; bounded = bounded.fits } };
+      balanced = record { kind_of = bounded.kind_of; values = bounded.values; adds_up = record { adds_up = (h tables_balance).stores; hand_empty = (h tables_balance).hand_empty; bounded = bounded.fits }; within = bounded.within };
       safe = h seats_stay_covered;
       stays = h causes_are_followed;
       caused = h causes_are_the_first;
       emptied = h payments_are_emptied;
     }
 
-fair_from : (s : SoFar) (ts : List Turn) → HaveKinds s.amounts → ((y : Sentence) → MeetsFrom y s ts) → AreFairFrom s ts
-fair_from s [] kinds h = tt
-fair_from s (t ∷ ts) kinds h =
+fair_from : (d : Edition) (s : SoFar) (ts : List Turn) → HaveKinds s.amounts → ((y : Sentence) → MeetsFrom d y s ts) → AreFairFrom d s ts
+fair_from d s [] kinds h = tt
+fair_from d s (t ∷ ts) kinds h =
     let after = kinds_after (after_turn_row s t) t.events kinds (h values_are_of_one_kind).0.1 in
     let told : HaveKinds (with_turn s t).amounts = subst (λ (n : SoFar). HaveKinds n.amounts) (now_is (after_turn_row s t) t.events) after in (
       record {
         row = row_from s t (λ y. (h y).0.0);
         events = rows_from (after_turn_row s t) t.events (λ y. (h y).0.1);
-        end = end_from (after_events (after_turn_row s t) t.events) t.sums after (λ y. (h y).0.2);
+        end = end_from d (after_events (after_turn_row s t) t.events) t.sums after (λ y. (h y).0.2);
       },
-      fair_from (with_turn s t) ts told (λ y. (h y).1),
+      fair_from d (with_turn s t) ts told (λ y. (h y).1),
     )
 
-pub fair_is_each : (ts : List Turn) → AreFair ts ↔ ((y : Sentence) → Meets y ts)
-fair_is_each ts = (each_from nothing_so_far ts, fair_from nothing_so_far ts (record { kind_of = λ b. Nat; values = tt }))
+pub fair_is_each : (d : Edition) (ts : List Turn) → AreFair d ts ↔ ((y : Sentence) → Meets d y ts)
+fair_is_each d ts = (each_from d nothing_so_far ts, fair_from d nothing_so_far ts (record { kind_of = λ b. Nat; values = tt }))

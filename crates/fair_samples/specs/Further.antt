@@ -6,7 +6,7 @@ use Rattle.fair_rows.specs.turn_rows.Causes as causes
 use Rattle.fair_rows.specs.turn_rows.Kinds as kinds
 use Rattle.fair_rows.specs.turn_rows.Turns.{Turn, called, counted, elements, number, ok, refused, spent, threw}
 use Rattle.fair_samples.specs.Samples.{amount, exit_turn, burned_total, burn_move, call, exit, exit_call, handler_turn, invitation, invitation_turn, kit, kit_turn, mint_turn, move, none, object, offer_turn, one, open_row, payout, service, start_turn, then_turns, total, trade}
-use Rattle.fair_samples.specs.Sentences.{Sentence, causes_are_followed, offers_burn, offers_escrow, payouts_are_new, payouts_follow, refusals_change_nothing, seats_are_in_order, slots_are_of_one_brand, sums_are_told, supplies_are_bounded}
+use Rattle.fair_samples.specs.Sentences.{Sentence, causes_are_followed, kits_are_empty, offers_burn, offers_escrow, payouts_are_new, payouts_follow, refusals_change_nothing, seats_are_in_order, slots_are_of_one_brand, sums_are_told, supplies_are_bounded}
 
 -- ---- each cause, with no exit row
 
@@ -108,6 +108,20 @@ told_twice = service 1 (codes "mint1") (codes "mintPayment") none (ok json.null)
 abbrev pub off_by_one : List Turn
 off_by_one = mint_turn 1 0 5 (total 1 6 0 0 5 0) ∷ []
 
+-- a kit's call row stands right before what an offer opens
+abbrev pub offered_behind_kit : List Turn
+offered_behind_kit =
+    invitation_turn ∷ mint_turn 2 1 5 (total 1 5 0 0 5 0)
+    ∷ offer_turn 3 (kit ∷ open_row 0 (amount (codes "A") 1 5 ∷ []) [] ∷ burn_move ∷ move 1 (Payment 1) (Slot 0 (codes "A")) (number 5) ∷ []) (burned_total ∷ total 1 5 0 0 0 5 ∷ [])
+    ∷ []
+
+-- two payments of 2^63 - 1: the first edition's supply ends there
+abbrev pub large_payments : List Turn
+large_payments =
+    mint_turn 1 0 (2 ^ 63 - 1) (total 1 (2 ^ 63 - 1) 0 0 (2 ^ 63 - 1) 0)
+    ∷ mint_turn 2 1 (2 ^ 63 - 1) (total 1 (2 ^ 64 - 2) 0 0 (2 ^ 64 - 2) 0)
+    ∷ []
+
 abbrev pub further : List (Sentence × List Turn)
 further =
     (causes_are_followed, asked_to_exit) ∷ (causes_are_followed, exit_called) ∷ (causes_are_followed, fail_called) ∷ (causes_are_followed, handler_threw)
@@ -117,4 +131,5 @@ further =
     ∷ (offers_burn, burned_elsewhere) ∷ (offers_escrow, gave_less)
     ∷ (payouts_follow, paid_less) ∷ (payouts_follow, paid_out_of_order) ∷ (payouts_are_new, paid_together)
     ∷ (refusals_change_nothing, refused_opening) ∷ (refusals_change_nothing, refused_exit)
+    ∷ (kits_are_empty, offered_behind_kit)
     ∷ (sums_are_told, told_twice) ∷ (sums_are_told, off_by_one) ∷ []

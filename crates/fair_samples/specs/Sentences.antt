@@ -11,20 +11,21 @@ use Rattle.fair_rows.specs.rights_model.declared.Holder.TheVariants.{Hand, Payme
 use Rattle.fair_rows.specs.rights_model.declared.Sum.{Sum}
 use Rattle.serde_json.specs.Data.{Items}
 use Rattle.fair_rows.specs.turn_rows.Kinds as kinds
-use Rattle.fair_rows.specs.turn_rows.Turns.{Call, Event, called, exited, KeywordAmount, Move, moved, opened, Opening, refused, SeatExit, Turn}
-use Rattle.fair_rows.specs.Amounts.{IsCurrentAllocation, IsFinalAllocation, IsPaymentAmount, IsPurseAmount, IsSlotRead}
+use Rattle.fair_rows.specs.turn_rows.Turns.{Call, Event, called, exited, KeywordAmount, Move, moved, opened, Opening, Payout, refused, SeatExit, Turn}
+use Rattle.fair_rows.specs.turn_rows.declared.editions.Edition.{Edition}
+use Rattle.fair_rows.specs.Amounts.{IfAmount, IfOkAnswer, InRecord, IsOfExit, IsOfNamedSlot, IsOfPayment, IsOfPurse, IsOfSlot}
 use Rattle.fair_rows.specs.ExitCauses.{calls, first_cause, name, serves}
 use Rattle.fair_rows.specs.Movements.{movement_of, movements_in, names, takes_from}
-use Rattle.fair_rows.specs.Rows.{ChangesNothing, Due, InTurn, IsBurn, IsEscrow, after_event, burn, escrow, is_offer, payment_under, payout}
+use Rattle.fair_rows.specs.Rows.{ChangesNothing, Due, FollowsKit, InTurn, IsBurn, IsEscrow, after_event, burn, escrow, is_offer, payment_under, payout}
 use Rattle.fair_rows.specs.Seats.{IsOpen, IsSafe, Seat, SlotName, brand_under, new_seat}
 use Rattle.fair_rows.specs.SoFar.{SoFar, nothing_so_far, sum_so_far, with_row, with_turn}
-use Rattle.fair_rows.specs.Turns.{IsCaused, after_events, after_turn_row, sums_due}
+use Rattle.fair_rows.specs.Turns.{IsCaused, IsWithin, after_events, after_turn_row, sums_due}
 use Rattle.fair_rows.specs.Values.{AreOfKinds, HaveKinds, content_of}
 
 pub data Sentence : Type 0 where
   -- the k-th turn's number is k
   turns_are_numbered : Sentence
-  -- an amount that getCurrentAmount, getAmountOf or getFinalAllocation answers is what the table has there
+  -- each amount in an ok answer of getCurrentAmount, getAmountOf and getFinalAllocation is what the table has there
   purse_amounts : Sentence
   payment_amounts : Sentence
   final_amounts : Sentence
@@ -44,7 +45,7 @@ pub data Sentence : Type 0 where
   offers_burn : Sentence
   -- then by one movement from a payment to each slot of give, in slot order, of exactly that content
   offers_escrow : Sentence
-  -- an open row after makeEmptySeatKit's call row has empty give and want
+  -- an open row right after makeEmptySeatKit's call row has empty give and want
   kits_are_empty : Sentence
   -- there are no open rows but those of an offer that answers ok and those after that call row
   openings_are_called_for : Sentence
@@ -60,7 +61,7 @@ pub data Sentence : Type 0 where
   payouts_follow : Sentence
   -- the row names a payment for each slot, and no other
   payouts_are_named : Sentence
-  -- no earlier movement names that payment
+  -- no earlier movement names that payment: none before the exit row, and none of the payouts before
   payouts_are_new : Sentence
   -- the seat was covered when it exited
   exits_are_covered : Sentence
@@ -75,11 +76,12 @@ pub data Sentence : Type 0 where
   payments_are_emptied : Sentence
   -- after each turn the counts over all purses, payments and slots add up to the supply's, and the hand is empty
   tables_balance : Sentence
-  -- in a set brand no supply count is over 1, in a bag brand none over 2^63 - 1, in any brand none over 2^120 - 1
+  -- in a set brand no supply count is over 1, in a bag brand none over 2^63 - 1, in a nat brand none over 2^120 - 1, or
+  -- over 2^63 - 1 in the first edition
   supplies_are_bounded : Sentence
   -- the turn has one sum row for each brand that its movements name, by number, with that brand's totals
   sums_are_told : Sentence
-  -- an amount that getCurrentAllocation or getAmountAllocated answers is what the table has there
+  -- each amount in an ok answer of getCurrentAllocation and getAmountAllocated is what the table has there
   current_amounts : Sentence
   slot_amounts : Sentence
 
@@ -87,9 +89,9 @@ pub data Sentence : Type 0 where
 
 abbrev pub AtTurnRow : Sentence → SoFar → Turn → Type 0
 AtTurnRow turns_are_numbered s t = t.number ≡ s.turns + 1
-AtTurnRow purse_amounts s t = (n : ℕ) → t.kind ≡ kinds.service → serves (name (codes "purse") n) (codes "getCurrentAmount") t ≡ true → IsPurseAmount s.table n t.answer
-AtTurnRow payment_amounts s t = (b : ℕ) → t.kind ≡ kinds.service → serves (name (codes "issuer") b) (codes "getAmountOf") t ≡ true → IsPaymentAmount s.table b t.arguments t.answer
-AtTurnRow final_amounts s t = (n : ℕ) → t.kind ≡ kinds.service → serves (name (codes "seat") n) (codes "getFinalAllocation") t ≡ true → IsFinalAllocation s.seats n t.answer
+AtTurnRow purse_amounts s t = (n : ℕ) → t.kind ≡ kinds.service → serves (name (codes "purse") n) (codes "getCurrentAmount") t ≡ true → IfOkAnswer (IfAmount (IsOfPurse s.table n)) t.answer
+AtTurnRow payment_amounts s t = (b : ℕ) → t.kind ≡ kinds.service → serves (name (codes "issuer") b) (codes "getAmountOf") t ≡ true → IfOkAnswer (IfAmount (IsOfPayment s.table t.arguments)) t.answer
+AtTurnRow final_amounts s t = (n : ℕ) → t.kind ≡ kinds.service → serves (name (codes "seat") n) (codes "getFinalAllocation") t ≡ true → IfOkAnswer (InRecord (λ keyword. IfAmount (IsOfExit s.seats n keyword))) t.answer
 AtTurnRow _ s t = Unit {0}
 
 -- ---- what a row of events has to meet
@@ -148,13 +150,6 @@ abbrev pub IsNewPayout : SoFar → List Due → Event → Type 0
 IsNewPayout s (payout seat slot c found ∷ ds) (moved m) = (p : ℕ) → m.to ≡ Payment p → names p s.moves ≡ false
 IsNewPayout s _ _ = Unit {0}
 
--- the call row of makeEmptySeatKit stands right before, by the instance of the seat
-pub record IsAfterKit (here : List Event) (o : Opening) : Type 0 where
-  pub more : List Event
-  pub call : Call
-  pub last : here ≡ more ++ called call ∷ []
-  pub made : calls (name (codes "zcf") o.instance) (codes "makeEmptySeatKit") call ≡ true
-
 abbrev pub AtRow : Sentence → InTurn → Event → Type 0
 AtRow movements_are_defined i e = OfMove e (λ m. CanMove i.now.table (movement_of m))
 AtRow minted_totals_are_bounded i e = OfMove e (λ m. (sum_so_far (with_row i.now (moved m)) m.brand).minted ≤ minted_bound)
@@ -164,19 +159,19 @@ AtRow slots_are_of_one_brand i e = OfMove e (λ m. IfNoneDue i.due (IsOfSlots i.
 AtRow seats_are_in_order i e = OfOpening e (λ o. o.seat ≡ length i.now.seats)
 AtRow offers_burn i e = MeetsBurn i.due e
 AtRow offers_escrow i e = MeetsEscrow i.due e
-AtRow kits_are_empty i e = OfOpening e (λ o. is_offer i.row ≡ false → (o.give ≡ []) × (o.want ≡ []))
-AtRow openings_are_called_for i e = OfOpening e (λ o. (is_offer i.row ≡ true) ⊎ IsAfterKit i.here o)
+AtRow kits_are_empty i e = OfOpening e (λ o. FollowsKit i.here → (o.give ≡ []) × (o.want ≡ []))
+AtRow openings_are_called_for i e = OfOpening e (λ o. (is_offer i.row ≡ true) ⊎ FollowsKit i.here)
 AtRow exits_are_of_open_seats i e = OfExit e (λ x. IsOpen i.now.seats x.seat)
 AtRow exits_follow_their_cause i e = OfExit e (λ x. (s : Seat) → slice_get i.now.seats x.seat ≡ Some s → first_cause i.before.owners i.row i.here s.opening.instance x.seat ≡ Some x.cause)
 AtRow payouts_follow i e = MeetsPayout i.due e
 AtRow payouts_are_named i e = OfExit e (λ x. (s : Seat) → slice_get i.now.seats x.seat ≡ Some s → (length x.payouts ≡ length s.slots) × AllByRecursion (λ (slot : SlotName). is_some (payment_under slot.keyword x.payouts) ≡ true) s.slots)
-AtRow payouts_are_new i e = IsNewPayout i.now i.due e
+AtRow payouts_are_new i e = IsNewPayout i.now i.due e × OfExit e (λ x. AllByRecursion (λ (p : Payout). names p.payment i.now.moves ≡ false) x.payouts)
 AtRow exits_are_covered i e = OfExit e (λ x. (s : Seat) → slice_get i.now.seats x.seat ≡ Some s → IsSafe i.now.table s.opening)
 AtRow refusals_change_nothing i e = (code : List ℕ) (shown : Items) → i.row.answer ≡ refused code shown → ChangesNothing e
 AtRow slots_are_of_opened_seats i e = OfMove e (λ m. IfNoneDue i.due ((seat : ℕ) (keyword : List ℕ) → NamesSlot m seat keyword → (s : Seat) × (slice_get i.now.seats seat ≡ Some s)))
 AtRow slots_are_of_no_exited_seat i e = OfMove e (λ m. IfNoneDue i.due ((seat : ℕ) (keyword : List ℕ) → NamesSlot m seat keyword → (s : Seat) → slice_get i.now.seats seat ≡ Some s → s.last ≡ None))
-AtRow current_amounts i e = OfCall e (λ c. (n : ℕ) → calls (name (codes "zseat") n) (codes "getCurrentAllocation") c ≡ true → IsCurrentAllocation i.now.table i.now.seats n c.answer)
-AtRow slot_amounts i e = OfCall e (λ c. (n : ℕ) → calls (name (codes "zseat") n) (codes "getAmountAllocated") c ≡ true → IsSlotRead i.now.table n c.arguments c.answer)
+AtRow current_amounts i e = OfCall e (λ c. (n : ℕ) → calls (name (codes "zseat") n) (codes "getCurrentAllocation") c ≡ true → IfOkAnswer (InRecord (λ keyword. IfAmount (IsOfSlot i.now.table n keyword))) c.answer)
+AtRow slot_amounts i e = OfCall e (λ c. (n : ℕ) → calls (name (codes "zseat") n) (codes "getAmountAllocated") c ≡ true → IfOkAnswer (IfAmount (IsOfNamedSlot i.now.table n c.arguments)) c.answer)
 AtRow _ i e = Unit {0}
 
 -- ---- what the turn's end has to meet
@@ -199,23 +194,24 @@ pub record AddsUp (s : SoFar) : Type 0 where
   pub hand_empty : (b : ℕ) → holds s.table Hand b ≡ nothing
 
 -- no supply passes the bound of the kind of its brand's values
-pub record IsBounded (s : SoFar) : Type 0 where
+pub record IsBounded (e : Edition) (s : SoFar) : Type 0 where
   pub kind_of : ℕ → Kind
   pub values : AreOfKinds kind_of s.amounts
   pub fits : (b : ℕ) → Fits (kind_of b) (supply s.moves b)
+  pub within : (b : ℕ) → IsWithin e (kind_of b) (supply s.moves b)
 
-abbrev pub AtEnd : Sentence → InTurn → List Sum → Type 0
-AtEnd offers_burn i sums = IsNoBurn i.due
-AtEnd offers_escrow i sums = IsNoEscrow i.due
-AtEnd payouts_follow i sums = IsNoPayout i.due
-AtEnd causes_are_the_first i sums = AllByRecursion (IsCaused i.now.seats i.before.owners i.row i.here) i.here
-AtEnd causes_are_followed i sums = (seat : ℕ) (is_open : IsOpen i.now.seats seat) → first_cause i.before.owners i.row i.here is_open.seat.opening.instance seat ≡ None
-AtEnd seats_stay_covered i sums = (seat : ℕ) (is_open : IsOpen i.now.seats seat) → IsSafe i.now.table is_open.seat.opening
-AtEnd payments_are_emptied i sums = (p b : ℕ) → takes_from p (movements_in i.here) ≡ true → holds i.now.table (Payment p) b ≡ nothing
-AtEnd tables_balance i sums = AddsUp i.now
-AtEnd supplies_are_bounded i sums = HaveKinds i.now.amounts → IsBounded i.now
-AtEnd sums_are_told i sums = sums ≡ sums_due i
-AtEnd _ i sums = Unit {0}
+abbrev pub AtEnd : Edition → Sentence → InTurn → List Sum → Type 0
+AtEnd d offers_burn i sums = IsNoBurn i.due
+AtEnd d offers_escrow i sums = IsNoEscrow i.due
+AtEnd d payouts_follow i sums = IsNoPayout i.due
+AtEnd d causes_are_the_first i sums = AllByRecursion (IsCaused i.now.seats i.before.owners i.row i.here) i.here
+AtEnd d causes_are_followed i sums = (seat : ℕ) (is_open : IsOpen i.now.seats seat) → first_cause i.before.owners i.row i.here is_open.seat.opening.instance seat ≡ None
+AtEnd d seats_stay_covered i sums = (seat : ℕ) (is_open : IsOpen i.now.seats seat) → IsSafe i.now.table is_open.seat.opening
+AtEnd d payments_are_emptied i sums = (p b : ℕ) → takes_from p (movements_in i.here) ≡ true → holds i.now.table (Payment p) b ≡ nothing
+AtEnd d tables_balance i sums = AddsUp i.now
+AtEnd d supplies_are_bounded i sums = HaveKinds i.now.amounts → IsBounded d i.now
+AtEnd d sums_are_told i sums = sums ≡ sums_due i
+AtEnd d _ i sums = Unit {0}
 
 -- ---- a list of turns meets a sentence where each turn does, after what those before it tell
 
@@ -223,12 +219,13 @@ abbrev pub MeetsRows : Sentence → InTurn → List Event → Type 0
 MeetsRows y i [] = Unit {0}
 MeetsRows y i (e ∷ es) = AtRow y i e × MeetsRows y (after_event i e) es
 
-abbrev pub MeetsTurn : Sentence → SoFar → Turn → Type 0
-MeetsTurn y s t = AtTurnRow y s t × MeetsRows y (after_turn_row s t) t.events × AtEnd y (after_events (after_turn_row s t) t.events) t.sums
+abbrev pub MeetsTurn : Edition → Sentence → SoFar → Turn → Type 0
+MeetsTurn d y s t = AtTurnRow y s t × MeetsRows y (after_turn_row s t) t.events × AtEnd d y (after_events (after_turn_row s t) t.events) t.sums
 
-abbrev pub MeetsFrom : Sentence → SoFar → List Turn → Type 0
-MeetsFrom y s [] = Unit {0}
-MeetsFrom y s (t ∷ ts) = MeetsTurn y s t × MeetsFrom y (with_turn s t) ts
+abbrev pub MeetsFrom : Edition → Sentence → SoFar → List Turn → Type 0
+MeetsFrom d y s [] = Unit {0}
+MeetsFrom d y s (t ∷ ts) = MeetsTurn d y s t × MeetsFrom d y (with_turn s t) ts
 
-abbrev pub Meets : Sentence → List Turn → Type 0
-Meets y ts = MeetsFrom y nothing_so_far ts
+-- as turns of a text of the edition
+abbrev pub Meets : Edition → Sentence → List Turn → Type 0
+Meets d y ts = MeetsFrom d y nothing_so_far ts

@@ -4,7 +4,8 @@ use Rattle.turn_records.specs.PrintedData as data_rows
 use Rattle.refusals.specs.host_data.declared.data.ObjKind.{ObjKind}
 use Rattle.refusals.specs.host_data.declared.data.ObjKind.TheVariants.{Facet}
 use Rattle.refusals.specs.declared.codes.Refusal.TheVariants.{Backwards}
-use Rattle.turn_rows.specs.Form.{IsAnswerOf, IsCallAnswer, IsRefusal, IsTickAnswer, runs_function}
+use Rattle.turn_rows.specs.Form.{IsCallAnswer, IsRefusal}
+use Rattle.turn_rows.specs.HostForms.{IsHostAnswerOf, IsHostTickAnswer, runs_function}
 use Rattle.turn_records.specs.Deliveries.{Delivery, call, give, tick, bad, send, start, offer, wake, notify, deadline, Reading, target, gift}
 use Rattle.turn_records.specs.Events.{Answer, given, refused, threw, spent, Event, called}
 use Rattle.turn_records.specs.Printed.{call_kind, gift_kind, kind_of, kind_on, printed_answer}
@@ -22,26 +23,26 @@ answer_is (refused r) h = tt
 answer_is (threw t) h = absurd h
 answer_is (spent meter) h = absurd h
 
-on_is : (kind : ObjKind) (a : Answer) → CanEndOn kind a → IsAnswerOf (kind_on kind) (printed_answer a)
+on_is : (kind : ObjKind) (a : Answer) → CanEndOn kind a → IsHostAnswerOf (kind_on kind) (printed_answer a)
 on_is Facet a h = tt
 on_is _ a h = answer_is a h
 
-call_is : (r : Reading) (a : Answer) → CanEndCall r a → IsAnswerOf (call_kind r) (printed_answer a)
+call_is : (r : Reading) (a : Answer) → CanEndCall r a → IsHostAnswerOf (call_kind r) (printed_answer a)
 call_is (target o args) a h = on_is o.kind a h
 call_is _ a h = refusal_is a h
 
-gift_is : (r : Reading) (a : Answer) → CanEndGift r a → IsAnswerOf (gift_kind r) (printed_answer a)
+gift_is : (r : Reading) (a : Answer) → CanEndGift r a → IsHostAnswerOf (gift_kind r) (printed_answer a)
 gift_is (gift t) a h = ap printed_answer h
 gift_is _ a h = refusal_is a h
 
-tick_is : (t : ℕ) (a : Answer) → CanEndTick t a → IsTickAnswer (printed_answer a)
+tick_is : (t : ℕ) (a : Answer) → CanEndTick t a → IsHostTickAnswer (printed_answer a)
 tick_is t (given d) h = ap data_rows.printed h
 tick_is t (refused (Backwards now earlier)) h = refl
 tick_is t (refused _) h = absurd h
 tick_is t (threw d) h = absurd h
 tick_is t (spent meter) h = absurd h
 
-pub ends : (d : Delivery) (r : Reading) (a : Answer) → CanEnd d r a → IsAnswerOf (kind_of d r) (printed_answer a)
+pub ends : (d : Delivery) (r : Reading) (a : Answer) → CanEnd d r a → IsHostAnswerOf (kind_of d r) (printed_answer a)
 ends (call c) r a h = call_is r a h
 ends (send s) r a h = call_is r a h
 ends (give g) r a h = gift_is r a h

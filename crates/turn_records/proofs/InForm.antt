@@ -1,6 +1,5 @@
 -- A turn that can be told is printed in form.
 use Rattle.std.proofs.Common.{◌≤◌, List, [], ◌∷◌, ◌++◌, Bool, map, arith}
-use Rattle.std.proofs.lemmas.List.{length-append}
 use Rattle.std.specs.List.{AllByRecursion}
 use Rattle.serde_json.specs.Data.{depth}
 use Rattle.serde_json.specs.Read.{max_depth}
@@ -11,11 +10,11 @@ use Rattle.turn_rows.specs.rights_model.declared.Sum.{Sum}
 use Rattle.turn_rows.specs.Form.{HasEventForm, HasExitForm, HasExitRuleForm, HasOpeningForm, IsInForm, MayStand}
 use Rattle.turn_rows.specs.Rows.{event_row, sum_row, turn_row}
 use Rattle.turn_records.specs.Events.{Event, called, opened, moved, exited, settled, Leaving, Opening}
-use Rattle.turn_records.specs.Printed.{printed, printed_event, printed_exit, printed_opening, printed_payouts, printed_shares, printed_rule, trees_of}
+use Rattle.turn_records.specs.Printed.{printed, printed_event, printed_exit, printed_opening, printed_payouts, printed_rule, trees_of}
 use Rattle.turn_records.specs.Tellable.{IsTellable, IsTellableEvent, IsTellableExit, IsTellableOpening, IsTellableRule}
 use Rattle.turn_records.specs.Turns.{Turn}
 use Rattle.turn_records.proofs.Parts.{answer_is, call_form, data_are, delivered_is, settlement_is}
-use Rattle.turn_records.proofs.Ordered.{payout_keywords, payout_numbers, payouts_each, payouts_rise, shares_are, shares_count}
+use Rattle.turn_records.proofs.Ordered.{payout_keywords, payout_numbers, payouts_each, payouts_rise, shares_apart, shares_are}
 use Rattle.turn_records.proofs.Nested.{answer_depth, event_depth, trees_depth}
 use Rattle.turn_rows.specs.Editions.{written}
 
@@ -30,7 +29,7 @@ opening_is o h = record {
   instance = h.instance;
   give = shares_are o.proposal.give h.give;
   want = shares_are o.proposal.want h.want;
-  few = rw (length-append (printed_shares o.proposal.give) (printed_shares o.proposal.want)) (omega (arith, h.few, shares_count o.proposal.give, shares_count o.proposal.want));
+  apart = shares_apart o.proposal.give o.proposal.want h.apart;
   exit = rule_is o.proposal.exit h.rule;
 }
 

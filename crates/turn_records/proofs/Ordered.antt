@@ -1,17 +1,21 @@
 -- Rows and payouts are printed in form, in byte order of their keywords.
-use Rattle.std.proofs.Common.{◌≡◌, ◌≤◌, ◌<◌, ℕ, suc, List, [], ◌∷◌, true, length, map, Ordering, Less, Equal, Greater, refl, sym, ◌∙◌, ap, subst, arith}
+use Rattle.std.proofs.Common.{◌≡◌, ◌≤◌, ◌<◌, ℕ, suc, List, [], ◌∷◌, Bool, true, false, ◌||◌, Some, None, is_some, if◌then◌else◌, length, map, Ordering, Less, Equal, Greater, refl, sym, ◌∙◌, ap, subst, arith}
 use Rattle.std.specs.Cmp.Lexicographic.{slice_cmp}
+use Rattle.std.specs.FinMap.{nat_cmp-IsAntisymmetric, slice_cmp-IsAntisymmetric}
 use Rattle.std.specs.List.{AllByRecursion}
 use Rattle.std.specs.List.Sorted.{IsStrictlySortedBy}
 use Rattle.std.specs.Ordering.{match_ordering, nat_cmp}
+use Rattle.std.specs.Str.{bytes_eq}
+use Rattle.std.proofs.lemmas.Slice.Eq.{bytes_eq-Decides}
 use Rattle.serde_json.specs.Data as json
 use Rattle.turn_rows.specs.host_text.Words.{is_keyword}
 use Rattle.turn_rows.specs.amount_math.Content.{key_cmp}
 use Rattle.turn_records.proofs.Fields.{sorted_put}
 use Rattle.turn_records.proofs.Values.{value_form}
+use Rattle.proposals.specs.Shares.{amount_under}
 use Rattle.proposals.specs.declared.allocations.Share.{Share}
 use Rattle.turn_rows.proofs.Order.{puts_amount, puts_payout}
-use Rattle.turn_rows.specs.Form.{AreAmounts, HasAmountForm, names_of, objects_end}
+use Rattle.turn_rows.specs.Form.{AreAmounts, HasAmountForm, has_keyword, names_of, objects_end}
 use Rattle.turn_rows.specs.Order.{put_amount, put_payout}
 use Rattle.turn_rows.specs.Rows.{amount_json, amounts_json, payment_name, payouts_json}
 use Rattle.turn_rows.specs.Turns.{KeywordAmount, Payout}
@@ -61,6 +65,54 @@ shares_each (r ∷ rs) h = amounts_put (printed_share r) (printed_shares rs) (sh
 
 pub shares_are : (rs : List Share) → AllByRecursion IsTellableShare rs → AreAmounts written (printed_shares rs)
 shares_are rs h = record { each = shares_each rs h; rising = shares_rise rs }
+
+-- ---- keywords
+
+either_first : (a b c : Bool) → (b || (a || c)) ≡ (a || (b || c))
+either_first true true c = refl
+either_first true false c = refl
+either_first false b c = refl
+
+same_twice : (a c : Bool) → (a || c) ≡ (a || (a || c))
+same_twice true c = refl
+same_twice false c = refl
+
+keyword_put : (k : List ℕ) (r : KeywordAmount) (rs : List KeywordAmount) → has_keyword k (put_amount r rs) ≡ (bytes_eq k r.keyword || has_keyword k rs)
+keyword_put k r [] = refl
+keyword_put k r (u ∷ us) = by (slice_cmp nat_cmp r.keyword u.keyword) refl (keyword_put k r us)
+  where
+    by : (o : Ordering) → slice_cmp nat_cmp r.keyword u.keyword ≡ o → has_keyword k (put_amount r us) ≡ (bytes_eq k r.keyword || has_keyword k us)
+        → has_keyword k (match_ordering o (r ∷ u ∷ us) (record r { keyword = u.keyword } ∷ us) (u ∷ put_amount r us)) ≡ (bytes_eq k r.keyword || (bytes_eq k u.keyword || has_keyword k us))
+    by Less e rest = refl
+    by Equal e rest =
+        let same : r.keyword ≡ u.keyword = slice_cmp-IsAntisymmetric nat_cmp-IsAntisymmetric r.keyword u.keyword e in
+        same_twice (bytes_eq k u.keyword) (has_keyword k us) ∙ ap (λ s. bytes_eq k s || (bytes_eq k u.keyword || has_keyword k us)) (sym same)
+    by Greater e rest = ap (λ b. bytes_eq k u.keyword || b) rest ∙ either_first (bytes_eq k r.keyword) (bytes_eq k u.keyword) (has_keyword k us)
+
+some_under : (k : List ℕ) (r : Share) (rs : List Share) → is_some (amount_under k (r ∷ rs)) ≡ (bytes_eq k r.keyword || is_some (amount_under k rs))
+some_under k r rs = by (bytes_eq k r.keyword)
+  where
+    by : (b : Bool) → is_some (if b then Some r.amount else amount_under k rs) ≡ (b || is_some (amount_under k rs))
+    by true = refl
+    by false = refl
+
+shares_keyword : (k : List ℕ) (rs : List Share) → has_keyword k (printed_shares rs) ≡ is_some (amount_under k rs)
+shares_keyword k [] = refl
+shares_keyword k (r ∷ rs) = keyword_put k (printed_share r) (printed_shares rs) ∙ ap (λ b. bytes_eq k r.keyword || b) (shares_keyword k rs) ∙ sym (some_under k r rs)
+
+-- what stands under a keyword of one list stands under none of the other
+apart_under : (k : List ℕ) (rs us : List Share) → AllByRecursion (λ (r : Share). amount_under r.keyword us ≡ None) rs → is_some (amount_under k rs) ≡ true → amount_under k us ≡ None
+apart_under k [] us apart has = cc
+apart_under k (r ∷ rs) us apart has = by (bytes_eq k r.keyword) refl has (apart_under k rs us apart.1)
+  where
+    by : (b : Bool) → bytes_eq k r.keyword ≡ b → is_some (if b then Some r.amount else amount_under k rs) ≡ true → (is_some (amount_under k rs) ≡ true → amount_under k us ≡ None) → amount_under k us ≡ None
+    by true e h rest = ap (λ s. amount_under s us) ((bytes_eq-Decides k r.keyword).0 e) ∙ apart.0
+    by false e h rest = rest h
+
+pub shares_apart : (rs us : List Share) → AllByRecursion (λ (r : Share). amount_under r.keyword us ≡ None) rs → (k : List ℕ) → has_keyword k (printed_shares rs) ≡ true → has_keyword k (printed_shares us) ≡ false
+shares_apart rs us apart k has = shares_keyword k us ∙ ap is_some (apart_under k rs us apart (sym (shares_keyword k rs) ∙ has))
+
+-- ---- how many
 
 put_count : (o : Ordering) (r u v : KeywordAmount) (us vs : List KeywordAmount) → length vs ≤ suc (length us) → length (match_ordering o (r ∷ u ∷ us) (v ∷ us) (u ∷ vs)) ≤ suc (suc (length us))
 put_count Less r u v us vs h = omega (arith, h)

@@ -1,5 +1,6 @@
 -- Names, data and answers are printed in form, and so is what is delivered.
-use Rattle.std.proofs.Common.{◌≡◌, ◌<◌, ◌^◌, ℕ, pos, List, [], ◌∷◌, Bool, true, false, nat_lt, length, codes, Option, Some, None, inl, inr, refl, sym, subst, arith}
+use Rattle.std.proofs.Common.{◌≡◌, ◌<◌, ◌^◌, ◌==◌, ℕ, pos, List, [], ◌∷◌, Bool, true, false, nat_lt, length, codes, Option, Some, None, inl, inr, refl, sym, subst, arith}
+use Rattle.std.specs.List.{starts_with}
 use Rattle.std.specs.Str.{IsUtf8}
 use Rattle.serde_json.specs.Data as json
 use Rattle.turn_records.proofs.Form.{data_is}
@@ -120,10 +121,16 @@ notice_is : (s : SettlementView) → IsNotice (data_rows.printed (notice_tree s)
 notice_is (ok t) = (refl, refl)
 notice_is (broken t) = (refl, refl)
 
+-- of the kinds of objects a facet's name alone begins with that word
+named_apart : (kind : ObjKind) (n : ℕ) → kind_on kind ≡ kinds.service → starts_with (λ a b. a == b) (named kind n) (codes "facet") ≡ false
+unfolding object_name
+named_apart Facet n e = cc
+named_apart kind n e = refl
+
 call_is : (by : List ℕ) (kind : ObjKind) (n : ℕ) (method : List ℕ) (args : json.Items) → IsCaller by → IsNumberedObject (object kind n) → IsUtf8 method
     → IsDelivered (kind_on kind) by (named kind n) method args
 call_is by Facet n method args caller h text = (caller, facet_is n h, text)
-call_is by kind n method args caller h text = (caller, object_is (object kind n) h, text)
+call_is by kind n method args caller h text = (caller, (object_is (object kind n) h, named_apart kind n refl), text)
 
 pub delivered_is : (d : Delivery) (r : Reading) → IsReadFor d r → IsTellableDelivery d → IsTellableReading r
     → IsDelivered (kind_of d r) (by_of d) (on_of d r) (method_of d) (printed_trees (trees_of d r))

@@ -7,7 +7,8 @@ use Rattle.refusals.specs.declared.codes.Refusal.TheVariants.{Backwards}
 use Rattle.turn_records.specs.Deliveries.{Delivery, call, give, tick, bad, send, start, offer, wake, notify, deadline, Reading, target, gift}
 use Rattle.turn_records.specs.Events.{Answer, given, refused, spent, Event, called}
 use Rattle.turn_records.specs.Printed.{kind_of, printed_answer, printed_event}
-use Rattle.turn_rows.specs.Form.{IsAnswerOf, MayStand, runs_function}
+use Rattle.turn_rows.specs.Form.{MayStand}
+use Rattle.turn_rows.specs.HostForms.{IsHostAnswerOf, runs_function}
 
 abbrev pub IsRefused : Answer → Type 0
 IsRefused (refused r) = Unit {0}
@@ -48,9 +49,9 @@ CanEnd (bad refusal) r a = a ≡ refused refusal
 CanEnd (deadline seat) r a = a ≡ given null
 CanEnd _ r a = Unit {0}
 
--- the printed turn of the kind may have the answer
+-- the answer, as it is printed, is one that the host gives in a turn of the kind
 abbrev pub FitsKind : Delivery → Reading → Answer → Type 0
-FitsKind d r a = IsAnswerOf (kind_of d r) (printed_answer a)
+FitsKind d r a = IsHostAnswerOf (kind_of d r) (printed_answer a)
 
 -- ---- calls of the host
 
@@ -81,7 +82,7 @@ abbrev pub CanTell : Delivery → Reading → Answer → Event → Type 0
 CanTell d r a (called c) = RunsFunction d r × IsUnspent a
 CanTell d r a _ = Unit {0}
 
--- the printed event may stand in the printed turn of the kind
+-- the event, as it is printed, is one that the host tells in a turn of the kind
 abbrev pub StandsIn : Delivery → Reading → Answer → Event → Type 0
 StandsIn d r a e = MayStand (runs_function (kind_of d r) (printed_answer a)) (printed_event e)
 

@@ -1,5 +1,5 @@
 -- Turns that a journal can print in form: their texts, numbers, values and data are such as rows may have.
-use Rattle.std.specs.Prelude.{◌≡◌, ◌<◌, ◌+◌, ◌≤◌, ◌^◌, ℕ, true, List, length, Option, Some, None}
+use Rattle.std.specs.Prelude.{◌≡◌, ◌<◌, ◌^◌, ℕ, true, List, length, Option, Some, None}
 use Rattle.std.specs.List.{AllByRecursion}
 use Rattle.std.specs.Str.{IsUtf8}
 use Rattle.turn_rows.specs.host_text.Words.{is_field_name, is_keyword, is_label}
@@ -11,12 +11,13 @@ use Rattle.refusals.specs.host_data.Tree.{Tree}
 use Rattle.refusals.specs.host_data.declared.data.Obj.{Obj}
 use Rattle.refusals.specs.host_data.declared.data.ObjKind.TheVariants.{Promise}
 use Rattle.promise_store.specs.States.{SettlementView, broken, ok}
+use Rattle.proposals.specs.Shares.{amount_under}
 use Rattle.proposals.specs.declared.allocations.Share.{Share}
 use Rattle.proposals.specs.declared.offers.Exit as offered
 use Rattle.proposals.specs.declared.offers.Exit.TheVariants.{AfterDeadline, OnDemand, Waived}
 use Rattle.refusals.specs.Codes.{shown_by, shown_trees}
 use Rattle.turn_rows.specs.rights_model.declared.Movement.{Movement}
-use Rattle.turn_rows.specs.Form.{HasHolderForm, HasSumForm, IsAnswerOf, IsCallAnswer, IsParty, MayStand, brands_end, most_keywords, objects_end, runs_function, times_end}
+use Rattle.turn_rows.specs.Form.{HasHolderForm, HasSumForm, IsAnswerOf, IsCallAnswer, IsParty, MayStand, brands_end, may_call, objects_end, times_end}
 use Rattle.turn_rows.specs.Kinds as kinds
 use Rattle.turn_rows.specs.Kinds.{How}
 use Rattle.turn_rows.specs.Turns.{Payout}
@@ -116,7 +117,7 @@ pub record IsTellableOpening (o : Opening) : Type 0 where
   pub instance : o.instance < objects_end
   pub give : AllByRecursion IsTellableShare o.proposal.give
   pub want : AllByRecursion IsTellableShare o.proposal.want
-  pub few : length o.proposal.give + length o.proposal.want ≤ most_keywords
+  pub apart : AllByRecursion (λ (r : Share). amount_under r.keyword o.proposal.want ≡ None) o.proposal.give
   pub rule : IsTellableRule o.proposal.exit
 
 pub record IsTellableMovement (m : Movement) : Type 0 where
@@ -155,5 +156,5 @@ pub record IsTellable (t : Turn) : Type 0 where
   pub answered : IsAnswerOf (kind_of t.delivery t.reading) (printed_answer t.answer)
   pub answer : IsTellableAnswer t.answer
   pub events : AllByRecursion IsTellableEvent t.events
-  pub calls : AllByRecursion (λ e. MayStand (runs_function (kind_of t.delivery t.reading) (printed_answer t.answer)) (printed_event e)) t.events
+  pub calls : AllByRecursion (λ e. MayStand (may_call (printed_answer t.answer)) (printed_event e)) t.events
   pub sums : AllByRecursion HasSumForm t.sums

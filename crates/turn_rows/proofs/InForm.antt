@@ -46,7 +46,7 @@ mutual
   data_is_plain (json.object ms) (inl mark) = mark_is_plain ms mark
   data_is_plain (json.object ms) (inr fields) = fields_are_plain ms fields.0
 
-  items_are_plain : (ds : json.Items) → AreData ds → ArePlain ds
+  pub items_are_plain : (ds : json.Items) → AreData ds → ArePlain ds
   items_are_plain json.no_items h = tt
   items_are_plain (json.item d ds) h = (data_is_plain d h.0, items_are_plain ds h.1)
 
@@ -56,7 +56,7 @@ mutual
 
 -- ---- rows
 
-plain_answer : (a : Answer) → HasAnswerForm a → IsPlainAnswer a
+pub plain_answer : (a : Answer) → HasAnswerForm a → IsPlainAnswer a
 plain_answer (ok d) h = data_is_plain d h
 plain_answer (refused code shown) h = items_are_plain shown h.1
 plain_answer (threw d) h = data_is_plain d h
@@ -66,7 +66,7 @@ plain_settlement : (s : Settlement) → HasSettlementForm s → IsPlainSettlemen
 plain_settlement (fulfilled d) h = data_is_plain d h
 plain_settlement (broken d) h = data_is_plain d h
 
-plain_event : (d : Edition) (e : Event) → HasEventForm d e → IsPlainEvent e
+pub plain_event : (d : Edition) (e : Event) → HasEventForm d e → IsPlainEvent e
 plain_event d (called c) h = (items_are_plain c.arguments h.arguments, plain_answer c.answer h.answer)
 plain_event d (opened o) h = omega (arith, h.seat)
 plain_event d (moved m) h = tt

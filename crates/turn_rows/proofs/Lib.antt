@@ -6,6 +6,7 @@ pub mod Order
 pub mod Worked
 pub mod PlainRows
 pub mod InForm
+pub mod HostForms
 pub mod Ranges
 pub mod ByTurns
 pub use Rattle.rights_model.proofs.amount_math

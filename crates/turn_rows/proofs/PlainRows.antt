@@ -49,14 +49,14 @@ plain_settlement : (s : Settlement) → IsPlainSettlement s → IsPlain (settlem
 plain_settlement (fulfilled d) h = (h, tt)
 plain_settlement (broken d) h = (h, tt)
 
-plain_event : (e : Event) → IsPlainEvent e → IsPlain (event_row e)
+pub plain_event : (e : Event) → IsPlainEvent e → IsPlain (event_row e)
 plain_event (called c) h = (plain_answer c.answer h.1, (h.0, (tt, (tt, (tt, (tt, tt))))))
 plain_event (opened o) h = (plain_exit_rule o.exit, (plain_amounts o.give, (tt, (tt, (h, (plain_amounts o.want, tt))))))
 plain_event (moved m) h = (tt, (tt, (tt, (tt, (plain_value m.value, tt)))))
 plain_event (exited x) h = (tt, (plain_payouts x.payouts, (tt, (h, tt))))
 plain_event (settled promise s) h = (h.0, (tt, (plain_settlement s h.1, tt)))
 
-plain_sum : (d : Edition) (s : Sum) → IsPlain (sum_row d s)
+pub plain_sum : (d : Edition) (s : Sum) → IsPlain (sum_row d s)
 plain_sum First s = (tt, (tt, (tt, (tt, (tt, (tt, (tt, tt)))))))
 plain_sum Second s = (tt, (tt, (tt, (tt, (tt, (tt, (tt, (tt, tt))))))))
 

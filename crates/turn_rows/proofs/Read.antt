@@ -6,12 +6,12 @@ use Rattle.std.specs.Str.{bytes_eq}
 use Rattle.serde_json.specs.Data as json
 use Rattle.serde_json.specs.Written.{compact_text}
 use Rattle.rights_model.specs.declared.Sum.{Sum}
-use Rattle.turn_rows.specs.ReadBack.{answer_in, call_in, cause_in, element_in, elements_in, event_in, exit_rule_in, how_in, kind_in, seat_exit_in, move_in, number_in, opening_in, payouts_in, amounts_in, settlement_in, sum_in, text_in, turn_in, value_in, whole_in}
+use Rattle.turn_rows.specs.ReadBack.{amount_brand_in, amount_value_in, answer_in, call_in, cause_in, element_in, elements_in, event_in, exit_rule_in, how_in, kind_in, seat_exit_in, move_in, number_in, opening_in, payouts_in, amounts_in, settlement_in, sum_in, text_in, turn_in, value_in, whole_in}
 use Rattle.turn_rows.specs.Causes as causes
 use Rattle.turn_rows.specs.Causes.{Cause, cause_word}
 use Rattle.turn_rows.specs.Kinds as kinds
 use Rattle.turn_rows.specs.Kinds.{How, how_word, Kind, kind_word}
-use Rattle.turn_rows.specs.Rows.{amounts_json, answer_json, call_row, element_json, elements_json, event_row, exit_rule_json, exit_row, move_row, number_json, open_row, payouts_json, rows_of, settlement_json, sum_row, turn_row, value_json}
+use Rattle.turn_rows.specs.Rows.{amount_json, amounts_json, answer_json, call_row, element_json, elements_json, event_row, exit_rule_json, exit_row, move_row, number_json, open_row, payouts_json, rows_of, settlement_json, sum_row, turn_row, value_json}
 use Rattle.turn_rows.specs.Texts.{journal_rows, journal_text, row_text}
 use Rattle.turn_rows.specs.Editions.{version_rows}
 use Rattle.turn_rows.specs.declared.editions.Edition.{Edition}
@@ -86,6 +86,10 @@ value_read (elements es) h = ap elements (elements_read es h)
 amounts_read : (rs : List KeywordAmount) → AllByRecursion IsAmount rs → amounts_in (amounts_json rs) ≡ rs
 amounts_read [] h = refl
 amounts_read (r ∷ rs) h = rw (brand_read r.brand h.0.0, value_read r.value h.0.1, amounts_read rs h.1) refl
+
+-- an amount is read back from its JSON
+pub amount_read : (b : ℕ) (v : Value) → IsWide b → IsValue v → (amount_brand_in (amount_json b v) ≡ b) × (amount_value_in (amount_json b v) ≡ v)
+amount_read b v wide value = (brand_read b wide, value_read v value)
 
 exit_rule_read : (e : ExitRule) → IsExitRule e → exit_rule_in (exit_rule_json e) ≡ e
 exit_rule_read on_demand h = refl

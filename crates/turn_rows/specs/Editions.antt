@@ -14,11 +14,15 @@ abbrev pub nat_end : Edition → ℕ
 nat_end First = 2 ^ 63
 nat_end Second = 2 ^ 120
 
--- `{"row":"version","version":2}`, the first row of the second edition
+-- `{"row":"version","version":2}`
+abbrev pub version_row : json.Data
+version_row =
+    json.object (json.member (codes "row") (json.string (codes "version")) (json.member (codes "version") (json.number (json.unsigned 2)) json.no_members))
+
+-- it is the first row of the second edition
 abbrev pub version_rows : Edition → List json.Data
 version_rows First = []
-version_rows Second =
-    json.object (json.member (codes "row") (json.string (codes "version")) (json.member (codes "version") (json.number (json.unsigned 2)) json.no_members)) ∷ []
+version_rows Second = version_row ∷ []
 
 -- what a sum row has last: the supply, minted less burned
 abbrev pub supply_members : Edition → Sum → json.Members

@@ -36,10 +36,6 @@ times_end = 2 ^ 63
 abbrev pub totals_end : ℕ
 totals_end = 2 ^ 128
 
--- the most keywords of give and want together, and so of a seat
-abbrev pub most_keywords : ℕ
-most_keywords = 64
-
 -- ---- texts
 
 abbrev pub IsOneOf : List (List ℕ) → List ℕ → Type 0
@@ -163,10 +159,10 @@ IsRefusal _ = ⊥
 abbrev pub IsDone : Answer → Type 0
 IsDone a = a ≡ ok json.null
 
--- the time is set, or would go backwards
+-- the time is set, or isn't
 abbrev pub IsTickAnswer : Answer → Type 0
 IsTickAnswer (ok d) = d ≡ json.null
-IsTickAnswer (refused code shown) = code ≡ codes "Backwards"
+IsTickAnswer (refused code shown) = Unit {0}
 IsTickAnswer _ = ⊥
 
 -- which answers a turn of a kind may have; a function of a contract may come to any
@@ -205,9 +201,13 @@ AreTwoItems _ = ⊥
 abbrev pub IsAnyData : json.Data → Type 0
 IsAnyData d = Unit {0}
 
+-- an object, but no facet: a call of one is a turn of a kind of its own
+abbrev pub IsServiceTarget : List ℕ → Type 0
+IsServiceTarget s = IsObjectName s × (starts_with (λ m n. m == n) s (codes "facet") ≡ false)
+
 -- by whom, on what, which method and how many arguments, for each kind
 abbrev pub IsDelivered : Kind → List ℕ → List ℕ → List ℕ → json.Items → Type 0
-IsDelivered kinds.service by on method args = IsCaller by × IsObjectName on × IsUtf8 method
+IsDelivered kinds.service by on method args = IsCaller by × IsServiceTarget on × IsUtf8 method
 IsDelivered kinds.facet by on method args = IsCaller by × IsNumbered (codes "facet") objects_end on × IsUtf8 method
 IsDelivered kinds.handler by on method args = IsInstanceName by × IsNumbered (codes "zseat") objects_end on × IsFunctionName method × IsOneItem IsAnyData args
 IsDelivered kinds.wake by on method args = IsInstanceName by × (on ≡ codes "timer") × IsFunctionName method × IsOneItem IsTime args
@@ -289,12 +289,17 @@ HasExitRuleForm on_demand = Unit {0}
 HasExitRuleForm waived = Unit {0}
 HasExitRuleForm (after_deadline time) = time < times_end
 
+-- some amount stands under the keyword
+abbrev pub has_keyword : List ℕ → List KeywordAmount → Bool
+has_keyword keyword amounts = list_any (λ (a : KeywordAmount). bytes_eq keyword a.keyword) amounts
+
+-- a keyword stands in give or in want, and not in both
 pub record HasOpeningForm (e : Edition) (o : Opening) : Type 0 where
   pub seat : o.seat < objects_end
   pub instance : o.instance < objects_end
   pub give : AreAmounts e o.give
   pub want : AreAmounts e o.want
-  pub few : length (o.give ++ o.want) ≤ most_keywords
+  pub apart : (keyword : List ℕ) → has_keyword keyword o.give ≡ true → has_keyword keyword o.want ≡ false
   pub exit : HasExitRuleForm o.exit
 
 -- payouts stand in byte order of their keywords
@@ -325,20 +330,15 @@ pub record HasSumForm (s : Sum) : Type 0 where
 
 -- ---- turns
 
--- a turn in which a contract's function was run
-abbrev pub runs_function : Kind → Answer → Bool
-runs_function _ (spent meter) = false
-runs_function kinds.facet _ = true
-runs_function kinds.handler _ = true
-runs_function kinds.wake _ = true
-runs_function kinds.notify _ = true
-runs_function kinds.start _ = true
-runs_function _ _ = false
+-- a turn that spent its meter has no call rows
+abbrev pub may_call : Answer → Bool
+may_call (spent meter) = false
+may_call _ = true
 
--- calls of the host stand only where a function was run, and didn't spend its meter
+-- calls of the host stand only where they may
 abbrev pub MayStand : Bool → Event → Type 0
-MayStand runs (called c) = runs ≡ true
-MayStand runs _ = Unit {0}
+MayStand may (called c) = may ≡ true
+MayStand may _ = Unit {0}
 
 -- a turn whose rows are those that may be written: which they are goes by their kind, and no row nests deeper than is read
 pub record IsInForm (e : Edition) (t : Turn) : Type 0 where
@@ -348,7 +348,7 @@ pub record IsInForm (e : Edition) (t : Turn) : Type 0 where
   pub answered : IsAnswerOf t.kind t.answer
   pub answer : HasAnswerForm t.answer
   pub events : AllByRecursion (HasEventForm e) t.events
-  pub calls : AllByRecursion (MayStand (runs_function t.kind t.answer)) t.events
+  pub calls : AllByRecursion (MayStand (may_call t.answer)) t.events
   pub sums : AllByRecursion HasSumForm t.sums
   pub nesting : AllByRecursion (λ row. depth row ≤ max_depth) (rows_of e t)
 

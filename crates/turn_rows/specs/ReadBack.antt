@@ -95,9 +95,16 @@ elements_in (json.item d ds) = element_in d ∷ elements_in ds
 abbrev pub value_in : json.Data → Value
 value_in d = option_map_or (λ ds. elements (elements_in ds)) (as_array d) (number (number_in d))
 
+-- the brand and the value of an amount
+abbrev pub amount_brand_in : json.Data → ℕ
+amount_brand_in d = number_of (text_in (codes "@") (member_in (codes "brand") d))
+
+abbrev pub amount_value_in : json.Data → Value
+amount_value_in d = value_in (member_in (codes "value") d)
+
 abbrev pub amounts_in : json.Members → List KeywordAmount
 amounts_in json.no_members = []
-amounts_in (json.member keyword d ms) = record { keyword = keyword; brand = number_of (text_in (codes "@") (member_in (codes "brand") d)); value = value_in (member_in (codes "value") d) } ∷ amounts_in ms
+amounts_in (json.member keyword d ms) = record { keyword = keyword; brand = amount_brand_in d; value = amount_value_in d } ∷ amounts_in ms
 
 abbrev pub exit_rule_of : List ℕ → ExitRule
 exit_rule_of word = if bytes_eq word (codes "waived") then waived else on_demand

@@ -6,12 +6,15 @@ use Rattle.std.specs.Str.{IsUtf8}
 use Rattle.turn_records.specs.host_data.Tree.{Tree}
 use Rattle.turn_records.specs.host_data.declared.data.Obj.{Obj}
 use Rattle.turn_records.specs.promise_store.States.{SettlementView, broken, ok}
-use Rattle.turn_rows.specs.Form.{IsParty}
+use Rattle.turn_rows.proofs.HostForms.{host_answer, host_call}
+use Rattle.turn_rows.specs.Form.{IsParty, MayStand, may_call}
+use Rattle.turn_rows.specs.HostForms.{runs_function}
 use Rattle.turn_rows.specs.Kinds as kinds
-use Rattle.turn_rows.specs.Kinds.{How}
+use Rattle.turn_rows.specs.Kinds.{How, Kind}
+use Rattle.turn_rows.specs.Turns as rows
 use Rattle.turn_records.specs.Deliveries.{Delivery, call, give, tick, bad, send, start, offer, wake, notify, deadline, Reading, nothing, target, gift, time, settlement}
 use Rattle.turn_records.specs.Events.{Answer, given, refused, threw, spent, Call, Event, called, opened, moved, exited, settled}
-use Rattle.turn_records.specs.Printed.{notice_tree, read_trees, trees_of}
+use Rattle.turn_records.specs.Printed.{kind_of, notice_tree, printed_answer, printed_event, read_trees, trees_of}
 use Rattle.turn_records.specs.Tellable.{ArePrintable, IsObjectCalled, IsTellable, IsTellableAnswer, IsTellableCall, IsTellableDelivery, IsTellableEvent, IsTellableReading, IsTellableSettlement, IsTold}
 use Rattle.turn_records.specs.Turns.{Turn}
 use Rattle.turn_writer.specs.Printing.{CanPrint, CanPrintAll, CanPrintAnswer, CanPrintCall, CanPrintDelivery, CanPrintEvent, CanPrintObject, CanPrintReading, CanPrintSettlement, CanPrintTarget, IsOfNoInstance}
@@ -88,7 +91,7 @@ call_told c h f = record {
 
 event_told : (e : Event) → HasEventTypes e → CanPrintEvent e → IsTellableEvent e
 event_told (called c) h f = call_told c h f
-event_told (opened o) h f = record { seat = h.seat; instance = h.instance; give = h.give; want = h.want; few = f.few; rule = f.rule }
+event_told (opened o) h f = record { seat = h.seat; instance = h.instance; give = h.give; want = h.want; apart = f.apart; rule = f.rule }
 event_told (moved m) h f = h
 event_told (exited x) h f = h
 event_told (settled n s) h f = (h.0, settlement_told s h.1 f)
@@ -97,6 +100,10 @@ events_told : (es : List Event) → AllByRecursion HasEventTypes es → AllByRec
 events_told [] h f = tt
 events_told (e ∷ es) h f = (event_told e h.0 f.0, events_told es h.1 f.1)
 
+calls_told : (k : Kind) (a : rows.Answer) (es : List Event) → AllByRecursion (λ e. MayStand (runs_function k a) (printed_event e)) es → AllByRecursion (λ e. MayStand (may_call a) (printed_event e)) es
+calls_told k a [] h = tt
+calls_told k a (e ∷ es) h = (host_call k a (printed_event e) h.0, calls_told k a es h.1)
+
 pub turn_told : (t : Turn) → HasTypes t → CanPrint t → IsTellable t
 turn_told t h f = record {
   number = h.number;
@@ -104,10 +111,10 @@ turn_told t h f = record {
   delivery = delivery_told t.delivery h.delivery f.delivery;
   reading = reading_told t.reading h.reading f.reading;
   arguments = arguments_told t.delivery t.reading h.delivery h.reading f.delivery f.reading f.arguments;
-  answered = f.answered;
+  answered = host_answer (kind_of t.delivery t.reading) (printed_answer t.answer) f.answered;
   answer = answer_told t.answer h.answer f.answer;
   events = events_told t.events h.events f.events;
-  calls = f.calls;
+  calls = calls_told (kind_of t.delivery t.reading) (printed_answer t.answer) t.events f.calls;
   sums = h.sums;
 }
 

@@ -8,8 +8,11 @@ use Rattle.turn_records.specs.host_data.Tree.{Tree, array, fields, function, obj
 use Rattle.turn_records.specs.host_data.declared.data.Obj.{Obj}
 use Rattle.turn_records.specs.host_data.declared.data.ObjKind.{ObjKind}
 use Rattle.turn_records.specs.host_data.declared.data.ObjKind.TheVariants.{Brand, Issuer, Mint, Promise, Zmint}
+use Rattle.turn_records.specs.proposals.Shares.{amount_under}
+use Rattle.turn_records.specs.proposals.declared.allocations.Share.{Share}
 use Rattle.turn_records.specs.promise_store.States.{SettlementView, broken, ok}
-use Rattle.turn_rows.specs.Form.{IsAnswerOf, IsCallAnswer, MayStand, brands_end, most_keywords, runs_function, times_end}
+use Rattle.turn_rows.specs.Form.{IsCallAnswer, MayStand, brands_end, times_end}
+use Rattle.turn_rows.specs.HostForms.{IsHostAnswerOf, most_keywords, runs_function}
 use Rattle.turn_rows.specs.Kinds as kinds
 use Rattle.turn_rows.specs.Kinds.{How}
 use Rattle.turn_records.specs.Deliveries.{Delivery, call, give, tick, bad, send, start, offer, wake, notify, deadline, IsReadFor, Reading, target, time}
@@ -101,8 +104,10 @@ pub record CanPrintCall (c : Call) : Type 0 where
   pub answered : IsCallAnswer (printed_answer c.answer)
   pub answer : CanPrintAnswer c.answer
 
+-- a keyword stands in give or in want, and there are few
 pub record CanPrintOpening (o : Opening) : Type 0 where
   pub few : length o.proposal.give + length o.proposal.want ≤ most_keywords
+  pub apart : AllByRecursion (λ (r : Share). amount_under r.keyword o.proposal.want ≡ None) o.proposal.give
   pub rule : IsTellableRule o.proposal.exit
 
 -- a movement and an exit are told by their types alone
@@ -124,7 +129,7 @@ pub record CanPrint (t : Turn) : Type 0 where
   pub delivery : CanPrintDelivery t.delivery
   pub reading : CanPrintReading t.reading
   pub arguments : CanPrintAll (trees_of t.delivery t.reading)
-  pub answered : IsAnswerOf (kind_of t.delivery t.reading) (printed_answer t.answer)
+  pub answered : IsHostAnswerOf (kind_of t.delivery t.reading) (printed_answer t.answer)
   pub answer : CanPrintAnswer t.answer
   pub events : AllByRecursion CanPrintEvent t.events
   pub calls : AllByRecursion (MayFollow t) t.events

@@ -1,4 +1,4 @@
-use Rattle.delivery_laws.proofs.Reading.{addressed_there, gift_there, sent_there, value_there}
+use Rattle.delivery_laws.proofs.Reading.{value_there}
 use Rattle.delivery_laws.proofs.laws.messages_are_of_what_can_be_handed_out.Goals as goal
 
 pub returns : goal.returns
