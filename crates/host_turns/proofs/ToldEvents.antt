@@ -66,7 +66,7 @@ was_moved before old m was = record {
   table = was.step.can.before;
   sums = was.step.can.sums;
   defined = was.step.can.defined;
-  minted = was.step.can.minted;
+  minted = omega (arith, was.step.can.minted);
   told = told_on before was.mid old m was.step.told was.roomed.same;
 }
 

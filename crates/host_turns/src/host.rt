@@ -1,9 +1,10 @@
 //! The host between its calls.
 
 ghost use Rattle.std.specs.Prelude.{◌≡◌, ◌≤◌, IfOk, IfSome, IsSomeAnd, List, OnErr, OnOk, length};
-ghost use Rattle.run_laws.specs.fair_laws.Turns.{StaysFair};
+ghost use Rattle.run_laws.specs.fair_laws.Turns.{StaysFair, StaysStrict};
 ghost use Rattle.run_laws.specs.fair_rows.SoFar.{nothing_so_far};
 ghost use Rattle.run_laws.specs.fair_rows.Steps.{Leaves, so_far_after};
+ghost use Rattle.run_laws.specs.fair_rows.Strict.{AreStrict};
 ghost use Rattle.run_laws.specs.fair_rows.Turns.{AreFair};
 ghost use Rattle.run_laws.specs.fair_laws.Views.{world_of};
 ghost use Rattle.run_laws.specs.Runs.{first_host, left_in, most_meter};
@@ -11,8 +12,10 @@ ghost use Rattle.host_turns.specs.HostStates.{IsArrived, IsRested, world_kept};
 ghost use Rattle.host_turns.specs.LineSteps.{IsTaken};
 ghost use Rattle.host_turns.specs.HostSteps.{IsStep, IsSubmitted};
 ghost use Rattle.run_laws.specs.message_lines.FormTables.{line_view};
-ghost use Rattle.run_laws.specs.Steps.{IsCalledFor};
+ghost use Rattle.run_laws.specs.licence_laws.Steps.{IsCalledFor, IsLicensed, IsSpentByName};
+ghost use Rattle.run_laws.specs.licence_laws.TakenBack.{SpentIsTakenBack};
 ghost use Rattle.front_turns.specs.turn_records.Views.{delivery_view, turn_view};
+ghost use Rattle.front_turns.specs.turn_rows.Editions.{written};
 ghost use Rattle.front_turns.specs.turn_rows.Turns.{Turn};
 ghost use Rattle.front_turns.specs.world_state.Good.{IsLine};
 
@@ -137,18 +140,34 @@ impl<P: Planner> Host<P> {
 
     /// The turn of the delivery in front, or `None` exactly where none waits. Where turn 4,000,000,000
     /// was run and a delivery is left, and for want of memory, nothing happened. Where turns are fair and
-    /// leave the host's world, with this one they are fair too, and leave the host's world then. More of a
-    /// brand is out after it, and less is in a purse, only where the turn's rows show the call that asks for it.
+    /// leave the host's world, with this one they are fair too, and leave the host's world then; so it is
+    /// with what this host keeps to beyond fairness. More of a brand is out after it, and less is in a purse or
+    /// in a payment, only where the turn's rows show the call that asks for it and names it. A contract's
+    /// function names only what it was handed, and each movement is by right. Where it spends its meter, all
+    /// that it did is taken back: its instance halts, and its open seats are left with what they had before.
     pub fn next_turn(&mut self, alloc: Global) -> Result<Option<TurnRecord>, StepFault>
         ensures step { IsStep (host_of self.old) (host_of self.new) result }
-        ensures fair { (ts : List Turn) → AreFair ts
+        ensures fair { (ts : List Turn) → AreFair written ts
             → Leaves (so_far_after ts nothing_so_far) (world_of (host_of self.old))
             → IfOk result (λ made. IfSome made (λ turn. StaysFair ts (record {
               next = host_of self.new;
               turn = turn_view turn;
             }))) }
+        ensures strict { (ts : List Turn) → AreStrict ts
+            → Leaves (so_far_after ts nothing_so_far) (world_of (host_of self.old))
+            → IfOk result (λ made. IfSome made (λ turn. StaysStrict ts (record {
+              next = host_of self.new;
+              turn = turn_view turn;
+            }))) }
         ensures called_for { IfOk result (λ made. IfSome made (λ turn.
             IsCalledFor (host_of self.old) (record { next = host_of self.new; turn = turn_view turn }))) }
+        ensures spent_by_name { IfOk result (λ made. IfSome made (λ turn.
+            IsSpentByName (host_of self.old) (record { next = host_of self.new; turn = turn_view turn }))) }
+        ensures licensed { IfOk result (λ made. IfSome made (λ turn.
+            IsLicensed (host_of self.old) (record { next = host_of self.new; turn = turn_view turn }))) }
+        ensures spent { IfOk result (λ made. IfSome made (λ turn.
+            SpentIsTakenBack (host_of self.old)
+            (record { next = host_of self.new; turn = turn_view turn }))) }
     {
         if waiting_in(&self.world) == 0 {
             return Ok(None);

@@ -16,8 +16,8 @@ use Rattle.message_lines.specs.Arguments.{arguments_in, fields_in, fields_nestin
 use Rattle.message_lines.specs.InputLines.{is_blank}
 use Rattle.message_lines.specs.Meanings.{Meaning, bad_field, bad_field_line, begins_instance, blank, call_form, call_labelled, call_of, delivered, gift_labelled, gift_of, give_form, has, is_party, json_meaning, json_of, meaning_of, members_meaning, run, run_form, tick_form, time_of, value_meaning, with_label, with_label_if, with_party}
 use Rattle.message_lines.specs.turn_rows.Form.{times_end}
-use Rattle.fair_laws.specs.world_state.Good.{IsLine}
-use Rattle.fair_laws.specs.world_state.Lines.{AreFormedFields, AreFormedParts, IsBefore, IsFormedPart, IsOfNoInstance}
+use Rattle.licence_laws.specs.world_state.Good.{IsLine}
+use Rattle.licence_laws.specs.world_state.Lines.{AreFormedFields, AreFormedParts, IsBefore, IsFormedPart, IsOfNoInstance}
 use Rattle.run_laws.proofs.OrderedJson.{AreOrdered, AreOrderedMembers, IsBeforeMembers, IsOrdered, chained, is_some, mapped, member_is_ordered, read_is_ordered}
 
 -- ---- data

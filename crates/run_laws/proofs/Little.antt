@@ -3,29 +3,29 @@ use Rattle.std.proofs.Common.{Bool, true, false, cond, IfSome, ◌≡◌, ℕ, s
 use Rattle.std.specs.Prelude.{Ok, Err}
 use Rattle.std.specs.List.{AllByRecursion, flat_map}
 use Rattle.std.proofs.lemmas.Grind.{flat_map-append}
-use Rattle.fair_laws.specs.rules.Outcomes.{Outcome}
-use Rattle.fair_laws.specs.rules.Traces.{all_open}
-use Rattle.fair_laws.specs.delivery_laws.Hosts.{IsGoodHost}
-use Rattle.fair_laws.proofs.delivery_laws.Runs.{after_both}
-use Rattle.fair_laws.specs.delivery_turns.Endings.{ending, without_cycle}
-use Rattle.fair_laws.specs.delivery_turns.Functions.{Run, ended, function_run, ran_out}
-use Rattle.fair_laws.specs.delivery_turns.HostCalls.{answer_of, effects_of}
-use Rattle.fair_laws.specs.delivery_turns.Hosts.{HostState, step_from, step_of}
-use Rattle.fair_laws.specs.delivery_turns.Tasks.{Task, answer_of_ending, beginning, do_all, exits_with, refuse, run, run_work, serve, task_work}
-use Rattle.fair_laws.specs.delivery_turns.Turns.{delivery_turn}
-use Rattle.fair_laws.specs.Places.{rows_of}
-use Rattle.fair_laws.proofs.Rows.{Settles, move_rows, resolving_settles, rows_append, rows_of_moves}
-use Rattle.fair_laws.proofs.fair_rows.Lists.{all_both}
-use Rattle.fair_laws.specs.actors.SeatPromises.{pair_at}
-use Rattle.fair_laws.specs.jessie_semantics.Play as plays
-use Rattle.fair_laws.specs.jessie_semantics.Play.{Ending}
+use Rattle.licence_laws.specs.rules.Outcomes.{Outcome}
+use Rattle.licence_laws.specs.rules.Traces.{all_open}
+use Rattle.licence_laws.specs.delivery_laws.Hosts.{IsGoodHost}
+use Rattle.licence_laws.proofs.delivery_laws.Runs.{after_both}
+use Rattle.licence_laws.specs.delivery_turns.Endings.{ending, without_cycle}
+use Rattle.licence_laws.specs.delivery_turns.Functions.{Run, ended, function_run, ran_out}
+use Rattle.licence_laws.specs.delivery_turns.HostCalls.{answer_of, effects_of}
+use Rattle.licence_laws.specs.delivery_turns.Hosts.{HostState, step_from, step_of}
+use Rattle.licence_laws.specs.delivery_turns.Tasks.{Task, answer_of_ending, beginning, do_all, exits_with, refuse, run, run_work, serve, task_work}
+use Rattle.licence_laws.specs.delivery_turns.Turns.{delivery_turn}
+use Rattle.licence_laws.specs.fair_laws.Places.{rows_of}
+use Rattle.licence_laws.proofs.fair_laws.Rows.{Settles, move_rows, resolving_settles, rows_append, rows_of_moves}
+use Rattle.licence_laws.proofs.fair_rows.Lists.{all_both}
+use Rattle.licence_laws.specs.actors.SeatPromises.{pair_at}
+use Rattle.licence_laws.specs.jessie_semantics.Play as plays
+use Rattle.licence_laws.specs.jessie_semantics.Play.{Ending}
 use Rattle.message_lines.specs.host_data.Tree.{Tree, is_local}
 use Rattle.message_lines.specs.promise_store.States.{SettlementView, ok}
 use Rattle.message_lines.specs.proposals.declared.allocations.Share.{Share}
 use Rattle.message_lines.specs.refusals.Codes.{local_only, refusal_tree}
 use Rattle.message_lines.specs.refusals.declared.codes.Refusal.{Refusal}
 use Rattle.serde_json.specs.Data as json
-use Rattle.fair_laws.specs.rules.Zoe.{TextReader}
+use Rattle.licence_laws.specs.rules.Zoe.{TextReader}
 use Rattle.message_lines.specs.turn_records.Settlements.{settled_after}
 use Rattle.message_lines.specs.turn_records.Deliveries as deliveries
 use Rattle.message_lines.specs.turn_records.Deliveries.{Delivery}
@@ -36,9 +36,9 @@ use Rattle.message_lines.specs.turn_rows.Causes as causes
 use Rattle.message_lines.specs.turn_rows.Causes.{Cause}
 use Rattle.message_lines.specs.turn_rows.Turns as rows
 use Rattle.message_lines.specs.turn_rows.Turns.{Move}
-use Rattle.fair_laws.specs.world_state.Worlds.{Effect, State, after, after_all, behind, exit, halt, leaving_events, moves_out, payout_moves, payouts_at, payouts_tree}
-use Rattle.fair_laws.specs.world_state.Rights.{slots_at}
-use Rattle.run_laws.specs.Limits.{IsOfSeat, IsPaidOut, IsSettlement, Piece, TellsLittle, TellsPieces, events_of, leaving, settlement}
+use Rattle.licence_laws.specs.world_state.Worlds.{Effect, State, after, after_all, behind, exit, halt, leaving_events, moves_out, payout_moves, payouts_at, payouts_tree}
+use Rattle.licence_laws.specs.world_state.Rights.{slots_at}
+use Rattle.run_laws.specs.FairRuns.{IsOfSeat, IsPaidOut, IsSettlement, Piece, TellsLittle, TellsPieces, events_of, leaving, settlement}
 
 -- ---- what was told later
 

@@ -2,7 +2,7 @@
 use Rattle.std.proofs.Common.{ℕ, List, [], ◌∷◌, ◌++◌, length, sym, subst, arith, append_assoc}
 use Rattle.std.specs.Fmt.{digits}
 use Rattle.std.specs.List.{AllByRecursion, flat_map}
-use Rattle.fair_laws.specs.turn_writer.ShortRows.{HasShortJournal, HasShortRows, IsShortRow}
+use Rattle.licence_laws.specs.turn_writer.ShortRows.{HasShortJournal, HasShortRows, IsShortRow}
 use Rattle.json.specs.Print.{escape_byte}
 use Rattle.message_lines.specs.turn_rows.Editions.{version_rows}
 use Rattle.message_lines.specs.turn_rows.Rows.{close_row, rows_of}

@@ -1,11 +1,9 @@
 -- In which order deliveries have their turns: first in, first out.
-use Rattle.std.specs.Prelude.{◌≡◌, ℕ, map, List, [], ◌∷◌, ◌++◌, drop, length}
+use Rattle.std.specs.Prelude.{◌≡◌, map, List, [], ◌∷◌, ◌++◌}
 use Rattle.std.specs.List.{flat_map}
 use Rattle.message_lines.specs.Meanings.{Meaning, blank, delivered, run}
-use Rattle.fair_laws.specs.rules.Zoe.{TextReader}
 use Rattle.message_lines.specs.turn_records.Deliveries.{Delivery}
-use Rattle.fair_laws.specs.world_state.Worlds.{behind}
-use Rattle.run_laws.specs.Runs.{HostTurn, Run, first_host, lines_run}
+use Rattle.run_laws.specs.Machines.{Machine, all_brought, by_lines, delivery_of}
 
 -- what was appended to the queue: the delivery of a line, or one that a turn brought
 pub data Entry : Type 0 where
@@ -38,36 +36,26 @@ deliveries_of (blank ∷ ms) = deliveries_of ms
 deliveries_of (delivered d ∷ ms) = d ∷ deliveries_of ms
 deliveries_of (run n ∷ ms) = deliveries_of ms
 
--- the delivery that a turn is of
-abbrev pub delivery_of : HostTurn → Delivery
-delivery_of t = t.step.turn.delivery
+module _ {S T : Type 0} (m : Machine S T) (start : S) where
+  -- What was appended by the end of some of the lines stands before all that was appended later: the deliveries of
+  -- these lines, and what the turns up to there brought.
+  pub record IsFront (lines : List Meaning) (all : List Entry) : Type 0 where
+    pub so_far : List Entry
+    pub later : List Entry
+    pub whole : all ≡ so_far ++ later
+    pub said : of_lines so_far ≡ deliveries_of lines
+    pub owed : of_turns so_far ≡ all_brought m (by_lines m start lines).turns
 
--- what a turn brought: it stands behind all that waited behind the turn's delivery
-abbrev pub brought_by : HostTurn → List Delivery
-brought_by t = drop (length (behind t.before.world).waiting) t.step.next.world.waiting
-
-abbrev pub all_brought : List HostTurn → List Delivery
-all_brought ts = flat_map brought_by ts
-
--- What was appended by the end of some of the lines stands before all that was appended later: the deliveries of
--- these lines, and what the turns up to there brought.
-pub record IsFront (read : TextReader) (meter : ℕ) (lines : List Meaning) (all : List Entry) : Type 0 where
-  pub so_far : List Entry
-  pub later : List Entry
-  pub whole : all ≡ so_far ++ later
-  pub said : of_lines so_far ≡ deliveries_of lines
-  pub owed : of_turns so_far ≡ all_brought (lines_run read (first_host meter) lines).turns
-
--- First in, first out: of all that was appended to the queue the turns are of the first entries, one for each, in
--- their order, and the others wait. What was appended are the deliveries of the lines, in the order of these, and
--- what the turns brought, in the order of those. Of both what was appended earlier stands before what was appended
--- later.
-pub record AreInOrder (read : TextReader) (meter : ℕ) (lines : List Meaning) (r : Run) : Type 0 where
-  pub taken : List Entry
-  pub waiting : List Entry
-  pub said : of_lines (taken ++ waiting) ≡ deliveries_of lines
-  pub owed : of_turns (taken ++ waiting) ≡ all_brought r.turns
-  pub turns : map delivery_of r.turns ≡ map delivery_in taken
-  pub left : r.end.world.waiting ≡ map delivery_in waiting
-  pub fronts : (first later : List Meaning) → lines ≡ first ++ later
-      → IsFront read meter first (taken ++ waiting)
+  -- First in, first out, from a state in which nothing waits: of all that was appended to the queue the turns are of
+  -- the first entries, one for each, in their order, and the others wait. What was appended are the deliveries of the
+  -- lines, in the order of these, and what the turns brought, in the order of those. Of both what was appended earlier
+  -- stands before what was appended later.
+  pub record AreInOrder (lines : List Meaning) : Type 0 where
+    pub taken : List Entry
+    pub waiting : List Entry
+    pub said : of_lines (taken ++ waiting) ≡ deliveries_of lines
+    pub owed : of_turns (taken ++ waiting) ≡ all_brought m (by_lines m start lines).turns
+    pub turns : map (delivery_of m) (by_lines m start lines).turns ≡ map delivery_in taken
+    pub left : m.waiting (by_lines m start lines).end ≡ map delivery_in waiting
+    pub fronts : (first later : List Meaning) → lines ≡ first ++ later
+        → IsFront first (taken ++ waiting)

@@ -1,19 +1,19 @@
 -- A run: from the bytes of an input to its turns, and to the journal.
-use Rattle.std.specs.Prelude.{◌≡◌, ◌≤◌, ◌+◌, ℕ, zero, suc, map, List, [], ◌∷◌, ◌++◌, length, Option}
+use Rattle.std.specs.Prelude.{◌≡◌, ◌≤◌, ◌+◌, ℕ, map, List, [], ◌∷◌, ◌++◌, length, Option}
 use Rattle.std.specs.Io.KnownBytes.{Appends}
 use Rattle.std.specs.List.{AllByRecursion}
-use Rattle.std.specs.Option.{option_map_or}
-use Rattle.fair_laws.specs.delivery_turns.Hosts.{HostState, Step, step_of, with_line}
+use Rattle.licence_laws.specs.delivery_turns.Hosts.{HostState, Step, step_of, with_line}
 use Rattle.message_lines.specs.InputLines.{lines_of}
-use Rattle.message_lines.specs.Meanings.{Meaning, blank, delivered, meaning_of, run}
-use Rattle.fair_laws.specs.rules.Zoe.{TextReader}
-use Rattle.fair_laws.specs.turn_writer.ShortRows.{HasShortRows}
+use Rattle.message_lines.specs.Meanings.{Meaning, meaning_of, run}
+use Rattle.licence_laws.specs.rules.Zoe.{TextReader}
+use Rattle.licence_laws.specs.turn_writer.ShortRows.{HasShortRows}
 use Rattle.message_lines.specs.turn_records.Printed.{printed}
 use Rattle.message_lines.specs.turn_rows.Texts.{close_text, journal_text, turns_text}
 use Rattle.message_lines.specs.turn_rows.Turns.{Turn}
-use Rattle.fair_laws.specs.world_laws.First.{first_world}
-use Rattle.fair_laws.specs.world_state.Rights.{most_turns}
+use Rattle.licence_laws.specs.world_laws.First.{first_world}
+use Rattle.licence_laws.specs.world_state.Rights.{most_turns}
 use Rattle.message_lines.specs.turn_rows.Editions.{written}
+use Rattle.run_laws.specs.Machines.{Machine, MachineRun, Made, by_line, by_lines, drains}
 
 -- the most that a function may cost
 abbrev pub most_meter : ℕ
@@ -23,45 +23,35 @@ most_meter = 10000000
 abbrev pub first_host : ℕ → HostState
 first_host meter = record { meter = meter; world = first_world; turns = 0 }
 
--- a host, and the step that it made
-pub record HostTurn : Type 0 where
-  pub before : HostState
-  pub step : Step
-
--- turns one after another, and the host after them
-pub record Run : Type 0 where
-  pub turns : List HostTurn
-  pub end : HostState
-
-abbrev pub no_turn : HostState → Run
-no_turn s = record { turns = []; end = s }
-
-abbrev pub turn_then : HostState → Step → Run → Run
-turn_then s step r = record {
-  turns = record { before = s; step = step } ∷ r.turns;
-  end = r.end;
+-- the machine that a host is
+abbrev pub host_machine : TextReader → Machine HostState Step
+host_machine read = record {
+  waiting = λ s. s.world.waiting;
+  arrive = with_line;
+  step = step_of read;
+  of = λ t. t.turn.delivery;
+  next = λ t. t.next;
 }
 
-abbrev pub run_then : Run → Run → Run
-run_then a b = record { turns = a.turns ++ b.turns; end = b.end }
+-- a host, and the step that it made
+abbrev pub HostTurn : Type 0
+HostTurn = Made HostState Step
+
+-- turns one after another, and the host after them
+abbrev pub Run : Type 0
+Run = MachineRun HostState Step
 
 -- at most n turns, each of the delivery in front
-unfoldable pub drained : TextReader → ℕ → HostState → Run
-drained read zero s = no_turn s
-drained read (suc n) s =
-    option_map_or (λ (t : Step). turn_then s t (drained read n t.next)) (step_of read s) (no_turn s)
+abbrev pub drained : TextReader → ℕ → HostState → Run
+drained read n s = drains (host_machine read) n s
 
 -- a line: its delivery waits, or at most so many turns are run
 abbrev pub line_run : TextReader → HostState → Meaning → Run
-line_run read s blank = no_turn s
-line_run read s (delivered d) = no_turn (with_line d s)
-line_run read s (run n) = drained read n s
+line_run read s m = by_line (host_machine read) s m
 
 -- lines, one after another
 abbrev pub lines_run : TextReader → HostState → List Meaning → Run
-lines_run read s [] = no_turn s
-lines_run read s (m ∷ ms) =
-    run_then (line_run read s m) (lines_run read (line_run read s m).end ms)
+lines_run read s ms = by_lines (host_machine read) s ms
 
 -- what the lines of an input mean; its end is a run line of so many turns
 abbrev pub meanings_of : ℕ → List ℕ → List Meaning

@@ -6,7 +6,7 @@ pub mod fair_run_laws;
 pub mod good_runs;
 pub mod host_runs;
 pub mod line_laws;
-pub mod supply_laws;
+pub mod run_licences;
 
 /// What `message_lines` gives to those above.
 pub mod message_lines_lib {
@@ -19,4 +19,4 @@ pub mod message_lines_lib {
     }
 }
 
-pub use fair_laws::turn_writer_lib;
+pub use licence_laws::turn_writer_lib;

@@ -3,7 +3,7 @@
 ghost use Rattle.std.specs.Prelude.{◌≡◌, ℕ, List};
 ghost use Rattle.message_lines.specs.Meanings.{delivered, meaning_of};
 ghost use Rattle.message_lines.specs.turn_records.Deliveries.{Delivery};
-ghost use Rattle.fair_laws.specs.world_state.Good.{IsLine};
+ghost use Rattle.licence_laws.specs.world_state.Good.{IsLine};
 
 /// What a line means that is to be delivered is such as a line may bring: parties have no instance's name, data has
 /// its names in order and nests no deeper than it may, and times are such as the timer can be set to.

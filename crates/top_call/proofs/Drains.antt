@@ -1,7 +1,7 @@
 -- What a step makes of the turns that a drain has still to run.
 use Rattle.std.specs.Prelude.{String, string_bytes}
 use Rattle.std.specs.declared.alloc.Global.{Global}
-use Rattle.std.proofs.Common.{◌≡◌, ℕ, zero, suc, ◌≤◌, List, [], ◌∷◌, length, Option, Some, None, Ok, Err, refl, subst, arith, append-nil}
+use Rattle.std.proofs.Common.{◌≡◌, ℕ, zero, suc, ◌≤◌, List, [], ◌∷◌, length, Option, Some, None, Ok, Err, refl, sym, ap, subst, ◌∙◌, arith, append-nil}
 use Rattle.std.specs.Io.KnownBytes.{Appends}
 use Rattle.std.specs.Option.{option_map_or}
 use Rattle.host_turns.specs.contract_texts.Reader.{reader}
@@ -18,7 +18,8 @@ use Rattle.host_turns.specs.turn_rows.Texts.{turn_text, turns_text}
 use Rattle.host_turns.specs.turn_rows.Turns.{Turn}
 use Rattle.host_turns.specs.world_state.Rights.{most_turns}
 use Rattle.run_laws.proofs.RunOrder.{step_count}
-use Rattle.run_laws.specs.Runs.{AppendsToLimit, drained, left_in, no_turn, turn_then, turns_in}
+use Rattle.run_laws.specs.Machines.{drains, no_turn, turn_then}
+use Rattle.run_laws.specs.Runs.{AppendsToLimit, Run, drained, left_in, turns_in}
 use Rattle.top_call.specs.Faults.{run_fault}
 use Rattle.host_turns.specs.HostSteps.{IsAtLimit, IsStep, IsTurn, NoneWaits}
 use Rattle.top_call.specs.Texts.{IsNextText, IsTurnText}
@@ -69,16 +70,16 @@ text_failed old new f e h = let P : RunFault → Type 0 = λ g. IsNextText old n
 -- ---- what is left to run
 
 pub drained_more : (m : ℕ) (s : HostState) (t : Step) → step_of reader s ≡ Some t → drained reader (suc m) s ≡ turn_then s t (drained reader m t.next)
-unfolding drained
-drained_more m s t e = rw e
+unfolding drains
+drained_more m s t e = ap (λ o. option_map_or (λ (u : Step). turn_then s u (drained reader m u.next)) o (no_turn s)) e
 
 pub drained_none : (k : ℕ) (s : HostState) → step_of reader s ≡ None → drained reader k s ≡ no_turn s
-unfolding drained
+unfolding drains
 drained_none zero s e = refl
-drained_none (suc k) s e = rw e
+drained_none (suc k) s e = ap (λ o. option_map_or (λ (u : Step). turn_then s u (drained reader k u.next)) o (no_turn s)) e
 
 pub drained_zero : (s : HostState) → drained reader 0 s ≡ no_turn s
-unfolding drained
+unfolding drains
 drained_zero s = refl
 
 -- what waits has a turn
@@ -88,7 +89,7 @@ waits_from k s [] h = absurd (omega arith)
 waits_from k s (d ∷ rest) h = omega arith
 
 drained_waits : (k : ℕ) (s : HostState) → 1 ≤ left_in s → 1 ≤ length (turns_in (drained reader (suc k) s))
-unfolding drained step_of
+unfolding drains step_of
 drained_waits k s h = waits_from k s s.world.waiting h
 
 -- ---- between two deliveries of a drain, of which k are still to be run
@@ -99,19 +100,19 @@ TurnsLeft all n k s old mid = Written all (turns_in (drained reader k s)) n s.tu
 module _ (all : List Turn) (n k : ℕ) (s : HostState) (old mid : Option (List ℕ)) (h : TurnsLeft all n k s old mid) where
   -- none is left, since nothing waits
   pub drain_empty : step_of reader s ≡ None → Appends old mid (turns_text written n all) × ((drained reader k s).end ≡ s)
-  drain_empty e = let none = drained_none k s e in (written_all all n s.turns old mid (rw none at h), rw none)
+  drain_empty e = let none = drained_none k s e in (written_all all n s.turns old mid (subst (λ (r : Run). Written all (turns_in r) n s.turns old mid) none h), ap (λ (r : Run). r.end) none)
 
   -- or since no more is asked for
   pub drain_over : k ≡ 0 → Appends old mid (turns_text written n all) × ((drained reader k s).end ≡ s)
-  drain_over e = let none = drained_zero s in (written_all all n s.turns old mid (rw (e, none) at h), rw (e, none))
+  drain_over e = let none = ap (λ j. drained reader j s) e ∙ drained_zero s in (written_all all n s.turns old mid (subst (λ (r : Run). Written all (turns_in r) n s.turns old mid) none h), ap (λ (r : Run). r.end) none)
 
   module _ (m : ℕ) (left : k ≡ suc m) where
     pub drain_limit : s.turns ≤ most_turns → most_turns ≤ s.turns → 1 ≤ left_in s → AppendsToLimit old mid n all
-    drain_limit few last waits = limit_left all (turns_in (drained reader k s)) n s.turns old mid h (omega (arith, few, last)) (rw left (drained_waits m s waits))
+    drain_limit few last waits = limit_left all (turns_in (drained reader k s)) n s.turns old mid h (omega (arith, few, last)) (subst (λ j. 1 ≤ length (turns_in (drained reader j s))) (sym left) (drained_waits m s waits))
 
     module _ (t : Step) (is : step_of reader s ≡ Some t) (new : Option (List ℕ)) where
       next : Written all (printed t.turn ∷ turns_in (drained reader m t.next)) n s.turns old mid
-      next = rw (left, drained_more m s t is) at h
+      next = subst (λ (r : Run). Written all (turns_in r) n s.turns old mid) (ap (λ j. drained reader j s) left ∙ drained_more m s t is) h
 
       pub drain_turn : HasShortRows written (printed t.turn) → Appends mid new (turn_text written s.turns (printed t.turn)) → TurnsLeft all n m t.next old new
       drain_turn short more = written_more all (printed t.turn ∷ []) (turns_in (drained reader m t.next)) n s.turns t.next.turns old mid new next (short, tt) (rw append-nil more) (step_count reader s t is)
@@ -120,4 +121,4 @@ module _ (all : List Turn) (n k : ℕ) (s : HostState) (old mid : Option (List �
       drain_failed f = failed_next all (printed t.turn ∷ []) (turns_in (drained reader m t.next)) n s.turns old mid new next (rw append-nil f)
 
 pub end_turn : (k m : ℕ) (s : HostState) (t : Step) → k ≡ suc m → step_of reader s ≡ Some t → (drained reader k s).end ≡ (drained reader m t.next).end
-end_turn k m s t left is = rw (left, drained_more m s t is)
+end_turn k m s t left is = ap (λ j. (drained reader j s).end) left ∙ ap (λ (r : Run). r.end) (drained_more m s t is)

@@ -2,13 +2,13 @@
 -- those that are left are so too, all are.
 use Rattle.std.proofs.Common.{◌≡◌, ◌≤◌, ◌<◌, ◌^◌, ℕ, suc, length, arith, List, [], ◌∷◌, ◌++◌, Some, None, map, sym, ap, subst, ◌∙◌, append-nil}
 use Rattle.std.specs.List.{AllByRecursion}
-use Rattle.std.proofs.lemmas.List.{length-map}
 use Rattle.host_turns.specs.contract_texts.Reader.{reader}
 use Rattle.host_turns.proofs.contract_texts.Modules.{reads_modules}
 use Rattle.run_laws.specs.delivery_turns.Hosts.{HostState, Step, step_of}
-use Rattle.run_laws.specs.fair_rows.Turns.{IsFairJournal}
-use Rattle.run_laws.specs.Limits.{AreFairToLimit, CanBePrinted}
-use Rattle.run_laws.proofs.RunsFair.{run_fair, run_journal, run_prints}
+use Rattle.run_laws.specs.fair_rows.Strict.{AreStrict}
+use Rattle.run_laws.specs.fair_rows.Turns.{AreFair, IsFairJournal}
+use Rattle.run_laws.specs.FairRuns.{CanBePrinted, TellsLittle}
+use Rattle.run_laws.proofs.RunsFair.{run_fair, run_journal, run_little, run_prints, run_strict}
 use Rattle.run_laws.specs.message_lines.InputLines.{lines_of}
 use Rattle.run_laws.specs.message_lines.Meanings.{Meaning, meaning_of}
 use Rattle.run_laws.specs.turn_writer.ShortRows.{HasShortRows}
@@ -66,10 +66,16 @@ pub fair_journal : (meter most : ℕ) (input : List ℕ) → meter ≤ most_mete
     → IsFairJournal written (journal_of reader meter most input) (turns_of reader meter most input) (left_of reader meter most input)
 fair_journal meter most input few prints short left =
     let r = run_of reader meter most input in
-    let can = run_prints reader reads_modules meter most input few r.turns [] (sym (append-nil r.turns)) (omega (arith, short, length-map r.turns (λ (t : HostTurn). printed t.step.turn))) in
-    run_journal reader reads_modules meter most input few short (record { turns = turns_in_form r.turns prints can; as_many = omega (arith, short); few = left })
+    let can = run_prints reader reads_modules meter most input few in
+    run_journal reader reads_modules meter most input few (record { turns = turns_in_form r.turns prints can; as_many = omega (arith, short); few = left })
 
 -- ---- whatever the input
 
-pub runs_fair : (meter most : ℕ) (input : List ℕ) → meter ≤ most_meter → AreFairToLimit (turns_of reader meter most input)
+pub runs_fair : (meter most : ℕ) (input : List ℕ) → meter ≤ most_meter → AreFair written (turns_of reader meter most input)
 runs_fair meter most input few = run_fair reader reads_modules meter most input few
+
+pub runs_strict : (meter most : ℕ) (input : List ℕ) → meter ≤ most_meter → AreStrict (turns_of reader meter most input)
+runs_strict meter most input few = run_strict reader reads_modules meter most input few
+
+pub runs_little : (meter most : ℕ) (input : List ℕ) → meter ≤ most_meter → AllByRecursion TellsLittle (turns_of reader meter most input)
+runs_little meter most input few = run_little reader reads_modules meter most input few

@@ -3,7 +3,7 @@ pub mod Drains
 pub mod LineRuns
 pub mod RunTexts
 pub mod InForm
-pub mod CalledFor
+pub mod Licences
 pub mod Limits
 pub mod Statuses
 pub use Rattle.host_turns.proofs.contract_texts as contract_texts

@@ -12,7 +12,8 @@ use Rattle.host_turns.specs.turn_rows.Editions.{written}
 use Rattle.host_turns.specs.turn_rows.Texts.{turns_text}
 use Rattle.host_turns.specs.turn_rows.Turns.{Turn}
 use Rattle.run_laws.proofs.RunOrder.{line_count, lines_count}
-use Rattle.run_laws.specs.Runs.{HostTurn, Run, line_run, lines_run, run_then, turns_in}
+use Rattle.run_laws.specs.Machines.{run_then}
+use Rattle.run_laws.specs.Runs.{HostTurn, Run, line_run, lines_run, turns_in}
 use Rattle.top_call.proofs.TurnTexts.{Written, written_more}
 
 pub turns_both : (a b : Run) → turns_in (run_then a b) ≡ turns_in a ++ turns_in b

@@ -13,7 +13,8 @@ use Rattle.host_turns.specs.turn_rows.Rows.{close_row}
 use Rattle.host_turns.specs.turn_rows.Texts.{close_text, turns_text}
 use Rattle.host_turns.specs.turn_rows.Turns.{Turn}
 use Rattle.host_turns.specs.world_state.Rights.{most_turns}
-use Rattle.run_laws.specs.Runs.{AppendsTurns, Run, closing_text, drained, first_host, journal_of, left_in, left_of, line_run, lines_run, meanings_of, no_turn, run_of, run_then, turns_in, turns_of}
+use Rattle.run_laws.specs.Machines.{no_turn, run_then}
+use Rattle.run_laws.specs.Runs.{AppendsTurns, Run, closing_text, drained, first_host, journal_of, left_in, left_of, line_run, lines_run, meanings_of, run_of, turns_in, turns_of}
 use Rattle.top_call.proofs.LineRuns.{lines_turns_count, turns_both}
 use Rattle.run_laws.proofs.ShortJournals.{journal_short}
 use Rattle.run_laws.proofs.turn_rows.ByTurns.{text_by_turns}
@@ -77,13 +78,13 @@ module _ (meter most : ℕ) (input : List ℕ) where
     pub run_lines : (old new : Option (List ℕ)) → AllByRecursion (HasShortRows written) (turns_in (lines_run reader s (meant input))) → Appends old new (turns_text written s.turns (turns_in (lines_run reader s (meant input)))) → Written all (turns_in (drained reader most t) ++ []) 0 t.turns old new
     run_lines old new short h =
         subst (λ (u : HostState). Written all (turns_in (drained reader most u) ++ []) 0 u.turns old new) (sym is)
-        (written_more _ _ _ _ _ _ old old new (run_start s old e) short h (lines_turns_count (meant input) s))
+        (written_more all (turns_in (lines_run reader s (meant input))) (turns_in (drained reader most (lines_run reader s (meant input)).end) ++ []) 0 s.turns (lines_run reader s (meant input)).end.turns old old new (run_start s old e) short h (lines_turns_count (meant input) s))
 
     -- all turns were written once the deliveries at the end were run
     pub run_written : (old mid new : Option (List ℕ)) → AllByRecursion (HasShortRows written) (turns_in (lines_run reader s (meant input))) → AllByRecursion (HasShortRows written) (turns_in (drained reader most t))
         → Appends old mid (turns_text written s.turns (turns_in (lines_run reader s (meant input)))) → Appends mid new (turns_text written t.turns (turns_in (drained reader most t))) → Appends old new (turns_text written 0 all)
     run_written old mid new short both h more =
-        written_all all 0 (t.turns + length (turns_in (drained reader most t))) old new (written_more _ _ [] _ _ _ old mid new (run_lines old mid short h) both more refl)
+        written_all all 0 (t.turns + length (turns_in (drained reader most t))) old new (written_more all (turns_in (drained reader most t)) [] 0 t.turns (t.turns + length (turns_in (drained reader most t))) old mid new (run_lines old mid short h) both more refl)
 
     -- the host at the end
     pub run_ends : (u : HostState) → u ≡ (drained reader most t).end → u ≡ end

@@ -14,6 +14,16 @@ pub mod command_words_lib {
 
 /// What `host_io` gives to those above.
 pub mod host_io_lib {
+    pub mod flaky {
+        pub use host_io::flaky::{FlakySink, FlakySource};
+    }
+
+    pub mod memory {
+        pub use host_io::memory::{MemorySink, MemorySource};
+    }
+
+    pub use host_io::{Sink, Source};
+
     pub mod std_ends {
         pub use host_io::std_ends::{StdSink, StdSource};
     }

@@ -3,13 +3,19 @@
 ghost use Rattle.std.specs.Prelude.{◌≡◌, ◌≤◌, ℕ, List, map, true, false, string_bytes, IfErr, IfOk};
 ghost use Rattle.std.specs.Prelude.{IfSome, OnOk, Some};
 ghost use Rattle.std.specs.Io.KnownBytes.{IsAtEnd};
+ghost use Rattle.std.specs.List.{AllByRecursion};
 ghost use Rattle.command_words.specs.Words.{options_of, takes_words};
 ghost use Rattle.host_turns.specs.contract_texts.Reader.{reader};
-ghost use Rattle.run_laws.specs.Limits.{AreFairToLimit};
+ghost use Rattle.run_laws.specs.FairRuns.{TellsLittle};
+ghost use Rattle.run_laws.specs.fair_rows.Strict.{AreStrict};
+ghost use Rattle.run_laws.specs.fair_rows.Turns.{AreFair};
+ghost use Rattle.host_turns.specs.turn_rows.Editions.{written};
 ghost use Rattle.run_laws.specs.Order.{AreInOrder};
-ghost use Rattle.run_laws.specs.Runs.{meanings_of, most_meter, run_of, turns_of};
+ghost use Rattle.run_laws.specs.Runs.{first_host, host_machine, meanings_of, most_meter, run_of, turns_of};
 ghost use Rattle.run_laws.specs.message_lines.InputLines.{is_too_long};
-ghost use Rattle.run_laws.specs.Steps.{AreCalledForToLimit};
+ghost use Rattle.run_laws.specs.Licences.{IsLicensedTurn};
+ghost use Rattle.run_laws.specs.licence_laws.Minting.{IsCalledForTurn};
+ghost use Rattle.run_laws.specs.licence_laws.Spending.{IsSpentByNameTurn};
 ghost use Rattle.top_call.specs.Top.{Ends, IsFree, IsNotRun, IsOfRun, IsRefused, Says, exit_code};
 ghost use Rattle.top_call.specs.Top.{no_faults, status_name, words_status};
 
@@ -149,7 +155,7 @@ fn run_on<P: Planner, K: Sink>(
 }
 
 /// Reads the whole input and writes the journal of the run on it.
-#[tactic(auto, using(run_laws::proofs::RunOrder::runs_in_order, crate::proofs::InForm::runs_fair, crate::proofs::CalledFor::runs_called_for))]
+#[tactic(auto, using(run_laws::proofs::RunOrder::runs_in_order, crate::proofs::InForm::runs_fair, crate::proofs::InForm::runs_strict, crate::proofs::InForm::runs_little, crate::proofs::Licences::runs_called_for, crate::proofs::Licences::runs_spent_by_name, crate::proofs::Licences::runs_licensed))]
 pub fn zoe_top<P: Planner, S: Source, K: Sink>(
     alloc: Global,
     words: &[String],
@@ -183,17 +189,33 @@ pub fn zoe_top<P: Planner, S: Source, K: Sink>(
           sink = record { before = K.faults sink.old; now = K.faults sink.new };
         }) input → Ends result) }
 
-    // The turns of the run are fair, whatever the input, up to the last that may be run.
+    // The turns of the run are fair, whatever the input.
     ensures fair { (meter most : ℕ) (input : List ℕ) → meter ≤ most_meter
-        → AreFairToLimit (turns_of reader meter most input) }
+        → AreFair written (turns_of reader meter most input) }
 
-    // Each turn shows the calls that ask for what it mints and withdraws, up to the last that may be run.
+    // They keep to all that a host keeps to beyond fairness: amounts are answered whole, and more.
+    ensures strict { (meter most : ℕ) (input : List ℕ) → meter ≤ most_meter
+        → AreStrict (turns_of reader meter most input) }
+
+    // Of a turn that was refused settlements are told alone; of one that spent its meter exits and settlements.
+    ensures little { (meter most : ℕ) (input : List ℕ) → meter ≤ most_meter
+        → AllByRecursion TellsLittle (turns_of reader meter most input) }
+
+    // Each turn shows the calls that ask for what it takes from outside and from purses.
     ensures called_for { (meter most : ℕ) (input : List ℕ) → meter ≤ most_meter
-        → AreCalledForToLimit (run_of reader meter most input).turns }
+        → AllByRecursion IsCalledForTurn (turns_of reader meter most input) }
+
+    // It names each payment that it takes from, or a call of its function does.
+    ensures spent_by_name { (meter most : ℕ) (input : List ℕ) → meter ≤ most_meter
+        → AllByRecursion IsSpentByNameTurn (turns_of reader meter most input) }
+
+    // A contract's function names only what it was handed, and each movement is by right.
+    ensures licensed { (meter most : ℕ) (input : List ℕ) → meter ≤ most_meter
+        → AllByRecursion IsLicensedTurn (run_of reader meter most input).turns }
 
     // Deliveries have their turns in order, whatever the input.
     ensures in_order { (meter most : ℕ) (input : List ℕ)
-        → AreInOrder reader meter (meanings_of most input) (run_of reader meter most input) }
+        → AreInOrder (host_machine reader) (first_host meter) (meanings_of most input) }
 {
     let options = match read_words(alloc, words) {
         Ok(options) => options,

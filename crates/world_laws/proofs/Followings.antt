@@ -38,7 +38,7 @@ led_before f fs x p free e = by (f.promise == x) refl
     by false other = e
 
 -- what follows a promise is led by it
-followers_led : (fs : List Following) (p : ℕ) → IsForest fs → AllByRecursion (λ x. leader fs x ≡ Some p) (followers fs p)
+pub followers_led : (fs : List Following) (p : ℕ) → IsForest fs → AllByRecursion (λ x. leader fs x ≡ Some p) (followers fs p)
 followers_led [] p forest = tt
 followers_led (f ∷ fs) p forest = by (f.target == p) refl (all_map (λ x. leader fs x ≡ Some p) (λ x. leader (f ∷ fs) x ≡ Some p) (λ x e. led_before f fs x p forest.0 e) (followers fs p) (followers_led fs p forest.2))
   where
@@ -46,7 +46,7 @@ followers_led (f ∷ fs) p forest = by (f.target == p) refl (all_map (λ x. lead
     by true same all = all_append (λ x. leader (f ∷ fs) x ≡ Some p) (followers fs p) (f.promise ∷ []) all (led_new f fs ∙ ap Some (eqb-true f.target p same), tt)
     by false other all = all
 
-led_made : (n : ℕ) (fs : List Following) (x q : ℕ) → AllByRecursion (IsFollowing n) fs → leader fs x ≡ Some q → (x < n) × (q < n)
+pub led_made : (n : ℕ) (fs : List Following) (x q : ℕ) → AllByRecursion (IsFollowing n) fs → leader fs x ≡ Some q → (x < n) × (q < n)
 led_made n [] x q all e = absurd (cc)
 led_made n (f ∷ fs) x q all e = by (f.promise == x) refl e (led_made n fs x q all.1)
   where
@@ -95,7 +95,7 @@ module _ (fs : List Following) where
             (tt, tt),
       )
 
-away_from : (q : ℕ) (ss : List CascadeStep) → (Has (settles q) ss → ⊥) → AllByRecursion (IsAway q) ss
+pub away_from : (q : ℕ) (ss : List CascadeStep) → (Has (settles q) ss → ⊥) → AllByRecursion (IsAway q) ss
 away_from q [] none = tt
 away_from q (settles p ∷ ss) none = (λ e. none (inl (ap settles e)), away_from q ss (λ has. none (inr has)))
 away_from q (notifies p ∷ ss) none = (tt, away_from q ss (λ has. none (inr has)))
@@ -111,7 +111,7 @@ module _ (b : PromiseBook) (are : AreFollowing b) where
   all_unsettled n [] each all = tt
   all_unsettled n (q ∷ qs) each all = all_append WasUnsettled (cascade n b.follows q) (flat_map (λ x. cascade n b.follows x) qs) (each q all.0) (all_unsettled n qs each all.1)
 
-  cascade_unsettled : (n p : ℕ) → settlement_at b.settled p ≡ None → AllByRecursion WasUnsettled (cascade n b.follows p)
+  pub cascade_unsettled : (n p : ℕ) → settlement_at b.settled p ≡ None → AllByRecursion WasUnsettled (cascade n b.follows p)
   cascade_unsettled zero p none = (none, (tt, tt))
   cascade_unsettled (suc n) p none = (
     none,
@@ -223,7 +223,7 @@ asking_following None n b are = record { forest = are.forest; made = are.made; u
 -- ---- by effect
 
 -- the payouts of an open seat are pending
-pending_payouts : (w : State) (s : ℕ) → (seat_at w.seats s).last ≡ None → IsGoodWorld w → IsPending w.promises (pair_at w.pairs s).payouts
+pub pending_payouts : (w : State) (s : ℕ) → (seat_at w.seats s).last ≡ None → IsGoodWorld w → IsPending w.promises (pair_at w.pairs s).payouts
 pending_payouts w s can good =
     let q = (pair_at w.pairs s).payouts in
     let one : one_if (q == q) ≡ 1 = ap one_if (eq-eqb q q refl) in
@@ -253,7 +253,7 @@ target_made w (ok (fields fs)) q is e = absurd (cc)
 target_made w (ok (function f)) q is e = absurd (cc)
 target_made w (broken t) q is e = absurd (cc)
 
-none_named : (q : ℕ) → None ≡ Some q → ⊥
+pub none_named : (q : ℕ) → None ≡ Some q → ⊥
 none_named q e = cc
 
 pub following-after : (w : State) (e : Effect) → IsGoodEffect w e → IsGoodWorld w → AreFollowing (after w e).promises

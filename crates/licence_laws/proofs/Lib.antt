@@ -1,0 +1,25 @@
+pub mod PrintedNames
+pub mod Effects
+pub mod Levels
+pub mod Told
+pub mod Rows
+pub mod Runs
+pub mod Works
+pub mod Taking
+pub mod Moves
+pub mod Naming
+pub mod Hosts
+pub mod Licensed
+pub mod Worked
+pub mod WorkedSteps
+pub mod Settling
+pub mod SeatsLeft
+pub mod TakenBack
+pub use Rattle.fair_laws.proofs.delivery_laws
+pub use Rattle.fair_laws.proofs as fair_laws
+pub use Rattle.fair_laws.proofs.fair_rows
+pub use Rattle.fair_laws.proofs.turn_rows
+pub use Rattle.fair_laws.proofs.rule_laws
+pub use Rattle.fair_laws.proofs.jessie_semantics
+pub use Rattle.fair_laws.proofs.lemmas
+pub use Rattle.fair_laws.proofs.world_laws

@@ -1,0 +1,25 @@
+pub mod Kept
+pub mod Came
+pub mod Objects
+pub mod Movements
+pub mod Minting
+pub mod Spending
+pub mod Steps
+pub mod TakenBack
+pub mod Worked
+pub mod WorkedSteps
+pub use Rattle.fair_laws.specs.actors
+pub use Rattle.fair_laws.specs.call_arguments
+pub use Rattle.fair_laws.specs.delivery_laws
+pub use Rattle.fair_laws.specs.delivery_turns
+pub use Rattle.fair_laws.specs.ertp_mint
+pub use Rattle.fair_laws.specs as fair_laws
+pub use Rattle.fair_laws.specs.fair_rows
+pub use Rattle.fair_laws.specs.jessie_grammar
+pub use Rattle.fair_laws.specs.jessie_semantics
+pub use Rattle.fair_laws.specs.vault_model
+pub use Rattle.fair_laws.specs.rule_laws
+pub use Rattle.fair_laws.specs.rules
+pub use Rattle.fair_laws.specs.turn_writer
+pub use Rattle.fair_laws.specs.world_laws
+pub use Rattle.fair_laws.specs.world_state

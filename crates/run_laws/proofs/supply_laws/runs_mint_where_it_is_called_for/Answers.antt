@@ -1,5 +1,0 @@
-use Rattle.run_laws.proofs.Hosts.{runs_mint}
-use Rattle.run_laws.proofs.supply_laws.runs_mint_where_it_is_called_for.Goals as goal
-
-pub returns : goal.returns
-returns c = record { each = runs_mint }
