@@ -1,9 +1,7 @@
 //! The program: the top call over standard input and output, and over all methods.
 #![tactic(auto)]
 
-mod methods;
-
-use methods::Methods;
+use all_methods::Methods;
 use std::process::ExitCode;
 use std::{env, io};
 use top_call::command_words_lib::words::{usage, word_faults};

@@ -1,10 +1,12 @@
-//! The methods of all objects: of the host's own, and of those that contracts' functions call.
+//! The methods of all objects, as the host asks for them: of the host's own, and of those that
+//! contracts' functions call.
+#![tactic(auto)]
 
+use contract_powers::call_outcomes_lib::outcomes::CallOutcome;
+use contract_powers::host_world_lib::World;
+use contract_powers::planner::Planner;
 use host_data::data::{Data, Obj, ObjKind};
 use std::alloc::Global;
-use top_call::call_outcomes_lib::outcomes::CallOutcome;
-use top_call::contract_powers_lib::planner::Planner;
-use top_call::host_world_lib::World;
 use zcf_calls::escrow_calls_lib::zmint::of_zmint;
 use zcf_calls::zcf::of_zcf;
 use zoe_calls::services;
