@@ -1,4 +1,4 @@
--- Lists of turns that are fair, of which each breaks a part of what a host keeps to beyond fairness.
+-- Lists of turns that are fair and not strict: none of them has all that a host keeps to beyond fairness.
 use Rattle.std.specs.Prelude.{List, [], ◌∷◌, codes}
 use Rattle.fair_rows.specs.rights_model.declared.Holder.TheVariants.{Outside, Purse}
 use Rattle.serde_json.specs.Data as json

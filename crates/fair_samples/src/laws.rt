@@ -34,7 +34,7 @@ pub fn editions_differ()
     ensures first { BreaksAlone First supplies_are_bounded large_payments }
 {}
 
-/// What a host keeps to beyond fairness doesn't follow from it: lists of turns that are fair break one part of it each.
+/// What a host keeps to beyond fairness doesn't follow from it: each of these lists of turns is fair, and isn't strict.
 pub fn strictness_does_not_follow()
     ensures { AllByRecursion IsFairAlone lax }
 {}

@@ -24,13 +24,21 @@ RowsAreReadBack = (e : Edition) (r : Row) → HasRowForm e r → row_in (row_jso
 
 -- the line of a row in form is that of no other
 abbrev pub OneRow : Type 0
-OneRow = (e : Edition) (r q : Row) → HasRowForm e r → HasRowForm e q → row_line e r ≡ row_line e q → r ≡ q
+OneRow =
+    (e : Edition) (r q : Row)
+    → HasRowForm e r
+    → HasRowForm e q
+    → row_line e r ≡ row_line e q
+    → r ≡ q
 
 -- ---- journals
 
 -- the rows of a fair journal are good one after another, and the last one closes it
 abbrev pub FairTurnsAreGood : Type 0
-FairTurnsAreGood = (e : Edition) (bytes : List ℕ) (ts : List Turn) (left : ℕ) → IsFairJournal e bytes ts left → IsWhole e bytes (rows_of_journal e ts left)
+FairTurnsAreGood =
+    (e : Edition) (bytes : List ℕ) (ts : List Turn) (left : ℕ)
+    → IsFairJournal e bytes ts left
+    → IsWhole e bytes (rows_of_journal e ts left)
 
 pub record AreOfFairTurns (e : Edition) (bytes : List ℕ) (rows : List Row) : Type 0 where
   pub turns : List Turn
@@ -38,16 +46,29 @@ pub record AreOfFairTurns (e : Edition) (bytes : List ℕ) (rows : List Row) : T
   pub fair : IsFairJournal e bytes turns left
   pub is : rows ≡ rows_of_journal e turns left
 
--- rows that are good one after another, the last of which closes the journal, are those of fair turns
+-- rows that are good one after another, and the last of which closes the journal, are those of
+-- fair turns
 abbrev pub GoodRowsAreFair : Type 0
-GoodRowsAreFair = (e : Edition) (bytes : List ℕ) (rows : List Row) → IsWhole e bytes rows → AreOfFairTurns e bytes rows
+GoodRowsAreFair =
+    (e : Edition) (bytes : List ℕ) (rows : List Row)
+    → IsWhole e bytes rows
+    → AreOfFairTurns e bytes rows
 
 -- where a row is bad, the bytes are the text of no fair journal
 abbrev pub BadJournalsAreUnfair : Type 0
-BadJournalsAreUnfair = (e : Edition) (bytes : List ℕ) (k : ℕ) → IsFirstBad e bytes k → (ts : List Turn) (left : ℕ) → IsFairJournal e bytes ts left → ⊥
+BadJournalsAreUnfair =
+    (e : Edition) (bytes : List ℕ) (k : ℕ)
+    → IsFirstBad e bytes k
+    → (ts : List Turn) (left : ℕ)
+    → IsFairJournal e bytes ts left
+    → ⊥
 
 abbrev pub OneFirstBad : Type 0
-OneFirstBad = (e : Edition) (bytes : List ℕ) (j k : ℕ) → IsFirstBad e bytes j → IsFirstBad e bytes k → j ≡ k
+OneFirstBad =
+    (e : Edition) (bytes : List ℕ) (j k : ℕ)
+    → IsFirstBad e bytes j
+    → IsFirstBad e bytes k
+    → j ≡ k
 
 -- how many lines are whole
 abbrev pub lines_in : List ℕ → ℕ

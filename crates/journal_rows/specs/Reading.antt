@@ -1,5 +1,5 @@
--- When a row is good after the rows before it. It adds nothing to fairness: it says at which row each part of it is
--- tested.
+-- When a row is good after the rows before it. It adds nothing to fairness: it says at which row each
+-- part of it is tested.
 use Rattle.std.specs.Prelude.{◌≡◌, ◌+◌, List, [], ◌∷◌, ◌++◌}
 use Rattle.fair_rows.specs.ExitCauses.{facets_made, instance_of}
 use Rattle.fair_rows.specs.Rows.{InTurn, IsFairRow, after_event}
@@ -28,7 +28,10 @@ unread Second = unversioned
 
 -- what the rows tell where a turn has ended
 abbrev pub told_after : InTurn → SoFar
-told_after i = record (i.now) { turns = i.before.turns + 1; owners = i.before.owners ++ facets_made (instance_of i.before.owners i.row.kind i.row) i.here }
+told_after i = record (i.now) {
+  turns = i.before.turns + 1;
+  owners = i.before.owners ++ facets_made (instance_of i.before.owners i.row.kind i.row) i.here;
+}
 
 abbrev pub told_by : Reading → SoFar
 told_by (within i told) = told_after i

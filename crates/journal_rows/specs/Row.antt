@@ -70,7 +70,8 @@ row_in d =
     if bytes_eq (text_in (codes "row") d) (codes "version") then version else
     if bytes_eq (text_in (codes "row") d) (codes "turn") then turn (turn_in d [] []) else
     if bytes_eq (text_in (codes "row") d) (codes "sum") then sum (sum_in d) else
-    if bytes_eq (text_in (codes "row") d) (codes "close") then close (closing_in d).left (closing_in d).turns else event (event_in d)
+    if bytes_eq (text_in (codes "row") d) (codes "close") then close (closing_in d).left (closing_in d).turns else
+    event (event_in d)
 
 -- ---- the rows of turns
 

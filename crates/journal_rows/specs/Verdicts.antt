@@ -12,8 +12,8 @@ pub record IsWhole (e : Edition) (bytes : List ℕ) (rows : List Row) : Type 0 w
   pub good : AreGood e (unread e) rows
   pub is_closed : after_rows (unread e) rows ≡ closed
 
--- row k, from 1, is the first that is bad: good rows stand before it, and what follows them doesn't begin with the line
--- of a row that is good there; or nothing follows, and the journal isn't closed
+-- row k, from 1, is the first that is bad: good rows stand before it, and what follows them doesn't
+-- begin with the line of a row that is good there; or nothing follows, and the journal isn't closed
 pub record IsFirstBad (e : Edition) (bytes : List ℕ) (k : ℕ) : Type 0 where
   pub before : List Row
   pub rest : List ℕ
@@ -21,5 +21,6 @@ pub record IsFirstBad (e : Edition) (bytes : List ℕ) (k : ℕ) : Type 0 where
   pub place : k ≡ length before + 1
   pub form : HaveRowForm e before
   pub good : AreGood e (unread e) before
-  pub next : (r : Row) (more : List ℕ) → HasRowForm e r → rest ≡ row_line e r ++ more → IsGood e (after_rows (unread e) before) r → ⊥
+  pub next : (r : Row) (more : List ℕ) → HasRowForm e r → rest ≡ row_line e r ++ more
+      → IsGood e (after_rows (unread e) before) r → ⊥
   pub not_whole : rest ≡ [] → after_rows (unread e) before ≡ closed → ⊥

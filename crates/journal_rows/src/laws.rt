@@ -14,7 +14,8 @@ pub fn fair_turns_are_good()
     ensures { FairTurnsAreGood }
 {}
 
-/// Rows that are good one after another, the last of which closes the journal, are those of fair turns.
+/// Rows that are good one after another, and the last of which closes the journal, are those of fair
+/// turns.
 pub fn good_rows_are_fair()
     ensures { GoodRowsAreFair }
 {}
@@ -29,7 +30,8 @@ pub fn one_first_bad()
     ensures { OneFirstBad }
 {}
 
-/// Where the text of a fair journal is cut off, the first bad row is the one after those that are whole.
+/// Where the text of a fair journal is cut off, the first bad row is the one after those that are
+/// whole.
 pub fn a_cut_is_bad_there()
     ensures { ACutIsBadThere }
 {}
