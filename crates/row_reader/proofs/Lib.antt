@@ -1,0 +1,20 @@
+pub mod Arguments
+pub mod CallRows
+pub mod Clones
+pub mod DataForm
+pub mod Named
+pub mod Faults
+pub mod Numbers
+pub mod Wanted
+pub mod Whole
+pub mod ElementLists
+pub mod AmountLists
+pub mod Slots
+pub mod ValueParts
+pub mod EventParts
+pub mod RowTexts
+pub mod Lineread
+pub mod Refused
+pub mod RowWords
+pub mod TurnRows
+pub use Rattle.row_records.proofs as row_records

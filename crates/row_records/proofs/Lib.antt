@@ -1,0 +1,3 @@
+pub use Rattle.journal_rows.proofs.fair_rows
+pub use Rattle.journal_rows.proofs as journal_rows
+pub use Rattle.journal_rows.proofs.turn_rows
