@@ -1,0 +1,17 @@
+use Rattle.std.proofs.Common.{◌≡◌, refl, subst}
+use Rattle.std.specs.Prelude.{◌↔◌, IsTrue}
+use Rattle.row_records.specs.rights_model.declared.Holder.{Holder}
+use Rattle.row_records.specs.rights_model.declared.Holder.TheVariants.{Payment}
+use Rattle.told_rights.proofs.Shelving.{empty_none, empty_some, payments_between, payments_from}
+use Rattle.told_rights.proofs.places.Places.is_payment_empty.Goals as goal
+
+pub returns-in-Some : goal.returns-in-Some
+returns-in-Some c =
+    let range = c.range.ensures.in_range tt in
+    empty_some c.self.inside.shelves.entries c.range.result c.next.new.self c.args.self.now c.self.view_is c.self.invariant (Payment c.args.payment) (payments_from c.args.payment) (payments_between c.args.payment) c.of_payment.result c.of_payment.ensures c.in-Some.spot.now c.in-Some.field-0-1.now c.in-Some.ensures.steps range.1 (λ q low some. range.2 q (low, tt) some) c.is.result
+    (subst (λ (x : Holder). IsTrue c.is.result ↔ (x ≡ Payment c.args.payment)) c.holder.ensures c.is.ensures)
+
+pub returns-in-None : goal.returns-in-None
+returns-in-None c =
+    let range = c.range.ensures.in_range tt in
+    (λ h. empty_none c.self.inside.shelves.entries c.range.result c.next.new.self c.args.self.now c.self.view_is c.self.invariant (Payment c.args.payment) (payments_from c.args.payment) (payments_between c.args.payment) c.of_payment.result c.of_payment.ensures (λ q low. range.5 c.in-None.ensures.steps.0 q (low, tt)), λ h. refl)
