@@ -1,3 +1,4 @@
 pub mod Causes
 pub mod Fronts
 pub mod Ends
+pub mod LineReads

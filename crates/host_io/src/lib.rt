@@ -10,6 +10,7 @@ ghost use Rattle.host_io.specs.Causes.{Rose, HasCause};
 ghost use Rattle.host_io.specs.Fronts.{AppendsFront};
 
 pub mod flaky;
+pub mod line_reader;
 pub mod memory;
 pub mod std_ends;
 
